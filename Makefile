@@ -215,8 +215,8 @@ library/libpciguest.a library/libpciguest.so.0:
 
 # A page that runs the proved code in a browser: pciguest.html. Node or Chromium compares what the page answers with the
 # program and the library for C; where neither is there, that is said, and not compared.
-EXPORTS := $(addprefix pciguest_raw_,new free guest guest_count guest_name function region why report report_json check run_line \
-  save load save_all load_all board_new board_free board_run_line board_audit board_ready_json board_function)
+EXPORTS := $(addprefix pciguest_raw_,new free guest guest_count guest_name function region why why_json report report_json check \
+  run_line save load save_all load_all board_new board_free board_run_line board_audit board_ready_json board_why_json board_function)
 page: pciguest
 	@$(MAKE) --no-print-directory library
 	@$(MAKE) --no-print-directory page/out/pciguest.wasm

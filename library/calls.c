@@ -509,6 +509,23 @@ uint32_t pciguest_why(struct pciguest *machine, size_t guest, uint32_t space, ui
     return answer;
 }
 
+uint32_t pciguest_why_json(struct pciguest *machine, size_t guest, uint32_t space, uint64_t slot, uint64_t place,
+                           char *text, size_t room, size_t *needed)
+{
+    struct pciguest held_machine;
+    uint8_t none;
+    uint32_t answer;
+
+    if (!machine || (!text && room) || !needed)
+        return PCIGUEST_ARGUMENT;
+    if (!TAKE(machine, held_machine))
+        return PCIGUEST_BUSY;
+    answer = pciguest_raw_why_json(&held_machine, guest, space, slot, place, text ? (uint8_t *)text : &none, room,
+                                   needed);
+    PUT_BACK(machine, held_machine);
+    return answer;
+}
+
 uint32_t pciguest_count(struct pciguest *machine, size_t *count)
 {
     struct pciguest held_machine;
@@ -774,6 +791,23 @@ uint32_t pciguest_board_ready_json(struct pciguest_board *board, char *text, siz
     if (!TAKE(board, held_board))
         return PCIGUEST_BUSY;
     answer = pciguest_raw_board_ready_json(&held_board, text ? (uint8_t *)text : &none, room, needed, count);
+    PUT_BACK(board, held_board);
+    return answer;
+}
+
+uint32_t pciguest_board_why_json(struct pciguest_board *board, uint32_t space, uint8_t bus, uint8_t device,
+                                 uint8_t function, uint64_t place, char *text, size_t room, size_t *needed)
+{
+    struct pciguest_board held_board;
+    uint8_t none;
+    uint32_t answer;
+
+    if (!board || (!text && room) || !needed)
+        return PCIGUEST_ARGUMENT;
+    if (!TAKE(board, held_board))
+        return PCIGUEST_BUSY;
+    answer = pciguest_raw_board_why_json(&held_board, space, bus, device, function, place,
+                                         text ? (uint8_t *)text : &none, room, needed);
     PUT_BACK(board, held_board);
     return answer;
 }

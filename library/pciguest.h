@@ -492,6 +492,10 @@ uint32_t pciguest_locate(struct pciguest *machine, size_t guest, uint32_t space,
 uint32_t pciguest_why(struct pciguest *machine, size_t guest, uint32_t space, uint64_t slot, uint64_t place, char *text,
                       size_t room, size_t *needed);
 
+/* Writes so a JSON object on one line, with all that these lines tell. Since 0.4.0. */
+uint32_t pciguest_why_json(struct pciguest *machine, size_t guest, uint32_t space, uint64_t slot, uint64_t place,
+                           char *text, size_t room, size_t *needed);
+
 /* How many functions the board has, endpoints and bridges. Since 0.4.0. */
 uint32_t pciguest_count(struct pciguest *machine, size_t *count);
 
@@ -602,6 +606,15 @@ uint32_t pciguest_board_ready(struct pciguest_board *board, char *text, size_t r
  * tells, in the same order. Since 0.4.0. */
 uint32_t pciguest_board_ready_json(struct pciguest_board *board, char *text, size_t room, size_t *needed,
                                    size_t *count);
+
+/* Writes why an address, a port or a function's number finds what it finds as the registers stand, or nothing, as a JSON
+ * object on one line, with all that the lines of `host why ..` tell. The place is as for pciguest_board_read, but that no
+ * offset is looked at where a number is asked, and that nobody answers at a port above FFFFFFFFh. It tells the text's length,
+ * which has no 0 at its end. The board stays as it is, CONFIG_ADDRESS too.
+ * 902: there is no such space, device or function; or there is less room than the text needs, whose length alone is told.
+ * 299: out of memory. Since 0.4.0. */
+uint32_t pciguest_board_why_json(struct pciguest_board *board, uint32_t space, uint8_t bus, uint8_t device,
+                                 uint8_t function, uint64_t place, char *text, size_t room, size_t *needed);
 
 /* Writes a row for each problem that pciguest_board_audit has a line of, in the same order, and tells how many there are.
  * The board stays as it is. 902: there is room for fewer rows than that, whose number alone is told. 299: out of memory.

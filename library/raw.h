@@ -53,6 +53,8 @@ uint32_t pciguest_raw_locate(struct pciguest *machine, size_t guest, uint32_t sp
                              struct pciguest_hit *hit);
 uint32_t pciguest_raw_why(struct pciguest *machine, size_t guest, uint32_t space, uint64_t slot, uint64_t place,
                           uint8_t *text, size_t room, size_t *needed);
+uint32_t pciguest_raw_why_json(struct pciguest *machine, size_t guest, uint32_t space, uint64_t slot, uint64_t place,
+                               uint8_t *text, size_t room, size_t *needed);
 uint32_t pciguest_raw_count(struct pciguest *machine, size_t *count);
 uint32_t pciguest_raw_function(struct pciguest *machine, size_t index, struct pciguest_function *function);
 uint32_t pciguest_raw_slot(struct pciguest *machine, size_t guest, uint64_t slot, struct pciguest_function *function);
@@ -81,6 +83,8 @@ uint32_t pciguest_raw_board_ready(struct pciguest_board *board, uint8_t *text, s
                                   size_t *count);
 uint32_t pciguest_raw_board_ready_json(struct pciguest_board *board, uint8_t *text, size_t room, size_t *needed,
                                        size_t *count);
+uint32_t pciguest_raw_board_why_json(struct pciguest_board *board, uint32_t space, uint8_t bus, uint8_t device,
+                                     uint8_t function, uint64_t place, uint8_t *text, size_t room, size_t *needed);
 uint32_t pciguest_raw_board_problems(struct pciguest_board *board, struct pciguest_problem *problems, size_t room,
                                      size_t *count);
 uint32_t pciguest_raw_board_lacks(struct pciguest_board *board, struct pciguest_problem *lacks, size_t room,

@@ -201,10 +201,14 @@ class Held {
       open: told.getUint32(24, true) !== 0 };
   }
 
-  // Why a guest's access finds what it finds, or nobody. A slot is asked of configuration space alone.
-  why({ guest, space, slot, place }) {
+  // Why a guest's access finds what it finds, or nobody, as lines and as JSON. A slot is asked of configuration space alone.
+  why(asked) { return this.told_why(this.engine.exports.pciguest_raw_why, asked); }
+
+  why_json(asked) { return this.told_why(this.engine.exports.pciguest_raw_why_json, asked); }
+
+  told_why(call, { guest, space, slot, place }) {
     const { engine, handle } = this, at = [BigInt(this.guest(guest)), SPACE_NUMBERS[space], slot, place];
-    const { number, text } = engine.told((...rooms) => engine.exports.pciguest_raw_why(handle, ...at, ...rooms));
+    const { number, text } = engine.told((...rooms) => call(handle, ...at, ...rooms));
     if (number !== 0) throw new Error(`why is refused: ${number}`);
     return TO_TEXT.decode(text).trimEnd();
   }
@@ -256,6 +260,11 @@ class Driven extends Held {
   readiness() { return this.long_reply('host ready'); }
 
   ready_json() { return this.told_by(this.engine.exports.pciguest_raw_board_ready_json); }
+
+  // Why an address, a port or a number finds what it finds, as JSON.
+  board_why_json({ space, number, place }) {
+    return this.told_by((handle, ...rooms) => this.engine.exports.pciguest_raw_board_why_json(handle, SPACE_NUMBERS[space], ...number, place, ...rooms));
+  }
 
   // What was told before is given where the JSON is the same: it has all that the lines tell.
   findings() {

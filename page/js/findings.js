@@ -5,7 +5,8 @@ import { number_at } from './report.js';
 // The first word of a line.
 const WORD_BEFORE = 'audit: '.length;
 
-const party = ({ path, bar = null }) => ({ path, register: bar === null ? null : `bar${bar}` });
+// A function, with a register or null.
+export const party = ({ path, bar = null }) => ({ path, register: bar === null ? null : `bar${bar}` });
 
 // The functions that a problem or a lack names, each with a register or null; the address at which it is seen, with its space, or null; and the
 // number at which a function isn't found, or null.

@@ -46,10 +46,10 @@ export class Question {
   look() {
     if (this.asked === null) return false;
     this.tell_about();
-    const { line, call } = this.asked, reply = call === null ? this.driven().long_reply(line) : this.held().why(call);
+    const { line, at, call } = this.asked, answers = call === null ? this.driven() : this.held(), reply = call === null ? answers.long_reply(line) : answers.why(call);
     if (reply === this.reply) return false;
-    const read = call === null ? read_why(reply) : read_why_of_guest(reply, slot => this.path_in(call.guest, slot));
-    Object.assign(this, { reply, lines: read ?? [{ text: reply, of: [], places: [], number: null, is_cause: false }] });
+    const lines = call === null ? read_why(answers.board_why_json(at), reply) : read_why_of_guest(answers.why_json(call), reply, slot => this.path_in(call.guest, slot));
+    Object.assign(this, { reply, lines });
     this.findings.draw(this.lines, this.asked.line);
     this.heard.textContent = [...(this.about.hidden ? [] : [this.about.textContent]), ...this.lines.map(one => one.text)].join('; ');
     return true;

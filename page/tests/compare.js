@@ -7,7 +7,7 @@ import { joined, same } from './compare_bytes.js';
 import { images_hold } from './compare_images.js';
 import { ways_astray } from './compare_ways.js';
 import { words_in } from '../js/reasons.js';
-import { question_of, read_why, read_why_of_guest, SPACE_READ } from '../js/why.js';
+import { question_at, question_of, read_why, read_why_of_guest, SPACE_READ } from '../js/why.js';
 
 const to_bytes = text => new TextEncoder().encode(text);
 // what an audit writes of a board in order
@@ -56,9 +56,18 @@ function readiness_of(made) {
   return to_bytes(is_same ? `${text}\n` : '');
 }
 
-// Whether each line of the replies that tell why is read back, with the functions that it names.
-const why_is_read = replies => replies.map(one => new TextDecoder().decode(one).trimEnd()).filter(text => text.startsWith('why: '))
-  .every(text => read_why(text)?.every(one => [...one.of, ...one.places].every(({ path }) => one.text.includes(path))));
+const to_text = bytes => new TextDecoder().decode(bytes).trimEnd();
+const words_of = line => words_in(to_text(line)).map(one => one.word);
+
+// Whether lines tell what JSON does: so many, each with the functions that it names, and their registers.
+const are_read = (lines, count) => lines.length === count && lines.every(({ text, of, places }) => [...of, ...places]
+  .every(({ path, register }) => text.includes(register === null ? path : `${path} ${register}`)));
+
+// Whether a reply that tells why, if it is one, is read by its JSON.
+function firmware_is_told(made, line, reply) {
+  const [, , space, place] = words_of(line), text = to_text(reply);
+  return !text.startsWith('why: ') || are_read(read_why(made.board_why_json(question_at(space, place).at), text), text.split('\n').length - 1);
+}
 
 const hexadecimal = (number, digits = 1) => `0x${number.toString(16).padStart(digits, '0')}`;
 
@@ -85,13 +94,12 @@ function told_as_read(machine, call, width, reply) {
   return rest === '' && region.open && region.space === call.space && region.first + BigInt(offset) === call.place;
 }
 
-// Whether a guest that read a place is told what it found there, in lines that are read back.
+// Whether a guest that read a place is told what it found there, as its JSON tells it.
 function guest_is_told(machine, line, output) {
-  const [who, verb, ...places] = words_in(new TextDecoder().decode(line)).map(one => one.word), width = places.pop();
-  const [, name, reply] = /^(\S+): (0x[0-9a-f]+)\n$/.exec(new TextDecoder().decode(output)) ?? [];
+  const [who, verb, ...places] = words_of(line), width = places.pop(), [, name, reply] = /^(\S+): (0x[0-9a-f]+)$/.exec(to_text(output)) ?? [];
   if (SPACE_READ[verb] === undefined || name !== who || who === 'host') return true;
-  const { call } = question_of(who, SPACE_READ[verb], ...places);
-  return read_why_of_guest(machine.why(call), String) !== null && told_as_read(machine, call, width, reply);
+  const { call } = question_of(who, SPACE_READ[verb], ...places), text = machine.why(call);
+  return are_read(read_why_of_guest(machine.why_json(call), text, String), text.split('\n').length) && told_as_read(machine, call, width, reply);
 }
 
 // What is told after a script, by the work that is asked.
@@ -110,10 +118,11 @@ function holds(engine, one) {
   const { number: refusal, made } = work === 'run' ? engine.open(board) : engine.open_at_reset(board);
   if (made === null) return refusal === number;
   let told = true;
-  const replies = run(made, script, (line, reply) => { told &&= guest_is_told(made, line, reply); }), text = joined([...replies, ...AFTER[work](made)]);
+  const replies = run(made, script, (line, reply) => { told &&= firmware_is_told(made, line, reply) && guest_is_told(made, line, reply); });
+  const text = joined([...replies, ...AFTER[work](made)]);
   const is_ready = /ready: ok\n$|"lacks":\[\],"problems":\[\]}\n$/.test(new TextDecoder().decode(text));
   const is_on_way = work !== 'audit' || ways_astray(engine, board, made).length === 0;
-  const good = told && is_on_way && (work !== 'run' || regions_hold(engine, made, board)) && why_is_read(replies);
+  const good = told && is_on_way && (work !== 'run' || regions_hold(engine, made, board));
   made.close();
   return good && number === (work.startsWith('ready') && !is_ready ? NOT_READY : 0) && same(text, output);
 }

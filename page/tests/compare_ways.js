@@ -1,12 +1,11 @@
 // Compares where the page says that a cycle ends on its way down the tree with what the module tells of why it does.
 
 import { AtReset, decodes_of } from '../js/at_reset.js';
-import { asked_of } from '../js/asked.js';
 import { report_in } from '../js/report.js';
 import { read_json } from '../js/json.js';
 import { sent_by, way_of } from '../js/way.js';
+import { question_at } from '../js/why.js';
 
-const ENDS = / (\S+) bar\d offset \S+ answers$| reaches (?!nothing)(\S+)$/;
 const ADDRESSES = [0n, 0xbffff000n, 0xc0000000n, 0xc0100000n, 0xc0200000n, 0xc03fffffn, 0xc0400000n, 0xc0500fffn, 0xd0000000n, 0xe0000000n, 0x400000000n, 0x4000fffffn];
 // of how many functions places are asked
 const MOST = 40;
@@ -30,8 +29,8 @@ export function ways_astray(engine, board, made) {
   machine.close();
   const now = new AtReset(made, functions, decodes);
   return now.given ? [] : places_of(now.functions).filter(place => {
-    const line = `host why ${place}`, sent = sent_by(line, () => 0n), ends = sent && way_of(sent, now.functions).ends;
-    const told = asked_of(made, line).split('\n').map(one => ENDS.exec(one)).filter(Boolean).map(one => one[1] ?? one[2]);
-    return sent !== null && (told.length === 0 ? ends.length > 0 : !ends.some(one => `${told[0]}/`.startsWith(`${one}/`)));
+    const { line, at } = question_at(...place.split(' ')), sent = sent_by(line, () => 0n), ends = sent && way_of(sent, now.functions).ends;
+    const { answer, reached } = read_json(made.board_why_json(at)).found, told = answer?.path ?? reached ?? null;
+    return sent !== null && (told === null ? ends.length > 0 : !ends.some(one => `${told}/`.startsWith(`${one}/`)));
   });
 }

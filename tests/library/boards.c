@@ -48,6 +48,7 @@ static void without_a_board(void)
     IS(pciguest_board_ready(&none, reply, sizeof reply, &count, &count), 901);
     IS(pciguest_board_audit_json(&none, reply, sizeof reply, &count, &count), 901);
     IS(pciguest_board_ready_json(&none, reply, sizeof reply, &count, &count), 901);
+    IS(pciguest_board_why_json(&none, PCIGUEST_IO, 0, 0, 0, 0, reply, sizeof reply, &count), 901);
     IS(pciguest_board_problems(&none, NULL, 0, &count), 901);
     IS(pciguest_board_lacks(&none, NULL, 0, &count), 901);
     IS(pciguest_set_up(&none, &machine), 901);
@@ -102,6 +103,9 @@ static void null_pointers(struct pciguest_board *board)
     IS(pciguest_board_audit_json(board, NULL, 1, &count, &count), 902);
     IS(pciguest_board_ready_json(board, reply, sizeof reply, NULL, &count), 902);
     IS(pciguest_board_ready_json(board, reply, sizeof reply, &count, NULL), 902);
+    IS(pciguest_board_why_json(NULL, PCIGUEST_IO, 0, 0, 0, 0, reply, sizeof reply, &count), 902);
+    IS(pciguest_board_why_json(board, PCIGUEST_IO, 0, 0, 0, 0, NULL, 1, &count), 902);
+    IS(pciguest_board_why_json(board, PCIGUEST_IO, 0, 0, 0, 0, reply, sizeof reply, NULL), 902);
     IS(pciguest_board_guests(NULL, &machine), 902);
     IS(pciguest_board_guests(board, NULL), 902);
     IS(pciguest_set_up(NULL, &machine), 902);
@@ -130,6 +134,9 @@ static void refusals(struct pciguest_board *board)
     IS(pciguest_board_write(board, PCIGUEST_CONFIG, 0, 1, 0, 5, 2, 2), 301);
     IS(pciguest_board_write(board, PCIGUEST_MEMORY, 0, 0, 0, UINT64_MAX, 2, 2), 301);
     IS(pciguest_board_write(board, PCIGUEST_IO, 0, 0, 0, 1ull << 32, 4, 2), 303);
+    IS(pciguest_board_why_json(board, 3, 0, 0, 0, 0, reply, sizeof reply, &count), 902);
+    IS(pciguest_board_why_json(board, PCIGUEST_CONFIG, 0, 32, 0, 0, reply, sizeof reply, &count), 902);
+    IS(pciguest_board_why_json(board, PCIGUEST_CONFIG, 0, 0, 8, 0, reply, sizeof reply, &count), 902);
     IS(pciguest_board_run_line(board, "host ir 0 1", 11, reply, sizeof reply - 1, &count), 902);
     IS(value, 7);
     IS(count, 8);
@@ -390,6 +397,55 @@ static void readiness(void)
     pciguest_board_free(&board);
 }
 
+/* Why what is asked finds what it finds, as a survey of one thing. */
+static struct { uint32_t space; uint8_t number; uint64_t place; } asked; /* the number of a bus and of a device there */
+
+static uint32_t why_there(struct pciguest_board *board, char *text, size_t room, size_t *needed, size_t *count)
+{
+    uint32_t answer = pciguest_board_why_json(board, asked.space, asked.number, asked.number, 0, asked.place, text, room,
+                                              needed);
+
+    if (answer == 0)
+        *count = 1;
+    return answer;
+}
+
+static void why_is(struct pciguest_board *board, uint32_t space, uint8_t number, uint64_t place, const char *wanted)
+{
+    asked.space = space;
+    asked.number = number;
+    asked.place = place;
+    text_is(why_there, board, wanted, 1);
+    survey_without_memory(why_there, board);
+}
+
+/* A number is found once its bridge has one, whatever offset is given; a port goes by CONFIG_ADDRESS, which a question of a
+ * number leaves as it was; and of a region all is told that keeps it from answering. */
+static void reasons(void)
+{
+    static const char *const steps[] = {
+        "host cw 00:02.0 0x18 4 0x00010100", "host cw 01:01.0 0x10 4 0xc0000000", "host iw 0xcf8 4 0x80000840",
+    };
+    struct pciguest_board board = PCIGUEST_BOARD_INIT;
+    char reply[PCIGUEST_REPLY];
+    size_t written;
+
+    IS(pciguest_board_new(&board, file, length), 0);
+    why_is(&board, PCIGUEST_CONFIG, 1, 256, "{\"found\":{\"missing\":{\"behind\":null,\"bus\":1},\"not_found\":[],"
+                                            "\"reached\":null,\"takers\":[]},\"latch\":null}\n");
+    for (size_t i = 0; i < sizeof steps / sizeof *steps; i++)
+        IS(line(&board, steps[i], reply, &written), 0);
+    why_is(&board, PCIGUEST_CONFIG, 1, 0, "{\"found\":{\"missing\":null,\"not_found\":[],\"reached\":\"2.0/1.0\",\"takers\":[\"2.0\"]},"
+                                          "\"latch\":null}\n");
+    why_is(&board, PCIGUEST_IO, 0, 0xcfe, "{\"found\":{\"missing\":null,\"not_found\":[],\"reached\":\"1.0\",\"takers\":[]},\"latch\":{"
+                                          "\"number\":{\"bus\":0,\"device\":1,\"function\":0},\"offset\":66,\"type\":\"selected\"}}\n");
+    why_is(&board, PCIGUEST_MEMORY, 0, 0xc0000010,
+           "{\"found\":{\"answer\":null,\"at_reset\":0,\"forwards\":[],\"regions\":[{\"causes\":[{\"command\":0,\"type\":\"closed\"},"
+           "{\"bridge\":\"2.0\",\"command\":0,\"type\":\"bridge closed\"}],\"region\":{\"bar\":0,\"base\":3221225472,"
+           "\"path\":\"2.0/1.0\",\"size\":16777216,\"space\":\"mem\"}}]},\"latch\":null}\n");
+    pciguest_board_free(&board);
+}
+
 /* A line asks for the text of an audit; where that has too little room, or no memory, nothing happens. */
 static void audit_lines(void)
 {
@@ -551,6 +607,7 @@ int main(int argc, char **argv)
     audits();
     readiness();
     lacking();
+    reasons();
     audit_lines();
     out_of_memory();
     IS(pciguest_board_new(&board, file, length), 0);

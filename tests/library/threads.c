@@ -97,6 +97,7 @@ static void ask_machine(void)
     BUSY(pciguest_moved(&machine, 0, &place, 1, &told));
     BUSY(pciguest_locate(&machine, 0, PCIGUEST_MEMORY, 0, 0x80000000, &hit));
     BUSY(pciguest_why(&machine, 0, PCIGUEST_MEMORY, 0, 0x80000000, text, sizeof text, &told));
+    BUSY(pciguest_why_json(&machine, 0, PCIGUEST_MEMORY, 0, 0x80000000, text, sizeof text, &told));
     BUSY(pciguest_count(&machine, &told));
     BUSY(pciguest_function(&machine, 0, &row));
     BUSY(pciguest_slot(&machine, 0, 0, &row));
@@ -126,6 +127,7 @@ static void ask_board(void)
     BUSY(pciguest_board_ready(&board, text, sizeof text, &told, &told));
     BUSY(pciguest_board_audit_json(&board, text, sizeof text, &told, &told));
     BUSY(pciguest_board_ready_json(&board, text, sizeof text, &told, &told));
+    BUSY(pciguest_board_why_json(&board, PCIGUEST_CONFIG, 0, 1, 0, 0, text, sizeof text, &told));
     BUSY(pciguest_board_problems(&board, &problem, 1, &told));
     BUSY(pciguest_board_lacks(&board, &problem, 1, &told));
     BUSY(pciguest_set_up(&board, &other));

@@ -1,5 +1,5 @@
 /* Why accesses of two guests find what they find, after random events: each text is compared with one that is written
- * here from what the other calls tell. Then what is refused, and each allocation failing in turn.
+ * here from what the other calls tell. Before that what is refused, each allocation failing in turn, and JSON.
  *
  *     why BOARD COUNT SEED
  *
@@ -113,24 +113,33 @@ static void expect(struct pciguest *machine, size_t guest, uint32_t space, uint6
         add("slot %" PRIu64 " bar%" PRIu32 " offset 0x%" PRIx64 " answers\n", hit.slot, hit.part, hit.offset);
 }
 
+/* A call that tells a guest why. */
+typedef uint32_t telling(struct pciguest *machine, size_t guest, uint32_t space, uint64_t slot, uint64_t place, char *told,
+                         size_t room, size_t *needed);
+
 /* The text is the one that is expected, whatever room it is given beyond what it needs. */
-static void compare(struct pciguest *machine, size_t guest, uint32_t space, uint64_t slot, uint64_t place)
+static void tells(telling *call, struct pciguest *machine, size_t guest, uint32_t space, uint64_t slot, uint64_t place)
 {
     static char told[sizeof text];
     size_t needed = 0;
 
-    expect(machine, guest, space, slot, place);
     memset(told, '?', length + 1);
-    IS(pciguest_why(machine, guest, space, slot, place, told, length - 1, &needed), 902);
+    IS(call(machine, guest, space, slot, place, told, length - 1, &needed), 902);
     IS(needed, length);
     IS(told[0], '?');
-    IS(pciguest_why(machine, guest, space, slot, place, told, length, &needed), 0);
+    IS(call(machine, guest, space, slot, place, told, length, &needed), 0);
     IS(needed, length);
     IS(told[length], '?');
     if (memcmp(told, text, length) != 0) {
         fprintf(stderr, "%.*s in place of\n%.*s", (int)needed, told, (int)length, text);
         wrong = 1;
     }
+}
+
+static void compare(struct pciguest *machine, size_t guest, uint32_t space, uint64_t slot, uint64_t place)
+{
+    expect(machine, guest, space, slot, place);
+    tells(pciguest_why, machine, guest, space, slot, place);
 }
 
 /* An event of a guest that places, opens or closes its regions, selects a function or moves one. */
@@ -161,7 +170,7 @@ static void ask(struct pciguest *machine)
 }
 
 /* What is refused as a read of a byte there is; nothing is told then. */
-static void refusals(struct pciguest *machine)
+static void refusals(telling *call, struct pciguest *machine)
 {
     static const struct { size_t guest; uint32_t space; uint64_t slot, place; uint32_t answer; } rows[] = {
         {2, PCIGUEST_MEMORY, 0, 0, 902}, {SIZE_MAX, PCIGUEST_CONFIG, 32, 0, 902}, {0, 3, 0, 0, 902},
@@ -171,19 +180,18 @@ static void refusals(struct pciguest *machine)
     char told[64] = "?";
     size_t needed = 7;
 
-    IS(pciguest_why(NULL, 0, PCIGUEST_IO, 0, 0, told, sizeof told, &needed), 902);
-    IS(pciguest_why(machine, 0, PCIGUEST_IO, 0, 0, NULL, 1, &needed), 902);
-    IS(pciguest_why(machine, 0, PCIGUEST_IO, 0, 0, told, sizeof told, NULL), 902);
-    IS(pciguest_why(&none, 0, PCIGUEST_IO, 0, 0, told, sizeof told, &needed), 901);
+    IS(call(NULL, 0, PCIGUEST_IO, 0, 0, told, sizeof told, &needed), 902);
+    IS(call(machine, 0, PCIGUEST_IO, 0, 0, NULL, 1, &needed), 902);
+    IS(call(machine, 0, PCIGUEST_IO, 0, 0, told, sizeof told, NULL), 902);
+    IS(call(&none, 0, PCIGUEST_IO, 0, 0, told, sizeof told, &needed), 901);
     for (size_t i = 0; i < sizeof rows / sizeof *rows; i++)
-        IS(pciguest_why(machine, rows[i].guest, rows[i].space, rows[i].slot, rows[i].place, told, sizeof told, &needed),
-           rows[i].answer);
+        IS(call(machine, rows[i].guest, rows[i].space, rows[i].slot, rows[i].place, told, sizeof told, &needed), rows[i].answer);
     IS(needed, 7);
     IS(told[0], '?');
 }
 
 /* A text that memory fails for isn't told, and nothing is lost; one that is refused takes none. */
-static void out_of_memory(struct pciguest *machine)
+static void out_of_memory(telling *call, struct pciguest *machine)
 {
     char told[1024] = "?";
     uint32_t fault = 299;
@@ -193,19 +201,43 @@ static void out_of_memory(struct pciguest *machine)
         size_t needed = 7;
 
         calls_left = left;
-        fault = pciguest_why(machine, 0, PCIGUEST_MEMORY, 0, 0, told, sizeof told, &needed);
+        fault = call(machine, 0, PCIGUEST_MEMORY, 0, 0, told, sizeof told, &needed);
         calls_left = -1;
         IS(fault == 0 || (fault == 299 && needed == 7 && told[0] == '?'), 1);
         IS((uint64_t)blocks, (uint64_t)kept);
     }
     IS(fault, 0);
     calls_left = 1;
-    IS(pciguest_why(machine, 0, PCIGUEST_CONFIG, 32, 0, told, sizeof told, &(size_t){0}), 303);
+    IS(call(machine, 0, PCIGUEST_CONFIG, 32, 0, told, sizeof told, &(size_t){0}), 303);
     calls_left = -1;
+}
+
+/* Closed regions, an empty slot, configuration space, and what CONFIG_ADDRESS makes of ports, as JSON. */
+static void as_json(struct pciguest *machine)
+{
+    static const struct { size_t guest; uint32_t space; uint64_t slot, place; const char *wanted; } rows[] = {
+        {0, PCIGUEST_MEMORY, 0, 0, "{\"found\":{\"regions\":[{\"bar\":1,\"base\":0,\"command\":0,\"size\":4096,\"slot\":0},"
+                                   "{\"bar\":0,\"base\":0,\"command\":0,\"size\":16777216,\"slot\":1}],\"type\":\"nobody\"},"
+                                   "\"latch\":null}\n"},
+        {0, PCIGUEST_CONFIG, 5, 0, "{\"found\":{\"slot\":5,\"type\":\"empty\"},\"latch\":null}\n"},
+        {0, PCIGUEST_CONFIG, 1, 16, "{\"found\":{\"bar\":null,\"offset\":16,\"slot\":1,\"type\":\"answers\"},\"latch\":null}\n"},
+        {0, PCIGUEST_IO, 0, 0xcf8, "{\"found\":{\"regions\":[],\"type\":\"nobody\"},\"latch\":{\"type\":\"held\"}}\n"},
+        {0, PCIGUEST_IO, 0, 0xcfd, "{\"found\":{\"number\":{\"bus\":1,\"device\":2,\"function\":3},\"type\":\"no slot\"},\"latch\":{"
+                                   "\"number\":{\"bus\":1,\"device\":2,\"function\":3},\"offset\":65,\"type\":\"selected\"}}\n"},
+        {1, PCIGUEST_IO, 0, 0xcfd, "{\"found\":{\"regions\":[],\"type\":\"nobody\"},\"latch\":{\"type\":\"not enabled\"}}\n"},
+    };
+
+    IS(pciguest_write(machine, 0, PCIGUEST_IO, 0, 0xcf8, 4, 0x80011340), 0);
+    for (size_t i = 0; i < sizeof rows / sizeof *rows; i++) {
+        length = 0;
+        add("%s", rows[i].wanted);
+        tells(pciguest_why_json, machine, rows[i].guest, rows[i].space, rows[i].slot, rows[i].place);
+    }
 }
 
 int main(int argc, char **argv)
 {
+    static telling *const calls[] = {pciguest_why, pciguest_why_json};
     static uint8_t board[65536];
     struct pciguest machine = PCIGUEST_INIT;
     FILE *file = argc == 4 ? fopen(argv[1], "rb") : NULL;
@@ -218,8 +250,11 @@ int main(int argc, char **argv)
     state = strtoull(argv[3], NULL, 10) * 0x9e3779b97f4a7c15u + 1;
     IS(pciguest_new(&machine, board, size), 0);
     compare(&machine, 0, PCIGUEST_MEMORY, 0, 0); /* closed at 0 */
-    refusals(&machine);
-    out_of_memory(&machine);
+    for (int i = 0; i < 2; i++) {
+        refusals(calls[i], &machine);
+        out_of_memory(calls[i], &machine);
+    }
+    as_json(&machine);
     for (uint64_t left = strtoull(argv[2], NULL, 10); left > 0; left--) {
         event(&machine);
         ask(&machine);

@@ -2,4 +2,5 @@ mod Accepted
 mod Alone
 mod ClosedSlots
 mod Listed
+mod NoFloats
 mod WholeTexts

@@ -5,3 +5,4 @@ pub mod Telling
 pub mod GuestFindings
 pub mod GuestLines
 pub mod Alone
+pub mod WhyJson

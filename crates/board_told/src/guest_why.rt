@@ -1,18 +1,23 @@
-//! The whole text.
+//! The whole text, as lines or as JSON.
 ghost use Rattle.std.specs.Prelude.{◌≡◌, ◌<◌, None, length, map, IfOk, IfErr, OnOk, string_bytes};
 ghost use Rattle.lists.specs.Texts.{Adds};
 ghost use Rattle.model_guests.specs.Text.{text_of_lines};
-ghost use Rattle.model_lines.specs.{WhyText.why_line, WhyGuests.{target_lines, guest_why_text}};
+ghost use Rattle.model_lines.specs.{WhyText.why_line, WhyGuests.target_lines};
 ghost use Rattle.accesses.specs.Accesses.{target_of};
-ghost use Rattle.board_told.specs.{GuestFindings.{lone_asked, fault_at, finding_told, IsWhyFault}, GuestLines.text_told};
+ghost use Rattle.serde_json.specs.View.{view};
+ghost use Rattle.board_told.specs.{GuestFindings.{lone_asked, fault_at, closed_told, finding_told, IsWhyFault}, GuestLines.text_told, WhyJson.{closed_value, finding_value, guest_json, guest_why_in}};
 
+use crate::closed::ClosedInSlot;
 use crate::finding::{Finding, WhyFault, find};
 use crate::finding_lines::{push_closed_of, push_head};
-use accesses::At;
-use findings::port_use;
+use crate::listing::ReportForm;
+use accesses::{At, Place};
+use findings::{PortUse, port_use};
 use findings_told::push_use;
+use json_texts::{number_value, why_json};
 use monitor::Monitor;
 use paths::Latch;
+use serde_json::{Value, json};
 use std::alloc::{AllocError, Global};
 
 /// Appends the line of what a guest's address latch makes of a place, if that is a port and it makes something of it.
@@ -38,19 +43,79 @@ fn text_of(alloc: Global, latch: Latch, at: At, finding: &Finding) -> Result<Str
     Ok(text)
 }
 
+/// A closed region.
+fn closed_value(alloc: Global, closed: &ClosedInSlot) -> Result<Value, AllocError>
+    ensures { IfOk result (λ v. view v ≡ closed_value (closed_told closed.now)) }
+{
+    json!(in alloc; {
+        "bar": closed.register,
+        "base": closed.first,
+        "command": closed.command,
+        "size": closed.size,
+        "slot": closed.slot
+    })
+}
+
+/// Closed regions.
+fn closed_values(alloc: Global, all: &[ClosedInSlot]) -> Result<Vec<Value>, AllocError>
+    ensures { IfOk result (λ v. map view v.items ≡ map closed_value (map closed_told all.now)) }
+{
+    let mut values = Vec::new(alloc);
+    for closed in all {
+        values.push(closed_value(alloc, closed)?)?;
+    }
+    Ok(values)
+}
+
+/// What is found.
+fn finding_value(alloc: Global, finding: &Finding) -> Result<Value, AllocError>
+    ensures { IfOk result (λ v. view v ≡ finding_value (finding_told finding.now)) }
+{
+    match finding {
+        Finding::Answers(hit) => {
+            let bar = match hit.place {
+                Place::Cfg => Value::Null,
+                Place::Bar(register) => Value::from(register),
+            };
+            json!(in alloc; {"bar": bar, "offset": hit.offset, "slot": hit.slot, "type": "answers"})
+        }
+        Finding::Nobody(all) => {
+            json!(in alloc; {"regions": closed_values(alloc, all)?, "type": "nobody"})
+        }
+        Finding::Empty { slot } => json!(in alloc; {"slot": *slot, "type": "empty"}),
+        Finding::NoSlot { at } => {
+            json!(in alloc; {"number": number_value(alloc, *at)?, "type": "no slot"})
+        }
+    }
+}
+
+/// It at a place, beside what the address latch makes of that, as a JSON object on one line.
+fn json_of(alloc: Global, latch: Latch, at: At, finding: &Finding) -> Result<String, AllocError>
+    ensures { IfOk result (λ t.
+        string_bytes t ≡ guest_json latch (target_of at) (finding_told finding.now)) }
+{
+    let found = finding_value(alloc, finding)?;
+    match at {
+        At::Io { port } => why_json(alloc, port_use(latch, port), found),
+        At::Config { .. } | At::Mem { .. } => why_json(alloc, PortUse::LikeOthers, found),
+    }
+}
+
 /// Why an access of a byte of a guest finds what it finds: at a port first a line for what its address latch makes of
 /// it, if it makes something of it; then a line for what is found, and one for each closed region of its functions that
-/// holds an address which nobody answers. It tells of the guest's own functions and latch alone. Or refuses it as a read
-/// of the byte: 303 for a slot above 31, an offset above 255 or a port above FFFFFFFFh; else 299 out of memory.
-pub fn guest_why_text(
+/// holds an address which nobody answers; or the same as a JSON object on one line. It tells of the guest's own functions
+/// and latch alone. Or refuses it as a read of the byte: 303 for a slot above 31, an offset above 255 or a port above
+/// FFFFFFFFh; else 299 out of memory.
+pub fn guest_why_in(
     alloc: Global,
+    form: ReportForm,
     monitor: &Monitor,
     guest: usize,
     at: At,
 ) -> Result<String, WhyFault>
     requires { guest < length monitor.now.world.guests }
     ensures text { let g = lone_asked monitor.now.world guest in
-        IfOk result (λ t. string_bytes t ≡ guest_why_text g (target_of at)) }
+        IfOk result (λ t. string_bytes t ≡ guest_why_in form g (target_of at)) }
     ensures served { IfOk result (λ _. fault_at (target_of at) ≡ None) }
     ensures refused { IfErr result (λ e. IsWhyFault e (fault_at (target_of at))) }
 {
@@ -58,8 +123,9 @@ pub fn guest_why_text(
         Ok(finding) => finding,
         Err(fault) => return Err(fault),
     };
-    match text_of(alloc, monitor.latch(guest), at, &finding) {
-        Ok(text) => Ok(text),
-        Err(_) => Err(WhyFault::Memory),
+    let latch = monitor.latch(guest);
+    match form {
+        ReportForm::Lines => text_of(alloc, latch, at, &finding).map_err(|_| WhyFault::Memory),
+        ReportForm::Json => json_of(alloc, latch, at, &finding).map_err(|_| WhyFault::Memory),
     }
 }

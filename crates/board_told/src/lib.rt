@@ -1,4 +1,4 @@
-//! Layer: program. Below: board_refusal, board_fit, json_texts, session. Above: simulation, pciguest_c.
+//! Layer: program. Below: board_refusal, board_fit, session. Above: simulation, pciguest_c.
 //!
 //! What is told of a board, as lines or as JSON: the report of a board file, what is wrong with one, and all that is wrong
 //! and lacking in registers as they stand; why an access of a guest finds what it finds, or nobody, told of the guest's
@@ -23,7 +23,7 @@ pub use closed::ClosedInSlot;
 pub use diagnostics::Style;
 pub use fault::Fault;
 pub use finding::{Finding, WhyFault, find};
-pub use guest_why::guest_why_text;
+pub use guest_why::guest_why_in;
 pub use listing::{ReportForm, list_in};
 pub use monitor::{At, Monitor};
 pub use telling::{Question, audit_in, ready_in};

@@ -1,6 +1,6 @@
 -- The value has no float, so what is written of it is its compact text.
-use Rattle.std.{proofs.Common.{◌≡◌, ℕ, ◌+◌, List, [], ◌∷◌, Bool, true, false, ◌||◌, ◌==◌, map, Option, Some, None, refl, ap₂}, specs.Prelude.{nat_lt, if◌then◌else◌}}
-use Rattle.serde_json.specs.{Data.Data, View.items_of, Written.{has_float, items_have_float}}
+use Rattle.std.{proofs.Common.{◌≡◌, ℕ, ◌+◌, List, [], ◌∷◌, Bool, true, false, ◌||◌, ◌==◌, map, Option, Some, None, refl, ap₂}, specs.{Prelude.{nat_lt, if◌then◌else◌}, Option.option_map_or}}
+use Rattle.serde_json.specs.{Data.{Data, null}, View.items_of, Written.{has_float, items_have_float}}
 use Rattle.model_registers.specs.BridgeTable.{Window}
 use Rattle.model_board.specs.{Paths.Path, Board.{Decl, endpoint, bridge}}
 use Rattle.model_set_up.specs.{FunctionTable.{BusRange, TableRow}, SetUpWrites.{Writes, to_endpoint, to_bridge, Setting}}
@@ -8,12 +8,16 @@ use Rattle.model_guests.specs.World.{Guest}
 use Rattle.model_handoff.specs.Report.{SetUpBoard}
 use Rattle.json_texts.specs.ReportValue.{region_value, known_interrupt, named_window, written_regions, written_windows, found_buses, decl_value, function_values, slot_values, guest_value, report_value}
 
--- ---- lists of values
+-- ---- lists of values, and null where there is none
 
 module _ {A : Type 0} (f : A → Data) (none : (x : A) → has_float (f x) ≡ false) where
-  none_mapped : (xs : List A) → items_have_float (items_of (map f xs)) ≡ false
+  pub none_mapped : (xs : List A) → items_have_float (items_of (map f xs)) ≡ false
   none_mapped [] = refl
   none_mapped (x ∷ xs) = ap₂ (λ a b. a || b) (none x) (none_mapped xs)
+
+  pub none_in_option : (o : Option A) → has_float (option_map_or f o null) ≡ false
+  none_in_option None = refl
+  none_in_option (Some x) = none x
 
 none_in_slots : (n : ℕ) (ps : List Path) → items_have_float (items_of (slot_values n ps)) ≡ false
 none_in_slots n [] = refl

@@ -1,3 +1,4 @@
 pub mod ReportValue
 pub mod FunctionMembers
 pub mod AuditValue
+pub mod WhyValue

@@ -3,6 +3,7 @@ ghost use Rattle.std.specs.Prelude.{◌≡◌, IfOk, map};
 ghost use Rattle.serde_json.specs.View.{view};
 ghost use Rattle.json_texts.specs.ReportValue.{slot_value, slot_values, guest_value};
 
+use crate::has_value::HasValue;
 use crate::problem_parts::path_value;
 use accesses::GuestDecl;
 use paths::Path;
@@ -28,22 +29,12 @@ fn slot_values(alloc: Global, paths: &[Path]) -> Result<Vec<Value>, AllocError>
     Ok(values)
 }
 
-/// A guest with its slots.
-fn guest_value(alloc: Global, guest: &GuestDecl) -> Result<Value, AllocError>
-    ensures { IfOk result (λ v. view v ≡ guest_value guest.now) }
-{
-    let name = guest.name.as_str();
-    let slots = slot_values(alloc, guest.slots.as_slice())?;
-    json!(in alloc; {"name": name, "slots": slots})
-}
+impl HasValue for GuestDecl {
+    ghost shown = { guest_value };
 
-/// All guests.
-pub(crate) fn guest_values(alloc: Global, guests: &[GuestDecl]) -> Result<Vec<Value>, AllocError>
-    ensures { IfOk result (λ v. map view v.items ≡ map guest_value guests.now) }
-{
-    let mut values = Vec::new(alloc);
-    for guest in guests {
-        values.push(guest_value(alloc, guest)?)?;
+    fn value(&self, alloc: Global) -> Result<Value, AllocError> {
+        let name = self.name.as_str();
+        let slots = slot_values(alloc, self.slots.as_slice())?;
+        json!(in alloc; {"name": name, "slots": slots})
     }
-    Ok(values)
 }

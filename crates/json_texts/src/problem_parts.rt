@@ -72,7 +72,7 @@ pub(crate) fn agent_value(alloc: Global, agent: &Agent) -> Result<Value, AllocEr
 }
 
 /// A bus, device and function number.
-pub(crate) fn number_value(alloc: Global, at: Bdf) -> Result<Value, AllocError>
+pub fn number_value(alloc: Global, at: Bdf) -> Result<Value, AllocError>
     ensures { IfOk result (λ v. view v ≡ number_value (bus_address_of at)) }
 {
     let Bdf {

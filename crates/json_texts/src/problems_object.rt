@@ -53,7 +53,7 @@ fn lacks_value(alloc: Global, problems: &[Problem], lacks: &[Lack]) -> Result<Va
 }
 
 /// A value without floats on one line.
-fn line_of(alloc: Global, value: &Value) -> Result<String, AllocError>
+pub(crate) fn line_of(alloc: Global, value: &Value) -> Result<String, AllocError>
     requires { has_float (view value.now) ≡ false }
     ensures { IfOk result (λ t. string_bytes t ≡ compact_text (view value.now) ++ 10 ∷ []) }
 {

@@ -4,7 +4,7 @@ ghost use Rattle.serde_json.specs.View.{view};
 ghost use Rattle.json_texts.specs.ReportValue.{value_line, report_value};
 
 use crate::functions::function_values;
-use crate::guests::guest_values;
+use crate::has_value::values;
 use accesses::GuestDecl;
 use bus_scan::FunctionTable;
 use report::{bridges, endpoints};
@@ -25,7 +25,7 @@ fn report_value(
     let bridges = bridges(table.rows());
     let endpoints = endpoints(table.rows());
     let functions = function_values(alloc, table.rows(), plan.settings())?;
-    let guests = guest_values(alloc, guests)?;
+    let guests = values(alloc, guests)?;
     json!(in alloc; {
         "bridges": bridges,
         "endpoints": endpoints,

@@ -23,7 +23,8 @@ use Rattle.model_findings.specs.{Problems.problems, Lacks.lacks}
 use Rattle.model_handoff.specs.{Actions.calls, Changes.{MachineNow, after_on_machine, after_line_on_machine}, Functions.function_nth, DrivenFunctions.driven_function_nth}
 use Rattle.model_lines.specs.{HostAccesses.HostAccess, Sessions.{DrivenNow, SessionNow, driven, given, after_board_access, session_output, after_session_line}}
 use Rattle.session.specs.Stages.{asks_for_more, board_in, machine_in}
-use Rattle.board_told.specs.{Telling.{told_by, counted_by}, declared.telling.Question.Question}
+use Rattle.board_told.specs.{Telling.{told_by, counted_by}, declared.{listing.ReportForm.ReportForm, telling.Question.Question}}
+use Rattle.json_texts.specs.WhyValue.{host_why_json}
 use Rattle.monitor.specs.{ByIndex.name_nth, Moves.move_nth}
 use Rattle.machine_images.specs.SavedParts.{capped}
 use Rattle.pciguest_c.specs.{Told.{target_told, part_told, at_bus, host_target_told, reply_asked, after_asked, index_asked}, DevicesTold.{reply_at_device, after_at_device, wide_read, after_wide}, SeatingsTold.{gift_reply, after_gift, taking_reply, after_taking}, ImagesTold.{image_asked, fault_asked, after_restart, machine_image}, QueriesTold.{region_asked, region_told, hit_asked, hit_told}, MovesTold.{places_from, moved_count}, FunctionsTold.{function_told, slot_asked}, DrivenTold.driven_row, WhyTold.why_asked, ProblemsTold.{problem_row, lack_row}, TextsTold.at_front, Handles.{session_of, machine_of, board_of}, declared.{asking.Side.Side, handle.Handle.Handle, querying.{RegionTold.RegionTold, HitTold.HitTold}, function_row.FunctionTold.FunctionTold, driven_calls.DrivenRow.DrivenRow, problem_rows.ProblemRow.ProblemRow, moves.PlaceRow.PlaceRow}}
@@ -58,7 +59,7 @@ pub data Call : Type 0 where
   function_count : Call
   function_at : (index : ℕ) → Call
   function_in : (guest slot : ℕ) → Call
-  why : (guest space slot place : ℕ) → Call
+  why : (form : ReportForm) (guest space slot place : ℕ) → Call
   run_line : (line : Text) → Call
 
 pub data BoardCall : Type 0 where
@@ -68,6 +69,7 @@ pub data BoardCall : Type 0 where
   board_function : (index : ℕ) → BoardCall
   board_survey : (question : Question) → BoardCall
   board_findings : (of_lacks : Bool) → BoardCall
+  board_why : (space bus device function place : ℕ) → BoardCall
 
 pub data Told : Type 0 where
   nothing : Told
@@ -146,8 +148,10 @@ board_asked b o width op = option_map (λ t.
     let a : HostAccess = record { target = t; width = width; op = op } in
     (board.answer b.state a, after_board_access b a)) o
 
-unfoldable pub telling_why : MachineNow → ℕ → Option Target → Outcome
-telling_why m guest o = where_lawful (where_guest m guest o) (λ t. telling text (why_asked m.world guest t) (given m))
+-- as lines or as JSON
+unfoldable pub telling_why : ReportForm → MachineNow → ℕ → Option Target → Outcome
+telling_why form m guest o =
+    where_lawful (where_guest m guest o) (λ t. telling text (why_asked form m.world guest t) (given m))
 
 unfoldable pub telling_fault : MachineNow → ℕ → Text → Outcome
 telling_fault m guest bytes = of_guest m guest (tells (text (fault_asked m.world guest bytes)) (given m))
@@ -164,6 +168,9 @@ found_rows true b = map lack_row (lacks b.world.apertures b.state.functions)
 
 unfoldable pub finding : Bool → DrivenNow → Outcome
 finding of_lacks b = tells (rows (found_rows of_lacks b)) (driven b)
+
+unfoldable pub explaining : Option HostTarget → DrivenNow → Outcome
+explaining o b = where_lawful o (λ t. tells (text (host_why_json b.state t)) (driven b))
 
 abbrev pub outcome : Call → MachineNow → Outcome
 outcome (read guest space slot place width) m = where_lawful (where_guest m guest (target_told space slot place)) (λ t.
@@ -211,7 +218,7 @@ outcome function_count m = tells (number (length (board_state m.world).functions
 outcome (function_at index) m = where_lawful (function_nth (board_state m.world) m.world.guests index) (λ f.
     tells (a_function (function_told m.world f)) (given m))
 outcome (function_in guest slot) m = telling_slot m guest slot
-outcome (why guest space slot place) m = telling_why m guest (target_told space slot place)
+outcome (why form guest space slot place) m = telling_why form m guest (target_told space slot place)
 outcome (run_line line) m = tells (reply (line_output m.world line)) (given (after_line_on_machine m line))
 
 abbrev pub board_outcome : BoardCall → DrivenNow → Outcome
@@ -226,6 +233,8 @@ board_outcome (board_function index) b = where_lawful (driven_function_nth b.sta
     tells (a_driven (driven_row f)) (driven b))
 board_outcome (board_survey question) b = surveying question b
 board_outcome (board_findings of_lacks) b = finding of_lacks b
+board_outcome (board_why space bus device function place) b =
+    explaining (host_target_told space (at_bus bus device function) place) b
 
 -- ---- what is answered
 

@@ -1,19 +1,24 @@
-//! What C is told of why an access of a guest finds what it finds.
+//! What C is told of why an access of a guest, or an address, a port or a configuration number of a board, finds what it
+//! finds.
 ghost use Rattle.std.specs.Prelude.{◌≡◌, IfOk, IfErr, string_bytes};
-ghost use Rattle.model_lines.specs.Sessions.{given};
-ghost use Rattle.pciguest_c.specs.{Told.target_told, Calls.{AnswersOrRunsOut, why, telling_why, text, buffer, refusal, tells, unless_out}};
+ghost use Rattle.model_lines.specs.Sessions.{driven, given};
+ghost use Rattle.pciguest_c.specs.{Told.{target_told, at_bus, host_target_told}, Calls.{AnswersOrRunsOut, AnswersBoardOrRunsOut, why, board_why, telling_why, explaining, text, buffer, refusal, tells, unless_out}};
 
 use crate::asking::target_for;
 use crate::handle::Handle;
+use crate::host_calls::host_at;
+use crate::numbers::{ARGUMENT, MEMORY};
 use crate::text_calls::tell;
-use board_told::guest_why_text;
+use board_told::{ReportForm, guest_why_in};
 use monitor::Monitor;
+use session::Board;
 use std::alloc::Global;
 
 /// Why an access of a guest finds what it finds, or the number of why that isn't told.
 #[tactic(auto, unfolding(crate::specs::Calls::telling_why))]
 fn why_of(
     alloc: Global,
+    form: ReportForm,
     machine: &Monitor,
     guest: usize,
     space: u32,
@@ -21,13 +26,38 @@ fn why_of(
     place: u64,
 ) -> Result<String, u32>
     ensures told { IfOk result (λ s.
-        telling_why machine.now guest (target_told space slot place)
+        telling_why form machine.now guest (target_told space slot place)
         ≡ tells (text (string_bytes s)) (given machine.now)) }
     ensures refused { IfErr result (λ n.
-        unless_out n (telling_why machine.now guest (target_told space slot place)) ≡ refusal n) }
+        unless_out n (telling_why form machine.now guest (target_told space slot place))
+        ≡ refusal n) }
 {
     let at = target_for(machine, guest, space, slot, place)?;
-    guest_why_text(alloc, machine, guest, at).map_err(|fault| u32::from(fault.number()))
+    guest_why_in(alloc, form, machine, guest, at).map_err(|fault| u32::from(fault.number()))
+}
+
+/// Tells this of the machine in a handle.
+fn tell_why(
+    alloc: Global,
+    handle: &mut Handle,
+    form: ReportForm,
+    guest: usize,
+    space: u32,
+    slot: u64,
+    place: u64,
+    out: &mut [u8],
+    needed: &mut usize,
+) -> u32
+    ensures { AnswersOrRunsOut (why form guest space slot place) handle.old handle.new result
+        (buffer out.old needed.old) (buffer out.new needed.new) }
+{
+    let answer = handle.ask_machine(alloc, |machine| {
+        why_of(alloc, form, machine, guest, space, slot, place)
+    });
+    match answer {
+        Ok(text) => tell(text.as_bytes(), out, needed),
+        Err(number) => number,
+    }
 }
 
 /// Writes why an access of a guest at a place finds what it finds to the front of `out`, and tells how long the text is,
@@ -43,11 +73,96 @@ pub extern "C" fn pciguest_raw_why(
     out: &mut [u8],
     needed: &mut usize,
 ) -> u32
-    ensures { AnswersOrRunsOut (why guest space slot place) handle.old handle.new result
+    ensures { let form = ReportForm.Lines in
+        AnswersOrRunsOut (why form guest space slot place) handle.old handle.new result
         (buffer out.old needed.old) (buffer out.new needed.new) }
 {
-    let answer = handle.ask_machine(alloc, |machine| {
-        why_of(alloc, machine, guest, space, slot, place)
+    tell_why(
+        alloc,
+        handle,
+        ReportForm::Lines,
+        guest,
+        space,
+        slot,
+        place,
+        out,
+        needed,
+    )
+}
+
+/// Writes so a JSON object on one line.
+#[unsafe(no_mangle)]
+pub extern "C" fn pciguest_raw_why_json(
+    alloc: Global,
+    handle: &mut Handle,
+    guest: usize,
+    space: u32,
+    slot: u64,
+    place: u64,
+    out: &mut [u8],
+    needed: &mut usize,
+) -> u32
+    ensures { let form = ReportForm.Json in
+        AnswersOrRunsOut (why form guest space slot place) handle.old handle.new result
+        (buffer out.old needed.old) (buffer out.new needed.new) }
+{
+    tell_why(
+        alloc,
+        handle,
+        ReportForm::Json,
+        guest,
+        space,
+        slot,
+        place,
+        out,
+        needed,
+    )
+}
+
+/// Why an address, a port or a configuration number finds what it finds, or 902 where there is no such place, or 299 out of
+/// memory.
+#[tactic(auto, unfolding(crate::specs::Calls::explaining))]
+fn board_why_of(
+    alloc: Global,
+    board: &mut Board,
+    space: u32,
+    bus: u8,
+    device: u8,
+    function: u8,
+    place: u64,
+) -> Result<String, u32>
+    ensures told { let at = host_target_told space (at_bus bus device function) place in
+        IfOk result (λ s.
+        explaining at board.old ≡ tells (text (string_bytes s)) (driven board.old)) }
+    ensures refused { let at = host_target_told space (at_bus bus device function) place in
+        IfErr result (λ n. unless_out n (explaining at board.old) ≡ refusal n) }
+    ensures kept { board.new ≡ board.old }
+{
+    let at = host_at(space, bus, device, function, place).ok_or(ARGUMENT)?;
+    board.why_json(alloc, at).map_err(|_| MEMORY)
+}
+
+/// Writes why an address, a port or a configuration number of a board finds what it finds as its registers stand, or
+/// nothing, to the front of `out` as a JSON object on one line, and tells how long that is, also where `out` has less room
+/// than that. Bus, device and function are looked at for configuration space alone, and the place isn't there. The board
+/// stays as it is.
+#[unsafe(no_mangle)]
+pub extern "C" fn pciguest_raw_board_why_json(
+    alloc: Global,
+    handle: &mut Handle,
+    space: u32,
+    bus: u8,
+    device: u8,
+    function: u8,
+    place: u64,
+    out: &mut [u8],
+    needed: &mut usize,
+) -> u32
+    ensures { AnswersBoardOrRunsOut (board_why space bus device function place) handle.old
+        handle.new result (buffer out.old needed.old) (buffer out.new needed.new) }
+{
+    let answer = handle.ask_board(alloc, |board| {
+        board_why_of(alloc, board, space, bus, device, function, place)
     });
     match answer {
         Ok(text) => tell(text.as_bytes(), out, needed),

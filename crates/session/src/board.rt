@@ -4,16 +4,17 @@ ghost use Rattle.model_guests.specs.{Accesses.{reads, writes}, Replies.reply_tex
 ghost use Rattle.model_findings.specs.{AuditText.audit, Problems.problems, Lacks.lack_count, ReadyText.ready_report};
 ghost use Rattle.model_handoff.specs.Changes.{BeginsIn};
 ghost use Rattle.model_lines.specs.{HostAccesses.answer, FirmwareLines.text_by, Requests.why_written, GivenLaws.IsGiven, Sessions.{at_reset, after_board_access, after_meant}};
-ghost use Rattle.accesses.specs.{Accesses.reply_of, Replies.{IsRefusal, IsShown}};
+ghost use Rattle.accesses.specs.{Accesses.{host_target_of, reply_of}, Replies.{IsRefusal, IsShown}};
 ghost use Rattle.lines.specs.{FirmwareLines.{host_asked, firmware_meaning_of}, Requests.why_asked_of};
 ghost use Rattle.board_file.specs.{declared.fault.BoardFault.TheVariants.Memory, Faults.number_of as file_number};
 ghost use Rattle.bus_scan.specs.{declared.fault.Fault.TheVariants.Memory as SetUpMemory, Faults.number_of as set_up_number};
 ghost use Rattle.session.specs.{Boards.IsRefusalOf, Files.{Declares, Refuses, BreaksRule, IsAtFirst}, Refusals.refusal_by};
 ghost use Rattle.script.specs.Refusals.{refusal_of};
+ghost use Rattle.json_texts.specs.WhyValue.{host_why_json};
 
 use crate::accessing;
 use crate::opening::begin;
-use accesses::{GuestDecl, HostAccess, Refusal, Reply};
+use accesses::{GuestDecl, HostAccess, HostAt, Refusal, Reply};
 use bars::Space;
 use board_file::{BoardFault, read_board};
 use findings_told::{
@@ -21,6 +22,7 @@ use findings_told::{
 };
 use headers::Apertures;
 use host_bridge::Host;
+use json_texts::host_why_json;
 use lines::{FirmwareWhat, LineText, WhyAsked, push_named};
 use monitor::{Monitor, Refused};
 use script::refusal_of;
@@ -223,5 +225,14 @@ impl Board {
             WhyAsked::Io { port } => why_port_text(alloc, &mut self.host, port),
             WhyAsked::Config { bdf } => why_number_text(alloc, &mut self.host, bdf),
         }
+    }
+
+    /// The same of where an access of firmware goes, as a JSON object on one line. Of a number the offset is of no matter.
+    pub fn why_json(&mut self, alloc: Global, at: HostAt) -> Result<String, AllocError>
+        ensures text { IfOk result (λ t.
+            string_bytes t ≡ host_why_json self.old.state (host_target_of at)) }
+        ensures after { self.new ≡ self.old }
+    {
+        host_why_json(alloc, &mut self.host, at)
     }
 }

@@ -1,4 +1,4 @@
-//! Layer: program. Below: script, findings_told, board_file. Above: board_told.
+//! Layer: program. Below: script, findings_told, json_texts, board_file. Above: board_told.
 //!
 //! Sessions over a board: firmware's lines from reset on, among them those that ask for an audit, for readiness or why
 //! something finds what it finds, and the handover of the board to its guests, whose script the lines are from there on.

@@ -14,7 +14,7 @@ from ._held import Held, as_bytes
 from ._library import CALLS, number, told
 from ._machine import Machine
 from ._refusal import answered
-from ._spaces import Functions, Space
+from ._spaces import Functions, Space, number_of_space
 from ._texts import NAME, explained
 
 
@@ -170,6 +170,18 @@ class Board(Held):
         '2.0/1.0'
         """
         return self._counted("board_ready_json")[0]
+
+    def why_json(self, space: str, place: int = 0, bus: int = 0, device: int = 0, function: int = 0) -> str:
+        """Why a port ("io"), an address ("memory") or the number of a function ("config") finds what it finds as the
+        registers stand, or nothing, as a JSON object on one line, with all that the lines of `host why ..` tell. The board
+        stays as it is, CONFIG_ADDRESS too. 902: a device above 31, or a function above 7. 299: memory is out.
+
+        >>> import json
+        >>> json.loads(Board(BOARD).why_json("config", bus=1))["found"]["missing"]
+        {'behind': None, 'bus': 1}
+        """
+        at = number("bus", bus, 8), number("device", device, 8), number("function", function, 8), number("place", place, 64)
+        return self._told("board_why_json", 1024, number_of_space(space), *at)
 
     def problems(self) -> List[BoardProblem]:
         """The problems of an audit, one by one, in the order of its lines. It is refused by 299 where memory is out.

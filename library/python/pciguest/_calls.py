@@ -496,6 +496,11 @@ DECLARED: Dict[str, Tuple[Any, Tuple[Any, ...]]] = {
         c_uint32,
         (POINTER(Handle), c_size_t, c_uint32, c_uint64, c_uint64, POINTER(c_char), c_size_t, POINTER(c_size_t)),
     ),
+    # Writes so a JSON object on one line, with all that these lines tell. Since 0.4.0.
+    "why_json": (
+        c_uint32,
+        (POINTER(Handle), c_size_t, c_uint32, c_uint64, c_uint64, POINTER(c_char), c_size_t, POINTER(c_size_t)),
+    ),
     # How many functions the board has, endpoints and bridges. Since 0.4.0.
     "count": (c_uint32, (POINTER(Handle), POINTER(c_size_t))),
     # The function at an index, from 0 to one less than pciguest_count tells, in the order of paths: a bridge stands
@@ -597,6 +602,17 @@ DECLARED: Dict[str, Tuple[Any, Tuple[Any, ...]]] = {
     "board_ready_json": (
         c_uint32,
         (POINTER(BoardHandle), POINTER(c_char), c_size_t, POINTER(c_size_t), POINTER(c_size_t)),
+    ),
+    # Writes why an address, a port or a function's number finds what it finds as the registers stand, or nothing, as a
+    # JSON object on one line, with all that the lines of `host why ..` tell. The place is as for pciguest_board_read,
+    # but that no offset is looked at where a number is asked, and that nobody answers at a port above FFFFFFFFh. It
+    # tells the text's length, which has no 0 at its end. The board stays as it is, CONFIG_ADDRESS too.
+    # 902: there is no such space, device or function; or there is less room than the text needs, whose length alone is
+    # told.
+    # 299: out of memory. Since 0.4.0.
+    "board_why_json": (
+        c_uint32,
+        (POINTER(BoardHandle), c_uint32, c_uint8, c_uint8, c_uint8, c_uint64, POINTER(c_char), c_size_t, POINTER(c_size_t)),
     ),
     # Writes a row for each problem that pciguest_board_audit has a line of, in the same order, and tells how many there
     # are. The board stays as it is. 902: there is room for fewer rows than that, whose number alone is told. 299: out

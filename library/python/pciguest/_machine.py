@@ -16,7 +16,7 @@ from ._library import CALLS, number, told
 from ._lines import Access, access_of
 from ._refusal import Refusal, answered
 from ._regions import Hit, Moved, Region, region_of
-from ._spaces import Cycles, Functions, ReadableSpace, Space
+from ._spaces import Cycles, Functions, ReadableSpace, Space, number_of_space
 from ._texts import NAME, explained
 
 
@@ -370,11 +370,20 @@ class Guest(Saved):
         tells of the guest's own functions and CONFIG_ADDRESS alone. It changes nothing. 303: the slot, the offset or the
         port is out of range. 299: out of memory.
         """
-        spaces = {"config": CONFIG, "io": IO, "memory": MEMORY}
-        if space not in spaces:
-            raise ValueError(f"space: {space!r} is none of 'config', 'io' and 'memory'")
-        at = spaces[space], number("slot", slot, 64), number("place", place, 64)
-        return self.machine._told("why", 512, self.index, *at)
+        return self._told_why("why", space, place, slot)
+
+    def why_json(self, space: str, place: int, slot: int = 0) -> str:
+        """Why it does as a JSON object on one line, with all that the lines tell.
+
+        >>> import json
+        >>> json.loads(Machine(BOARD).guest("a").why_json("config", 0, 5))["found"]
+        {'slot': 5, 'type': 'empty'}
+        """
+        return self._told_why("why_json", space, place, slot)
+
+    def _told_why(self, call: str, space: str, place: int, slot: int) -> str:
+        at = number_of_space(space), number("slot", slot, 64), number("place", place, 64)
+        return self.machine._told(call, 512, self.index, *at)
 
     def _space(self, space: int, slot: int) -> Space:
         return _GuestSpace(self, space, slot)

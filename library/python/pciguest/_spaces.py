@@ -14,6 +14,14 @@ Cycles = List[Tuple[int, int]]
 LAST = {CONFIG: 0xFF, IO: 0xFFFFFFFF, MEMORY: (1 << 64) - 1}
 
 
+def number_of_space(name: str) -> int:
+    """A space by its name."""
+    spaces = {"config": CONFIG, "io": IO, "memory": MEMORY}
+    if name not in spaces:
+        raise ValueError(f"space: {name!r} is none of 'config', 'io' and 'memory'")
+    return spaces[name]
+
+
 def place_and_width(key: slice) -> Tuple[int, int]:
     """What stands between the brackets of an access."""
     if not isinstance(key, slice) or key.start is None or key.stop is None or key.step is not None:

@@ -6,6 +6,7 @@ import unittest
 
 from boards import BOARDS, MAIN, REFUSED
 from pciguest import Board, Machine, Refusal
+from why_lines import why_lines
 
 
 class Case(unittest.TestCase):
@@ -150,6 +151,37 @@ class Audits(Case):
                 self.assertEqual([each["type"] for each in told["problems"]], [each.kind for each in board.problems()])
                 regions = [(each["type"], each["region"]["path"], each["region"]["bar"]) for each in told["lacks"]]
                 self.assertEqual(regions, [each[:3] for each in board.lacks()])
+
+    def test_json_tells_why_as_lines_do(self):
+        chosen = random.Random(4)
+        for name in ("main", "server", "second_bridge", "largest"):
+            with Board((BOARDS / f"{name}.toml").read_bytes()) as board:
+                for _ in range(300):
+                    one = board.function(chosen.randrange(min(board.count(), 8))).function
+                    space = board.config[one.bus, one.device, one.function]
+                    offset = chosen.choice((4, 0x10, 0x14, 0x18, 0x1C, 0x20, 0x24))
+                    space[offset:4] = chosen.choice((0, 3, 7, 0x10100, 0x30200, 0xC000C000, 0xC0F0C000, 0xC0000000, 0x1000))
+                    board.io[0xCF8:4] = chosen.choice((0, 0x80000000)) | chosen.randrange(0x40000)
+                    latch = board.io[0xCF8:4]
+                    for line, what, at in self.asked(chosen):
+                        told = board.run_line(f"host why {line}").split("\n")
+                        lines = why_lines(board.why_json(*at), what, latch)
+                        count = f"{len(lines)} line{'s' if len(lines) > 1 else ''}"
+                        self.assertEqual(told, [f"why: {each}" for each in [*lines, count]])
+        with self.assertRaises(ValueError):
+            self.board.why_json("mem", 0)
+        with self.assertRaises(ValueError):
+            self.board.why_json("config", bus=256)
+        self.refused(902, self.board.why_json, "config", 0, 0, 32)
+
+    def asked(self, chosen):
+        """Places to ask about: the words of a line, of the first line of its reply, and of the call."""
+        number = chosen.randrange(4), chosen.randrange(4), 0
+        yield "cfg {0:02x}:{1:02x}.{2}".format(*number), "{0:02x}:{1:02x}.{2}".format(*number), ("config", 0, *number)
+        for port in (0xCF8, chosen.randrange(0xCFC, 0xD00), chosen.choice((0, 0x1000, 0x1004))):
+            yield f"io {port:#x}", f"I/O {port:#x}", ("io", port)
+        for address in (chosen.choice((0, 0x1000, 0x4000)), chosen.choice((0xC0000000, 0xC0100000, 0xC1000000))):
+            yield f"mem {address:#x}", f"memory {address:#x}", ("memory", address)
 
     def test_a_line_asks_for_an_audit(self):
         self.assertEqual(self.board.run_line("host audit"), self.board.audit().text.rstrip("\n"))

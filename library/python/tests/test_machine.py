@@ -1,6 +1,7 @@
 """Each call on `boards/main.toml`, and what is refused."""
 
 import gc
+import random
 import threading
 import unittest
 import unittest.mock
@@ -8,6 +9,7 @@ import unittest.mock
 from boards import MAIN, REFUSED
 from pciguest import Bar, Interrupt, Machine, Refusal, limits
 from pciguest._library import CALLS
+from why_lines import why_lines
 
 
 class Case(unittest.TestCase):
@@ -105,6 +107,20 @@ class Guests(Case):
         self.refused(303, a.why, "config", 0, 32)
         with self.assertRaises(ValueError):
             a.why("mem", 0)
+
+    def test_json_tells_a_guest_why_as_lines_do(self):
+        chosen = random.Random(4)
+        for _ in range(2000):
+            guest, slot = chosen.choice((self.a, self.b)), chosen.randrange(3)
+            guest.config[slot][chosen.choice((4, 4, 0x10, 0x14)) : 4] = chosen.choice((0, 3, 0x1000, 0xC0000000))
+            guest.io[0xCF8:4] = chosen.choice((0, 0x80000000)) | chosen.randrange(0x20000)
+            latch = guest.io[0xCF8:4]
+            port, address = chosen.choice((0, 0x1000, 0xCF8, 0xCFC, 0xCFF)), chosen.choice((0, 0x1000, 0xC0000004))
+            for what, at in ((f"slot {slot} offset 0x10", ("config", 0x10, slot)), (f"I/O {port:#x}", ("io", port)),
+                             (f"memory {address:#x}", ("memory", address))):
+                lines = why_lines(guest.why_json(*at), what, latch)
+                self.assertEqual(guest.why(*at), "".join(f"why: {each}\n" for each in lines))
+        self.refused(303, self.a.why_json, "config", 0, 32)
 
     def test_a_function_moves(self):
         self.a.config[0][4:2] = 2

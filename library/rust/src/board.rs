@@ -303,6 +303,44 @@ impl Board {
         Ok(self.counted(raw::pciguest_board_ready_json)?.0)
     }
 
+    /// Why a place finds what it finds as the registers stand, or nothing, as a JSON object on one line, with all that the
+    /// lines of `host why ..` tell. Of configuration space no offset is looked at. The board stays as it is, CONFIG_ADDRESS
+    /// too.
+    ///
+    /// # Errors
+    ///
+    /// 902: the device is above 31, or the function above 7. Or out of memory.
+    ///
+    /// ```
+    /// # const BOARD: &str = include_str!("board.toml");
+    /// use pciguest::{Board, HostAt};
+    ///
+    /// let mut board = Board::new(BOARD)?;
+    /// assert_eq!(
+    ///     board.why_json(HostAt::Memory { address: 0xd000_0000 })?,
+    ///     "{\"found\":{\"answer\":null,\"at_reset\":0,\"forwards\":[],\"regions\":[]},\"latch\":null}\n"
+    /// );
+    /// # Ok::<(), pciguest::Error>(())
+    /// ```
+    pub fn why_json(&mut self, at: HostAt) -> Result<String, Error> {
+        let (space, bus, device, function, place) = at.parts();
+        // SAFETY: the text has as many bytes as is said, and nothing overlaps.
+        let (number, text) = told(1024, |text, room, needed| unsafe {
+            raw::pciguest_board_why_json(
+                &mut self.handle,
+                space,
+                bus,
+                device,
+                function,
+                place,
+                text,
+                room,
+                needed,
+            )
+        });
+        answered(number).map(|()| text)
+    }
+
     fn counted(&mut self, call: TextCall) -> Result<(String, usize), Error> {
         let mut count = 0;
         // SAFETY: the text has as many bytes as is said, and nothing overlaps.

@@ -11,6 +11,10 @@ use crate::touch::Touch;
 use core::fmt;
 use core::ptr::null_mut;
 
+/// A call that tells a guest why.
+type WhyCall =
+    unsafe extern "C" fn(*mut Handle, usize, u32, u64, u64, *mut u8, usize, *mut usize) -> u32;
+
 /// A board that is set up, with its guests. What it holds is freed when it is dropped.
 ///
 /// Each call takes the machine mutably, also a read, since the library makes one call at a time on one machine. So a
@@ -681,10 +685,36 @@ impl Machine {
     /// # Ok::<(), pciguest::Error>(())
     /// ```
     pub fn why(&mut self, guest: Guest, at: At) -> Result<String, Error> {
+        self.told_why(raw::pciguest_why, guest, at)
+    }
+
+    /// [Why](Machine::why) so as a JSON object on one line, with all that the lines tell.
+    ///
+    /// # Errors
+    ///
+    /// As a read of one byte is refused, or out of memory.
+    ///
+    /// ```
+    /// # const BOARD: &str = include_str!("board.toml");
+    /// use pciguest::{At, Machine};
+    ///
+    /// let mut machine = Machine::new(BOARD)?;
+    /// let a = machine.guest("a")?;
+    /// assert_eq!(
+    ///     machine.why_json(a, At::Config { slot: 5, offset: 0 })?,
+    ///     "{\"found\":{\"slot\":5,\"type\":\"empty\"},\"latch\":null}\n"
+    /// );
+    /// # Ok::<(), pciguest::Error>(())
+    /// ```
+    pub fn why_json(&mut self, guest: Guest, at: At) -> Result<String, Error> {
+        self.told_why(raw::pciguest_why_json, guest, at)
+    }
+
+    fn told_why(&mut self, call: WhyCall, guest: Guest, at: At) -> Result<String, Error> {
         let (space, slot, place) = at.parts();
         // SAFETY: the text has as many bytes as is said, and nothing overlaps.
         let (number, text) = told(512, |text, room, needed| unsafe {
-            raw::pciguest_why(
+            call(
                 &mut self.handle,
                 guest.index(),
                 space,

@@ -158,6 +158,24 @@ fn what_is_found_is_told_as_json() -> Result<(), Error> {
 }
 
 #[test]
+fn what_is_found_is_told_with_why() -> Result<(), Error> {
+    let mut board = Board::new(BOARD)?;
+    board.write(HostAt::Io { port: 0xcf8 }, 4, 0x8000_0840)?;
+    assert_eq!(
+        board.why_json(config(1, 0, 256))?,
+        "{\"found\":{\"missing\":{\"behind\":null,\"bus\":1},\"not_found\":[],\"reached\":null,\"takers\":[]},\
+         \"latch\":null}\n"
+    );
+    assert_eq!(
+        board.why_json(HostAt::Io { port: 0xcfe })?,
+        "{\"found\":{\"missing\":null,\"not_found\":[\"2.0/1.0\"],\"reached\":\"1.0\",\"takers\":[]},\"latch\":{\
+         \"number\":{\"bus\":0,\"device\":1,\"function\":0},\"offset\":66,\"type\":\"selected\"}}\n"
+    );
+    assert_eq!(number(board.why_json(config(0, 32, 0))), 902);
+    Ok(())
+}
+
+#[test]
 fn set_up_takes_a_board_at_reset() -> Result<(), Error> {
     let mut board = Board::new(BOARD)?;
     assert_eq!(number(board.write(config(0, 1, 5), 2, 2)), 301);

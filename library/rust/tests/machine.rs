@@ -247,6 +247,11 @@ fn a_guest_is_told_why() -> Result<(), Error> {
          why: slot 0 bar1 at 0xd0000000 size 0x1000: closed, Command 0x0000\n"
     );
     assert_eq!(
+        machine.why_json(a, bell)?,
+        "{\"found\":{\"regions\":[{\"bar\":1,\"base\":3489660928,\"command\":0,\"size\":4096,\"slot\":0}],\
+         \"type\":\"nobody\"},\"latch\":null}\n"
+    );
+    assert_eq!(
         machine.why(b, bell)?,
         "why: memory 0xd0000010: nobody answers\n"
     );
@@ -266,6 +271,7 @@ fn a_guest_is_told_why() -> Result<(), Error> {
          why: I/O 0xcfe: slot 1 configuration offset 0x42 answers\n"
     );
     assert_eq!(number(machine.why(a, config(0, 256))), 303);
+    assert_eq!(number(machine.why_json(a, config(0, 256))), 303);
     assert_eq!(number(machine.why(Guest::of_index(2), bell)), 902);
     Ok(())
 }

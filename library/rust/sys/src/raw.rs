@@ -734,6 +734,17 @@ extern "C" {
         room: usize,
         needed: *mut usize,
     ) -> u32;
+    /// Writes so a JSON object on one line, with all that these lines tell. Since 0.4.0.
+    pub fn pciguest_why_json(
+        machine: *mut Handle,
+        guest: usize,
+        space: u32,
+        slot: u64,
+        place: u64,
+        text: *mut u8,
+        room: usize,
+        needed: *mut usize,
+    ) -> u32;
     /// How many functions the board has, endpoints and bridges. Since 0.4.0.
     pub fn pciguest_count(machine: *mut Handle, count: *mut usize) -> u32;
     /// The function at an index, from 0 to one less than pciguest_count tells, in the order of paths: a bridge stands
@@ -903,6 +914,25 @@ extern "C" {
         room: usize,
         needed: *mut usize,
         count: *mut usize,
+    ) -> u32;
+    /// Writes why an address, a port or a function's number finds what it finds as the registers stand, or nothing, as
+    /// a JSON object on one line, with all that the lines of `host why ..` tell. The place is as for
+    /// pciguest_board_read, but that no offset is looked at where a number is asked, and that nobody answers at a port
+    /// above FFFFFFFFh. It tells the text's length, which has no 0 at its end. The board stays as it is, CONFIG_ADDRESS
+    /// too.
+    /// 902: there is no such space, device or function; or there is less room than the text needs, whose length alone
+    /// is told.
+    /// 299: out of memory. Since 0.4.0.
+    pub fn pciguest_board_why_json(
+        board: *mut BoardHandle,
+        space: u32,
+        bus: u8,
+        device: u8,
+        function: u8,
+        place: u64,
+        text: *mut u8,
+        room: usize,
+        needed: *mut usize,
     ) -> u32;
     /// Writes a row for each problem that pciguest_board_audit has a line of, in the same order, and tells how many
     /// there are. The board stays as it is. 902: there is room for fewer rows than that, whose number alone is told.

@@ -1,0 +1,25 @@
+//! Values one after the other.
+ghost use Rattle.std.specs.Prelude.{◌≡◌, IfOk, map};
+ghost use Rattle.serde_json.specs.{Data.Data, View.view};
+
+use serde_json::Value;
+use std::alloc::{AllocError, Global};
+
+/// What is told as a JSON value.
+pub trait HasValue {
+    ghost shown: { Self → Data };
+
+    fn value(&self, alloc: Global) -> Result<Value, AllocError>
+        ensures { IfOk result (λ v. view v ≡ shown self.now) };
+}
+
+/// The values of these, in their order.
+pub fn values<T: HasValue>(alloc: Global, told: &[T]) -> Result<Vec<Value>, AllocError>
+    ensures { IfOk result (λ v. map view v.items ≡ map T.shown told.now) }
+{
+    let mut values = Vec::new(alloc);
+    for one in told {
+        values.push(one.value(alloc)?)?;
+    }
+    Ok(values)
+}

@@ -1,0 +1,285 @@
+//! Why an address, a port or a configuration number finds what it finds.
+ghost use Rattle.std.specs.{Prelude.{◌≡◌, [], IfOk, map, option_map, unwrap_or, false, string_bytes}, Option.option_map_or};
+ghost use Rattle.serde_json.specs.{Data.null, View.view, Written.has_float};
+ghost use Rattle.bars.specs.Kinds.{named_space};
+ghost use Rattle.paths.specs.BusAddresses.{bus_address_of};
+ghost use Rattle.accesses.specs.Accesses.{host_target_of};
+ghost use Rattle.model_lines.specs.{Why.why, Ways.why_number, WhyPorts.port_use};
+ghost use Rattle.findings.specs.WhyTold.{window_told, windows_told, cause_told, region_told, forwarder_told, missing_told, use_told};
+ghost use Rattle.json_texts.specs.{AuditValue.path_value, WhyValue.{window_value, cause_value, told_value, forwarder_value, claim_value, address_value, behind_value, missing_value, way_value, why_value, why_json, port_json, host_why_json}};
+
+use crate::has_value::{HasValue, values};
+use crate::problem_parts::{number_value, path_value, reached_value, region_value};
+use crate::problems_object::line_of;
+use accesses::HostAt;
+use bars::Space;
+use bridge_forward::{Claim, Window};
+use findings::{
+    Cause, Forwarder, Hindrance, Missing, NamedWindow, PortUse, Told, WindowName, port_use,
+    why_address, why_number,
+};
+use host_bridge::{Bdf, Host};
+use paths::Path;
+use serde_json::{Value, json};
+use std::alloc::{AllocError, Global};
+
+impl HasValue for Path {
+    ghost shown = { path_value };
+
+    fn value(&self, alloc: Global) -> Result<Value, AllocError> {
+        path_value(alloc, self)
+    }
+}
+
+impl HasValue for NamedWindow {
+    ghost shown = { λ w. window_value (window_told w) };
+
+    fn value(&self, alloc: Global) -> Result<Value, AllocError> {
+        let space = match self.name {
+            WindowName::Io => "io",
+            WindowName::Memory => "mem",
+            WindowName::Prefetchable => "prefetchable",
+        };
+        match self.window {
+            Some(Window { first, last }) => {
+                json!(in alloc; {"range": {"first": first, "last": last}, "space": space})
+            }
+            None => json!(in alloc; {"range": null, "space": space}),
+        }
+    }
+}
+
+/// The windows that a bridge has for a space.
+fn window_values(
+    alloc: Global,
+    one: &Option<NamedWindow>,
+    other: &Option<NamedWindow>,
+) -> Result<Vec<Value>, AllocError>
+    ensures { IfOk result (λ v.
+        map view v.items ≡ map window_value (windows_told one.now other.now)) }
+{
+    let mut windows = Vec::new(alloc);
+    if let Some(window) = one {
+        windows.push(window.value(alloc)?)?;
+    }
+    if let Some(window) = other {
+        windows.push(window.value(alloc)?)?;
+    }
+    Ok(windows)
+}
+
+impl HasValue for Cause {
+    ghost shown = { λ c. cause_value (cause_told c) };
+
+    fn value(&self, alloc: Global) -> Result<Value, AllocError> {
+        match self {
+            Cause::ClosedBy { command } => {
+                json!(in alloc; {"command": *command, "type": "closed"})
+            }
+            Cause::StoppedAt { bridge, hindrance } => {
+                let bridge = path_value(alloc, bridge)?;
+                match hindrance {
+                    Hindrance::Closes { command } => json!(in alloc; {
+                        "bridge": bridge,
+                        "command": *command,
+                        "type": "bridge closed"
+                    }),
+                    Hindrance::Misses { one, other } => json!(in alloc; {
+                        "bridge": bridge,
+                        "type": "outside windows",
+                        "windows": window_values(alloc, one, other)?
+                    }),
+                }
+            }
+        }
+    }
+}
+
+/// What keeps a region from answering.
+fn cause_values(alloc: Global, causes: &[Cause]) -> Result<Vec<Value>, AllocError>
+    ensures { IfOk result (λ v. map view v.items ≡ map cause_value (map cause_told causes.now)) }
+{
+    let mut values = Vec::new(alloc);
+    for cause in causes {
+        values.push(cause.value(alloc)?)?;
+    }
+    Ok(values)
+}
+
+impl HasValue for Told {
+    ghost shown = { λ t. told_value (region_told t) };
+
+    fn value(&self, alloc: Global) -> Result<Value, AllocError> {
+        let causes = cause_values(alloc, &self.causes)?;
+        json!(in alloc; {"causes": causes, "region": region_value(alloc, &self.region)?})
+    }
+}
+
+/// The other regions that hold an address.
+fn region_values(alloc: Global, regions: &[Told]) -> Result<Vec<Value>, AllocError>
+    ensures { IfOk result (λ v.
+        map view v.items ≡ map told_value (map region_told regions.now)) }
+{
+    values(alloc, regions)
+}
+
+impl HasValue for Forwarder {
+    ghost shown = { λ g. forwarder_value (forwarder_told g) };
+
+    fn value(&self, alloc: Global) -> Result<Value, AllocError> {
+        json!(in alloc; {"bus": self.bus, "path": path_value(alloc, &self.path)?})
+    }
+}
+
+/// The bridges that forward an address.
+fn forwarder_values(alloc: Global, forwarders: &[Forwarder]) -> Result<Vec<Value>, AllocError>
+    ensures { IfOk result (λ v.
+        map view v.items ≡ map forwarder_value (map forwarder_told forwarders.now)) }
+{
+    let mut values = Vec::new(alloc);
+    for forwarder in forwarders {
+        values.push(forwarder.value(alloc)?)?;
+    }
+    Ok(values)
+}
+
+/// What answers, or `null` where nothing does.
+fn answer_value(alloc: Global, answer: &Option<Claim>) -> Result<Value, AllocError>
+    ensures { IfOk result (λ v. view v ≡ option_map_or claim_value answer.now null) }
+{
+    let Some(claim) = answer else {
+        return Ok(Value::Null);
+    };
+    let path = path_value(alloc, &claim.path)?;
+    json!(in alloc; {"bar": claim.region, "offset": claim.offset, "path": path})
+}
+
+/// Why an address finds what it finds.
+fn address_value(alloc: Global, host: &Host, space: Space, addr: u64) -> Result<Value, AllocError>
+    ensures { let fs = host.now.state.functions in
+        IfOk result (λ v. view v ≡ address_value (why fs (named_space space) addr)) }
+{
+    let why = why_address(alloc, host, space, addr)?;
+    let answer = answer_value(alloc, &why.answer)?;
+    let forwards = forwarder_values(alloc, &why.forwarders)?;
+    let regions = region_values(alloc, &why.told)?;
+    json!(in alloc; {
+        "answer": answer,
+        "at_reset": why.at_reset,
+        "forwards": forwards,
+        "regions": regions
+    })
+}
+
+/// Where a bus is: behind a bridge, or, by `null`, bus 0.
+fn behind_value(alloc: Global, behind: &Option<Path>) -> Result<Value, AllocError>
+    ensures { IfOk result (λ v. view v ≡ behind_value (unwrap_or behind.now [])) }
+{
+    let Some(path) = behind else {
+        return Ok(Value::Null);
+    };
+    // A path has a part.
+    prove!(!path.parts().is_empty());
+    path_value(alloc, path)
+}
+
+/// What is missing where a cycle ends, or `null` where nothing is.
+fn missing_value(alloc: Global, missing: &Option<Missing>) -> Result<Value, AllocError>
+    ensures { IfOk result (λ v.
+        view v ≡ option_map_or missing_value (option_map missing_told missing.now) null) }
+{
+    match missing {
+        Some(Missing::NoBridge { behind, bus }) => {
+            let behind = behind_value(alloc, behind)?;
+            json!(in alloc; {"behind": behind, "bus": *bus})
+        }
+        Some(
+            Missing::NoFunction {
+                behind,
+                device,
+                function,
+            },
+        ) => {
+            let behind = behind_value(alloc, behind)?;
+            json!(in alloc; {"behind": behind, "device": *device, "function": *function})
+        }
+        None => Ok(Value::Null),
+    }
+}
+
+/// Why a configuration number reaches what it reaches.
+fn way_value(alloc: Global, host: &mut Host, at: Bdf) -> Result<Value, AllocError>
+    ensures value { let fs = host.old.state.functions in
+        IfOk result (λ v. view v ≡ way_value (why_number fs (bus_address_of at))) }
+    ensures kept { host.new ≡ host.old }
+{
+    let why = why_number(alloc, host, at)?;
+    let missing = missing_value(alloc, &why.missing)?;
+    let not_found = values(alloc, &why.not_found)?;
+    let reached = reached_value(alloc, &why.reached)?;
+    let takers = values(alloc, &why.bridges)?;
+    json!(in alloc; {
+        "missing": missing,
+        "not_found": not_found,
+        "reached": reached,
+        "takers": takers
+    })
+}
+
+/// What is found, beside what the address latch makes of the port, or `null` where it makes nothing of it.
+fn why_value(alloc: Global, used: PortUse, found: Value) -> Result<Value, AllocError>
+    ensures { IfOk result (λ v. view v ≡ why_value (use_told used) (view found)) }
+{
+    match used {
+        PortUse::HoldsLatch => json!(in alloc; {"found": found, "latch": {"type": "held"}}),
+        PortUse::ShowsData { at, offset } => {
+            let number = number_value(alloc, at)?;
+            let latch = json!(in alloc; {"number": number, "offset": offset, "type": "selected"})?;
+            json!(in alloc; {"found": found, "latch": latch})
+        }
+        PortUse::HidesData => json!(in alloc; {"found": found, "latch": {"type": "not enabled"}}),
+        PortUse::LikeOthers => json!(in alloc; {"found": found, "latch": null}),
+    }
+}
+
+/// That as a JSON object on one line. Only lack of memory refuses it.
+#[tactic(auto, using(crate::proofs::NoFloatsInWhy::none_in_why))]
+pub fn why_json(alloc: Global, used: PortUse, found: Value) -> Result<String, AllocError>
+    requires { has_float (view found) ≡ false }
+    ensures { IfOk result (λ t. string_bytes t ≡ why_json (use_told used) (view found)) }
+{
+    let value = why_value(alloc, used, found)?;
+    line_of(alloc, &value)
+}
+
+/// Why a port finds what it finds.
+fn port_json(alloc: Global, host: &mut Host, port: u64) -> Result<String, AllocError>
+    ensures text { let s = host.old.state in
+        IfOk result (λ t. string_bytes t ≡ port_json s port (port_use s.latch port)) }
+    ensures kept { host.new ≡ host.old }
+{
+    let used = port_use(host.latch(), port);
+    match used {
+        PortUse::ShowsData { at, .. } => why_json(alloc, used, way_value(alloc, host, at)?),
+        PortUse::HoldsLatch | PortUse::HidesData | PortUse::LikeOthers => {
+            why_json(alloc, used, address_value(alloc, host, Space::Io, port)?)
+        }
+    }
+}
+
+/// Why an address, a port or a configuration number finds what it finds as the registers stand, or nothing, as a JSON
+/// object on one line. Of a number the offset is of no matter. Nothing changes, also where memory is out.
+pub fn host_why_json(alloc: Global, host: &mut Host, at: HostAt) -> Result<String, AllocError>
+    ensures text { IfOk result (λ t.
+        string_bytes t ≡ host_why_json host.old.state (host_target_of at)) }
+    ensures kept { host.new ≡ host.old }
+{
+    let used = PortUse::LikeOthers;
+    match at {
+        HostAt::Config { bdf, off: _ } => why_json(alloc, used, way_value(alloc, host, bdf)?),
+        HostAt::Io { port } => port_json(alloc, host, port),
+        HostAt::Mem { addr } => {
+            why_json(alloc, used, address_value(alloc, host, Space::Mem, addr)?)
+        }
+    }
+}
