@@ -3,6 +3,7 @@ ghost use Rattle.std.specs.Prelude.{◌≡◌, ◌<◌, None, length, map, IfOk,
 ghost use Rattle.lists.specs.Texts.{Adds};
 ghost use Rattle.model_guests.specs.Text.{text_of_lines};
 ghost use Rattle.model_lines.specs.{WhyText.why_line, WhyGuests.target_lines};
+ghost use Rattle.model_lines.specs.WhyGuests as model;
 ghost use Rattle.accesses.specs.Accesses.{target_of};
 ghost use Rattle.serde_json.specs.View.{view};
 ghost use Rattle.board_told.specs.{GuestFindings.{lone_asked, fault_at, closed_told, finding_told, IsWhyFault}, GuestLines.text_told, WhyJson.{closed_value, finding_value, guest_json, guest_why_in}};
@@ -14,7 +15,7 @@ use crate::listing::ReportForm;
 use accesses::{At, Place};
 use findings::{PortUse, port_use};
 use findings_told::push_use;
-use json_texts::{number_value, why_json};
+use json_texts::{HasValue, number_value, values, why_json};
 use monitor::Monitor;
 use paths::Latch;
 use serde_json::{Value, json};
@@ -43,28 +44,22 @@ fn text_of(alloc: Global, latch: Latch, at: At, finding: &Finding) -> Result<Str
     Ok(text)
 }
 
-/// A closed region.
-fn closed_value(alloc: Global, closed: &ClosedInSlot) -> Result<Value, AllocError>
-    ensures { IfOk result (λ v. view v ≡ closed_value (closed_told closed.now)) }
-{
-    json!(in alloc; {
-        "bar": closed.register,
-        "base": closed.first,
-        "command": closed.command,
-        "size": closed.size,
-        "slot": closed.slot
-    })
-}
+impl HasValue for ClosedInSlot {
+    ghost Told = { model.ClosedRegion };
 
-/// Closed regions.
-fn closed_values(alloc: Global, all: &[ClosedInSlot]) -> Result<Vec<Value>, AllocError>
-    ensures { IfOk result (λ v. map view v.items ≡ map closed_value (map closed_told all.now)) }
-{
-    let mut values = Vec::new(alloc);
-    for closed in all {
-        values.push(closed_value(alloc, closed)?)?;
+    ghost told = { closed_told };
+
+    ghost shown = { closed_value };
+
+    fn value(&self, alloc: Global) -> Result<Value, AllocError> {
+        json!(in alloc; {
+            "bar": self.register,
+            "base": self.first,
+            "command": self.command,
+            "size": self.size,
+            "slot": self.slot
+        })
     }
-    Ok(values)
 }
 
 /// What is found.
@@ -80,7 +75,7 @@ fn finding_value(alloc: Global, finding: &Finding) -> Result<Value, AllocError>
             json!(in alloc; {"bar": bar, "offset": hit.offset, "slot": hit.slot, "type": "answers"})
         }
         Finding::Nobody(all) => {
-            json!(in alloc; {"regions": closed_values(alloc, all)?, "type": "nobody"})
+            json!(in alloc; {"regions": values(alloc, all)?, "type": "nobody"})
         }
         Finding::Empty { slot } => json!(in alloc; {"slot": *slot, "type": "empty"}),
         Finding::NoSlot { at } => {

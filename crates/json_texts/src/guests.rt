@@ -1,5 +1,6 @@
 //! The values of guests.
 ghost use Rattle.std.specs.Prelude.{◌≡◌, IfOk, map};
+ghost use Rattle.model_guests.specs.World.{Guest};
 ghost use Rattle.serde_json.specs.View.{view};
 ghost use Rattle.json_texts.specs.ReportValue.{slot_value, slot_values, guest_value};
 
@@ -30,6 +31,10 @@ fn slot_values(alloc: Global, paths: &[Path]) -> Result<Vec<Value>, AllocError>
 }
 
 impl HasValue for GuestDecl {
+    ghost Told = { Guest };
+
+    ghost told = { λ g. g };
+
     ghost shown = { guest_value };
 
     fn value(&self, alloc: Global) -> Result<Value, AllocError> {

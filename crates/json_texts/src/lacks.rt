@@ -2,9 +2,11 @@
 ghost use Rattle.std.specs.Prelude.{◌≡◌, IfOk};
 ghost use Rattle.serde_json.specs.View.{view};
 ghost use Rattle.model_findings.specs.Lacks.{outside_apertures, prefetched_by, other_primary, not_open};
+ghost use Rattle.model_findings.specs.Lacks as model;
 ghost use Rattle.findings.specs.Findings.{lack_of};
 ghost use Rattle.json_texts.specs.AuditValue.{lack_value};
 
+use crate::has_value::HasValue;
 use crate::problem_parts::{path_value, region_value};
 use findings::{Lack, RegionNow};
 use paths::Path;
@@ -16,8 +18,7 @@ fn not_open(alloc: Global, region: &RegionNow) -> Result<Value, AllocError>
     ensures { IfOk result (λ v. view v ≡ lack_value (not_open region.now)) }
 {
     let region = region_value(alloc, region)?;
-    let kind = "closed";
-    json!(in alloc; {"region": region, "type": kind})
+    json!(in alloc; {"region": region, "type": "closed"})
 }
 
 /// A region outside the apertures.
@@ -25,8 +26,7 @@ fn outside(alloc: Global, region: &RegionNow, address: u64) -> Result<Value, All
     ensures { IfOk result (λ v. view v ≡ lack_value (outside_apertures region.now address)) }
 {
     let region = region_value(alloc, region)?;
-    let kind = "outside apertures";
-    json!(in alloc; {"address": address, "region": region, "type": kind})
+    json!(in alloc; {"address": address, "region": region, "type": "outside apertures"})
 }
 
 /// A region that a bridge prefetches.
@@ -41,8 +41,12 @@ fn prefetched(
 {
     let region = region_value(alloc, region)?;
     let bridge = path_value(alloc, bridge)?;
-    let kind = "prefetched";
-    json!(in alloc; {"address": address, "bridge": bridge, "region": region, "type": kind})
+    json!(in alloc; {
+        "address": address,
+        "bridge": bridge,
+        "region": region,
+        "type": "prefetched"
+    })
 }
 
 /// A bridge that holds another Primary Bus Number.
@@ -50,22 +54,26 @@ fn primary(alloc: Global, path: &Path, held: u8, number: u8) -> Result<Value, Al
     ensures { IfOk result (λ v. view v ≡ lack_value (other_primary path.now held number)) }
 {
     let path = path_value(alloc, path)?;
-    let kind = "other primary";
-    json!(in alloc; {"bus": number, "path": path, "primary": held, "type": kind})
+    json!(in alloc; {"bus": number, "path": path, "primary": held, "type": "other primary"})
 }
 
-/// A lack.
-pub(crate) fn lack_value(alloc: Global, lack: &Lack) -> Result<Value, AllocError>
-    ensures { IfOk result (λ v. view v ≡ lack_value (lack_of lack.now)) }
-{
-    match lack {
-        Lack::NotOpen { region } => not_open(alloc, region),
-        Lack::OutsideApertures { region, address } => outside(alloc, region, *address),
-        Lack::Prefetched {
-            region,
-            bridge,
-            address,
-        } => prefetched(alloc, region, bridge, *address),
-        Lack::OtherPrimary { path, held, number } => primary(alloc, path, *held, *number),
+impl HasValue for Lack {
+    ghost Told = { model.Lack };
+
+    ghost told = { lack_of };
+
+    ghost shown = { lack_value };
+
+    fn value(&self, alloc: Global) -> Result<Value, AllocError> {
+        match self {
+            Lack::NotOpen { region } => not_open(alloc, region),
+            Lack::OutsideApertures { region, address } => outside(alloc, region, *address),
+            Lack::Prefetched {
+                region,
+                bridge,
+                address,
+            } => prefetched(alloc, region, bridge, *address),
+            Lack::OtherPrimary { path, held, number } => primary(alloc, path, *held, *number),
+        }
     }
 }

@@ -3,9 +3,11 @@ ghost use Rattle.std.specs.Prelude.{◌≡◌, IfOk};
 ghost use Rattle.serde_json.specs.View.{view};
 ghost use Rattle.paths.specs.BusAddresses.{bus_address_of};
 ghost use Rattle.model_findings.specs.Problems.{not_forwarded, contended, not_found};
+ghost use Rattle.model_findings.specs.Problems as model;
 ghost use Rattle.findings.specs.Findings.{problem_of};
 ghost use Rattle.json_texts.specs.AuditValue.{problem_value};
 
+use crate::has_value::HasValue;
 use crate::problem_parts::{
     agent_value, number_value, path_value, reached_value, region_value, space_text,
 };
@@ -26,8 +28,12 @@ fn not_forwarded(
 {
     let region = region_value(alloc, region)?;
     let bridge = path_value(alloc, bridge)?;
-    let kind = "not forwarded";
-    json!(in alloc; {"address": address, "bridge": bridge, "region": region, "type": kind})
+    json!(in alloc; {
+        "address": address,
+        "bridge": bridge,
+        "region": region,
+        "type": "not forwarded"
+    })
 }
 
 /// What is wrong between two agents.
@@ -38,8 +44,7 @@ fn contended(alloc: Global, one: &Agent, other: &Agent, address: u64) -> Result<
     let one = agent_value(alloc, one)?;
     let other = agent_value(alloc, other)?;
     let agents = vec![in alloc; one, other]?;
-    let kind = "contended";
-    json!(in alloc; {"address": address, "agents": agents, "space": space, "type": kind})
+    json!(in alloc; {"address": address, "agents": agents, "space": space, "type": "contended"})
 }
 
 /// What is wrong with the number of a function.
@@ -55,29 +60,33 @@ fn not_found(
     let number = number_value(alloc, at)?;
     let path = path_value(alloc, path)?;
     let reached = reached_value(alloc, instead)?;
-    let kind = "not found";
-    json!(in alloc; {"number": number, "path": path, "reached": reached, "type": kind})
+    json!(in alloc; {"number": number, "path": path, "reached": reached, "type": "not found"})
 }
 
-/// A problem.
-pub(crate) fn problem_value(alloc: Global, problem: &Problem) -> Result<Value, AllocError>
-    ensures { IfOk result (λ v. view v ≡ problem_value (problem_of problem.now)) }
-{
-    match problem {
-        Problem::NotForwarded {
-            region,
-            bridge,
-            address,
-        } => not_forwarded(alloc, region, bridge, *address),
-        Problem::Contended {
-            one,
-            other,
-            address,
-        } => contended(alloc, one, other, *address),
-        Problem::NotFound {
-            path,
-            address,
-            instead,
-        } => not_found(alloc, path, *address, instead),
+impl HasValue for Problem {
+    ghost Told = { model.Problem };
+
+    ghost told = { problem_of };
+
+    ghost shown = { problem_value };
+
+    fn value(&self, alloc: Global) -> Result<Value, AllocError> {
+        match self {
+            Problem::NotForwarded {
+                region,
+                bridge,
+                address,
+            } => not_forwarded(alloc, region, bridge, *address),
+            Problem::Contended {
+                one,
+                other,
+                address,
+            } => contended(alloc, one, other, *address),
+            Problem::NotFound {
+                path,
+                address,
+                instead,
+            } => not_found(alloc, path, *address, instead),
+        }
     }
 }

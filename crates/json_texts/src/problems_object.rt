@@ -4,41 +4,16 @@ ghost use Rattle.serde_json.specs.{View.view, Written.{compact_text, has_float}}
 ghost use Rattle.findings.specs.Findings.{problem_of, lack_of};
 ghost use Rattle.json_texts.specs.AuditValue.{problem_value, problems_value, problems_json, lack_value, lacks_value, lacks_json};
 
-use crate::lacks::lack_value;
-use crate::problems::problem_value;
+use crate::has_value::values;
 use findings::{Lack, Problem};
 use serde_json::{Value, json};
 use std::alloc::{AllocError, Global};
-
-/// All problems.
-fn problem_values(alloc: Global, problems: &[Problem]) -> Result<Vec<Value>, AllocError>
-    ensures { IfOk result (λ v.
-        map view v.items ≡ map problem_value (map problem_of problems.now)) }
-{
-    let mut values = Vec::new(alloc);
-    for problem in problems {
-        values.push(problem_value(alloc, problem)?)?;
-    }
-    Ok(values)
-}
-
-/// All lacks.
-fn lack_values(alloc: Global, lacks: &[Lack]) -> Result<Vec<Value>, AllocError>
-    ensures { IfOk result (λ v.
-        map view v.items ≡ map lack_value (map lack_of lacks.now)) }
-{
-    let mut values = Vec::new(alloc);
-    for lack in lacks {
-        values.push(lack_value(alloc, lack)?)?;
-    }
-    Ok(values)
-}
 
 /// The value of problems.
 fn problems_value(alloc: Global, problems: &[Problem]) -> Result<Value, AllocError>
     ensures { IfOk result (λ v. view v ≡ problems_value (map problem_of problems.now)) }
 {
-    let problems = problem_values(alloc, problems)?;
+    let problems = values(alloc, problems)?;
     json!(in alloc; {"problems": problems})
 }
 
@@ -47,8 +22,8 @@ fn lacks_value(alloc: Global, problems: &[Problem], lacks: &[Lack]) -> Result<Va
     ensures { IfOk result (λ v. view v
         ≡ lacks_value (map problem_of problems.now) (map lack_of lacks.now)) }
 {
-    let lacks = lack_values(alloc, lacks)?;
-    let wrong = problem_values(alloc, problems)?;
+    let lacks = values(alloc, lacks)?;
+    let wrong = values(alloc, problems)?;
     json!(in alloc; {"lacks": lacks, "problems": wrong})
 }
 

@@ -6,6 +6,8 @@ ghost use Rattle.paths.specs.BusAddresses.{bus_address_of};
 ghost use Rattle.accesses.specs.Accesses.{host_target_of};
 ghost use Rattle.model_lines.specs.{Why.why, Ways.why_number, WhyPorts.port_use};
 ghost use Rattle.findings.specs.WhyTold.{window_told, windows_told, cause_told, region_told, forwarder_told, missing_told, use_told};
+ghost use Rattle.model_board.specs.Paths as board;
+ghost use Rattle.model_lines.specs.Why as model;
 ghost use Rattle.json_texts.specs.{AuditValue.path_value, WhyValue.{window_value, cause_value, told_value, forwarder_value, claim_value, address_value, behind_value, missing_value, way_value, why_value, why_json, port_json, host_why_json}};
 
 use crate::has_value::{HasValue, values};
@@ -24,6 +26,10 @@ use serde_json::{Value, json};
 use std::alloc::{AllocError, Global};
 
 impl HasValue for Path {
+    ghost Told = { board.Path };
+
+    ghost told = { λ p. p };
+
     ghost shown = { path_value };
 
     fn value(&self, alloc: Global) -> Result<Value, AllocError> {
@@ -32,7 +38,11 @@ impl HasValue for Path {
 }
 
 impl HasValue for NamedWindow {
-    ghost shown = { λ w. window_value (window_told w) };
+    ghost Told = { model.NamedWindow };
+
+    ghost told = { window_told };
+
+    ghost shown = { window_value };
 
     fn value(&self, alloc: Global) -> Result<Value, AllocError> {
         let space = match self.name {
@@ -69,7 +79,11 @@ fn window_values(
 }
 
 impl HasValue for Cause {
-    ghost shown = { λ c. cause_value (cause_told c) };
+    ghost Told = { model.Cause };
+
+    ghost told = { cause_told };
+
+    ghost shown = { cause_value };
 
     fn value(&self, alloc: Global) -> Result<Value, AllocError> {
         match self {
@@ -95,52 +109,29 @@ impl HasValue for Cause {
     }
 }
 
-/// What keeps a region from answering.
-fn cause_values(alloc: Global, causes: &[Cause]) -> Result<Vec<Value>, AllocError>
-    ensures { IfOk result (λ v. map view v.items ≡ map cause_value (map cause_told causes.now)) }
-{
-    let mut values = Vec::new(alloc);
-    for cause in causes {
-        values.push(cause.value(alloc)?)?;
-    }
-    Ok(values)
-}
-
 impl HasValue for Told {
-    ghost shown = { λ t. told_value (region_told t) };
+    ghost Told = { model.Told };
+
+    ghost told = { region_told };
+
+    ghost shown = { told_value };
 
     fn value(&self, alloc: Global) -> Result<Value, AllocError> {
-        let causes = cause_values(alloc, &self.causes)?;
+        let causes = values(alloc, &self.causes)?;
         json!(in alloc; {"causes": causes, "region": region_value(alloc, &self.region)?})
     }
 }
 
-/// The other regions that hold an address.
-fn region_values(alloc: Global, regions: &[Told]) -> Result<Vec<Value>, AllocError>
-    ensures { IfOk result (λ v.
-        map view v.items ≡ map told_value (map region_told regions.now)) }
-{
-    values(alloc, regions)
-}
-
 impl HasValue for Forwarder {
-    ghost shown = { λ g. forwarder_value (forwarder_told g) };
+    ghost Told = { model.Forwarder };
+
+    ghost told = { forwarder_told };
+
+    ghost shown = { forwarder_value };
 
     fn value(&self, alloc: Global) -> Result<Value, AllocError> {
         json!(in alloc; {"bus": self.bus, "path": path_value(alloc, &self.path)?})
     }
-}
-
-/// The bridges that forward an address.
-fn forwarder_values(alloc: Global, forwarders: &[Forwarder]) -> Result<Vec<Value>, AllocError>
-    ensures { IfOk result (λ v.
-        map view v.items ≡ map forwarder_value (map forwarder_told forwarders.now)) }
-{
-    let mut values = Vec::new(alloc);
-    for forwarder in forwarders {
-        values.push(forwarder.value(alloc)?)?;
-    }
-    Ok(values)
 }
 
 /// What answers, or `null` where nothing does.
@@ -161,8 +152,8 @@ fn address_value(alloc: Global, host: &Host, space: Space, addr: u64) -> Result<
 {
     let why = why_address(alloc, host, space, addr)?;
     let answer = answer_value(alloc, &why.answer)?;
-    let forwards = forwarder_values(alloc, &why.forwarders)?;
-    let regions = region_values(alloc, &why.told)?;
+    let forwards = values(alloc, &why.forwarders)?;
+    let regions = values(alloc, &why.told)?;
     json!(in alloc; {
         "answer": answer,
         "at_reset": why.at_reset,
