@@ -167,7 +167,7 @@ function show_moment({ held: answering, owners: those, now }, count) {
   registers.forget();
   script_console.mark(count);
   question.doubt();
-  question.look();
+  look_at_question();
   draw();
 }
 

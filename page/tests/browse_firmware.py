@@ -1,11 +1,14 @@
 """The page as firmware uses it, in Chromium, for page/tests/browse: registers as fields, problems that come and go, and a board that is given away."""
 import json
 
+from browse_why import ASKED, CLICK
 from chromium import press
 from tried import CUT, FIELD, MAPS, SEEN, TOP, holds, said_last, text_of, type_line, until, write_field
 
 AUDIT = "[...document.querySelectorAll('#audit li')].map(one => one.textContent)"
 STORY_SCRIPT = TOP / 'boards/bridge.script'
+# Goes to a moment.
+STEP = "(() => { const one = document.getElementById('step'); one.value = %s; one.dispatchEvent(new Event('input')); })()"
 STORY = 'story=Firmware numbers a bridge and opens a window'
 # The lines of a script, without its remarks.
 def told_lines(script):
@@ -110,6 +113,11 @@ def a_line_hands_the_board_over(browser, page):
     holds('what guests open is drawn, where firmware placed it', browser.run(MAPS) == wanted, browser.run(MAPS))
     owner = browser.run("document.querySelector('#tree [data-path=\"1.0\"]').title")
     holds('functions have their guests', 'guest a, slot 0' in owner, owner)
+    browser.run(STEP % 3)
+    browser.run(CLICK % 0.7)
+    holds('firmware is asked at an earlier moment', browser.run(ASKED).startswith('host why mem '), browser.run(ASKED))
+    browser.run(STEP % 'one.max')
+    holds('and no more where guests have the board', browser.run(ASKED) is None and text_of(browser, 'step_told') == '19 lines ran', text_of(browser, 'step_told'))
     browser.run("document.getElementById('restart').click()")
     holds('at reset no guest is there', browser.run("document.getElementById('maps').checkVisibility()") is False)
 
