@@ -32,10 +32,16 @@ tell() {
   fi
 }
 
+# without_reasons: what was told beside why lines have none of the forms
+without_reasons() {
+  grep -v -e '^pciguest: line ' -e '^pciguest: [0-9]* more lines\{0,1\}$' told
+}
+
 # ends_with NAME WORDS..: the program ends well, with the output in wanted.out
 ends_with() {
   local name=$1; shift
-  timeout 60 "$program" "$@" > out 2> err; status=$?
+  timeout 60 "$program" "$@" > out 2> told; status=$?
+  without_reasons > err
   : > wanted.err; wanted=0
   tell "$name"
 }
@@ -50,7 +56,7 @@ fails_with() {
 ends_with_fault() {
   local name=$1 fault=$2; shift 2
   timeout 60 "$program" "$@" > out 2> told; status=$?
-  head -n 1 told > err
+  without_reasons | head -n 1 > err
   echo "pciguest: fault $fault" > wanted.err; wanted=1
   tell "$name"
 }
@@ -337,6 +343,33 @@ a: 0x00011234
 a: refused 401 bad line
 END
 ends_with 'run, lines at the ends of what they may say' run "$boards/main.toml" < ends.script
+cp told err
+cat > wanted.err <<'END'
+pciguest: line 6: word 2: 0x10000000000000000 is no number below 2^64
+pciguest: line 9: word 5: 0x100000000 is no number below 2^32
+pciguest: line 13: word 2: +0 is no number below 2^64
+pciguest: line 14: word 2: 0x is no number below 2^64
+pciguest: line 15: word 1: ? is none of cr, cw, ir, iw, mr, mw and raise
+pciguest: line 20: word 1: cr?0 is none of cr, cw, ir, iw, mr, mw and raise
+pciguest: line 21: word 2: 0?0 is no number below 2^64
+pciguest: line 36: word 4 is missing: the width
+END
+tell 'run, why lines at the ends have no form'
+for i in {1..23}; do echo 'host audit'; done > bad.script
+for i in {1..23}; do echo 'host: refused 401 bad line'; done > wanted.out
+timeout 60 "$program" run --strict "$boards/main.toml" < bad.script > out 2> err; status=$?
+{
+  for i in {1..20}; do echo "pciguest: line $i: word 1: audit is none of cr, ir, mr and move"; done
+  printf 'pciguest: 3 more lines\npciguest: fault 209 refused line\n'
+} > wanted.err
+wanted=1
+tell 'run, more lines without a form than are told of'
+printf '\xef\xbb\xbfa cr 0 0 4\na cr 0 0 4\n' > marked.script
+printf '?: refused 402 unknown guest\na: 0x00011234\n' > wanted.out
+timeout 60 "$program" run "$boards/main.toml" < marked.script > out 2> err; status=$?
+echo 'pciguest: line 1: word 0 begins with a byte order mark' > wanted.err
+wanted=0
+tell 'run, a script that begins with a byte order mark'
 head -c 201 /dev/zero | tr '\0' '\r' > returns
 echo '?: refused 403 long line' > wanted.out
 ends_with 'run, a line of 201 returns' run "$boards/main.toml" < returns

@@ -22,6 +22,10 @@ class Answer(str):
     host_read = False
 
 
+def words_of(line):
+    return [word for word in re.split(rb"[ \t\r]+", line) if word]
+
+
 def number(word, greatest=(1 << 64) - 1):
     match = NUMBER.match(word)
     if not match:
@@ -59,7 +63,7 @@ class World:
         """The output line of a script's line, or None."""
         if len(line) > 200:
             return Answer("?: refused 403 long line")
-        words = [word for word in re.split(rb"[ \t\r]+", line) if word]
+        words = words_of(line)
         if not words or words[0].startswith(b"#"):
             return None
         if words[0] != b"host" and words[0] not in self.guests:

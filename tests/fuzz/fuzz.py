@@ -17,6 +17,7 @@ from answers import World
 from lone import guests_file
 from board import board_file, random_board
 from placement import Refused
+from reasons import MARK, reasons, text_of
 from script import Writer
 
 sys.path.append(str(Path(__file__).parent.parent))
@@ -68,6 +69,7 @@ class Fuzz:
         writer = Writer(rng, board, world.layout.bases)
         lines = [writer.line() for _ in range(self.lines)]
         self.check_script(seed, path, world, lines)
+        self.check_firmware(seed, path, [writer.of_firmware(line) for line in lines[:40]])
 
     def check_json(self, seed, path, report):
         status, out, err = run(self.program, ["list", "--json", path], b"")
@@ -87,13 +89,23 @@ class Fuzz:
         status, out, err = run(self.program, ["run", path], script)
         answers = [world.answer(line) for line in lines]
         wanted = [answer for answer in answers if answer is not None]
-        self.compare(seed, "an answer", wanted, (status, out, err))
+        told = reasons(lines, world.guests)
+        bad = [answer for answer in wanted if answer.endswith(" 401 bad line")] + [line for line in lines if line.startswith(MARK)]
+        if err != text_of(told) or len(told) != len(bad):
+            self.differs(seed, "why lines have no form", (len(told), len(bad), *first_difference(text_of(told), err)))
+        self.compare(seed, "an answer", wanted, (status, out, ""))
         self.answered += len(lines)
         if self.lone:
             guests = self.folder / "guests"
             guests.write_text(guests_file(world.layout.board))
             wanted = [answer for answer in answers if answer is not None and not answer.host_read]
             self.compare(seed, "an answer of the lone guests", wanted, run(self.lone, [guests], script))
+
+    def check_firmware(self, seed, path, lines):
+        """Why lines of firmware have no form."""
+        err, why = run(self.program, ["firmware", path], b"\n".join(lines))[2], text_of(reasons(lines))
+        if err != why:
+            self.differs(seed, "why firmware's lines have no form", first_difference(why, err))
 
     def compare(self, seed, what, wanted, ended):
         """Compares the lines of a run."""

@@ -8,11 +8,14 @@ BASES = [0, 0x10, 0x100, 0xCF8, 0xCFC, 0x1000, 0x2000, 0x10000, 0x80000000, 0x80
          0xFFFFFFF0, 0xFFFFFF00, 0xFFFFF000, 0x7FFFFFFF]
 INNER = [0, 1, 2, 3, 4, 8, 0xC, 0xF, 0x10, 0x3C, 0x40, 0xFC, 0xFFC, 0x1000]
 HOSTILE = [b"", b" \t\r ", b"#", b"# a cr 0 0 4", b"a", b"host", b"host raise 0 cfg 7 1", b"A cr 0 0 4",
-           b"\xff", b"\x00", b"a \xff",
+           b"\xff", b"\x00", b"a \xff", b"\xef\xbb\xbfa cr 0 0 4", b"\xef\xbb\xbf",
            b"a cr 0 0 4 5", b"a cr +0 0 4", b"a cr 0x 0 4", b"a cr 0 0", b"a mr 0x10000000000000000 4",
            b"a ir 0x100000000 4", b"a cw 0 4 2 0x100000000", b"a raise 0 cfg 7 0x100", b"a raise 0 bar6 0 1",
            b"host cr 0:1.0 0 4", b"host cr 00:20.0 0 4", b"host cr 00:1f.8 0 4", b"host move a 0 nobody 0", b"x" * 200,
            b"x" * 201, b"#" * 200, b"#" * 201, b"a cr 0 0 4" + b" " * 190, b"a cr 0 0 4" + b" " * 191]
+
+ODD = [b"cr", b"move", b"why", b"mem", b"host", b"0", b"0x100", b"0x100000000", b"-1", b"0x", b"00:00.0", b"00:20.0", b"bar6", b"cfg",
+       b"\xff", b"y" * 40]
 
 
 class Writer:
@@ -128,10 +131,28 @@ class Writer:
         at = self.aligned(self.rng.choice(self.placed) + self.rng.choice(INNER), width)
         return self.line_of("host", "ir" if kind == 1 else "mr", at, width)
 
+    def mistaken(self, line):
+        """A line with a word less, more or other than it has."""
+        words, odd = line.split(), self.rng.choice(ODD)
+        at = self.rng.randrange(len(words))
+        words[at:at + self.rng.randrange(2)] = self.rng.choice([[], [odd], [odd]])
+        return b" ".join(words)
+
+    def of_firmware(self, line):
+        """What it says after its first word, said by firmware, or a question."""
+        if self.rng.random() < 0.3:
+            space = self.rng.choice([b"mem", b"io", b"cfg", self.rng.choice(ODD)])
+            return b" ".join([b"host why", space, self.rng.choice(ODD)])
+        return b"host " + line.partition(b" ")[2]
+
     def line(self):
         """Any line."""
         if not self.names or self.rng.random() < 0.02:
             return self.rng.choice(HOSTILE)
+        return self.mistaken(self.lawful()) if self.rng.random() < 0.02 else self.lawful()
+
+    def lawful(self):
+        """A line of some form."""
         name = self.rng.choice(self.names)
         kinds = [(self.access_memory, 30), (self.access_ports, 15), (self.access_config, 20), (self.write_base, 10),
                  (self.write_command, 8), (self.rise, 5)]

@@ -1,5 +1,5 @@
 -- The guest of a name, and what a line means by its first word.
-use Rattle.std.{proofs.{Common.{◌≡◌, ℕ, ◌+◌, true, false, cond, List, [], ◌∷◌, Option, Some, None, map, codes, length, refl, sym, ap, subst, ◌∙◌, ◌≤◌, arith}, lemmas.{Iterator.Adapters.position_from-zero, List.Quantifiers.position-Some, Bool.Decides.nat_tests, Slice.Eq.bytes_eq-Decides}}, specs.{List.{position, position_from}, Str.bytes_eq}}
+use Rattle.std.{proofs.{Common.{◌≡◌, ℕ, ◌+◌, true, false, cond, List, [], ◌∷◌, Option, Some, None, is_some, map, codes, length, refl, sym, ap, subst, ◌∙◌, ◌≤◌, arith}, lemmas.{Iterator.Adapters.position_from-zero, List.Quantifiers.position-Some, Bool.Decides.nat_tests, Slice.Eq.bytes_eq-Decides}}, specs.{List.{position, position_from}, Str.bytes_eq}}
 use Rattle.arrayvec.specs.{ArrayVec.ArrayVec, ArrayString.ArrayString}
 use Rattle.model_guests.specs.{Text.{Text, words}, Grammar.{nobody, is_comment, has_name, event_of}, Guests.Move, Lines.{bad, event_or_bad, between_guests, meaning_of_words, meaning}}
 use Rattle.lines.specs.{Lines.{texts, name_of, GuestsAre, IsFirst}, declared.line.What.What}
@@ -55,6 +55,10 @@ found names w g at =
 
 pub missing : (names : ArrayVec ArrayString) (w : Text) → None ≡ place_among names w → has_name (texts names) w ≡ false
 missing names w at = any-None w 0 (texts names) (at ∙ place_of-names names w ∙ position_from-zero (λ n. bytes_eq n w) (texts names))
+
+pub is_there : (names : ArrayVec ArrayString) (w : Text) (g : Option ℕ) → g ≡ place_among names w → is_some g ≡ has_name (texts names) w
+is_there names w None at = sym (missing names w at)
+is_there names w (Some g) at = sym ((found names w g at).there)
 
 -- ---- what a line means whose first word tells neither a comment nor the host
 

@@ -3,7 +3,7 @@
 --     firmware_meaning_of what      what a line means: one that asks something is no access
 --     requested what      what it asks, if it does
 use Rattle.model_guests.specs.{Accesses.{Op, reads, writes}, Grammar.{host, nobody}}
-use Rattle.model_lines.specs.{FirmwareLines.{Meaning, nothing, asked, bad}, Requests.Request}
+use Rattle.model_lines.specs.{FirmwareLines.{Meaning, nothing, asked, bad}, Requests.HostRequest}
 use Rattle.accesses.specs.{Accesses.host_target_of, Refusals.number_of, declared.access.HostAccess.HostAccess}
 use Rattle.std.specs.Prelude.{Option, None, Some}
 use Rattle.lines.specs.{Requests.request_of, declared.firmware_line.FirmwareWhat.FirmwareWhat}
@@ -21,6 +21,6 @@ firmware_meaning_of (what.Asks request) = bad host 401
 firmware_meaning_of what.NoForm = bad host 401
 firmware_meaning_of (what.NotOfHost why) = bad nobody (number_of why)
 
-abbrev pub requested : FirmwareWhat → Option Request
+abbrev pub requested : FirmwareWhat → Option HostRequest
 requested (what.Asks request) = Some (request_of request)
 requested other = None

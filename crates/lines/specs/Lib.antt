@@ -7,3 +7,4 @@ pub mod Faults
 pub mod Pieces
 pub mod Runs
 pub mod Refusals
+pub mod Reasons

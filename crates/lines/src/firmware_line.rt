@@ -9,7 +9,7 @@ use crate::cursor::name_word;
 use crate::forms::{bus_address, host_form};
 use crate::line::{LONGEST_LINE, is_comment};
 use crate::numbers::number_of;
-use crate::requests::{Request, request_form};
+use crate::requests::{HostRequest, request_form};
 use crate::words::first_words;
 use accesses::{HostAccess, HostAt, Refusal};
 
@@ -22,7 +22,7 @@ pub enum FirmwareWhat {
     /// A place, a width, and a value of which as many low bytes are written.
     Write(HostAccess, u32),
     /// What is asked of a session beside an access.
-    Asks(Request),
+    Asks(HostRequest),
     /// A line of the host that has no form: 401.
     NoForm,
     /// No line of the host, which is refused: it is of an unknown guest, or is long.
@@ -31,7 +31,7 @@ pub enum FirmwareWhat {
 
 impl FirmwareWhat {
     /// What is asked of a session beside an access, if it is.
-    pub fn request(self) -> Option<Request>
+    pub fn request(self) -> Option<HostRequest>
         ensures { option_map request_told result ≡ requested self }
     {
         match self {

@@ -19,14 +19,14 @@ pub(crate) enum Asked {
 }
 
 /// The bits of a byte.
-fn mask(word: &[u8]) -> Option<u8>
+pub(crate) fn mask(word: &[u8]) -> Option<u8>
     ensures { result ≡ below 256 (number_of word.now) }
 {
     u8::try_from(number_of(word)?).ok()
 }
 
 /// `cfg` or `bar0` to `bar5`.
-fn place(word: &[u8]) -> Option<Place>
+pub(crate) fn place(word: &[u8]) -> Option<Place>
     ensures { option_map part_of result ≡ raise_part word.now }
 {
     match word {

@@ -1,6 +1,6 @@
 //! Lines of a script.
 ghost use Rattle.std.specs.{Prelude.{◌≡◌, ◌<◌, ◌∷◌, [], List, length, map, take, position, option_map, IfSome}, Str.bytes_eq};
-ghost use Rattle.model_guests.specs.{Text.{Text, words}, Grammar.{is_comment, event_of, host_read_of}, Lines.{host_move, event_or_bad, read_or_move, between_guests, move_of, meaning_of_words, meaning}};
+ghost use Rattle.model_guests.specs.{Text.{Text, words}, Grammar.{has_name, is_comment, event_of, host_read_of}, Lines.{host_move, event_or_bad, read_or_move, between_guests, move_of, meaning_of_words, meaning}};
 ghost use Rattle.lines.specs.Lines.{texts, name_of, meaning_of, GuestsAre, IsFirst};
 
 use crate::cursor::name_word;
@@ -61,6 +61,14 @@ fn guest_named(word: &[u8], names: &Names) -> Option<usize>
     ensures { result ≡ position (λ n. bytes_eq n.bytes word.now) names.now.items }
 {
     names.iter().position(|name| name.as_bytes() == word)
+}
+
+/// Whether a guest has a name.
+#[tactic(auto, using(crate::proofs::NameLemmas::is_there))]
+pub(crate) fn is_guest(word: &[u8], names: &Names) -> bool
+    ensures { result ≡ has_name (texts names.now) word.now }
+{
+    guest_named(word, names).is_some()
 }
 
 /// A line of a guest, by the text after its name.

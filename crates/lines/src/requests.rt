@@ -21,7 +21,7 @@ pub enum WhyAsked {
 
 /// What a line asks of a session beside an access.
 #[derive(Clone, Copy, Debug, PartialEq, Eq)]
-pub enum Request {
+pub enum HostRequest {
     /// What is wrong in the registers as they stand.
     Audit,
     /// What is wrong and what is lacking in them.
@@ -33,7 +33,7 @@ pub enum Request {
 }
 
 /// What is asked about, by its space and its address or number there.
-fn why_place(space: &[u8], at: &[u8]) -> Option<WhyAsked>
+pub(crate) fn why_place(space: &[u8], at: &[u8]) -> Option<WhyAsked>
     ensures { option_map why_asked_of result ≡ why_place space.now at.now }
 {
     if space == b"mem".as_slice() {
@@ -52,23 +52,23 @@ fn why_place(space: &[u8], at: &[u8]) -> Option<WhyAsked>
 }
 
 /// What one word after `host` asks.
-fn request_of_word(word: &[u8]) -> Option<Request>
+pub(crate) fn request_of_word(word: &[u8]) -> Option<HostRequest>
     ensures { option_map request_of result ≡ request_of_word word.now }
 {
     if word == b"audit".as_slice() {
-        return Some(Request::Audit);
+        return Some(HostRequest::Audit);
     }
     if word == b"ready".as_slice() {
-        return Some(Request::Ready);
+        return Some(HostRequest::Ready);
     }
     if word == b"guests".as_slice() {
-        return Some(Request::Guests);
+        return Some(HostRequest::Guests);
     }
     None
 }
 
 /// What three words after `host` ask.
-fn why_form(word: &[u8], space: &[u8], at: &[u8]) -> Option<Request>
+fn why_form(word: &[u8], space: &[u8], at: &[u8]) -> Option<HostRequest>
     ensures { option_map request_of result
         ≡ request_of_words (word.now ∷ space.now ∷ at.now ∷ []) }
 {
@@ -76,12 +76,12 @@ fn why_form(word: &[u8], space: &[u8], at: &[u8]) -> Option<Request>
         return None;
     }
     let asked = why_place(space, at)?;
-    Some(Request::Why(asked))
+    Some(HostRequest::Why(asked))
 }
 
 /// What the words after `host` ask, if they are of a known form.
 #[tactic(auto, using(crate::proofs::RequestCounts::no_request_of_few, crate::proofs::RequestCounts::no_request_of_many))]
-pub(crate) fn request_form(words: &[&[u8]]) -> Option<Request>
+pub(crate) fn request_form(words: &[&[u8]]) -> Option<HostRequest>
     ensures { option_map request_of result ≡ request_of_words (map (λ w. w.now) words.now) }
 {
     match words {

@@ -1,24 +1,112 @@
-//! Runs of lines of which it is told whether one was refused.
-ghost use Rattle.std.specs.Prelude.{◌≡◌, ◌+◌, ◌-◌, ◌^◌, ◌<◌, ◌⊎◌, IsErrOf};
-ghost use Rattle.lines.specs.{Faults.{read_failures_of, write_failures_of}, Refusals.{watched, IsWatched}, Runs.ends};
+//! Runs of lines of which it is told whether one was refused, and why those were that have none of the forms.
+ghost use Rattle.std.specs.Prelude.{◌≡◌, ◌+◌, ◌-◌, ◌%◌, ◌^◌, ◌<◌, ◌⊎◌, ◌++◌, option_map, IsErrOf};
+ghost use Rattle.model_guests.specs.Text.{Text};
+ghost use Rattle.lines.specs.{Faults.{read_failures_of, write_failures_of}, Lines.texts, Pieces.IsBefore, Reasons.reason_of, Refusals.{none_seen, with_bad, with_line, watched, IsWatched}, Runs.ends};
 
 use crate::answers::{Answer, Answers};
+use crate::line::LONGEST_LINE;
+use crate::reasons::{Reason, Wrong, is_marked, reason_of};
 use crate::replies::LineText;
 use crate::runs::{RunFault, run};
+use accesses::Names;
+use arrayvec::ArrayVec;
 use std::alloc::AllocError;
 use streams::{Reader, Writer};
 
-/// What answers lines, and whether it refused one.
+/// A refused line that has none of the forms, or begins with a byte order mark.
+#[derive(Drop)]
+pub struct BadLine {
+    /// Its number, where 1 is the first line's.
+    pub line: u64,
+    pub reason: Reason,
+}
+
+impl Default for BadLine {
+    fn default() -> BadLine {
+        BadLine {
+            line: 0,
+            reason: Reason {
+                at: 0,
+                wrong: Wrong::TooMany,
+                word: ArrayVec::new(),
+            },
+        }
+    }
+}
+
+/// What was seen of lines. Counts go on from 0 behind 2^64 - 1.
+#[derive(Drop)]
+pub struct Seen {
+    /// Whether a line was refused.
+    pub refused: bool,
+    /// How many lines there were.
+    pub lines: u64,
+    /// How many of them are bad lines.
+    pub bad: u64,
+    /// The first of those.
+    pub first: ArrayVec<BadLine, 20>,
+}
+
+impl Seen {
+    /// What is seen of no line.
+    pub fn none() -> Seen
+        ensures { result ≡ none_seen }
+    {
+        Seen {
+            refused: false,
+            lines: 0,
+            bad: 0,
+            first: ArrayVec::new(),
+        }
+    }
+
+    /// Sees one more bad line, of guests of these names or of firmware.
+    fn push_bad(&mut self, guests: Option<&Names>, line: &[u8])
+        ensures { self.new ≡ with_bad
+            (reason_of (option_map (λ names. texts names.now) guests.entry) line.now) self.old }
+    {
+        self.bad = self.bad.wrapping_add(1);
+        if self.first.is_full() {
+            return;
+        }
+        let line_number = self.lines;
+        if let Some(reason) = reason_of(guests, line) {
+            self.first.push(BadLine {
+                line: line_number,
+                reason,
+            });
+        }
+    }
+
+    /// Sees one more line, and by which number it is refused, if it is. If `long`, more bytes of it came before.
+    fn push(&mut self, guests: Option<&Names>, long: bool, line: &[u8], refused: Option<u16>)
+        ensures { (before : Text) → IsBefore long before → self.new ≡ with_line
+            (option_map (λ names. texts names.now) guests.entry) (before ++ line.now) refused self.old }
+    {
+        self.lines = self.lines.wrapping_add(1);
+        let Some(number) = refused else {
+            return;
+        };
+        self.refused = true;
+        if !long && line.len() <= LONGEST_LINE && (number == 401 || is_marked(line)) {
+            self.push_bad(guests, line);
+        }
+    }
+}
+
+/// What answers lines, and what is seen of them.
 #[derive(Drop)]
 pub(crate) struct Watched<S> {
     server: S,
-    refused: bool,
+    seen: Seen,
 }
 
 impl<L, S: Answers<L>> Answers<L> for Watched<S> {
-    ghost protocol = { watched S.protocol S.refusal };
+    ghost protocol = { watched S.protocol S.refusal S.speakers };
 
     ghost refusal = { λ w line. S.refusal w.server line };
+
+    ghost speakers = { λ w. S.speakers w.server };
 
     ghost TakesMemory = { S.TakesMemory };
 
@@ -29,40 +117,38 @@ impl<L, S: Answers<L>> Answers<L> for Watched<S> {
         text: &mut LineText,
     ) -> Result<Answer, AllocError> {
         let answer = self.server.answer(line, long, text)?;
-        self.refused = self.refused || answer.refused.is_some();
+        self.seen
+            .push(self.server.guests(), long, line, answer.refused);
         Ok(answer)
+    }
+
+    fn guests(&self) -> Option<&Names> {
+        self.server.guests()
     }
 }
 
-/// Runs lines over what answers them, as [`run`] does, and gives it as they left it. If `strict`, it is told whether a
-/// line was refused.
+/// Runs lines over what answers them, as [`run`] does, and gives it as they left it, and what was seen of them.
 pub fn run_watched<L, S: Answers<L> + Drop, R: Reader, W: Writer>(
     server: S,
-    strict: bool,
     reader: &mut R,
     writer: &mut W,
-) -> Result<(S, bool), RunFault>
+) -> Result<(S, Seen), RunFault>
     requires reader_has_room { R.failures reader.old < 2 ^ 64 - 1 }
     requires writer_has_room { W.failures writer.old < 2 ^ 64 - 1 }
     ensures reads { R.failures reader.new ≡ R.failures reader.old + read_failures_of result }
     ensures writes { W.failures writer.new ≡ W.failures writer.old + write_failures_of result }
-    ensures runs { IsWatched strict S.protocol S.refusal server
+    ensures runs { IsWatched S.protocol S.refusal S.speakers server
         (ends (R.rest reader.old) (R.rest reader.new)
         (W.written writer.old) (W.written writer.new) (W.flushed writer.new)) result }
     ensures lacking_flushed { IsErrOf result RunFault.Memory →
         (W.flushed writer.new ≡ W.written writer.new) ⊎ (writer.new ≡ writer.old) }
     ensures memory { IsErrOf result RunFault.Memory → S.TakesMemory }
 {
-    if strict {
-        let mut watched = Watched {
-            server,
-            refused: false,
-        };
-        run::<L, Watched<S>, R, W>(&mut watched, reader, writer)?;
-        let Watched { server, refused } = watched;
-        return Ok((server, refused));
-    }
-    let mut server = server;
-    run::<L, S, R, W>(&mut server, reader, writer)?;
-    Ok((server, false))
+    let mut watched = Watched {
+        server,
+        seen: Seen::none(),
+    };
+    run::<L, Watched<S>, R, W>(&mut watched, reader, writer)?;
+    let Watched { server, seen } = watched;
+    Ok((server, seen))
 }

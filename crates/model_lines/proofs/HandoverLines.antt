@@ -2,7 +2,7 @@
 use Rattle.std.proofs.Common.{◌≡◌, List, [], ◌∷◌, Option, None, Some, refl, sym, ap, ◌∙◌, arith}
 use Rattle.model_guests.{specs.{Text.{Text, lines}, LineRuns.after_lines}, proofs.Isolation.isolated_over}
 use Rattle.model_handoff.specs.{Handoffs.taken_over, Regions.{HandoffFault, first_fault}, Changes.{MachineNow, machine_protocol}}
-use Rattle.model_lines.{specs.{Requests.{Request, for_guests, request}, Sessions.{DrivenNow, SessionNow, driven, given, after_handover, handed_over, after_board_line, after_session_line, session_protocol}, SessionLaws.{IsHandedOver, IsGivenBy, GivenBy, IsolatedSessions}}, proofs.SessionLines.{questions_change_nothing, handover_leaves, unasked_after, given_is_script}}
+use Rattle.model_lines.{specs.{Requests.{HostRequest, for_guests, request}, Sessions.{DrivenNow, SessionNow, driven, given, after_handover, handed_over, after_board_line, after_session_line, session_protocol}, SessionLaws.{IsHandedOver, IsGivenBy, GivenBy, IsolatedSessions}}, proofs.SessionLines.{questions_change_nothing, handover_leaves, unasked_after, given_is_script}}
 
 same_given : (m n : MachineNow) → given m ≡ given n → m ≡ n
 same_given m n is = cc
@@ -16,7 +16,7 @@ left_by_fault : (b : DrivenNow) (line : Text) → request line ≡ Some for_gues
 left_by_fault b line asks None can = grind (arith, handover_leaves b line asks)
 left_by_fault b line asks (Some f) fault = goes_on b (handover_leaves b line asks ∙ ap (after_handover b) fault)
 
-left_by : (b : DrivenNow) (line : Text) (o : Option Request) → request line ≡ o → Left b line
+left_by : (b : DrivenNow) (line : Text) (o : Option HostRequest) → request line ≡ o → Left b line
 left_by b line None none = goes_on (after_board_line b line) (unasked_after b line none)
 left_by b line (Some for_guests) is = left_by_fault b line is (first_fault b.world b.state) refl
 left_by b line (Some r) is = goes_on b (questions_change_nothing (driven b) line r is (λ same. cc))

@@ -1,7 +1,7 @@
 -- What sessions write and leave.
 use Rattle.std.{proofs.Common.{◌≡◌, ℕ, ◌++◌, false, List, [], ◌∷◌, None, Some, refl, ap, ◌∙◌, arith}, specs.Option.option_map_or}
 use Rattle.model_guests.specs.{Text.Text, LineRuns.{output, after_lines}, WorldNow.names_now}
-use Rattle.model_lines.{specs.{FirmwareLines.{Meaning, meaning, after_meaning}, Requests.{Request, for_guests, request}, Sessions.{DrivenNow, driven, given, after_handover, after_request, after_meant, after_board_line, after_session_line, session_protocol}, SessionLaws.{IsNoForm, QuestionsChangeNothing, RefusedStays, PlainSessions, DrivenIsFirmware, GivenIsScript}}, proofs.Requests.requests_are_no_form}
+use Rattle.model_lines.{specs.{FirmwareLines.{Meaning, meaning, after_meaning}, Requests.{HostRequest, for_guests, request}, Sessions.{DrivenNow, driven, given, after_handover, after_request, after_meant, after_board_line, after_session_line, session_protocol}, SessionLaws.{IsNoForm, QuestionsChangeNothing, RefusedStays, PlainSessions, DrivenIsFirmware, GivenIsScript}}, proofs.Requests.requests_are_no_form}
 use Rattle.model_handoff.{specs.{Regions.first_fault, Changes.{MachineNow, after_line_on_machine, counts_where, machine_protocol}}, proofs.Aside.{output_aside, after_aside}}
 use Rattle.model_lines.specs.FirmwareLines as firmware
 
@@ -14,7 +14,7 @@ unchanged (t ∷ ts) ns = grind (arith, unchanged ts)
 bad_stays : (m : MachineNow) (line : Text) → IsNoForm line → after_line_on_machine m line ≡ m
 bad_stays m line none = grind (arith, unchanged (names_now m.world) m.counts)
 
-asked_after : (b : DrivenNow) (line : Text) (r : Request) → request line ≡ Some r → after_session_line (driven b) line ≡ after_request b r
+asked_after : (b : DrivenNow) (line : Text) (r : HostRequest) → request line ≡ Some r → after_session_line (driven b) line ≡ after_request b r
 asked_after b line r same = ap (λ o. option_map_or (after_request b) o (driven (after_board_line b line))) same
 
 pub questions_change_nothing : QuestionsChangeNothing

@@ -1,7 +1,7 @@
 -- The lines of a session that ask something of the host: `host audit`, `host ready` and `host guests`, and why something
 -- finds what it finds, `host why mem ADDR`, `host why io PORT` and `host why cfg BB:DD.F`.
 --     WhyAsked      an address, a port or a number that is asked about
---     Request, request line      what a line asks, if it is of such a form
+--     HostRequest, request line      what a line asks, if it is of such a form
 --     why_written s a      what is told of why
 --     RequestExamples      what some lines ask
 use Rattle.std.specs.{Prelude.{◌≡◌, List, [], ◌∷◌, ℕ, ◌^◌, if◌then◌else◌, Option, Some, None, option_map, codes}, Str.bytes_eq}
@@ -22,29 +22,29 @@ why_place space at =
     else (if bytes_eq space (codes "io") then option_map of_port (below (2 ^ 32) (number_of at))
     else on_word space (codes "cfg") (option_map of_function (bus_address at)))
 
-pub data Request : Type 0 where
-  for_audit : Request
-  for_ready : Request
-  for_guests : Request
-  for_why : WhyAsked → Request
+pub data HostRequest : Type 0 where
+  for_audit : HostRequest
+  for_ready : HostRequest
+  for_guests : HostRequest
+  for_why : WhyAsked → HostRequest
 
-abbrev pub request_of_word : Text → Option Request
+abbrev pub request_of_word : Text → Option HostRequest
 request_of_word w =
     if bytes_eq w (codes "audit") then Some for_audit
     else (if bytes_eq w (codes "ready") then Some for_ready else on_word w (codes "guests") (Some for_guests))
 
 -- the words after `host`
-abbrev pub request_of : List Text → Option Request
+abbrev pub request_of : List Text → Option HostRequest
 request_of (w ∷ []) = request_of_word w
 request_of (w ∷ space ∷ at ∷ []) = on_word w (codes "why") (option_map for_why (why_place space at))
 request_of _ = None
 
-abbrev pub request_in : List Text → Option Request
+abbrev pub request_in : List Text → Option HostRequest
 request_in [] = None
 request_in (w ∷ ws) = on_word w (codes "host") (request_of ws)
 
 -- a long line asks for nothing
-abbrev pub request : Text → Option Request
+abbrev pub request : Text → Option HostRequest
 request line = if is_long line then None else request_in (words line)
 
 abbrev pub why_written : State → WhyAsked → Text

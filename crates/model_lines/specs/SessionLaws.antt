@@ -12,7 +12,7 @@
 use Rattle.std.specs.Prelude.{◌≡◌, ◌≢◌, List, [], ◌∷◌, ◌++◌, Some, None, false, codes, IsTrue, IsFalse}
 use Rattle.lists.specs.Elements.{Each}
 use Rattle.model_guests.specs.{Text.{Text, lines, words}, Grammar.{has_name, host, is_long}, Guests.{guests_at_first, lone_of}, Inputs.{inputs, lone_output, after_inputs}, LineRuns.{output, after_lines}, Lone.reset_guest, Replies.reply_lines, World.{World, names, declarations, HasLawfulNames}}
-use Rattle.model_lines.specs.{FirmwareLines.board_protocol, HostAccesses.HostAccess, Requests.{Request, for_guests, request}, Sessions.{DrivenNow, SessionNow, driven, given, after_board_access, after_board_line, driven_protocol, handed_over, after_session_line, session_protocol}}
+use Rattle.model_lines.specs.{FirmwareLines.board_protocol, HostAccesses.HostAccess, Requests.{HostRequest, for_guests, request}, Sessions.{DrivenNow, SessionNow, driven, given, after_board_access, after_board_line, driven_protocol, handed_over, after_session_line, session_protocol}}
 use Rattle.model_handoff.specs.{Regions.{HandoffFault, first_fault}, Changes.{MachineNow, machine_protocol}}
 use Rattle.model_guests.specs.Lines as script
 use Rattle.model_guests.specs.WorldNow as now
@@ -26,10 +26,10 @@ abbrev pub HostWordsAreNoForm : Type 0
 HostWordsAreNoForm = (line word : Text) → IsFalse (is_long line) → words line ≡ codes "host" ∷ word ∷ [] → IsNoForm line
 
 abbrev pub RequestsAreNoForm : Type 0
-RequestsAreNoForm = (line : Text) (r : Request) → request line ≡ Some r → IsNoForm line
+RequestsAreNoForm = (line : Text) (r : HostRequest) → request line ≡ Some r → IsNoForm line
 
 abbrev pub QuestionsChangeNothing : Type 0
-QuestionsChangeNothing = (x : SessionNow) (line : Text) (r : Request) → request line ≡ Some r → r ≢ for_guests
+QuestionsChangeNothing = (x : SessionNow) (line : Text) (r : HostRequest) → request line ≡ Some r → r ≢ for_guests
     → after_session_line x line ≡ x
 
 abbrev pub RefusedStays : Type 0

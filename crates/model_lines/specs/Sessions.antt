@@ -16,7 +16,7 @@ use Rattle.std.specs.{Prelude.{List, [], ◌∷◌, ℕ, ◌++◌, ◌||◌, Boo
 use Rattle.model_board.specs.{AtReset.reset_state, State.{BoardFunction, State}}
 use Rattle.model_set_up.specs.PlacedRegions.{PlacedRegion}
 use Rattle.model_guests.specs.{Text.{Text, text_of_lines}, Grammar.host, Guests.GuestNow, Accesses.{Reply, answered, done, refused}, Replies.line_text, PathTexts.path_text, World.World, WorldNow.{WorldNow, world_over, board_state}, LineRuns.Protocol}
-use Rattle.model_lines.specs.{HostAccesses.{HostAccess, answer, after_access}, FirmwareLines.{Meaning, nothing, asked, bad, meaning, line_output}, Requests.{Request, for_audit, for_ready, for_guests, for_why, request, why_written}}
+use Rattle.model_lines.specs.{HostAccesses.{HostAccess, answer, after_access}, FirmwareLines.{Meaning, nothing, asked, bad, meaning, line_output}, Requests.{HostRequest, for_audit, for_ready, for_guests, for_why, request, why_written}}
 use Rattle.model_findings.specs.{AuditText.{audit, audit_line, problem_text, register_text}, ReadyText.ready_report}
 use Rattle.model_handoff.specs.{Handoffs.taken_over, Regions.{HandoffFault, in_disorder, closed_region, first_fault}, Changes.{MachineNow, after_line_on_machine}}
 use Rattle.model_guests.specs.WorldNow as script
@@ -97,13 +97,13 @@ after_handover b (Some f) = driven b
 -- ---- a line
 
 -- what a request writes, and the session after it: all but that for guests are questions, which change nothing
-abbrev pub told_output : DrivenNow → Request → Text
+abbrev pub told_output : DrivenNow → HostRequest → Text
 told_output b for_audit = audit b.state.functions
 told_output b for_ready = ready_report b.world.apertures b.state.functions
 told_output b for_guests = handover_output (first_fault b.world b.state)
 told_output b (for_why at) = why_written b.state at
 
-abbrev pub after_request : DrivenNow → Request → SessionNow
+abbrev pub after_request : DrivenNow → HostRequest → SessionNow
 after_request b for_guests = after_handover b (first_fault b.world b.state)
 after_request b other = driven b
 

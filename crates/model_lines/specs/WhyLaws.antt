@@ -15,7 +15,7 @@ use Rattle.lists.specs.Elements.{IsIn, Each}
 use Rattle.model_board.specs.{Board.{endpoint, bridge}, Paths.{Path, leads_to, parent}, State.BoardFunction, Windows.{is_in, forwards}, Claims.{Claim, is_forwarded, claims, first_claim}, Cycles.{secondary_register, covers, taker, BusAddress, reached}, Routing.{row_of, routing}}
 use Rattle.model_set_up.specs.PlacedRegions.{PlacedRegion, holds}
 use Rattle.model_findings.specs.{OpenRegions.regions_of, Agents.{bridge_agent, answers}, Orderly.{IsOrderly, IsStateOfBoard}, Lacks.IsReady}
-use Rattle.model_lines.specs.{Why.{NamedWindow, windows_now, Hindrance, closes, misses, hindrance, Cause, closed_by, stopped_at, Told, is_answer, told, is_as_at_reset, Forwarder, forwarder, why}, Ways.{bridges_on_way, takers_on_way, end_of, reached_at, Missing, no_bridge, no_function, missing, WhyNumber, why_number}}
+use Rattle.model_lines.specs.{Why.{NamedWindow, windows_now, Hindrance, closes, misses, hindrance, Cause, closed_by, stopped_at, Told, is_answer, told, is_as_at_reset, apart, at_reset, Forwarder, forwarder, why}, Ways.{bridges_on_way, takers_on_way, end_of, reached_at, Missing, no_bridge, no_function, missing, WhyNumber, why_number}}
 use Rattle.model_findings.specs.Problems as audit
 
 -- ---- an address
@@ -94,6 +94,9 @@ pub record IsExplained (fs : List BoardFunction) (space : Space) (n : ℕ) : Typ
   pub complete : (f : BoardFunction) → IsIn f fs → (q : PlacedRegion) → IsIn q (regions_of (row_of f))
       → IsTrue (holds space n q)
       → IsTrue (is_answer (first_claim fs space n) q) ⊎ ((t : Told) × IsIn t (told fs space n) × (t.region ≡ q))
+  -- those that aren't as at reset are told one by one, the others by their number
+  pub one_by_one : (why fs space n).told ≡ apart (told fs space n)
+  pub by_number : (why fs space n).at_reset ≡ at_reset (told fs space n)
   -- where nobody answers, each has a cause
   pub nobody : first_claim fs space n ≡ None → Each (λ t. t.causes ≡ [] → ⊥) (told fs space n)
 

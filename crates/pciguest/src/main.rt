@@ -5,7 +5,8 @@
 
 use command_line::{WordsFault, choose};
 use simulation::{
-    Fault, InputStream, OutputStream, board_or_hint, check_hint, fault_line, perform, usage_hint,
+    Fault, InputStream, OutputStream, Seen, bad_lines_text, board_or_hint, check_hint, fault_line,
+    perform, usage_hint,
 };
 use std::io::IsTerminal;
 use std::process::ExitCode;
@@ -45,11 +46,13 @@ fn board_at(rt: &(impl AllocGlobal + Files), path: &str) -> Result<Vec<u8>, Fail
     }
 }
 
-/// Does what the words ask, over standard input and output. `is_terminal` tells whether the output is one.
+/// Does what the words ask, over standard input and output. `is_terminal` tells whether the output is one. It is told
+/// what was seen of lines.
 fn serve(
     rt: &(impl AllocGlobal + Files + Input + Print),
     words: &[&str],
     is_terminal: bool,
+    seen: &mut Seen,
 ) -> Result<(), Failure> {
     let alloc = rt.alloc();
     let choice = match choose(alloc, words, is_terminal) {
@@ -68,7 +71,7 @@ fn serve(
         Some(path) => board_at(rt, path)?,
         None => Vec::new(alloc),
     };
-    match perform(alloc, &choice, &board, &mut reader, &mut writer) {
+    match perform(alloc, &choice, &board, seen, &mut reader, &mut writer) {
         Ok(()) => Ok(()),
         Err(fault) => Err(Failure {
             fault,
@@ -77,10 +80,11 @@ fn serve(
     }
 }
 
-/// Does what the program is asked. `is_terminal` tells whether the output is one.
+/// Does what the program is asked. `is_terminal` tells whether the output is one. It is told what was seen of lines.
 fn run(
     rt: &(impl Env + AllocGlobal + Files + Input + Print),
     is_terminal: bool,
+    seen: &mut Seen,
 ) -> Result<(), Failure> {
     let words = words_given(rt)?;
     let mut texts = Vec::new(rt.alloc());
@@ -89,11 +93,16 @@ fn run(
             return Err(Failure::from(Fault::WordMemory));
         }
     }
-    serve(rt, texts.as_slice(), is_terminal)
+    serve(rt, texts.as_slice(), is_terminal, seen)
 }
 
 fn main(rt: HostRuntime) -> ExitCode {
-    match run(&rt, rt.stdout().is_terminal()) {
+    let mut seen = Seen::none();
+    let done = run(&rt, rt.stdout().is_terminal(), &mut seen);
+    if let Ok(text) = bad_lines_text(rt.alloc(), &seen) {
+        let _ = rt.eprint(text);
+    }
+    match done {
         Ok(()) => ExitCode::SUCCESS,
         Err(failure) => {
             let _ = rt.eprint(fault_line(failure.fault));

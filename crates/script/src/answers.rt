@@ -1,5 +1,5 @@
 //! What a line does and writes.
-ghost use Rattle.std.specs.Prelude.{◌≡◌, ◌<◌, ◌++◌, ◌∷◌, [], length, option_map, MatchOption, IfSome};
+ghost use Rattle.std.specs.Prelude.{◌≡◌, ◌<◌, ◌++◌, ◌∷◌, [], Some, length, option_map, MatchOption, IfSome};
 ghost use Rattle.model_guests.specs.{Text.Text, Replies.line_text, WorldNow.{names_now, written_by, line_output}, Calls.asks};
 ghost use Rattle.model_handoff.specs.{Actions.calls, Changes.{after_on_machine, after_line_on_machine, machine_protocol}};
 ghost use Rattle.accesses.specs.{Accesses.reply_of, Replies.IsShown};
@@ -7,7 +7,7 @@ ghost use Rattle.lines.specs.{Pieces.IsBefore, Lines.{who_of, meaning_of, GuestI
 ghost use Rattle.script.specs.Refusals.{refusal_of, reply_to, refusal_in, refusal_on_machine};
 
 use lines::{Answer, Answers, LineText, What, Who, line_meaning, push_line};
-use monitor::{Monitor, Refusal, Reply};
+use monitor::{Monitor, Names, Refusal, Reply};
 use std::alloc::AllocError;
 
 /// Runs the event that a line means, and gives under whose name it is answered and with what, if it makes output.
@@ -125,6 +125,8 @@ impl Answers<Script> for Monitor {
 
     ghost refusal = { refusal_on_machine };
 
+    ghost speakers = { λ m. Some (names_now m.world) };
+
     ghost TakesMemory = { ⊥ };
 
     #[inline(always)]
@@ -136,5 +138,9 @@ impl Answers<Script> for Monitor {
     ) -> Result<Answer, AllocError> {
         let refused = answer_line(self, line, long, text);
         Ok(Answer::short(refused))
+    }
+
+    fn guests(&self) -> Option<&Names> {
+        Some(self.names())
     }
 }

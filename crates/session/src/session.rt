@@ -6,7 +6,7 @@ ghost use Rattle.findings.specs.Findings.{problem_of, lack_of};
 ghost use Rattle.model_lines.specs.Sessions.{driven, given, at_reset, session_functions, session_protocol, session_output, after_session_line};
 ghost use Rattle.lines.specs.Pieces.{IsBefore, with_more};
 ghost use Rattle.board_file.specs.{declared.fault.BoardFault.TheVariants.Memory, Faults.number_of as file_number};
-ghost use Rattle.session.specs.{Files.{Declares, Refuses}, Boards.{IsHandedOverAs, IsRefusalOf}, Refusals.refusal_in, Stages.{board_in, machine_in, asks_for_more, IsDriven, IsGiven}};
+ghost use Rattle.session.specs.{Files.{Declares, Refuses}, Boards.{IsHandedOverAs, IsRefusalOf}, Refusals.{refusal_in, speakers_in}, Stages.{board_in, machine_in, asks_for_more, IsDriven, IsGiven}};
 
 use crate::asking::meant;
 use crate::board::Board;
@@ -15,8 +15,8 @@ use board_file::BoardFault;
 use findings::{Lack, Problem};
 use findings_told::CountedText;
 use headers::Apertures;
-use lines::{Answer, Answers, LineText, Request};
-use monitor::{HandoverFault, Monitor};
+use lines::{Answer, Answers, HostRequest, LineText};
+use monitor::{HandoverFault, Monitor, Names};
 use std::alloc::{AllocError, Global};
 use std::marker::Model;
 
@@ -233,19 +233,19 @@ impl Session {
                         let refused = board.answer(what, text);
                         Ok(Answer::short(refused))
                     }
-                    Some(Request::Audit) => {
+                    Some(HostRequest::Audit) => {
                         let told = board.audit(self.alloc)?;
                         Ok(Answer::text(told.text))
                     }
-                    Some(Request::Ready) => {
+                    Some(HostRequest::Ready) => {
                         let ready = board.ready(self.alloc)?;
                         Ok(Answer::text(ready.text))
                     }
-                    Some(Request::Why(at)) => {
+                    Some(HostRequest::Why(at)) => {
                         let told = board.why(self.alloc, at)?;
                         Ok(Answer::text(told))
                     }
-                    Some(Request::Guests) => answer_handover(self.alloc, &mut self.stage, text),
+                    Some(HostRequest::Guests) => answer_handover(self.alloc, &mut self.stage, text),
                 }
             }
             Stage::Between => unreachable!(),
@@ -285,6 +285,8 @@ impl Answers<SessionLines> for Session {
 
     ghost refusal = { refusal_in };
 
+    ghost speakers = { speakers_in };
+
     ghost TakesMemory = { ⊤ };
 
     fn answer(
@@ -294,5 +296,13 @@ impl Answers<SessionLines> for Session {
         text: &mut LineText,
     ) -> Result<Answer, AllocError> {
         self.answer_line(line, long, text)
+    }
+
+    fn guests(&self) -> Option<&Names> {
+        match &self.stage {
+            Stage::Driven(_) => None,
+            Stage::Given(monitor) => Some(monitor.names()),
+            Stage::Between => unreachable!(),
+        }
     }
 }

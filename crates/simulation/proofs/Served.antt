@@ -5,13 +5,13 @@
 --     is_served      all was told
 --     unanswered      the text after the lines was not told whole
 --     served_fault, of_serving      the fault after all was told is one of these
-use Rattle.std.{proofs.{Common.{◌≡◌, ◌&&◌, ◌++◌, ℕ, Bool, true, false, Result, Ok, Err, Option, None, Some, is_some, IsTrue, refl, inl, inr, sym, ap, ap₂, subst, ◌∙◌, arith}, KnownBytes.Appends-trans}, specs.{Option.ForSome, Io.{StartsWith, KnownBytes.Appends}}}
+use Rattle.std.{proofs.{Common.{◌≡◌, ◌++◌, ℕ, Bool, true, Result, Ok, Err, Option, None, Some, is_some, IsTrue, refl, inl, inr, sym, ap, ap₂, subst, ◌∙◌, arith}, KnownBytes.Appends-trans}, specs.{Option.ForSome, Io.{StartsWith, KnownBytes.Appends}}}
 use Rattle.streams.specs.Ends.{AppendsPart}
 use Rattle.model_registers.specs.Apertures.{Apertures}
 use Rattle.model_guests.specs.{Text.{Text, lines}, World.{World, IsLawfulWorld}}
 use Rattle.model_lines.{specs.Sessions.{SessionNow, driven, at_reset, session_functions, session_protocol}, proofs.HandoverLines.isolated_sessions}
-use Rattle.lines.{specs.{declared.runs.RunFault.RunFault, Refusals.{refuses, IsWatched}, Runs.{Ends, ends, Runs}}, proofs.Parts.{same_end, same_error}}
-use Rattle.session.specs.{Files.Declares, Refusals.refusal_in}
+use Rattle.lines.{specs.{declared.{runs.RunFault.RunFault, watching.Seen.Seen}, Refusals.{refuses, none_seen, seen_along, IsWatched}, Runs.{Ends, ends, Runs}}, proofs.Parts.{same_end, same_error}}
+use Rattle.session.specs.{Files.Declares, Refusals.{refusal_in, speakers_in}}
 use Rattle.board_told.specs.{declared.{fault.Fault.{Fault, TheVariants.{SetUp, Write, NotInOrder, NotReady, RefusedLine}}, telling.Question.{Question, TheVariants.{Audit, Ready}}}, Faults.of_run}
 use Rattle.simulation.{specs.{Faults.{IsOfFile, IsToldLast, OnFile}, Serving.{at_first, session_text, left_after, told, counted, last_fault, HasEnded, IsSession, IsServed, Serves, IsOfAnswer, IsOfServing}}, proofs.Begun.runs_from}
 use Rattle.lines.specs.declared.runs.RunFault.TheVariants as run
@@ -30,41 +30,43 @@ session_over board x end at r begun ran = record {
   isolated = isolated_sessions begun.0 begun.2.guests.lawful_names;
 }
 
-pub stopped : (q : Option Question) (strict : Bool) (board : Text) (x : SessionNow) (at : Ends) (e : RunFault) → IsBegun board x
-    → IsWatched strict session_protocol refusal_in x at (Err e) → Serves {T = Unit {0}} q strict board at (Err (of_run e))
-stopped q strict board x at e begun w =
-    by_fault e (session_over board x w.end at (Err e) begun (same_error (SessionNow × Bool) (Unit {0}) session_protocol x w.end at e w.runs))
+pub stopped : (q : Option Question) (strict : Bool) (seen : Seen) (board : Text) (x : SessionNow) (at : Ends) (e : RunFault) → IsBegun board x
+    → IsWatched session_protocol refusal_in speakers_in x at (Err e) → Serves {T = Unit {0}} q strict seen board at (Err (of_run e))
+stopped q strict seen board x at e begun w =
+    by_fault e (session_over board x w.end at (Err e) begun (same_error (SessionNow × Seen) (Unit {0}) session_protocol x w.end at e w.runs))
   where
-    by_fault : (e : RunFault) → IsSession {T = Unit {0}} board at (Err e) → Serves {T = Unit {0}} q strict board at (Err (of_run e))
+    by_fault : (e : RunFault) → IsSession {T = Unit {0}} board at (Err e) → Serves {T = Unit {0}} q strict seen board at (Err (of_run e))
     by_fault run.Read s = s
     by_fault run.Write s = inl s
     by_fault run.Memory s = inl s
 
 -- ---- after the lines
 
-pub record IsLeft (strict : Bool) (board : Text) (at : Ends) (a : Apertures) (y : SessionNow × Bool) : Type 0 where
+pub record IsLeft (board : Text) (at : Ends) (a : Apertures) (y : SessionNow × Seen) : Type 0 where
   pub session : HasEnded board at
   pub left : y.0 ≡ session.end
   pub apertures : a ≡ session.world.apertures
-  pub refused : ForSome at.script (λ s. y.1 ≡ (strict && refuses session_protocol refusal_in (at_first session.world) (lines s)))
+  pub refused : ForSome at.script (λ s. y.1.refused ≡ refuses session_protocol refusal_in (at_first session.world) (lines s))
+  pub seen : ForSome at.script (λ s. y.1 ≡ seen_along session_protocol refusal_in speakers_in (at_first session.world) (lines s) none_seen)
 
-pub left_by : (board : Text) (strict : Bool) (x : SessionNow) (at : Ends) (a : Apertures) (y : SessionNow × Bool) (begun : IsBegun board x) → a ≡ begun.0.apertures
-    → IsWatched strict session_protocol refusal_in x at (Ok y) → IsLeft strict board at a y
-left_by board strict x at a y begun same w = record {
-  session = session_over board x w.end at (Ok tt) begun (same_end (SessionNow × Bool) (Unit {0}) session_protocol x w.end at y tt w.runs);
+pub left_by : (board : Text) (x : SessionNow) (at : Ends) (a : Apertures) (y : SessionNow × Seen) (begun : IsBegun board x) → a ≡ begun.0.apertures
+    → IsWatched session_protocol refusal_in speakers_in x at (Ok y) → IsLeft board at a y
+left_by board x at a y begun same w = record {
+  session = session_over board x w.end at (Ok tt) begun (same_end (SessionNow × Seen) (Unit {0}) session_protocol x w.end at y tt w.runs);
   left = w.left;
   apertures = same;
-  refused = λ s known. w.refused s known ∙ ap (λ z. strict && refuses session_protocol refusal_in z (lines s)) begun.3;
+  refused = λ s known. w.refused s known ∙ ap (λ z. refuses session_protocol refusal_in z (lines s)) begun.3;
+  seen = λ s known. w.seen s known ∙ ap (λ z. seen_along session_protocol refusal_in speakers_in z (lines s) none_seen) begun.3;
 }
 
 -- what is told and counted of the session that was left is so of the one after the lines
-after_lines_told : {A : Type 0} (f : Apertures → SessionNow → A) {strict : Bool} {board : Text} {at : Ends} {a : Apertures} {y : SessionNow × Bool} (l : IsLeft strict board at a y)
+after_lines_told : {A : Type 0} (f : Apertures → SessionNow → A) {board : Text} {at : Ends} {a : Apertures} {y : SessionNow × Seen} (l : IsLeft board at a y)
     → (s : Text) → at.script ≡ Some s → f a y.0 ≡ f l.session.world.apertures (left_after l.session.world (lines s))
 after_lines_told f l s known = ap₂ f l.apertures (l.left ∙ l.session.runs.events s known)
 
-pub is_served : (q : Option Question) (strict : Bool) (board : Text) (a : Apertures) (n : ℕ) (script unread old mid mid_flushed new flushed : Option Text) (y : SessionNow × Bool)
-    → IsLeft strict board (ends script unread old mid mid_flushed) a y → Appends mid new (told q a (session_functions y.0)) → n ≡ counted q a (session_functions y.0)
-    → (mid_flushed ≡ mid → flushed ≡ new) → IsServed q strict (last_fault q strict y.1 n) board (ends script unread old new flushed)
+pub is_served : (q : Option Question) (strict : Bool) (board : Text) (a : Apertures) (n : ℕ) (script unread old mid mid_flushed new flushed : Option Text) (y : SessionNow × Seen)
+    → IsLeft board (ends script unread old mid mid_flushed) a y → Appends mid new (told q a (session_functions y.0)) → n ≡ counted q a (session_functions y.0)
+    → (mid_flushed ≡ mid → flushed ≡ new) → IsServed q strict (last_fault q strict y.1.refused n) y.1 board (ends script unread old new flushed)
 is_served q strict board a n script unread old mid mid_flushed new flushed y l appended counts all =
     let o = l.session in
     record {
@@ -79,13 +81,14 @@ is_served q strict board a n script unread old mid mid_flushed new flushed y l a
       };
       fault = λ s known. sym (ap₂ (λ (r : Bool) (m : ℕ). last_fault q strict r m) (l.refused s known)
           (counts ∙ after_lines_told (λ b z. counted q b (session_functions z)) l s known));
+      watched = l.seen;
     }
 
-pub unanswered : (q : Option Question) (strict : Bool) (board : Text) (a : Apertures) (f : Fault) (script unread old mid mid_flushed new flushed : Option Text) (y : SessionNow × Bool)
-    → IsLeft strict board (ends script unread old mid mid_flushed) a y → IsOfAnswer f → IsTrue (is_some q)
+pub unanswered : (q : Option Question) (strict : Bool) (seen : Seen) (board : Text) (a : Apertures) (f : Fault) (script unread old mid mid_flushed new flushed : Option Text) (y : SessionNow × Seen)
+    → IsLeft board (ends script unread old mid mid_flushed) a y → IsOfAnswer f → IsTrue (is_some q)
     → (f ≡ Write → AppendsPart mid new (told q a (session_functions y.0))) → (f ≡ SetUp set_up.Memory → (new ≡ mid) × (flushed ≡ mid_flushed))
-    → Serves {T = Unit {0}} q strict board (ends script unread old new flushed) (Err f)
-unanswered q strict board a Write script unread old mid mid_flushed new flushed y l of asked stops lacks =
+    → Serves {T = Unit {0}} q strict seen board (ends script unread old new flushed) (Err f)
+unanswered q strict seen board a Write script unread old mid mid_flushed new flushed y l of asked stops lacks =
     let o = l.session in
     let last = stops refl in
     inr (record {
@@ -97,26 +100,26 @@ unanswered q strict board a Write script unread old mid mid_flushed new flushed 
       begins = λ s known. subst (λ (t : Text). StartsWith t last.0) (after_lines_told (λ b z. told q b (session_functions z)) l s known) last.1;
       written = λ s known. Appends-trans old mid new (session_text o.world (lines s)) last.0 (o.runs.output s known) last.2;
     })
-unanswered q strict board a (SetUp s) script unread old mid mid_flushed new flushed y l of asked stops lacks =
+unanswered q strict seen board a (SetUp s) script unread old mid mid_flushed new flushed y l of asked stops lacks =
     let same = lacks (ap SetUp of) in
     let ended : HasEnded board (ends script unread old new flushed) =
     subst (λ z. HasEnded board (ends script unread old z flushed)) (sym same.0) (subst (λ z. HasEnded board (ends script unread old mid z)) (sym same.1) l.session) in
-    subst (λ z. Serves {T = Unit {0}} q strict board (ends script unread old new flushed) (Err (SetUp z))) (sym of) (inr (asked, ended))
-unanswered q strict board a _ script unread old mid mid_flushed new flushed y l of asked stops lacks = absurd of
+    subst (λ z. Serves {T = Unit {0}} q strict seen board (ends script unread old new flushed) (Err (SetUp z))) (sym of) (inr (asked, ended))
+unanswered q strict seen board a _ script unread old mid mid_flushed new flushed y l of asked stops lacks = absurd of
 
 -- ---- the fault that is told last
 
 pub told_last : (q : Option Question) (strict refused : Bool) (n : ℕ) (f : Fault) → last_fault q strict refused n ≡ Some f → IsToldLast f
-told_last q strict true n f is = subst IsToldLast {x = RefusedLine} (let same : RefusedLine ≡ f = cc in same) tt
-told_last None strict false n f is = grind arith
-told_last (Some (Audit form)) strict false n f is = grind arith
-told_last (Some (Ready form)) strict false n f is = grind arith
+told_last q true true n f is = subst IsToldLast {x = RefusedLine} (let same : RefusedLine ≡ f = cc in same) tt
+told_last None strict refused n f is = grind arith
+told_last (Some (Audit form)) strict refused n f is = grind arith
+told_last (Some (Ready form)) strict refused n f is = grind arith
 
-pub served_fault : (q : Option Question) (strict refused : Bool) (n : ℕ) (board : Text) (at : Ends) (f : Fault) → last_fault q strict refused n ≡ Some f
-    → IsServed q strict (last_fault q strict refused n) board at → Serves {T = Unit {0}} q strict board at (Err f)
-served_fault q strict refused n board at f is served = by_fault f (told_last q strict refused n f is) (subst (λ z. IsServed q strict z board at) is served)
+pub served_fault : (q : Option Question) (strict refused : Bool) (n : ℕ) (seen : Seen) (board : Text) (at : Ends) (f : Fault) → last_fault q strict refused n ≡ Some f
+    → IsServed q strict (last_fault q strict refused n) seen board at → Serves {T = Unit {0}} q strict seen board at (Err f)
+served_fault q strict refused n seen board at f is served = by_fault f (told_last q strict refused n f is) (subst (λ z. IsServed q strict z seen board at) is served)
   where
-    by_fault : (f : Fault) → IsToldLast f → IsServed q strict (Some f) board at → Serves {T = Unit {0}} q strict board at (Err f)
+    by_fault : (f : Fault) → IsToldLast f → IsServed q strict (Some f) seen board at → Serves {T = Unit {0}} q strict seen board at (Err f)
     by_fault RefusedLine last s = s
     by_fault NotInOrder last s = s
     by_fault NotReady last s = s
@@ -128,8 +131,8 @@ no_file P NotInOrder last = (tt, λ of. of)
 no_file P NotReady last = (tt, λ of. of)
 no_file P _ last = absurd last
 
-pub of_serving : (q : Option Question) (strict refused : Bool) (n : ℕ) (f : Fault) → (refused ≡ true → strict ≡ true) → last_fault q strict refused n ≡ Some f → IsOfServing q strict f
-of_serving q strict true n f asked is = grind arith
-of_serving None strict false n f asked is = grind arith
-of_serving (Some (Audit form)) strict false n f asked is = grind arith
-of_serving (Some (Ready form)) strict false n f asked is = grind arith
+pub of_serving : (q : Option Question) (strict refused : Bool) (n : ℕ) (f : Fault) → last_fault q strict refused n ≡ Some f → IsOfServing q strict f
+of_serving q true true n f is = grind arith
+of_serving None strict refused n f is = grind arith
+of_serving (Some (Audit form)) strict refused n f is = grind arith
+of_serving (Some (Ready form)) strict refused n f is = grind arith

@@ -4,14 +4,15 @@
 --     Prints text at result, Lists form board at result, Checks style warned name board at result      a text was written
 --         whole and flushed, or a beginning of it where a write or flush failed: one that is given, the report of a
 --         board, or what a check says
---     Does choice board at result      what was done, by how it ended, with a board file of these bytes
+--     Does choice seen board at result      what was done, by how it ended, with a board file of these bytes
+--     IsUntold choice      nothing is told of lines
 --     IsTelling choice f      the choice tells of the fault
 --     IsLacking choice f      memory is out once lines ran
 --     IsOfChoice choice f      a fault that the choice can end with
 use Rattle.std.specs.{Prelude.{◌≡◌, Bool, if◌then◌else◌, None, Some, Result, Ok, Err, string_bytes, ⊤}, Io.KnownBytes.Appends}
 use Rattle.model_guests.specs.Text.{Text}
 use Rattle.streams.specs.Ends.{AppendsPart}
-use Rattle.lines.specs.Runs.{Ends}
+use Rattle.lines.specs.{Runs.{Ends}, declared.watching.Seen.{Seen}}
 use Rattle.command_line.specs.declared.choice.Choice.{Choice, TheVariants.{Help, Demo, List, Check, Run, Firmware, Audit, Ready}}
 use Rattle.diagnostics.specs.declared.style.Style.{Style, TheVariants.{Plain, WithExcerpts}}
 use Rattle.board_fit.specs.declared.warned.Warned.{Warned}
@@ -47,15 +48,22 @@ style_of plain = if plain then Plain else WithExcerpts
 abbrev pub warned_of : Bool → Warned
 warned_of all = if all then of.All else of.Likely
 
-abbrev pub Does : {T : Type 0} → Choice → Text → Ends → Result T Fault → Type 0
-Does (Help text) board at r = Prints (string_bytes text) at r
-Does Demo board at r = OnRun (IsRun demo_board at) r
-Does (List path json) board at r = Lists (form_of json) board at r
-Does (Check path all plain) board at r = Checks (style_of plain) (warned_of all) path.now board at r
-Does (Run path strict) board at r = RunsAs strict board at r
-Does (Firmware path strict) board at r = Serves None strict board at r
-Does (Audit path json strict) board at r = Serves (Some (question.Audit (form_of json))) strict board at r
-Does (Ready path json strict) board at r = Serves (Some (question.Ready (form_of json))) strict board at r
+abbrev pub Does : {T : Type 0} → Choice → Seen → Text → Ends → Result T Fault → Type 0
+Does (Help text) seen board at r = Prints (string_bytes text) at r
+Does Demo seen board at r = OnRun (IsRun demo_board at) r
+Does (List path json) seen board at r = Lists (form_of json) board at r
+Does (Check path all plain) seen board at r = Checks (style_of plain) (warned_of all) path.now board at r
+Does (Run path strict) seen board at r = RunsAs strict seen board at r
+Does (Firmware path strict) seen board at r = Serves None strict seen board at r
+Does (Audit path json strict) seen board at r = Serves (Some (question.Audit (form_of json))) strict seen board at r
+Does (Ready path json strict) seen board at r = Serves (Some (question.Ready (form_of json))) strict seen board at r
+
+abbrev pub IsUntold : Choice → Type 0
+IsUntold (Run path strict) = ⊥
+IsUntold (Firmware path strict) = ⊥
+IsUntold (Audit path json strict) = ⊥
+IsUntold (Ready path json strict) = ⊥
+IsUntold _ = ⊤
 
 abbrev pub IsTelling : Choice → Fault → Type 0
 IsTelling (Check path all plain) f = IsRefusal f

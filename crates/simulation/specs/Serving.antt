@@ -12,8 +12,9 @@
 --         n problems and lacks
 --     IsTold q board at      all lines were read, and the texts were written and flushed
 --     IsToldInPart q board at      so was all of what the lines write, and a beginning of the text that a question asks for
---     IsServed q strict last board at      all was told, and this is the fault after it, if there is one
---     Serves q strict board at result      what was done, by how it ended
+--     IsServed q strict last seen board at      all was told, this is the fault after it, if there is one, and this was seen of
+--         the lines
+--     Serves q strict seen board at result      what was done, by how it ended
 --     IsOfAnswer f      memory is out for the text, or it isn't written whole
 --     IsOfServing q strict f      a fault by which it can end
 use Rattle.std.specs.{Prelude.{◌≡◌, ◌⊎◌, ◌++◌, ◌&&◌, ℕ, Bool, true, List, [], if◌then◌else◌, Option, None, Some, Result, Ok, Err, is_some, nat_lt, IsTrue, ⊤}, Option.ForSome, Io.{StartsWith, KnownBytes.{Appends, IsAtEnd}}}
@@ -21,8 +22,8 @@ use Rattle.model_registers.specs.Apertures.{Apertures}
 use Rattle.model_board.specs.State.{BoardFunction}
 use Rattle.model_guests.specs.{Text.{Text, lines}, World.World, LineRuns.{output, after_lines}}
 use Rattle.model_lines.specs.{Sessions.{SessionNow, driven, at_reset, session_protocol, session_functions}, SessionLaws.IsolatedFrom}
-use Rattle.lines.specs.{declared.runs.RunFault.RunFault, Refusals.refuses, Runs.{Ends, Runs}}
-use Rattle.session.specs.{Files.Declares, Refusals.refusal_in}
+use Rattle.lines.specs.{declared.{runs.RunFault.RunFault, watching.Seen.Seen}, Refusals.{refuses, none_seen, seen_along}, Runs.{Ends, Runs}}
+use Rattle.session.specs.{Files.Declares, Refusals.{refusal_in, speakers_in}}
 use Rattle.board_told.specs.{Telling.{told_by, counted_by}, declared.{fault.Fault.{Fault, TheVariants.{SetUp, Read, Write, NotInOrder, NotReady, RefusedLine}}, telling.Question.{Question, TheVariants.{Audit, Ready}}}}
 use Rattle.simulation.specs.Faults.{IsOfSession}
 use Rattle.lines.specs.declared.runs.RunFault.TheVariants as run
@@ -70,10 +71,10 @@ fault_by (Some (Audit form)) strict n = if strict && nat_lt 0 n then Some NotInO
 fault_by (Some (Ready form)) strict n = if nat_lt 0 n then Some NotReady else None
 
 abbrev pub last_fault : Option Question → (strict refused : Bool) → ℕ → Option Fault
-last_fault q strict refused n = if refused then Some RefusedLine else fault_by q strict n
+last_fault q strict refused n = if strict && refused then Some RefusedLine else fault_by q strict n
 
 abbrev pub fault_after : Option Question → Bool → World → List Text → Option Fault
-fault_after q strict w ls = last_fault q strict (strict && refuses session_protocol refusal_in (at_first w) ls)
+fault_after q strict w ls = last_fault q strict (refuses session_protocol refusal_in (at_first w) ls)
     (counted q w.apertures (session_functions (left_after w ls)))
 
 pub record IsTold (q : Option Question) (board : Text) (at : Ends) : Type 0 where
@@ -93,22 +94,25 @@ pub record IsToldInPart (q : Option Question) (board : Text) (at : Ends) : Type 
   pub begins : ForSome at.script (λ s. StartsWith (told_after q world (lines s)) part)
   pub written : ForSome at.script (λ s. Appends at.before at.after (session_text world (lines s) ++ part))
 
-pub record IsServed (q : Option Question) (strict : Bool) (last : Option Fault) (board : Text) (at : Ends) : Type 0 where
+pub record IsServed (q : Option Question) (strict : Bool) (last : Option Fault) (seen : Seen) (board : Text) (at : Ends)
+    : Type 0 where
   pub told : IsTold q board at
   pub fault : ForSome at.script (λ s. fault_after q strict told.world (lines s) ≡ last)
+  pub watched :
+      ForSome at.script (λ s. seen ≡ seen_along session_protocol refusal_in speakers_in (at_first told.world) (lines s) none_seen)
 
 -- A write or flush fails among the lines or in the text after them. Memory is out for a line, or for that text once all
 -- ran.
-abbrev pub Serves : {T : Type 0} → Option Question → Bool → Text → Ends → Result T Fault → Type 0
-Serves q strict board at (Ok x) = IsServed q strict None board at
-Serves q strict board at (Err Read) = IsSession {T = Unit {0}} board at (Err run.Read)
-Serves q strict board at (Err Write) = IsSession {T = Unit {0}} board at (Err run.Write) ⊎ IsToldInPart q board at
-Serves q strict board at (Err (SetUp set_up.Memory)) =
+abbrev pub Serves : {T : Type 0} → Option Question → Bool → Seen → Text → Ends → Result T Fault → Type 0
+Serves q strict seen board at (Ok x) = IsServed q strict None seen board at
+Serves q strict seen board at (Err Read) = IsSession {T = Unit {0}} board at (Err run.Read)
+Serves q strict seen board at (Err Write) = IsSession {T = Unit {0}} board at (Err run.Write) ⊎ IsToldInPart q board at
+Serves q strict seen board at (Err (SetUp set_up.Memory)) =
     IsSession {T = Unit {0}} board at (Err run.Memory) ⊎ (IsTrue (is_some q) × HasEnded board at)
-Serves q strict board at (Err RefusedLine) = IsServed q strict (Some RefusedLine) board at
-Serves q strict board at (Err NotInOrder) = IsServed q strict (Some NotInOrder) board at
-Serves q strict board at (Err NotReady) = IsServed q strict (Some NotReady) board at
-Serves q strict board at (Err other) = ⊤
+Serves q strict seen board at (Err RefusedLine) = IsServed q strict (Some RefusedLine) seen board at
+Serves q strict seen board at (Err NotInOrder) = IsServed q strict (Some NotInOrder) seen board at
+Serves q strict seen board at (Err NotReady) = IsServed q strict (Some NotReady) seen board at
+Serves q strict seen board at (Err other) = ⊤
 
 abbrev pub IsOfAnswer : Fault → Type 0
 IsOfAnswer Write = ⊤

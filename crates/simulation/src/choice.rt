@@ -2,7 +2,7 @@
 ghost use Rattle.std.specs.{Prelude.{◌≡◌, ◌≢◌, ◌+◌, ◌-◌, ◌^◌, ◌<◌, ◌⊎◌, OnOk, OnErr, IfErr}, Io.KnownBytes.Appends};
 ghost use Rattle.streams.specs.Ends.{AppendsPart};
 ghost use Rattle.lines.specs.Runs.{ends};
-ghost use Rattle.simulation.specs.{Choices.{form_of, style_of, warned_of, Does, IsTelling, IsLacking, IsOfChoice}, Faults.{read_faults, write_faults, IsToldLast}};
+ghost use Rattle.simulation.specs.{Choices.{form_of, style_of, warned_of, Does, IsUntold, IsTelling, IsLacking, IsOfChoice}, Faults.{read_faults, write_faults, IsToldLast}};
 
 use crate::checking::check;
 use crate::demonstration::demo;
@@ -13,6 +13,7 @@ use board_fit::Warned;
 use board_told::{Fault, Question, ReportForm};
 use command_line::Choice;
 use diagnostics::Style;
+use lines::Seen;
 use std::alloc::Global;
 use streams::{Reader, Writer, write_and_flush};
 
@@ -62,11 +63,12 @@ pub(crate) fn print<W: Writer>(text: &str, writer: &mut W) -> Result<(), Fault>
 }
 
 /// Does what is asked. A script is read from `reader`, and `board` is what stands in the board file, where one is asked
-/// for.
+/// for. It is told what was seen of lines, once all of them ran and all was written.
 pub fn perform<R: Reader, W: Writer>(
     alloc: Global,
     choice: &Choice<'_>,
     board: &[u8],
+    seen: &mut Seen,
     reader: &mut R,
     writer: &mut W,
 ) -> Result<(), Fault>
@@ -74,8 +76,12 @@ pub fn perform<R: Reader, W: Writer>(
     requires writer_has_room { W.failures writer.old < 2 ^ 64 - 1 }
 
     // The text, the report of the board file, what a check says of it or the output of all lines was written.
-    ensures does { Does choice.now board.now (ends (R.rest reader.old) (R.rest reader.new)
+    ensures does { Does choice.now seen.new board.now (ends (R.rest reader.old) (R.rest reader.new)
         (W.written writer.old) (W.written writer.new) (W.flushed writer.new)) result }
+
+    // What was seen of lines is told only where all was written, and of a script or firmware alone.
+    ensures unseen { IfErr result (λ f. ¬ IsToldLast f → seen.new ≡ seen.old) }
+    ensures untold { IsUntold choice.now → seen.new ≡ seen.old }
 
     // Only a failed write or read, what a check tells, what is told last and no memory once lines ran come after a
     // part was written.
@@ -109,15 +115,15 @@ pub fn perform<R: Reader, W: Writer>(
             board,
             writer,
         ),
-        Choice::Run { strict, .. } => run_as(alloc, board, *strict, reader, writer),
-        Choice::Firmware { strict, .. } => serve(alloc, board, None, *strict, reader, writer),
+        Choice::Run { strict, .. } => run_as(alloc, board, *strict, seen, reader, writer),
+        Choice::Firmware { strict, .. } => serve(alloc, board, None, *strict, seen, reader, writer),
         Choice::Audit { json, strict, .. } => {
             let audit = Question::Audit(form_of(*json));
-            serve(alloc, board, Some(audit), *strict, reader, writer)
+            serve(alloc, board, Some(audit), *strict, seen, reader, writer)
         }
         Choice::Ready { json, strict, .. } => {
             let ready = Question::Ready(form_of(*json));
-            serve(alloc, board, Some(ready), *strict, reader, writer)
+            serve(alloc, board, Some(ready), *strict, seen, reader, writer)
         }
     }
 }

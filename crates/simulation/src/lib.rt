@@ -6,6 +6,7 @@
 //! the law of two worlds, over the definitions alone.
 #![tactic(auto)]
 
+mod bad_lines;
 mod checking;
 mod choice;
 mod demonstration;
@@ -17,6 +18,7 @@ mod running;
 mod serving;
 mod standard_streams;
 
+pub use bad_lines::bad_lines_text;
 pub use board_fit::Warned;
 pub use board_told::{Checked, Fault, Question, ReportForm, check_text, list_in};
 pub use checking::check;
@@ -27,6 +29,7 @@ pub use diagnostics::Style;
 pub use fault_lines::fault_line;
 pub use files::{board_bytes, board_or_hint};
 pub use hints::{check_hint, usage_hint};
+pub use lines::Seen;
 pub use listing::list;
 pub use model_guests::two_worlds;
 pub use monitor::Monitor;

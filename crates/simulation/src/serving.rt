@@ -6,11 +6,11 @@ ghost use Rattle.lines.specs.Runs.{ends};
 ghost use Rattle.bus_scan.specs.declared.fault.Fault.TheVariants.{Memory};
 ghost use Rattle.session.specs.Files.{Refuses};
 ghost use Rattle.board_told.specs.Telling.{told_by, counted_by};
-ghost use Rattle.simulation.specs.{Faults.{read_faults, write_faults, OnFile, IsOfFile}, Serving.{told, counted, last_fault, IsOfAnswer, IsOfServing, Serves}};
+ghost use Rattle.simulation.specs.{Faults.{read_faults, write_faults, OnFile, IsToldLast, IsOfFile}, Serving.{told, counted, last_fault, IsOfAnswer, IsOfServing, Serves}};
 
 use crate::choice::print;
 use board_told::{Fault, Question, audit_in, ready_in};
-use lines::run_watched;
+use lines::{Seen, run_watched};
 use session::{Apertures, Board, CountedText, Session, SessionLines};
 use std::alloc::{AllocError, Global};
 use streams::{Reader, Writer};
@@ -81,7 +81,7 @@ fn last_fault(
 ) -> Option<Fault>
     ensures { result ≡ last_fault question strict refused count }
 {
-    if refused {
+    if strict && refused {
         return Some(Fault::RefusedLine);
     }
     match question {
@@ -106,12 +106,13 @@ fn last_fault(
 /// lines are asked for, a read fails (501), or a write or flush does (502). Memory is out for a line, for the handover or
 /// for the text after them (299): then all that the lines before write was written and flushed, and nothing after it.
 /// If `strict`, a refused line is a fault too (209), and else a problem of an audit (207); that the board isn't ready
-/// (208) always is: then all was written and flushed.
+/// (208) always is: then all was written and flushed. Once it was, it is told what was seen of the lines.
 pub fn serve<R: Reader, W: Writer>(
     alloc: Global,
     board: &[u8],
     question: Option<Question>,
     strict: bool,
+    seen: &mut Seen,
     reader: &mut R,
     writer: &mut W,
 ) -> Result<(), Fault>
@@ -120,8 +121,12 @@ pub fn serve<R: Reader, W: Writer>(
 
     // The output of the lines over the board of the file, and then the text that answers the question by the registers
     // after them; how it ended tells what was refused, what is wrong and what is lacking.
-    ensures serves { Serves question strict board.now (ends (R.rest reader.old) (R.rest reader.new)
+    ensures serves { Serves question strict seen.new board.now
+        (ends (R.rest reader.old) (R.rest reader.new)
         (W.written writer.old) (W.written writer.new) (W.flushed writer.new)) result }
+
+    // What was seen of lines is told only where all was written.
+    ensures unseen { IfErr result (λ f. ¬ IsToldLast f → seen.new ≡ seen.old) }
 
     ensures file { IfErr result (OnFile (Refuses board.now)) }
     ensures faults { IfErr result (IsOfServing question strict) }
@@ -139,10 +144,12 @@ pub fn serve<R: Reader, W: Writer>(
     let driven = Board::open(alloc, board)?;
     let apertures = driven.apertures();
     let session = Session::over(alloc, driven);
-    let (mut session, refused) = run_watched::<SessionLines, Session, R, W>(
-        session, strict, reader, writer,
+    let (mut session, lines_seen) = run_watched::<SessionLines, Session, R, W>(
+        session, reader, writer,
     )?;
     let count = answer(alloc, question, &mut session, &apertures, writer)?;
+    let refused = lines_seen.refused;
+    *seen = lines_seen;
     match last_fault(question, strict, refused, count) {
         Some(fault) => Err(fault),
         None => Ok(()),

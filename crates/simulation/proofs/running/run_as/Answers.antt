@@ -1,4 +1,4 @@
-use Rattle.std.specs.Prelude.{IfErr}
+use Rattle.std.{specs.Prelude.{IfErr}, proofs.Common.{sym, ◌∙◌}}
 use Rattle.lines.specs.Runs.{ends}
 use Rattle.session.specs.Files.{Refuses, Breaks}
 use Rattle.simulation.{specs.{Faults.{OnFile, OnSetUp}, Running.RunsAs}, proofs.{Ran.{on_error, opened_file, opened_set_up, read_again, written_again}, Scripts.{has_run, none_ran, stopped}}}
@@ -17,26 +17,26 @@ returns-in_err-monitor-clause-placement g c =
 pub returns-in_err-monitor-clause-runs : goal.returns-in_err-monitor-clause-runs
 returns-in_err-monitor-clause-runs g c =
     let at = ends (g.R.Reader.rest c.args.reader.now) (g.R.Reader.rest c.args.reader.now) (g.W.Writer.written c.args.writer.now) (g.W.Writer.written c.args.writer.now) (g.W.Writer.flushed c.args.writer.now) in
-    on_error (RunsAs c.args.strict c.args.board.now at) c.from_residual.result _ c.from_residual.ensures.1 (none_ran c.args.strict c.args.board.now at _)
+    on_error (RunsAs c.args.strict _ c.args.board.now at) c.from_residual.result _ c.from_residual.ensures.1 (none_ran c.args.strict _ c.args.board.now at _)
 
-pub returns-in_err-refused-clause-reads : goal.returns-in_err-refused-clause-reads
-returns-in_err-refused-clause-reads g c = read_again c.from_residual-in_err-refused.result _ _ _ c.from_residual-in_err-refused.ensures.1 c.in_err-refused.ensures.reads
+pub returns-in_err-lines_seen-clause-reads : goal.returns-in_err-lines_seen-clause-reads
+returns-in_err-lines_seen-clause-reads g c = read_again c.from_residual-in_err-lines_seen.result _ _ _ c.from_residual-in_err-lines_seen.ensures.1 c.in_err-lines_seen.ensures.reads
 
-pub returns-in_err-refused-clause-writes : goal.returns-in_err-refused-clause-writes
-returns-in_err-refused-clause-writes g c = written_again c.from_residual-in_err-refused.result _ _ _ c.from_residual-in_err-refused.ensures.1 c.in_err-refused.ensures.writes
+pub returns-in_err-lines_seen-clause-writes : goal.returns-in_err-lines_seen-clause-writes
+returns-in_err-lines_seen-clause-writes g c = written_again c.from_residual-in_err-lines_seen.result _ _ _ c.from_residual-in_err-lines_seen.ensures.1 c.in_err-lines_seen.ensures.writes
 
-pub returns-in_err-refused-clause-runs : goal.returns-in_err-refused-clause-runs
-returns-in_err-refused-clause-runs g c =
+pub returns-in_err-lines_seen-clause-runs : goal.returns-in_err-lines_seen-clause-runs
+returns-in_err-lines_seen-clause-runs g c =
     let at = ends (g.R.Reader.rest c.args.reader.now) (g.R.Reader.rest c.run_watched.new.reader) (g.W.Writer.written c.args.writer.now) (g.W.Writer.written c.run_watched.new.writer) (g.W.Writer.flushed c.run_watched.new.writer) in
-    on_error (RunsAs c.args.strict c.args.board.now at) c.from_residual-in_err-refused.result _ c.from_residual-in_err-refused.ensures.1
-    (stopped c.args.strict c.args.board.now _ at _ c.in_ok-monitor.ensures.opened c.in_err-refused.ensures.runs)
+    on_error (RunsAs c.args.strict _ c.args.board.now at) c.from_residual-in_err-lines_seen.result _ c.from_residual-in_err-lines_seen.ensures.1
+    (stopped c.args.strict _ c.args.board.now _ at _ c.in_ok-monitor.ensures.opened c.in_err-lines_seen.ensures.runs)
 
 pub returns-then-refused-clause-runs : goal.returns-then-refused-clause-runs
 returns-then-refused-clause-runs g c =
     let at = ends (g.R.Reader.rest c.args.reader.now) (g.R.Reader.rest c.run_watched.new.reader) (g.W.Writer.written c.args.writer.now) (g.W.Writer.written c.run_watched.new.writer) (g.W.Writer.flushed c.run_watched.new.writer) in
-    has_run c.args.strict _ c.args.board.now _ at _ c.in_ok-monitor.ensures.opened c.in_ok-refused.ensures.runs c.if-refused.true
+    has_run c.args.strict _ c.args.board.now _ at _ c.in_ok-monitor.ensures.opened c.in_ok-lines_seen.ensures.runs (sym c.is_fault-refused.ensures ∙ c.if-refused.true)
 
 pub returns-clause-runs : goal.returns-clause-runs
 returns-clause-runs g c =
     let at = ends (g.R.Reader.rest c.args.reader.now) (g.R.Reader.rest c.run_watched.new.reader) (g.W.Writer.written c.args.writer.now) (g.W.Writer.written c.run_watched.new.writer) (g.W.Writer.flushed c.run_watched.new.writer) in
-    has_run c.args.strict _ c.args.board.now _ at _ c.in_ok-monitor.ensures.opened c.in_ok-refused.ensures.runs c.if-refused.false
+    has_run c.args.strict _ c.args.board.now _ at _ c.in_ok-monitor.ensures.opened c.in_ok-lines_seen.ensures.runs (sym c.is_fault-refused.ensures ∙ c.if-refused.false)

@@ -12,7 +12,7 @@ returns-in_err-driven-clause-file g c =
 pub returns-in_err-driven-clause-serves : goal.returns-in_err-driven-clause-serves
 returns-in_err-driven-clause-serves g c =
     let at = ends (g.R.Reader.rest c.args.reader.now) (g.R.Reader.rest c.args.reader.now) (g.W.Writer.written c.args.writer.now) (g.W.Writer.written c.args.writer.now) (g.W.Writer.flushed c.args.writer.now) in
-    on_error (Serves c.args.question c.args.strict c.args.board.now at) c.from_residual.result _ c.from_residual.ensures.1 tt
+    on_error (Serves c.args.question c.args.strict _ c.args.board.now at) c.from_residual.result _ c.from_residual.ensures.1 tt
 
 pub returns-in_err-session-clause-reads : goal.returns-in_err-session-clause-reads
 returns-in_err-session-clause-reads g c = read_again c.from_residual-in_err-session.result _ _ _ c.from_residual-in_err-session.ensures.1 c.in_err-session.ensures.reads
@@ -23,16 +23,16 @@ returns-in_err-session-clause-writes g c = written_again c.from_residual-in_err-
 pub returns-in_err-session-clause-serves : goal.returns-in_err-session-clause-serves
 returns-in_err-session-clause-serves g c =
     let at = ends (g.R.Reader.rest c.args.reader.now) (g.R.Reader.rest c.run_watched.new.reader) (g.W.Writer.written c.args.writer.now) (g.W.Writer.written c.run_watched.new.writer) (g.W.Writer.flushed c.run_watched.new.writer) in
-    on_error (Serves c.args.question c.args.strict c.args.board.now at) c.from_residual-in_err-session.result _ c.from_residual-in_err-session.ensures.1
-    (stopped c.args.question c.args.strict c.args.board.now _ at _ (c.in_ok-driven.driven.world, c.in_ok-driven.ensures.declared, c.in_ok-driven.ensures.lawful, c.over-session.ensures ∙ ap driven c.in_ok-driven.ensures.reset) c.in_err-session.ensures.runs)
+    on_error (Serves c.args.question c.args.strict _ c.args.board.now at) c.from_residual-in_err-session.result _ c.from_residual-in_err-session.ensures.1
+    (stopped c.args.question c.args.strict _ c.args.board.now _ at _ (c.in_ok-driven.driven.world, c.in_ok-driven.ensures.declared, c.in_ok-driven.ensures.lawful, c.over-session.ensures ∙ ap driven c.in_ok-driven.ensures.reset) c.in_err-session.ensures.runs)
 
 pub returns-in_err-count-clause-serves : goal.returns-in_err-count-clause-serves
 returns-in_err-count-clause-serves g c =
     let at = ends (g.R.Reader.rest c.args.reader.now) (g.R.Reader.rest c.run_watched.new.reader) (g.W.Writer.written c.args.writer.now) (g.W.Writer.written c.answer.new.writer) (g.W.Writer.flushed c.answer.new.writer) in
     let begun : IsBegun c.args.board.now c.over-session.result = (c.in_ok-driven.driven.world, c.in_ok-driven.ensures.declared, c.in_ok-driven.ensures.lawful, c.over-session.ensures ∙ ap driven c.in_ok-driven.ensures.reset) in
-    on_error (Serves c.args.question c.args.strict c.args.board.now at) c.from_residual-in_err-count.result _ c.from_residual-in_err-count.ensures.1
-    (unanswered c.args.question c.args.strict c.args.board.now c.apertures-apertures.result _ _ _ _ _ _ _ _ _
-    (left_by c.args.board.now c.args.strict _ _ c.apertures-apertures.result _ begun c.apertures-apertures.ensures c.in_ok-session.ensures.runs)
+    on_error (Serves c.args.question c.args.strict _ c.args.board.now at) c.from_residual-in_err-count.result _ c.from_residual-in_err-count.ensures.1
+    (unanswered c.args.question c.args.strict _ c.args.board.now c.apertures-apertures.result _ _ _ _ _ _ _ _ _
+    (left_by c.args.board.now _ _ c.apertures-apertures.result _ begun c.apertures-apertures.ensures c.in_ok-session.ensures.runs)
     c.in_err-count.ensures.faults c.in_err-count.ensures.asked
     (λ is. c.in_err-count.ensures.stopped (ap Err is))
     (λ is. let same = c.in_err-count.ensures.lacking (ap Err is) in (ap (λ w. g.W.Writer.written w) same, ap (λ w. g.W.Writer.flushed w) same)))
@@ -40,9 +40,9 @@ returns-in_err-count-clause-serves g c =
 pub returns-in-Some-clause-serves : goal.returns-in-Some-clause-serves
 returns-in-Some-clause-serves g c =
     let begun : IsBegun c.args.board.now c.over-session.result = (c.in_ok-driven.driven.world, c.in_ok-driven.ensures.declared, c.in_ok-driven.ensures.lawful, c.over-session.ensures ∙ ap driven c.in_ok-driven.ensures.reset) in
-    served_fault c.args.question c.args.strict _ _ c.args.board.now _ c.in-Some.fault (sym c.in-Some.ensures)
+    served_fault c.args.question c.args.strict _ _ _ c.args.board.now _ c.in-Some.fault (sym c.in-Some.ensures)
     (is_served c.args.question c.args.strict c.args.board.now c.apertures-apertures.result c.in_ok-count.count _ _ _ _ _ _ _ _
-    (left_by c.args.board.now c.args.strict _ _ c.apertures-apertures.result _ begun c.apertures-apertures.ensures c.in_ok-session.ensures.runs)
+    (left_by c.args.board.now _ _ c.apertures-apertures.result _ begun c.apertures-apertures.ensures c.in_ok-session.ensures.runs)
     c.in_ok-count.ensures.text c.in_ok-count.ensures.count c.in_ok-count.ensures.flushed)
 
 pub returns-in-Some-clause-file : goal.returns-in-Some-clause-file
@@ -52,15 +52,19 @@ pub returns-in-Some-clause-nothing : goal.returns-in-Some-clause-nothing
 returns-in-Some-clause-nothing g c of =
     absurd ((no_file (λ n. Unit {0}) c.in-Some.fault (told_last c.args.question c.args.strict _ _ c.in-Some.fault (sym c.in-Some.ensures))).1 of)
 
+pub returns-in-Some-clause-unseen : goal.returns-in-Some-clause-unseen
+returns-in-Some-clause-unseen g c unless =
+    absurd (unless (told_last c.args.question c.args.strict _ _ c.in-Some.fault (sym c.in-Some.ensures)))
+
 pub returns-in-Some-clause-faults : goal.returns-in-Some-clause-faults
 returns-in-Some-clause-faults g c =
-    of_serving c.args.question c.args.strict _ _ c.in-Some.fault c.in_ok-session.ensures.runs.asked (sym c.in-Some.ensures)
+    of_serving c.args.question c.args.strict _ _ c.in-Some.fault (sym c.in-Some.ensures)
 
 pub returns-clause-serves : goal.returns-clause-serves
 returns-clause-serves g c =
     let begun : IsBegun c.args.board.now c.over-session.result = (c.in_ok-driven.driven.world, c.in_ok-driven.ensures.declared, c.in_ok-driven.ensures.lawful, c.over-session.ensures ∙ ap driven c.in_ok-driven.ensures.reset) in
     let at = ends (g.R.Reader.rest c.args.reader.now) (g.R.Reader.rest c.run_watched.new.reader) (g.W.Writer.written c.args.writer.now) (g.W.Writer.written c.answer.new.writer) (g.W.Writer.flushed c.answer.new.writer) in
-    subst (λ z. IsServed c.args.question c.args.strict z c.args.board.now at) (sym c.in-None.ensures)
+    subst (λ z. IsServed c.args.question c.args.strict z c.in_ok-session.lines_seen c.args.board.now at) (sym c.in-None.ensures)
     (is_served c.args.question c.args.strict c.args.board.now c.apertures-apertures.result c.in_ok-count.count _ _ _ _ _ _ _ _
-    (left_by c.args.board.now c.args.strict _ _ c.apertures-apertures.result _ begun c.apertures-apertures.ensures c.in_ok-session.ensures.runs)
+    (left_by c.args.board.now _ _ c.apertures-apertures.result _ begun c.apertures-apertures.ensures c.in_ok-session.ensures.runs)
     c.in_ok-count.ensures.text c.in_ok-count.ensures.count c.in_ok-count.ensures.flushed)
