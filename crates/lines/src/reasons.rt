@@ -234,7 +234,8 @@ pub(crate) fn is_marked(line: &[u8]) -> bool
 }
 
 /// Why a line has none of the forms of guests of these names and of their host, or of firmware's if there are none;
-/// nothing where it has one. No form has more than seven words after the name.
+/// nothing where it has one. Of a line that begins with a byte order mark it is that it does. No form has more than
+/// seven words after the name.
 pub fn reason_of(guests: Option<&Names>, line: &[u8]) -> Option<Reason>
     ensures { result ≡ reason_of (option_map (λ names. texts names.now) guests.entry) line.now }
 {

@@ -80,8 +80,9 @@ impl Seen {
 
     /// Sees one more line, and by which number it is refused, if it is. If `long`, more bytes of it came before.
     fn push(&mut self, guests: Option<&Names>, long: bool, line: &[u8], refused: Option<u16>)
-        ensures { (before : Text) → IsBefore long before → self.new ≡ with_line
-            (option_map (λ names. texts names.now) guests.entry) (before ++ line.now) refused self.old }
+        ensures { let names = option_map (λ names. texts names.now) guests.entry in
+            (before : Text) → IsBefore long before →
+            self.new ≡ with_line names (before ++ line.now) refused self.old }
     {
         self.lines = self.lines.wrapping_add(1);
         let Some(number) = refused else {
