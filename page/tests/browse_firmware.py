@@ -113,7 +113,7 @@ def a_line_hands_the_board_over(browser, page):
     holds('what guests open is drawn, where firmware placed it', browser.run(MAPS) == wanted, browser.run(MAPS))
     owner = browser.run("document.querySelector('#tree [data-path=\"1.0\"]').title")
     holds('functions have their guests', 'guest a, slot 0' in owner, owner)
-    browser.run(STEP % 3)
+    browser.run(STEP % 4)
     browser.run(CLICK % 0.7)
     holds('firmware is asked at an earlier moment', browser.run(ASKED).startswith('host why mem '), browser.run(ASKED))
     browser.run(STEP % 'one.max')

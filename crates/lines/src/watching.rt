@@ -61,6 +61,7 @@ impl Seen {
     }
 
     /// Sees one more bad line, of guests of these names or of firmware.
+    #[inline(never)]
     fn push_bad(&mut self, guests: Option<&Names>, line: &[u8])
         ensures { self.new ≡ with_bad
             (reason_of (option_map (λ names. texts names.now) guests.entry) line.now) self.old }
@@ -78,7 +79,9 @@ impl Seen {
         }
     }
 
-    /// Sees one more line, and by which number it is refused, if it is. If `long`, more bytes of it came before.
+    /// Sees one more line, and by which number it is refused, if it is. If `long`, more bytes of it came before. It is
+    /// compiled into the loop over lines, of which few are refused.
+    #[inline(always)]
     fn push(&mut self, guests: Option<&Names>, long: bool, line: &[u8], refused: Option<u16>)
         ensures { let names = option_map (λ names. texts names.now) guests.entry in
             (before : Text) → IsBefore long before →
@@ -111,6 +114,7 @@ impl<L, S: Answers<L>> Answers<L> for Watched<S> {
 
     ghost TakesMemory = { S.TakesMemory };
 
+    #[inline(always)]
     fn answer(
         &mut self,
         line: &[u8],
@@ -123,6 +127,7 @@ impl<L, S: Answers<L>> Answers<L> for Watched<S> {
         Ok(answer)
     }
 
+    #[inline(always)]
     fn guests(&self) -> Option<&Names> {
         self.server.guests()
     }

@@ -140,6 +140,7 @@ impl Answers<Script> for Monitor {
         Ok(Answer::short(refused))
     }
 
+    #[inline(always)]
     fn guests(&self) -> Option<&Names> {
         Some(self.names())
     }
