@@ -1,7 +1,7 @@
 -- Whether a run refused a line, and why lines have none of the forms.
 --     refuses p refusal s ls      one of the lines is refused, by some number
---     with_bad reason x, with_line guests line refused x      what is seen after one more line that is told of, and after any
---         line
+--     with_bad reason x, with_refused guests line n x, with_line guests line refused x      what is seen after one more line
+--         that is told of, that is refused, and that is any
 --     seen_along p refusal speakers s ls x      what is seen after these lines
 --     watched p refusal speakers      what answers lines, and what is seen of them, as a protocol
 --     IsWatched p refusal speakers s at result      what a run did, and what was seen of its lines
@@ -41,11 +41,14 @@ with_bad reason x = record {
 }
 
 -- told of are lines of 401, and those that are refused and begin with a byte order mark, but for long ones
+abbrev pub with_refused : Option (List Text) → Text → ℕ → Seen → Seen
+with_refused guests line n x =
+    let seen : Seen = record x { refused = true } in
+    if (n == 401 || is_marked line) && not (is_long line) then with_bad (reason_of guests line) seen else seen
+
 abbrev pub with_line : Option (List Text) → Text → Option ℕ → Seen → Seen
 with_line guests line None x = record x { lines = (x.lines + 1) % 2 ^ 64 }
-with_line guests line (Some n) x =
-    let seen : Seen = record x { refused = true; lines = (x.lines + 1) % 2 ^ 64 } in
-    if (n == 401 || is_marked line) && not (is_long line) then with_bad (reason_of guests line) seen else seen
+with_line guests line (Some n) x = with_refused guests line n (record x { lines = (x.lines + 1) % 2 ^ 64 })
 
 abbrev pub seen_along : {S : Type 0} → Protocol S → Refusal S → Speakers S → S → List Text → Seen → Seen
 seen_along p refusal speakers s [] x = x

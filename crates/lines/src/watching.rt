@@ -1,7 +1,7 @@
 //! Runs of lines of which it is told whether one was refused, and why those were that have none of the forms.
 ghost use Rattle.std.specs.Prelude.{◌≡◌, ◌+◌, ◌-◌, ◌%◌, ◌^◌, ◌<◌, ◌⊎◌, ◌++◌, option_map, IsErrOf};
 ghost use Rattle.model_guests.specs.Text.{Text};
-ghost use Rattle.lines.specs.{Faults.{read_failures_of, write_failures_of}, Lines.texts, Pieces.IsBefore, Reasons.reason_of, Refusals.{none_seen, with_bad, with_line, watched, IsWatched}, Runs.ends};
+ghost use Rattle.lines.specs.{Faults.{read_failures_of, write_failures_of}, Lines.texts, Pieces.IsBefore, Reasons.reason_of, Refusals.{none_seen, with_bad, with_refused, with_line, watched, IsWatched}, Runs.ends};
 
 use crate::answers::{Answer, Answers};
 use crate::line::LONGEST_LINE;
@@ -61,7 +61,6 @@ impl Seen {
     }
 
     /// Sees one more bad line, of guests of these names or of firmware.
-    #[inline(never)]
     fn push_bad(&mut self, guests: Option<&Names>, line: &[u8])
         ensures { self.new ≡ with_bad
             (reason_of (option_map (λ names. texts names.now) guests.entry) line.now) self.old }
@@ -79,6 +78,19 @@ impl Seen {
         }
     }
 
+    /// Sees that the last line is refused, by which number. If `long`, more bytes of it came before.
+    #[inline(never)]
+    fn push_refused(&mut self, guests: Option<&Names>, long: bool, line: &[u8], number: u16)
+        ensures { let names = option_map (λ names. texts names.now) guests.entry in
+            (before : Text) → IsBefore long before →
+            self.new ≡ with_refused names (before ++ line.now) number self.old }
+    {
+        self.refused = true;
+        if !long && line.len() <= LONGEST_LINE && (number == 401 || is_marked(line)) {
+            self.push_bad(guests, line);
+        }
+    }
+
     /// Sees one more line, and by which number it is refused, if it is. If `long`, more bytes of it came before. It is
     /// compiled into the loop over lines, of which few are refused.
     #[inline(always)]
@@ -88,12 +100,8 @@ impl Seen {
             self.new ≡ with_line names (before ++ line.now) refused self.old }
     {
         self.lines = self.lines.wrapping_add(1);
-        let Some(number) = refused else {
-            return;
-        };
-        self.refused = true;
-        if !long && line.len() <= LONGEST_LINE && (number == 401 || is_marked(line)) {
-            self.push_bad(guests, line);
+        if let Some(number) = refused {
+            self.push_refused(guests, long, line, number);
         }
     }
 }

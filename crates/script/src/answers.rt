@@ -71,8 +71,9 @@ fn push_answer(monitor: &mut Monitor, line: &[u8], text: &mut LineText) -> Optio
 {
     let what = line_meaning(line, monitor.names());
     let (who, reply) = answer(monitor, what)?;
+    let refused = refusal_of(reply);
     push_line(text, who, monitor.names(), reply);
-    refusal_of(reply)
+    refused
 }
 
 /// Runs the event of a line, and gives what the line writes: nothing, or one line with its line feed. No
