@@ -38,7 +38,9 @@ done_by 'who reads the documents'
 audits() { cat examples/audit/set_up.script examples/audit/"$1".script | outside ./pciguest audit examples/audit/board.toml; }
 holds 'an audit of broken firmware' sh -c 'echo "$1" | grep -q "not forwarded by 2.0"' - "$(audits limit_short)"
 holds 'a session' same examples/session/session.stdout \
-  outside sh -c './pciguest firmware examples/session/board.toml < examples/session/session.script'
+  outside sh -c './pciguest firmware examples/session/board.toml < examples/session/session.script 2> session.told'
+holds 'why lines of it have no form' same session.told \
+  printf 'pciguest: line %s: word 1: %s is none of cr, ir, mr and move\n' 21 audit 22 ready 23 why
 
 # ---- firmware: an enumerator on many boards, and with each of its mistakes, by the words of TESTING_YOURS.md
 testing=docs/TESTING_YOURS.md
