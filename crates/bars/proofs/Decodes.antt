@@ -1,5 +1,5 @@
 -- The first slot whose region decodes an address.
-use Rattle.std.{proofs.{Common.{◌≡◌, ℕ, ◌+◌, ◌<◌, ◌^◌, Bool, true, false, not, List, [], ◌∷◌, ◌++◌, map, refl, sym, ap, ◌∙◌, subst, eqb, arith}, Math.Nat.mod-eq_of_lt, lemmas.Bool.{eq-eqb, ne_eqb}}, specs.Prelude.{Option, Some, None, bit_and}}
+use Rattle.std.{proofs.{Common.{◌≡◌, ℕ, ◌+◌, ◌<◌, ◌^◌, true, false, not, List, [], ◌∷◌, ◌++◌, map, refl, eqb, arith}, Math.Nat.mod-eq_of_lt, lemmas.Bool.{eq-eqb, ne_eqb}}, specs.Prelude.{Option, Some, None, bit_and}}
 use Rattle.lists.specs.Elements.{first_some}
 use Rattle.model_registers.{specs.{EndpointTable.{BaseAddress, command_cells, base_file, opened, HasLawfulBases}, Decoding.{Space, command_bit, hit_at, first_hit}}, proofs.{Hits.{hits_by_bases, hits_of_registers}, RegisterFiles.field_reads}}
 use Rattle.bars.specs.{declared.region.BasedRegion.BasedRegion, Slots.bases_from, Hits.hit_from}
@@ -26,9 +26,4 @@ opened_hit command small space a bit slots bs lawful view e some = grind (arith,
 -- no address is decoded that lies in no region, whatever Command opens
 pub outside_hit : (command : ℕ) → command < 2 ^ 16 → (space : Space) (a : ℕ) (slots : List (Option BasedRegion)) (bs : List BaseAddress) → HasLawfulBases (bases_from 0 slots) → bases_from 0 slots ≡ bs
     → hit_from space a 0 slots ≡ None → first_hit (command_cells command ++ base_file bs) (map opened bs) space a ≡ None
-outside_hit command small space a slots bs lawful view none =
-    hits_of_registers bs (subst HasLawfulBases view lawful) command small space a ∙ ap (first_some (hit_at command space a)) (sym view)
-    ∙ here (not (eqb (bit_and command (command_bit space)) 0)) refl where
-      here : (t : Bool) → not (eqb (bit_and command (command_bit space)) 0) ≡ t → first_some (hit_at command space a) (bases_from 0 slots) ≡ None
-      here true free = open_from command space a 0 slots free ∙ none
-      here false shut = closed_each command space a shut (bases_from 0 slots)
+outside_hit command small space a slots bs lawful view none = grind (arith, hits_of_registers, open_from, closed_each)

@@ -1,5 +1,5 @@
 -- Cells listed by their offsets.
-use Rattle.std.{proofs.{Common.{◌≡◌, ◌≢◌, ℕ, zero, suc, ◌+◌, ◌/◌, ◌<◌, ◌≤◌, ◌⊎◌, inr, Bool, false, Option, Some, None, List, [], ◌∷◌, ◌++◌, map, length, refl, ap, ap₂, sym, ◌∙◌, subst, arith, rules, take, add-one}, lemmas.{Bool.{ne_eqb, eq-eqb, Decides.nat_tests}, Simd.map-map}}, specs.{Prelude.{◌==◌, flat_map}, List.slice_get, Option.option_map_or}}
+use Rattle.std.{proofs.{Common.{◌≡◌, ◌≢◌, ℕ, zero, suc, ◌+◌, ◌/◌, ◌<◌, ◌≤◌, inr, Bool, false, Option, Some, None, List, [], ◌∷◌, ◌++◌, map, length, refl, ap, ap₂, sym, ◌∙◌, subst, arith, rules, take, add-one}, lemmas.{Bool.{ne_eqb, eq-eqb, Decides.nat_tests}, Simd.map-map}}, specs.{Prelude.{◌==◌, flat_map}, List.slice_get, Option.option_map_or}}
 use Rattle.lists.{specs.Elements.{Each, EachPair}, proofs.{EachLemmas.{each_append, each_map, pairs_map}, Indices.{each_at, pair_at, find_at, each_by_index, found_at}}}
 use Rattle.model_registers.{specs.{Cell.Cell, Registers.{Place, config, PlacedCell, File, field, cells_from}, FileLaws.{has_place, IsConfig, IsConfigFile}, Declarations.{Bar, Region, registers_of, IsLawfulRegion, HasLawfulRegions, ConfigBlock, Endpoint}, DeclarationRules.{IsConfigBlock, IsLawfulEndpoint}, EndpointTable.{BaseAddress, opened, closed, region_cells, block_cells, header_cells, config_reset, endpoint_reset}}, proofs.{Files.region_cells as cells_in_region, Parts.IsOutside, BareRegions.bare_lawful, Bases.registers_positive}}
 use Rattle.config_bytes.specs.CellFile.{CellFile, offsets_from}
@@ -108,11 +108,7 @@ bars_from : (k n : ℕ) (rs : List Region) → Each (Between n k) rs → EachPai
 bars_from zero n [] b o = refl
 bars_from zero n (r ∷ rs) b o = absurd (omega (arith, b.0.0, b.0.1))
 bars_from (suc k) n [] b o = bars_from k (n + 1) [] tt tt
-bars_from (suc k) n (r ∷ rs) b o = by_head (grind (arith, b.0.0)) (bars_from k (n + 1) rs) (λ c. bars_from k (n + 1) (r ∷ rs) c o)
-  where
-    by_head : (r.index ≡ n) ⊎ (n < r.index) → (Each (Between (n + 1) k) rs → EachPair Rising rs → reset_from (n + 1) (values_from (n + 1) k (declared_bar rs)) ≡ map closed rs)
-        → (Each (Between (n + 1) k) (r ∷ rs) → reset_from (n + 1) (values_from (n + 1) k (declared_bar (r ∷ rs))) ≡ map closed (r ∷ rs)) → reset_from n (values_from n (suc k) (declared_bar (r ∷ rs))) ≡ map closed (r ∷ rs)
-    by_head e tail whole = grind (arith, eq-eqb, same_values, ne_eqb, narrowed, above_head, not_at)
+bars_from (suc k) n (r ∷ rs) b o = grind (arith, eq-eqb, same_values, ne_eqb, narrowed, above_head, not_at, bars_from k (n + 1) rs, bars_from k (n + 1) (r ∷ rs))
 
 between_six : (rs : List Region) → Each IsLawfulRegion rs → Each (Between 0 6) rs
 between_six rs h = each_map IsLawfulRegion (Between 0 6) rs (λ r l. let some = registers_positive r.kind in let within = l.registers in (omega arith, omega arith)) h

@@ -1,5 +1,5 @@
 -- One endpoint that is reset alone: its cells, part by part.
-use Rattle.std.{proofs.{Common.{◌≡◌, ℕ, zero, suc, ◌+◌, ◌*◌, ◌-◌, ◌/◌, ◌^◌, ◌<◌, ◌≤◌, ◌⊎◌, inl, inr, Bool, false, ◌||◌, cond, Some, List, [], ◌∷◌, ◌++◌, map, length, refl, ap, ap₂, sym, ◌∙◌, subst, arith, rules}, lemmas.{Bool.{Decides.nat_tests, ne_eqb, eq-eqb, eqb-true, cases_lt}, List.length-map, Option.slice_get-map}}, specs.{Prelude.Option, List.slice_get, Option.option_map_or}}
+use Rattle.std.{proofs.{Common.{◌≡◌, ℕ, zero, suc, ◌+◌, ◌*◌, ◌-◌, ◌/◌, ◌^◌, ◌<◌, ◌≤◌, ◌⊎◌, inl, inr, Bool, false, ◌||◌, cond, Some, List, [], ◌∷◌, ◌++◌, map, length, refl, ap, ap₂, sym, ◌∙◌, arith, rules}, lemmas.{Bool.{Decides.nat_tests, ne_eqb, eq-eqb, eqb-true, cases_lt}, List.length-map, Option.slice_get-map}}, specs.{Prelude.Option, List.slice_get, Option.option_map_or}}
 use Rattle.lists.specs.Elements.{Each}
 use Rattle.model_registers.{proofs.Owned.base_is_own, specs.{Cell.Cell, Registers.{Place, config, block, offset_of, place_eq, PlacedCell, File, cell_at, field, cells_from, in_region}, FileLaws.{has_place, IsConfig, IsConfigFile}, Declarations.{Region, registers_of, IsLawfulRegion, Endpoint}, EndpointTable.{type_bits, base_width, BaseAddress, opened, closed, config_reset, endpoint_reset}, OwnCopies.is_own, CopiedFiles.after_reset}}
 use Rattle.config_bytes.specs.CellFile.{CellFile, reset_entry, reset_outside, places_of}
@@ -137,15 +137,7 @@ module _ (d : Endpoint) (cells : CellFile) (bars : List BaseAddress) (blocks : L
   same_places (x ∷ xs) p = ap₂ (λ (q : Place) (t : Bool). place_eq q p || t) (place_stays x) (same_places xs p)
 
   pub parts_back : (xs : File) → IsConfigFile xs → xs ≡ reset_outside 4 5 cells.initial cells.now → (bs : List CellFile) → bs ≡ blocks_after blocks → AreParts d xs bars (block_at bs)
-  parts_back xs places is bs are = subst (λ (fs : List CellFile). AreParts d xs bars (block_at fs)) (sym are) (record {
-    lawful = parts.lawful;
-    registers = parts.registers;
-    config_places = places;
-    config_within = λ q l. ap (λ (ys : File). has_place ys (config q)) is ∙ same_places cells.now (config q) ∙ parts.config_within q l;
-    block_places = at_reset.block_places;
-    block_within = at_reset.block_within;
-    unused = λ n u. no_entries (block_at later n) (ap places_of (after_at blocks n) ∙ sym (know.block_places n) ∙ ap places_of (parts.unused n u));
-  })
+  parts_back xs places is bs are = grind (arith, same_places, at_reset, no_entries, after_at)
 
   header_stays : (p : Place) (c : Cell) → IsHeaderKept cells.initial (record { place = p; cell = c }) → IsHeaderKept cells.initial (reset_entry 4 5 cells.initial (record { place = p; cell = c }))
   header_stays (block n q) c h = λ e. absurd (cc)

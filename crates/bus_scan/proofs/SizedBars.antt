@@ -124,17 +124,7 @@ later_not_upper n (r ∷ rs) h = grind (arith, nat_tests, later_not_upper n rs h
 -- nothing begins at an upper half
 pub none_at_upper : (n : ℕ) (rs : List Region) → EachPair InOrder rs → is_upper_half n rs ≡ true → bar_at n rs ≡ None
 none_at_upper n [] order h = refl
-none_at_upper n (r ∷ rs) order h = elim (side n r) [
-  | at_low e ↦
-      let none : is_upper_half n (r ∷ rs) ≡ false =
-      ap₂ (λ (s t : Bool). s || t) (and_right (eqb (registers_of r.kind) 2) (eqb n (r.index + 1)) (ne_eqb n (r.index + 1) (λ k. omega arith)))
-      (later_not_upper n rs (each_map (λ s. n < s.index) (λ s. n ≤ s.index) rs (λ s k. omega arith) (later n r rs (omega (arith, registers_positive r.kind)) order.0))) in
-      cc
-  | at_high e two ↦ bar_other n r rs (λ k. omega arith) ∙ (none_later n rs (later n r rs (omega arith) order.0)).0
-  | elsewhere other m ↦
-      let rest : is_upper_half n rs ≡ true = ap (λ (t : Bool). t || is_upper_half n rs) (sym (not_wide n r m)) ∙ h in
-      bar_other n r rs other ∙ none_at_upper n rs order.1 rest
-]
+none_at_upper n (r ∷ rs) order h = grind (arith, side, at_low, and_right, ne_eqb, later_not_upper, each_map, later, registers_positive, at_high, bar_other, none_later, elsewhere, not_wide, none_at_upper n rs order.1)
 
 is_wide : Option Bar → Bool
 is_wide o = option_map_or (λ (b : Bar). eqb (registers_of b.kind) 2) o false
@@ -145,16 +135,7 @@ or_none t = grind arith
 upper_after : (n : ℕ) (rs : List Region) → EachPair InOrder rs → is_upper_half (n + 1) rs ≡ is_wide (bar_at n rs)
 unfolding is_wide
 upper_after n [] order = refl
-upper_after n (r ∷ rs) order = elim (cases_eq n r.index) [
-  | inl e ↦
-      let here : eqb (n + 1) (r.index + 1) ≡ true = eq-eqb (n + 1) (r.index + 1) (omega arith) in
-      let rest : is_upper_half (n + 1) rs ≡ false = later_not_upper (n + 1) rs (each_map (λ s. n < s.index) (λ s. n + 1 ≤ s.index) rs (λ s k. omega arith) (later n r rs (omega (arith, registers_positive r.kind)) order.0)) in
-      ap₂ (λ (s t : Bool). eqb (registers_of r.kind) 2 && s || t) here rest ∙ or_none (eqb (registers_of r.kind) 2 && true) ∙ and_true (eqb (registers_of r.kind) 2)
-      ∙ sym (ap is_wide (cond-true (eqb n r.index) (Some (bar_of r)) (bar_at n rs) (eq-eqb n r.index e)))
-  | inr other ↦
-      let past : (eqb (registers_of r.kind) 2 && eqb (n + 1) (r.index + 1)) ≡ false = and_right (eqb (registers_of r.kind) 2) (eqb (n + 1) (r.index + 1)) (ne_eqb (n + 1) (r.index + 1) (λ e. other (omega arith))) in
-      ap (λ (t : Bool). t || is_upper_half (n + 1) rs) past ∙ upper_after n rs order.1 ∙ ap is_wide (sym (bar_other n r rs other))
-]
+upper_after n (r ∷ rs) order = grind (arith, cases_eq, eq-eqb, later_not_upper, each_map, later, registers_positive, or_none, and_true, is_wide, cond-true, bar_of, and_right, ne_eqb, bar_other, upper_after n rs order.1)
 
 pub upper_by_slots : (n : ℕ) (rs : List Region) (bars : List (Option Bar)) → EachPair InOrder rs → ((k : ℕ) → k < n → get_or bars k None ≡ bar_at k rs) → is_upper_half n rs ≡ is_after_wide bars n
 unfolding is_wide
@@ -181,17 +162,7 @@ unfolding slots_from
 reset_slots zero n [] lawful order above e = refl
 reset_slots zero n (r ∷ rs) lawful order above e = absurd (omega (arith, lawful.0.registers, above.0, registers_positive r.kind))
 reset_slots (suc k) n [] lawful order above e = reset_slots k (n + 1) [] tt tt tt (omega arith)
-reset_slots (suc k) n (r ∷ rs) lawful order above e = elim (cases_eq n r.index) [
-  | inl here ↦
-      let rest : Each (λ s. n + 1 ≤ s.index) rs = each_map (λ s. n < s.index) (λ s. n + 1 ≤ s.index) rs (λ s h. omega arith) (later n r rs (omega (arith, registers_positive r.kind)) order.0) in
-      ap₂ (λ (o : Option Bar) os. map opened (reset_from n (o ∷ os))) (cond-true (eqb n r.index) (Some (bar_of r)) (bar_at n rs) (eq-eqb n r.index here)) (slots_other (n + 1) k r rs (omega arith))
-      ∙ ap₂ (λ (m : ℕ) (more : List Region). record { index = m; kind = r.kind; size = r.size; cells = [] } ∷ more) here (reset_slots k (n + 1) rs lawful.1 order.1 rest (omega arith))
-  | inr other ↦
-      let rest : Each (λ s. n + 1 ≤ s.index) rs = each_map (λ s. n < s.index) (λ s. n + 1 ≤ s.index) rs (λ s h. omega arith) (later n r rs (omega (arith, above.0, registers_positive r.kind)) order.0) in
-      let none : bar_at n (r ∷ rs) ≡ None = bar_other n r rs other ∙ (none_later n rs (later n r rs (omega (arith, above.0, registers_positive r.kind)) order.0)).0 in
-      ap (λ (o : Option Bar). map opened (reset_from n (o ∷ slots_from (n + 1) k (r ∷ rs)))) none
-      ∙ reset_slots k (n + 1) (r ∷ rs) lawful order (omega (arith, above.0, other), rest) (omega arith)
-]
+reset_slots (suc k) n (r ∷ rs) lawful order above e = grind (arith, cases_eq, each_map, later, registers_positive, cond-true, bar_of, eq-eqb, slots_other, bar_other, none_later, slots_from, reset_slots k (n + 1) rs lawful.1 order.1, reset_slots k (n + 1) (r ∷ rs) lawful order)
 
 pub regions_of_bars : (rs : List Region) → HasLawfulRegions rs → regions_of (bars_of rs) ≡ map bare rs
 unfolding slots_from

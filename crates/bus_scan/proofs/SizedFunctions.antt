@@ -2,7 +2,7 @@
 use Rattle.std.{proofs.Common.{◌≡◌, ℕ, ◌+◌, ◌*◌, ◌<◌, List, [], Option, Some, sym, ap, ◌∙◌, subst, arith, true, map}, specs.{Prelude.{bit_and, IsTrue}, Option.option_map_or}}
 use Rattle.model_registers.specs.{Registers.config, ByteEnables.lanes, Declarations.{Bridge, HasLawfulRegions, IoDecode, no_io, io16, io32, PrefDecode, no_pref, pref32, pref64, Bar, Endpoint}, DeclarationRules.IsLawfulEndpoint, EndpointTable.endpoint_reset, BridgeTable.bridge_file, OwnCopies.bare}
 use Rattle.model_board.{specs.{Board.{Decl, endpoint, bridge, is_bridge, is_multifunction, Board, Row, stands_at}, State.{BoardFunction, State, row_at}, Cycles.{BusAddress, reached}, Lawful.IsLawfulDecl, AtReset.board_at, Paths.{Path, path_eq, last_part}}, proofs.PathEnds.path_self}
-use Rattle.model_set_up.{specs.{Scanning.{board_numbers, with_numbers, numbered_file, IsNumbered}, Reach.address_of, FunctionTable.{TableRow, table_row, met_decl, found_decl}}, proofs.Routes.reached_by_numbers}
+use Rattle.model_set_up.{specs.{Scanning.{board_numbers, with_numbers, IsNumbered}, Reach.address_of, FunctionTable.{TableRow, table_row, met_decl, found_decl}}, proofs.Routes.reached_by_numbers}
 use Rattle.bus_scan.{specs.{Probes.{mask_shown, TakesBack, decl_reached, IsEndpointReached, IsBridgeReached, regions_in, io_in, pref_in, regions_reached, io_reached, pref_reached}, declared.table.Found.{Found, TheVariants.{Endpoint as FoundEndpoint, Bridge as FoundBridge}}, Rows.{regions_of, decl_of, range_of}, SizedRows.{IsScannedRow, bars_of}}, proofs.{ProbedFiles.{Probed, io_mask, pref_mask, probed_io, probed_pref}, ProbedEndpoints.{mask_at, probed_endpoint}, NumberedStates.{holds, each_reached, each_unmapped, has_numbers, in_itself, only_there}, ReachedFiles.{shows, takes_back}, SizedBars.regions_of_bars}}
 use Rattle.lists.{specs.Elements.IsIn, proofs.Members.{each_in, from_map, any_in}}
 use Rattle.headers.specs.{Decodes.{io_decode_of, pref_decode_of}, declared.decodes.{IoDecode.IoDecode as ShownIo, PrefDecode.PrefDecode as ShownPref}}
@@ -21,9 +21,7 @@ module _ (s : State) (h : IsNumbered s) (at : BusAddress) where
     there = reached_decl s.functions at (bridge is.0) is.1
 
     file : there.0.file ≡ bridge_file is.0 (is_multifunction (board_at s.functions) there.0.path) (with_numbers (board_numbers (board_at s.functions) there.0.path))
-    file =
-        each_reached (λ f. f.file ≡ numbered_file (board_at s.functions) (board_numbers (board_at s.functions)) f.path f.decl) s.functions at there.0 (holds s h) there.1
-        ∙ ap (numbered_file (board_at s.functions) (board_numbers (board_at s.functions)) there.0.path) there.2
+    file = grind (arith, each_reached, there, holds)
 
     io_probed : Probed (lanes 0b0011) (config 0x1c) there.0.file (io_mask is.0.io)
     io_probed = subst (λ x. Probed (lanes 0b0011) (config 0x1c) x (io_mask is.0.io)) (sym file) (probed_io is.0 (is_multifunction (board_at s.functions) there.0.path) (board_numbers (board_at s.functions) there.0.path))

@@ -1,6 +1,6 @@
 -- One function of a board by its path: it is the one at the index that is found for the path.
-use Rattle.std.{proofs.Common.{◌≡◌, ℕ, List, Option, Some, None, refl, ap, ◌∙◌}, specs.{Prelude.{find, IsSome}, List.slice_get, Option.option_map_or}}
-use Rattle.model_registers.specs.{Registers.File, Decoding.Function, CopiedFiles.after_reset}
+use Rattle.std.{proofs.Common.{arith, ◌≡◌, ℕ, List, Option, Some, None, refl, ap, ◌∙◌}, specs.{Prelude.{find, IsSome}, List.slice_get, Option.option_map_or}}
+use Rattle.model_registers.specs.{Registers.File}
 use Rattle.model_board.{specs.{Paths.{Path, path_eq}, State.{BoardFunction, with_file}}, proofs.PathOrder.path_same}
 use Rattle.lists.proofs.FirstFound.{found_passes}
 use Rattle.bridge_forward.specs.Lending.{as_endpoint, endpoint_at, endpoint_nth, with_endpoint_reset}
@@ -20,9 +20,4 @@ module _ (fs : List BoardFunction) (p : Path) (i : ℕ) (at : slice_get fs i ≡
           ∙ ap (λ q. with_file g q fs) (path_same f.path p (found_passes (λ (f : BoardFunction). path_eq f.path p) fs f found))
 
   pub reset_same : with_reset_nth i fs ≡ with_endpoint_reset p fs
-  reset_same = rw endpoint_same (by (endpoint_at fs p) refl)
-    where
-      by : (o : Option Function) → endpoint_at fs p ≡ o
-          → option_map_or (λ (e : Function). with_file_nth (after_reset e.decl) i fs) o fs ≡ option_map_or (λ (e : Function). with_file (after_reset e.decl) p fs) o fs
-      by None h = refl
-      by (Some e) h = change_same (after_reset e.decl) (rw h refl)
+  reset_same = grind (arith, endpoint_same, change_same)

@@ -121,7 +121,8 @@ fn roles_of_host(verb: &[u8]) -> Option<&'static [Role]>
 
 /// What follows the one word of a question after `host`, which is nothing.
 fn roles_of_question(verb: &[u8]) -> Option<&'static [Role]>
-    ensures { option_map (λ rs. rs.now) result ≡ option_map (λ _. []) (request_of_word verb.now) }
+    ensures { option_map (λ rs. rs.now) result
+        ≡ option_map (λ _. []) (request_of_word verb.now) }
 {
     if request_of_word(verb).is_some() {
         Some(&[])

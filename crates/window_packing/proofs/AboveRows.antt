@@ -169,10 +169,4 @@ length_board rows = length-map rows row_in
 
 -- what is told at an index
 pub tells_at : (b : Board) (xs : List Above) (i : ℕ) (r : Row) (x : Above) → AreAbove b xs → slice_get b i ≡ Some r → slice_get xs i ≡ Some x → Tells b r.path x
-tells_at b xs i r x h at there = record {
-  bus = maps_at (λ (y : Above). bus_path b y.bus) (λ (s : Row). parent s.path) xs b i x r h.buses there at;
-  within = each_at (λ (y : Above). y.bus ≤ length b) xs i x h.within there;
-  io = maps_at (λ (y : Above). y.io) (λ (s : Row). list_all (λ d. has_io d.io) (bridges_above b s.path)) xs b i x r h.io there at;
-  pref = maps_at (λ (y : Above). y.pref) (λ (s : Row). list_all (λ d. has_pref d.pref) (bridges_above b s.path)) xs b i x r h.pref there at;
-  pref64 = maps_at (λ (y : Above). y.pref64) (λ (s : Row). list_all (λ d. has_pref64 d.pref) (bridges_above b s.path)) xs b i x r h.pref64 there at;
-}
+tells_at b xs i r x h at there = grind (arith, maps_at, each_at)

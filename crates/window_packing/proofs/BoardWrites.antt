@@ -1,5 +1,5 @@
 -- Settings in path order set the functions of a board up, one after the other.
-use Rattle.std.{proofs.{Common.{◌≡◌, false, List, [], ◌∷◌, ◌++◌, refl, sym, ap, ◌∙◌, arith}, lemmas.List.map-append}, specs.Prelude.{map, IsTrue}}
+use Rattle.std.{proofs.{Common.{◌≡◌, false, List, [], ◌∷◌, ◌++◌, refl, arith}, lemmas.List.map-append}, specs.Prelude.{map, IsTrue}}
 use Rattle.lists.{specs.Elements.Each, proofs.EachLemmas.each_append}
 use Rattle.host_bridge.proofs.Lent.{with_file-none}
 use Rattle.model_registers.specs.Registers.{File}
@@ -33,16 +33,11 @@ module _ (b : Board) (board : IsBoard b) (front back : List BoardFunction) (p : 
   with_own file = front ++ record { path = p; decl = d; file = file } ∷ back
 
   numbers : (file : File) → HoldsNumbers b (record { path = p; decl = d; file = file }) → HasNumbers b (with_own file)
-  numbers file h = record {
-    rows = map-append row_at front (record { path = p; decl = d; file = file } ∷ back) ∙ sym (map-append row_at front (record { path = p; decl = d; file = [] } ∷ back)) ∙ rows;
-    numbers = each_append (HoldsNumbers b) front (record { path = p; decl = d; file = file } ∷ back) front_holds (h, back_holds);
-  }
+  numbers file h = grind (arith, map-append, each_append)
 
   changed_own : (g : File → File) (file : File) → with_file g p (with_own file) ≡ with_own (g file)
   changed_own g file = grind (arith, path_self, map-append, with_file-none)
 
   pub words_at : (ws : List WordWrite) → Each (KeepsNumbers d) ws → (file : File) → HoldsNumbers b (record { path = p; decl = d; file = file }) → after_words (address_of b p) ws (with_own file) ≡ with_own (file_after ws file)
   words_at [] keep file h = refl
-  words_at (w ∷ ws) keep file h =
-      ap (after_words (address_of b p) ws) (word_at b board (with_own file) (numbers file h) p there w ∙ changed_own (written_file w) file)
-      ∙ words_at ws keep.1 (written_file w file) (λ k. ((keep.0 k file).0 ∙ (h k).0, (keep.0 k file).1 ∙ (h k).1))
+  words_at (w ∷ ws) keep file h = grind (arith, word_at, numbers, changed_own, written_file, words_at ws keep.1)

@@ -26,10 +26,7 @@ record IsOver (b : Board) (p : Path) (d : Bridge) : Type 0 where
   own : IsIn d (bridge_of row)
 
 over_from : (b : Board) (p : Path) (d : Bridge) → IsIn d (bridges_above b p) → IsOver b p d
-over_from b p d m = by_row (from_flat_map bridge_of d (filter (λ (r : Row). leads_to r.path p) b) m)
-  where
-    by_row : (r : Row) × IsIn r (filter (λ (r : Row). leads_to r.path p) b) × IsIn d (bridge_of r) → IsOver b p d
-    by_row (r, k, l) = let f = from_filter (λ (r : Row). leads_to r.path p) r b k in record { row = r; there = f.0; leads = f.1; own = l }
+over_from b p d m = grind (arith, from_flat_map, from_filter)
 
 over_in : (b : Board) (p : Path) (d : Bridge) (r : Row) → IsIn r b → leads_to r.path p ≡ true → IsIn d (bridge_of r) → IsIn d (bridges_above b p)
 over_in b p d r m h k = in_flat_map bridge_of r d (filter (λ (r : Row). leads_to r.path p) b) (in_filter (λ (r : Row). leads_to r.path p) r b m h) k

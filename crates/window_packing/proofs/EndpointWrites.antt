@@ -1,7 +1,7 @@
 -- The words of an endpoint, written over its cells at reset, leave its bases and its Command.
-use Rattle.std.{proofs.{Common.{◌≡◌, ℕ, zero, suc, ◌+◌, ◌-◌, ◌*◌, ◌/◌, ◌%◌, ◌^◌, ◌<◌, ◌≤◌, ◌⊎◌, inl, inr, Bool, true, false, ◌||◌, cond, List, [], ◌∷◌, ◌++◌, length, refl, sym, ap, ap₂, ◌∙◌, subst, arith, eqb}, lemmas.{Nat.{and_mask, pow_pos, shr_split, shr_below, Bits.and_high}, Bool.{ne_eqb, or_parts}}, Math.Nat.mod-eq_of_lt}, specs.Prelude.{map, flat_map, bit_and}}
+use Rattle.std.{proofs.{Common.{◌≡◌, ℕ, zero, suc, ◌+◌, ◌-◌, ◌*◌, ◌/◌, ◌%◌, ◌^◌, ◌<◌, ◌≤◌, ◌⊎◌, inl, inr, Bool, true, false, cond, List, [], ◌∷◌, ◌++◌, length, refl, sym, ap, ap₂, ◌∙◌, subst, arith, eqb}, lemmas.{Nat.{and_mask, pow_pos, shr_split, shr_below, Bits.and_high}, Bool.{ne_eqb, or_parts}}, Math.Nat.mod-eq_of_lt}, specs.Prelude.{map, flat_map, bit_and}}
 use Rattle.lists.{specs.Elements.{Each, EachPair}, proofs.EachLemmas.each_map}
-use Rattle.model_registers.{specs.{Cell.Cell, Registers.{config, block, place_eq, File, write, cells_from}, FileLaws.{has_place, HasNone}, Declarations.{Kind, io_kind, mem32, mem64, Region, registers_of, IsLawfulRegion, HasLawfulRegions, ConfigBlock, Endpoint}, Decoding.{io, memory}, EndpointTable.{base_register, type_bits, base_width, base_cells, BaseAddress, register_cells, IsLawfulBase, region_cells, block_cells, header_cells, config_cells, endpoint_file, endpoint_reset}, BaseLaws.rebased}, proofs.{Bases.{size_limits, four, write_whole, exponent_below}, Files.{write_none, joined_write}, Parts.{IsApart, write_apart}}}
+use Rattle.model_registers.{specs.{Cell.Cell, Registers.{config, block, File, write, cells_from}, FileLaws.{has_place, HasNone}, Declarations.{Kind, io_kind, mem32, mem64, Region, registers_of, IsLawfulRegion, HasLawfulRegions, ConfigBlock, Endpoint}, Decoding.{io, memory}, EndpointTable.{base_register, type_bits, base_width, base_cells, BaseAddress, register_cells, IsLawfulBase, region_cells, block_cells, header_cells, config_cells, endpoint_file, endpoint_reset}, BaseLaws.rebased}, proofs.{Bases.{size_limits, four, write_whole, exponent_below}, Files.{write_none, joined_write}, Parts.{IsApart, write_apart}}}
 use Rattle.model_set_up.specs.SetUp.{opens, command_of}
 use Rattle.window_packing.{specs.WordWrites.{word, base_words, endpoint_words}, proofs.FileWrites.{written_file, file_after, joined_after, after_joined}}
 
@@ -15,9 +15,7 @@ zero_is_lawful b h = grind (arith, mod-eq_of_lt, pow_pos)
 
 -- all bits of a base that are written are its own
 bits_kept : (j k base : ℕ) → base % 2 ^ k ≡ 0 → base < 2 ^ (j + k) → bit_and base (bit_and (2 ^ (j + k) - 2 ^ k) (2 ^ (j + k) - 1)) ≡ base
-bits_kept j k base aligned fits =
-    ap (bit_and base) (and_mask (2 ^ (j + k) - 2 ^ k) (j + k) ∙ mod-eq_of_lt (omega (arith, pow_pos k, pow_pos (j + k)))) ∙ and_high base j k
-    ∙ ap (λ n. n * 2 ^ k) (mod-eq_of_lt (shr_below base j k fits)) ∙ omega (arith, shr_split base k)
+bits_kept j k base aligned fits = grind (arith, and_mask, mod-eq_of_lt, pow_pos, and_high, shr_below, shr_split)
 
 rebased_whole : (b : BaseAddress) → IsLawfulBase b → rebased (at_zero b) b.base (2 ^ base_width b.kind - 1) ≡ b.base
 rebased_whole b h =
@@ -91,9 +89,7 @@ stays file n h ons x a fits = write_none ons x (config a) file (none_from file n
 
 joined_none : (xs ys : File) (n : ℕ) → HasNoneBelow xs n → HasNoneBelow ys n → HasNoneBelow (xs ++ ys) n
 joined_none [] ys n h l k m = l k m
-joined_none (x ∷ xs) ys n h l k m =
-    ap₂ (λ (s t : Bool). s || t) (or_parts (place_eq x.place (config k)) (has_place xs (config k)) (h k m)).0
-    (joined_none xs ys n (λ q r. (or_parts (place_eq x.place (config q)) (has_place xs (config q)) (h q r)).1) l k m)
+joined_none (x ∷ xs) ys n h l k m = grind (arith, or_parts, joined_none xs ys n)
 
 cells_none : (cs : List Cell) (a n : ℕ) → n ≤ a → HasNoneBelow (cells_from (config a) cs) n
 cells_none [] a n h k l = refl
@@ -162,10 +158,7 @@ based bases r = base_of r.index r.kind r.size (bases r)
 -- what the words of each base leave the words of all leave
 all_leave : (file : File) (bases : Region → ℕ) (rs : List Region) → Each (λ r. file_after (base_words (based bases r)) file ≡ file) rs → file_after (flat_map base_words (map (based bases) rs)) file ≡ file
 all_leave file bases [] h = refl
-all_leave file bases (r ∷ rs) h =
-    after_joined (base_words (based bases r)) (flat_map base_words (map (based bases) rs)) file
-    ∙ ap (file_after (flat_map base_words (map (based bases) rs))) h.0
-    ∙ all_leave file bases rs h.1
+all_leave file bases (r ∷ rs) h = grind (arith, after_joined, file_after, all_leave file bases rs h.1)
 
 abbrev IsBehind : Region → Region → Type 0
 IsBehind r s = r.index + registers_of r.kind ≤ s.index

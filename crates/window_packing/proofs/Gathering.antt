@@ -1,5 +1,5 @@
 -- Buses packed from the last row to the first: what is gathered of the items of the buses that are left.
-use Rattle.std.{proofs.{Common.{◌≡◌, ℕ, suc, ◌+◌, ◌≤◌, ◌^◌, Bool, true, false, cond, Some, List, [], ◌∷◌, ◌++◌, length, drop, refl, sym, ap, ◌∙◌, subst, arith, length-append, get_or-set_other, get_or-set_same}, lemmas.{Option.{slice_get_within, get_or_from_slice_get}, List.{drop_more, get_or_append_left, drop_all, reverse-append, Sorted.{IsPermutation-refl, IsPermutation-trans, IsPermutation-append_comm, IsPermutation-append_left}}, Bool.cases_lt}, Math.ListN.length-set}, specs.{Prelude.{map, flat_map, reverse, slice_get, slice_set, All}, List.Sorted.IsPermutation}}
+use Rattle.std.{proofs.{Common.{◌≡◌, ℕ, suc, ◌+◌, ◌≤◌, ◌^◌, Bool, true, false, cond, Some, List, [], ◌∷◌, ◌++◌, length, drop, refl, sym, ap, ◌∙◌, subst, arith, length-append, get_or-set_other, get_or-set_same}, lemmas.{Option.{slice_get_within, get_or_from_slice_get}, List.{drop_more, get_or_append_left, drop_all, reverse-append, Sorted.{IsPermutation-trans, IsPermutation-append_comm, IsPermutation-append_left}}, Bool.cases_lt}, Math.ListN.length-set}, specs.{Prelude.{map, flat_map, reverse, slice_get, slice_set, All}, List.Sorted.IsPermutation}}
 use Rattle.lists.{proofs.Indices.read_at, specs.Elements.Each}
 use Rattle.model_board.{specs.{Paths.{Path, path_eq, parent}, Board.{Row, Board, rows_on, IsBoard}}, proofs.{PathOrder.path_same, PathEnds.path_self}}
 use Rattle.model_set_up.{specs.{Pools.Pool, Placement.{Item, items_of, items_on}}, proofs.Levels.items_by_bus}
@@ -46,14 +46,7 @@ pub record IsGathered (b : Board) (a : Apertures) (pool : Pool) {V : Type 0} (co
 module _ (b : Board) (a : Apertures) (pool : Pool) (board : IsBoard b) {V : Type 0} (contents : V → List Item) where
   -- at first nothing is
   pub none_gathered : (buses : List V) → length buses ≡ length b + 1 → All (λ v. contents v ≡ []) buses → IsGathered b a pool contents (length b) buses []
-  none_gathered buses count none =
-      let end : drop (length b) b ≡ [] = drop_all (length b) b (omega arith) in
-      record {
-        count = count;
-        own = λ k v at. let empty : contents v ≡ [] = subst (λ x. contents x ≡ []) (get_or_from_slice_get buses k v v at) (none k v (slice_get_within buses k v at)) in rw (end, empty) (IsPermutation-refl []);
-        packed = rw end refl;
-        ends = tt;
-      }
+  none_gathered buses count none = grind (arith, drop_all, get_or_from_slice_get, slice_get_within)
 
   -- the last of the buses that are left has all its items
   pub last_gathered : (i : ℕ) (r : Row) (buses : List V) (v : V) (packs : List BusPack) → slice_get b i ≡ Some r → IsGathered b a pool contents (i + 1) (buses ++ v ∷ []) packs

@@ -1,5 +1,5 @@
 -- Writes of words in a row.
-use Rattle.std.{proofs.{Common.{◌≡◌, ℕ, ◌≤◌, List, [], ◌∷◌, ◌++◌, length, drop, Option, refl, sym, ap, ◌∙◌}, lemmas.List.drop_all}, specs.Prelude.flat_map}
+use Rattle.std.{proofs.{Common.{arith, ◌≡◌, ℕ, ◌≤◌, List, [], ◌∷◌, ◌++◌, length, drop, Option, refl, ap}, lemmas.List.drop_all}, specs.Prelude.flat_map}
 use Rattle.bars.specs.{declared.region.BasedRegion.BasedRegion, Slots.bases_from}
 use Rattle.model_board.specs.{State.BoardFunction, Cycles.BusAddress}
 use Rattle.host_bridge.specs.HostState.{HostState}
@@ -14,9 +14,7 @@ pub last_word : (at : BusAddress) (w : WordWrite) (vs : List WordWrite) (h befor
     → host_after before.state.functions before ≡ host_after (after_words at vs h.state.functions) h
     → after ≡ host_after (after_word at w before.state.functions) before
     → after ≡ host_after (after_words at (vs ++ w ∷ []) h.state.functions) h
-last_word at w vs h before after e f =
-    f ∙ ap (λ (k : HostState). host_after (after_word at w k.state.functions) k) e
-    ∙ ap (λ fs. host_after fs h) (sym (words_joined at vs (w ∷ []) h.state.functions))
+last_word at w vs h before after e f = grind (arith, words_joined)
 
 -- no slot is left at the end
 pub none_left : (n : ℕ) (slots : List (Option BasedRegion)) → length slots ≤ n → flat_map base_words (bases_from n (drop n slots)) ≡ []

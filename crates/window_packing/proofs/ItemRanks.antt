@@ -1,5 +1,5 @@
 -- The order of items is one that a sort keeps, and items in order have the alignment of the bus.
-use Rattle.std.{proofs.{Common.{◌≡◌, ℕ, max, Bool, cond, List, [], ◌∷◌, refl, ap, ◌∙◌, arith}, lemmas.Bool.Decides.nat_tests}, specs.Cmp.IsStrictWeakOrder}
+use Rattle.std.{proofs.{Common.{◌≡◌, ℕ, max, List, [], ◌∷◌, refl, ap, ◌∙◌, arith}, lemmas.Bool.Decides.nat_tests}, specs.Cmp.IsStrictWeakOrder}
 use Rattle.model_set_up.specs.Placement.{Item, stands_before, inserted, in_order, alignment}
 
 pub weak_order : IsStrictWeakOrder stands_before
@@ -10,10 +10,7 @@ max_swap m n k = omega arith
 
 alignment_inserted : (unit : ℕ) (i : Item) (js : List Item) → alignment unit (inserted i js) ≡ max i.align (alignment unit js)
 alignment_inserted unit i [] = refl
-alignment_inserted unit i (j ∷ js) = by_test (stands_before j i) (alignment_inserted unit i js)
-  where
-    by_test : (t : Bool) → alignment unit (inserted i js) ≡ max i.align (alignment unit js) → alignment unit (cond t (j ∷ inserted i js) (i ∷ j ∷ js)) ≡ max i.align (max j.align (alignment unit js))
-    by_test t h = grind (arith, max_swap)
+alignment_inserted unit i (j ∷ js) = grind (arith, max, max_swap, alignment_inserted unit i js)
 
 pub alignment-in_order : (unit : ℕ) (is : List Item) → alignment unit (in_order is) ≡ alignment unit is
 alignment-in_order unit [] = refl

@@ -21,9 +21,7 @@ along_more pool [] ns ps k b n p e f g = absurd (cc)
 along_more pool (b' ∷ bs) [] ps k b n p e f g = absurd (cc)
 along_more pool (b' ∷ bs) (n' ∷ ns) [] k b n p e f g = absurd (cc)
 along_more pool (b' ∷ bs) (n' ∷ ns) (p' ∷ ps) zero b n p e f g = grind (arith, append-nil)
-along_more pool (b' ∷ bs) (n' ∷ ns) (p' ∷ ps) (suc k) b n p e f g =
-    ap (λ xs. map (row_of pool b' n') p'.spots ++ xs) (along_more pool bs ns ps k b n p e f g)
-    ∙ sym (append_assoc (map (row_of pool b' n') p'.spots) (rows_along pool (take k bs) ns ps) (map (row_of pool b n) p.spots))
+along_more pool (b' ∷ bs) (n' ∷ ns) (p' ∷ ps) (suc k) b n p e f g = grind (arith, append_assoc, along_more pool bs ns ps k b n p e f g)
 
 pub rows_more : (pool : Pool) (paths : List Path) (ns : List ℕ) (ps : List BusPack) (k : ℕ) → k ≤ length paths → (n : ℕ) (p : BusPack) → slice_get ns k ≡ Some n → slice_get ps k ≡ Some p → (start old new : List LayoutRow)
     → old ≡ start ++ rows_along pool (take k ([] ∷ paths)) ns ps → new ≡ old ++ map (row_of pool (bus_at paths k) n) p.spots → new ≡ start ++ rows_along pool (take (k + 1) ([] ∷ paths)) ns ps
@@ -59,9 +57,7 @@ module _ (b : Board) (a : Apertures) (board : IsBoard b) (lawful : HasLawfulDecl
       inside k p e = let w = slice_get_within pl.packs k p e in omega (arith, w, count_pl b a board lawful pool pl h)
 
   pub layout_rows : (p : Placement) → IsPlacement b a p → rows_of paths p ≡ layout b a
-  layout_rows p h =
-      (λ i. pool_rows_of io_pool p.io h.io i ++ (pool_rows_of mem_pool p.mem h.mem i ++ pool_rows_of pref_pool p.pref h.pref i))
-      ∙ ap (λ xs. pool_rows b a io_pool ++ (pool_rows b a mem_pool ++ xs)) (sym (append-nil (pool_rows b a pref_pool)))
+  layout_rows p h = grind (arith, pool_rows_of, append-nil)
 
   pub are_listable : (p : Placement) → IsPlacement b a p → AreListable paths p
   are_listable p h = record { io = listable io_pool p.io h.io; mem = listable mem_pool p.mem h.mem; pref = listable pref_pool p.pref h.pref }

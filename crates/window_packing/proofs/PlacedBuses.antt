@@ -1,5 +1,5 @@
 -- Where the buses, the regions and the windows of a placed pool stand: all within 2^63, and each found by its alignment.
-use Rattle.std.{proofs.{Common.{◌≡◌, ℕ, zero, suc, ◌+◌, ◌-◌, ◌^◌, ◌≤◌, ◌<◌, ◌⊎◌, inl, inr, Bool, true, false, cond, List, [], ◌∷◌, ◌++◌, map, length, Option, MatchOption, refl, sym, ap, ◌∙◌, subst, arith}, lemmas.Bool.{and_parts, Decides.nat_tests}, Math.Nat.div-mul-le_self}, specs.Prelude.{filter, flat_map, IsTrue}}
+use Rattle.std.{proofs.{Common.{◌≡◌, ℕ, zero, suc, ◌+◌, ◌-◌, ◌^◌, ◌≤◌, ◌<◌, ◌⊎◌, inl, inr, true, false, List, [], ◌∷◌, ◌++◌, map, length, Option, MatchOption, refl, sym, ap, ◌∙◌, subst, arith}, lemmas.Bool.{and_parts, Decides.nat_tests}, Math.Nat.div-mul-le_self}, specs.Prelude.{filter, flat_map, IsTrue}}
 use Rattle.lists.{specs.Elements.{Each, EachPair, IsIn}, proofs.Members.{each_in, each_from, pair_in}}
 use Rattle.model_registers.specs.{Apertures.{Aperture, IsLawfulApertures, Apertures}, Declarations.{Endpoint, Region}}
 use Rattle.model_board.{specs.{Paths.{Part, Path, part_eq, parent, last_part, IsPath}, Board.{endpoint, is_bridge, Row, Board, IsBoard}, Lawful.{IsLawfulDecl, HasLawfulDecls}}, proofs.{PathOrder.part_same, PathEnds.{snoc, length_snoc}}}
@@ -22,10 +22,7 @@ Cases n ts = (n ≡ 0) ⊎ ((t : Spot) × IsIn t ts × (n ≡ t.first))
 -- what is found, or 0
 offset_cases : (ss : List Spot) (p : Part) (w : Placed) → (offset_in ss p w ≡ 0) ⊎ ((s : Spot) × IsIn s ss × (offset_in ss p w ≡ s.first))
 offset_cases [] p w = inl refl
-offset_cases (s ∷ ss) p w = by_test (is_item p w s.item) (offset_cases ss p w)
-  where
-    by_test : (v : Bool) → Cases (offset_in ss p w) ss → Cases (cond v s.first (offset_in ss p w)) (s ∷ ss)
-    by_test v more = grind arith
+offset_cases (s ∷ ss) p w = grind (arith, offset_cases ss p w)
 
 -- no address of a pool is above this
 abbrev pub highest : ℕ
@@ -135,11 +132,7 @@ module _ (b : Board) (a : Apertures) (pool : Pool) (board : IsBoard b) (lawful :
 
   all_buses : (rs : Board) → ((r : Row) → IsIn r rs → IsIn r b) → flat_map (bus_rows b a pool) (map (λ (r : Row). r.path) rs) ≡ flat_map (bus_rows b a pool) (map (λ (r : Row). r.path) (filter (λ r. is_bridge r.decl) rs))
   all_buses [] h = refl
-  all_buses (r ∷ rs) h = by_kind (is_bridge r.decl) refl (all_buses rs (λ s m. h s (inr m)))
-    where
-      by_kind : (v : Bool) → is_bridge r.decl ≡ v → flat_map (bus_rows b a pool) (map (λ (r : Row). r.path) rs) ≡ flat_map (bus_rows b a pool) (map (λ (r : Row). r.path) (filter (λ r. is_bridge r.decl) rs))
-          → bus_rows b a pool r.path ++ flat_map (bus_rows b a pool) (map (λ (r : Row). r.path) rs) ≡ flat_map (bus_rows b a pool) (map (λ (r : Row). r.path) (cond v (r ∷ filter (λ r. is_bridge r.decl) rs) (filter (λ r. is_bridge r.decl) rs)))
-      by_kind v e more = grind (arith, none_behind)
+  all_buses (r ∷ rs) h = grind (arith, none_behind, all_buses rs)
 
   -- the rows of all functions' buses are those of the bridges' buses
   pub rows_by_bus : flat_map (bus_rows b a pool) ([] ∷ map (λ (r : Row). r.path) b) ≡ pool_rows b a pool

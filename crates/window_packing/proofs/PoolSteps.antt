@@ -31,10 +31,7 @@ popped {C = C} old new o v e some = e ∙ ap (λ (x : Option C). new ++ option_t
 module _ (b : Board) (a : Apertures) (pool : Pool) (board : IsBoard b) {C : Type 0} (contents : C → List Item) where
   taken : (i : ℕ) (old new : List C) (o : Option C) (v : C) (packs : List BusPack) → 0 < i → IsGathered b a pool contents i old packs → old ≡ new ++ option_to_list o → o ≡ Some v
       → IsGathered b a pool contents (i - 1 + 1) (new ++ v ∷ []) packs × (length new ≡ i - 1 + 1)
-  taken i old new o v packs some h e is =
-      let back : i ≡ i - 1 + 1 = omega arith in
-      let left : IsGathered b a pool contents i (new ++ v ∷ []) packs = subst (λ (x : List C). IsGathered b a pool contents i x packs) (popped old new o v e is) h in
-      (subst (λ n. IsGathered b a pool contents n (new ++ v ∷ []) packs) back left, omega (arith, length-append new (v ∷ []), left.count))
+  taken i old new o v packs some h e is = grind (arith, popped, length-append)
 
   pub behind_is : (i : ℕ) (r : Row) (old new : List C) (o : Option C) (v : C) (packs : List BusPack) → 0 < i → slice_get b (i - 1) ≡ Some r → IsGathered b a pool contents i old packs
       → old ≡ new ++ option_to_list o → o ≡ Some v → IsPermutation (items_on b a pool r.path) (contents v)

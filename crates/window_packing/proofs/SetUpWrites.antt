@@ -1,5 +1,5 @@
 -- All settings of a numbered board, written in path order, leave the state of set-up.
-use Rattle.std.{proofs.{Common.{◌≡◌, ◌+◌, ◌<◌, ◌≤◌, inl, inr, Bool, true, false, ◌&&◌, cond, List, [], ◌∷◌, ◌++◌, refl, sym, ap, ap₂, ◌∙◌, subst, arith, append_assoc, append-nil}, lemmas.{List.map-append, Bool.ne_eqb}}, specs.Prelude.{map, count_by}}
+use Rattle.std.{proofs.{Common.{◌≡◌, ◌+◌, ◌<◌, ◌≤◌, inl, inr, true, false, ◌&&◌, List, [], ◌∷◌, ◌++◌, refl, sym, ap, ap₂, ◌∙◌, subst, arith, append_assoc, append-nil}, lemmas.{List.map-append, Bool.ne_eqb}}, specs.Prelude.{map, count_by}}
 use Rattle.lists.{specs.Elements.{Each, EachPair, IsIn}, proofs.{Members.{each_in, each_from, any_in, in_front, in_back}, EachLemmas.{each_of_map, pairs_after}, Tests.and_true}}
 use Rattle.model_registers.{specs.{Cell.{Cell, written}, Registers.{Place, place_eq, File, cell_at, changed}, Declarations.{Bridge, Endpoint}, DeclarationRules.IsConfigBlock, BridgeTable.{BridgeValues, bridge_file}, Apertures.Apertures}, proofs.RegisterFiles.place_same}
 use Rattle.model_board.{specs.{Paths.{Path, path_eq, path_before, leads_to}, Board.{Board, Row, Decl, endpoint, bridge, is_bridge, is_bridge_at, is_multifunction}, BusNumbers.{secondary, subordinate, Enumerates}, State.{BoardFunction, State, row_at}, AtReset.board_at}, proofs.{StateRows.rows_of, PlacesLaw.before_apart, PathOrder.exclusive, PathEnds.{path_self, path_eq-sym}, BusNumbers.{bridges, at, count_three, counted}}}
@@ -11,11 +11,7 @@ use Rattle.window_packing.{specs.WordWrites.{WordWrite, after_words, after_setti
 
 change_elsewhere : (f : Cell → Cell) (p q : Place) (file : File) → place_eq p q ≡ false → cell_at (changed f p file) q ≡ cell_at file q
 change_elsewhere f p q [] h = refl
-change_elsewhere f p q (e ∷ es) h = by_place (place_eq e.place p) refl (change_elsewhere f p q es h)
-  where
-    by_place : (t : Bool) → place_eq e.place p ≡ t → cell_at (changed f p es) q ≡ cell_at es q
-        → cell_at (cond t (record e { cell = f e.cell }) e ∷ changed f p es) q ≡ cell_at (e ∷ es) q
-    by_place t k rest = grind (arith, place_same)
+change_elsewhere f p q (e ∷ es) h = grind (arith, place_same, change_elsewhere f p q es h)
 
 -- ---- bus numbers stay
 
@@ -109,9 +105,7 @@ module _ (b : Board) (a : Apertures) (can : CanBePlaced b a) (few : Enumerates b
 
   pub settings_written : (done todo : Board) → b ≡ done ++ todo → after_settings (map setting todo) (map set_up done ++ map numbered todo) ≡ map set_up b
   settings_written done [] split = append-nil (map set_up done) ∙ ap (map set_up) (sym (split ∙ append-nil done))
-  settings_written done (r ∷ rs) split =
-      ap (after_settings (map setting rs)) (one_setting done r rs split ∙ sym (append_assoc (map set_up done) (set_up r ∷ []) (map numbered rs)) ∙ ap (λ (xs : List BoardFunction). xs ++ map numbered rs) (sym (map-append set_up done (r ∷ []))))
-      ∙ settings_written (done ++ r ∷ []) rs (split ∙ sym (append_assoc done (r ∷ []) rs))
+  settings_written done (r ∷ rs) split = grind (arith, one_setting, append_assoc, map-append, settings_written (done ++ r ∷ []) rs)
 
 -- ---- the whole host
 
