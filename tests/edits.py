@@ -216,6 +216,13 @@ class Tries:
         return ran.returncode, said, not any(self.rt.unread(it, sources) for it in said)
 
     def try_batch(self, batch):
+        """Tries a batch in one check, and alone what that doesn't decide."""
+        self.try_together(batch)
+        for edit in batch:
+            if edit.verdict is None:
+                self.try_alone(edit)
+
+    def try_together(self, batch):
         """One check of the functions of a batch. Those edits that it doesn't decide are left."""
         in_place = batch[0].texts, {it.path: batch[0] for it in batch[0].changed}
         texts, looked_at = with_copies(self.source, batch) if batch[0].function else in_place
@@ -245,12 +252,11 @@ class Tries:
 
 
 def try_all(tries):
-    """Tries the edits of all crates, in batches and then alone, side by side; those of large crates first."""
+    """Tries the edits of all crates in batches, side by side; those of large crates first."""
     tries = sorted(tries, key=lambda it: -sum(map(len, it.source.texts.values())))
     free = next(int(it.split()[1]) * 1024 for it in open("/proc/meminfo") if it.startswith("MemAvailable:"))
     with ThreadPoolExecutor(max(1, min(len(os.sched_getaffinity(0)), free // FOR_CHECK))) as pool:
         list(pool.map(lambda it: it[0].try_batch(it[1]), [(it, batch) for it in tries for batch in batches_of(it.edits)]))
-        list(pool.map(lambda it: it[0].try_alone(it[1]), [(it, edit) for it in tries for edit in it.edits if edit.verdict is None]))
 
 
 def main(words):
