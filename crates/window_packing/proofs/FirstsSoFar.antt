@@ -1,10 +1,10 @@
 -- The first addresses of buses, one after the other.
-use Rattle.std.{proofs.{Common.{◌≡◌, ℕ, suc, ◌+◌, ◌≤◌, ◌<◌, ◌⊎◌, inl, inr, List, [], ◌∷◌, ◌++◌, map, length, Some, refl, sym, ap, ◌∙◌, subst, arith, length-append}, lemmas.{Option.{get_or_from_slice_get, slice_get_within}, List.same_lists, Bool.cases_lt}}, specs.{Prelude.IsTrue, List.slice_get}}
+use Rattle.std.{proofs.{Common.{◌≡◌, ℕ, suc, ◌+◌, ◌≤◌, ◌<◌, ◌⊎◌, inl, inr, List, [], ◌∷◌, ◌++◌, map, length, Some, refl, sym, ap, ◌∙◌, subst, arith, length-append, get_or, add-one}, lemmas.{Option.{get_or_from_slice_get, slice_get_within}, List.same_lists, Bool.cases_lt}}, specs.{Prelude.IsTrue, List.slice_get}}
 use Rattle.model_registers.specs.Apertures.{Apertures, IsLawfulApertures}
-use Rattle.lists.{specs.Elements.{Each, IsIn}, proofs.Indices.{same_at, index_in}}
+use Rattle.lists.{specs.Elements.{Each, IsIn}, proofs.Indices.{read_at, same_at, index_in}}
 use Rattle.model_board.specs.{Paths.{Part, parent, last_part}, Board.{Row, Board, IsBoard}, Lawful.HasLawfulDecls}
-use Rattle.model_set_up.specs.{Pools.Pool, Placement.{a_window, is_item, spots, offset_in, items_on, fits, bus_first}}
-use Rattle.window_packing.{specs.{declared.bridges_above.Above.Above, Buses.{bus_path, AreAbove}, Packs.{BusPack, pack_of, packs_of}, Placed.bus_paths}, proofs.{SpotSearch.AreStrict, BusIndex.{by_bus, count_buses, bus_behind}, BusIndices.bus_before, PoolSteps.above_row, Gathering.{front_at, last_at}, PlacedBuses.{highest, spots_strict, window_align, next_first, first_bound}}}
+use Rattle.model_set_up.specs.{Pools.Pool, Placement.{a_window, is_item, spots, offset_in, fits, bus_first}}
+use Rattle.window_packing.{specs.{declared.bridges_above.Above.Above, Buses.bus_path, Packs.{BusPack, pack_of, packs_of}, Placed.{bus_paths, IsAboveAt}}, proofs.{SpotSearch.AreStrict, BusIndex.{by_bus, count_buses, bus_behind}, BusIndices.bus_before, PoolSteps.{IsAboveRow, above_row}, Gathering.{front_at, last_at}, PlacedBuses.{highest, spots_strict, window_align, next_first, first_bound}}}
 
 -- those of the buses up to an index
 pub record AreFirsts (b : Board) (a : Apertures) (pool : Pool) (i : ℕ) (xs : List ℕ) : Type 0 where
@@ -47,39 +47,55 @@ pack_is b a pool packs e k l p at = same_at (packs_of b a pool) k p (pack_of b a
 pub count_packs : (b : Board) (a : Apertures) (pool : Pool) (packs : List BusPack) → packs ≡ packs_of b a pool → length packs ≡ suc (length b)
 count_packs b a pool packs e = ap length e ∙ count_buses (pack_of b a pool) b
 
-module _ (b : Board) (a : Apertures) (pool : Pool) (board : IsBoard b) (lawful : HasLawfulDecls b) (apertures : IsLawfulApertures a) (fit : IsTrue (fits b a pool)) (xs : List Above) (above : AreAbove b xs) where
-  module _ (i : ℕ) (r : Row) (at : slice_get b i ≡ Some r) (x : Above) (told : slice_get xs i ≡ Some x) where
-    there : IsIn r b
-    there = index_in b i r at
+-- a row of a board whose pool fits its aperture, and what stands above it
+pub record IsFittingRow (b : Board) (a : Apertures) (pool : Pool) (i : ℕ) (r : Row) (x : Above) : Type 0 where
+  pub board : IsBoard b
+  pub lawful : HasLawfulDecls b
+  pub apertures : IsLawfulApertures a
+  pub fit : IsTrue (fits b a pool)
+  pub at : slice_get b i ≡ Some r
+  pub above : IsAboveAt b i x
 
-    on : bus_path b x.bus ≡ parent r.path
-    on = (above_row b xs i r x above at told).bus
+module _ {b : Board} {a : Apertures} {pool : Pool} {i : ℕ} {r : Row} {x : Above} (h : IsFittingRow b a pool i r x) where
+  there : IsIn r b
+  there = index_in b i r h.at
 
-    pub within : x.bus ≤ length b
-    within = (above_row b xs i r x above at told).within
+  row : IsAboveRow b r x
+  row = above_row b h.above.all i r x h.above.told h.at h.above.there
 
-    pub bus_low : x.bus ≤ i
-    bus_low = bus_before b board i r x.bus at on within
+  pub bus_low : x.bus ≤ i
+  bus_low = bus_before b h.board i r x.bus h.at row.bus row.within
 
-    pub own_pack : (packs : List BusPack) → packs ≡ packs_of b a pool → (p : BusPack) → slice_get packs x.bus ≡ Some p → p ≡ pack_of b a pool (parent r.path)
-    own_pack packs e p k = pack_is b a pool packs e x.bus within p k ∙ ap (pack_of b a pool) on
+  -- the packs of its bus and of the bus behind it, as they are read
+  module _ (packs : List BusPack) (all : packs ≡ packs_of b a pool) where
+    pub own_pack : (p : BusPack) → p ≡ get_or packs x.bus p → p ≡ pack_of b a pool (parent r.path)
+    own_pack p is =
+        let w = row.within in
+        pack_is b a pool packs all x.bus w p (read_at packs x.bus p (omega (arith, w, count_packs b a pool packs all)) is) ∙ ap (pack_of b a pool) row.bus
 
-    pub own_strict : (packs : List BusPack) → packs ≡ packs_of b a pool → (p : BusPack) → slice_get packs x.bus ≡ Some p → AreStrict p.spots
-    own_strict packs e p k = subst (λ (q : BusPack). AreStrict q.spots) (sym (own_pack packs e p k)) (spots_strict b a pool board lawful (parent r.path))
+    pub behind_pack : (q : BusPack) → q ≡ get_or packs (i + 1) q → q ≡ pack_of b a pool r.path
+    behind_pack q is =
+        let w = slice_get_within b i r h.at in
+        pack_is b a pool packs all (suc i) w q (read_at packs (suc i) q (omega (arith, w, count_packs b a pool packs all)) (rw add-one at is))
+        ∙ ap (pack_of b a pool) (bus_behind b i r h.at)
 
-    pub own_align : (packs : List BusPack) → packs ≡ packs_of b a pool → (p : BusPack) → slice_get packs x.bus ≡ Some p → (q : BusPack) → slice_get packs (i + 1) ≡ Some q → (part : Part) → part ≡ last_part r.path
-        → Each (λ s. IsTrue (is_item part a_window s.item) → s.item.align ≡ q.align) p.spots
-    own_align packs e p k q l part last =
-        let behind : q ≡ pack_of b a pool r.path = pack_is b a pool packs e (suc i) (slice_get_within b i r at) q (let s : i + 1 ≡ suc i = omega arith in subst (λ n. slice_get packs n ≡ Some q) s l) ∙ ap (pack_of b a pool) (bus_behind b i r at) in
-        subst (λ (y : BusPack). Each (λ s. IsTrue (is_item part a_window s.item) → s.item.align ≡ q.align) y.spots) (sym (own_pack packs e p k))
-        (subst (λ (y : Part). Each (λ s. IsTrue (is_item y a_window s.item) → s.item.align ≡ q.align) (spots (items_on b a pool (parent r.path)))) (sym last)
-        (subst (λ n. Each (λ s. IsTrue (is_item (last_part r.path) a_window s.item) → s.item.align ≡ n) (spots (items_on b a pool (parent r.path)))) (ap (λ (y : BusPack). y.align) (sym behind)) (window_align b a pool board lawful r there)))
+  -- the first address of its bus, as it is read
+  pub own_first : (xs : List ℕ) → AreFirsts b a pool i xs → (n : ℕ) → n ≡ get_or xs x.bus n → n ≡ bus_first b a pool (parent r.path)
+  own_first xs firsts n is =
+      same_at xs x.bus n (bus_first b a pool (bus_path b x.bus)) (read_at xs x.bus n (omega (arith, bus_low, firsts.count)) is) (firsts.each x.bus bus_low)
+      ∙ ap (bus_first b a pool) row.bus
 
-    -- the bus behind it begins where its window stands
-    pub behind_first : (packs : List BusPack) → packs ≡ packs_of b a pool → (p : BusPack) → slice_get packs x.bus ≡ Some p → (part : Part) → part ≡ last_part r.path → (n : ℕ) → n ≡ bus_first b a pool (bus_path b x.bus)
-        → n + offset_in p.spots part a_window ≡ bus_first b a pool (bus_path b (suc i))
-    behind_first packs e p k part last n first = grind (arith, own_pack, on, next_first, there, bus_behind)
+  module _ (p : BusPack) (own : p ≡ pack_of b a pool (parent r.path)) where
+    pub own_strict : AreStrict p.spots
+    own_strict = subst (λ (q : BusPack). AreStrict q.spots) (sym own) (spots_strict b a pool h.board h.lawful (parent r.path))
 
-    pub behind_bound : (packs : List BusPack) → packs ≡ packs_of b a pool → (p : BusPack) → slice_get packs x.bus ≡ Some p → (part : Part) → part ≡ last_part r.path → (n : ℕ) → n ≡ bus_first b a pool (bus_path b x.bus)
-        → n + offset_in p.spots part a_window ≤ highest
-    behind_bound packs e p k part last n first = omega (arith, behind_first packs e p k part last n first, first_bound b a pool board lawful apertures fit (bus_path b (suc i)))
+    module _ (part : Part) (last : part ≡ last_part r.path) where
+      pub own_align : (q : BusPack) → q ≡ pack_of b a pool r.path → Each (λ s. IsTrue (is_item part a_window s.item) → s.item.align ≡ q.align) p.spots
+      own_align q behind = rw (own, last, behind) (window_align b a pool h.board h.lawful r there)
+
+      -- the bus behind it begins where its window stands
+      pub behind_first : (n : ℕ) → n ≡ bus_first b a pool (parent r.path) → n + offset_in p.spots part a_window ≡ bus_first b a pool (bus_path b (suc i))
+      behind_first n first = grind (arith, next_first b a pool h.board h.lawful h.apertures h.fit r there, bus_behind b i r h.at)
+
+  pub next_bound : bus_first b a pool (bus_path b (suc i)) ≤ highest
+  next_bound = first_bound b a pool h.board h.lawful h.apertures h.fit (bus_path b (suc i))

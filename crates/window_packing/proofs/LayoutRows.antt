@@ -47,14 +47,14 @@ module _ (b : Board) (a : Apertures) (board : IsBoard b) (lawful : HasLawfulDecl
 
   listable : (pool : Pool) (pl : PlacedPool) → IsPlaced b a pool pl → IsListable paths pl
   listable pool pl h = record {
-    firsts = count_firsts b a board lawful pool pl h ∙ ap suc (sym (length-map b (λ (r : Row). r.path)));
-    packs = count_pl b a board lawful pool pl h ∙ ap suc (sym (length-map b (λ (r : Row). r.path)));
-    deep = λ k p e. subst (λ (q : Path). Each (λ s. length q < 16) p.spots) (bus_same b k (inside k p e)) (bus_depth b a board lawful pool pl h k (inside k p e) p e);
-    room = λ k n p f e. bus_room b a board lawful pool pl h k (inside k p e) p e n (first_is b a board lawful pool pl h k (inside k p e) n f);
+    firsts = count_firsts h board lawful ∙ ap suc (sym (length-map b (λ (r : Row). r.path)));
+    packs = count_pl h board lawful ∙ ap suc (sym (length-map b (λ (r : Row). r.path)));
+    deep = λ k p e. subst (λ (q : Path). Each (λ s. length q < 16) p.spots) (bus_same b k (inside k p e)) (bus_depth h board lawful k (inside k p e) p e);
+    room = λ k n p f e. bus_room h board lawful k (inside k p e) p e n (first_is h board lawful k (inside k p e) n f);
   }
     where
       inside : (k : ℕ) (p : BusPack) → slice_get pl.packs k ≡ Some p → k ≤ length b
-      inside k p e = let w = slice_get_within pl.packs k p e in omega (arith, w, count_pl b a board lawful pool pl h)
+      inside k p e = let w = slice_get_within pl.packs k p e in omega (arith, w, count_pl h board lawful)
 
   pub layout_rows : (p : Placement) → IsPlacement b a p → rows_of paths p ≡ layout b a
   layout_rows p h = grind (arith, pool_rows_of, append-nil)

@@ -1,6 +1,6 @@
 -- Where the regions and the windows of one function of a placed board stand.
-use Rattle.std.{proofs.{Common.{◌≡◌, ℕ, suc, ◌+◌, ◌*◌, ◌^◌, ◌≤◌, ◌<◌, List, [], ◌∷◌, length, map, Some, refl, sym, ap, ap₂, ◌∙◌, subst, arith}, lemmas.Option.slice_get_within}, specs.{Prelude.IsTrue, List.slice_get}}
-use Rattle.lists.{specs.Elements.{Each, IsIn}, proofs.{Members.{each_in, each_from}, Indices.{same_at, index_in}}}
+use Rattle.std.{proofs.{Common.{◌≡◌, ℕ, suc, ◌+◌, ◌*◌, ◌^◌, ◌≤◌, ◌<◌, List, [], ◌∷◌, length, map, Some, refl, sym, ap, ap₂, ◌∙◌, subst, arith, get_or, add-one}, lemmas.Option.slice_get_within}, specs.{Prelude.IsTrue, List.slice_get}}
+use Rattle.lists.{specs.Elements.{Each, IsIn}, proofs.{Members.{each_in, each_from}, Indices.{read_at, same_at, index_in}}}
 use Rattle.model_registers.specs.{Declarations.Region, Apertures.Apertures}
 use Rattle.model_board.specs.{Paths.{Part, parent, last_part, IsPath}, Board.{endpoint, Row, Board, IsBoard}, Lawful.HasLawfulDecls}
 use Rattle.model_set_up.{specs.{Pools.{Pool, io_pool, mem_pool, pref_pool, unit_of, bridges_above, pool_of}, Placement.{Placed, a_region, Item, Spot, is_item, round_up, need, spots, offset_in, items_on, offset_on, bus_first, region_first}, SetUp.{first_of, window_of}}, proofs.Items.item_of}
@@ -19,7 +19,7 @@ holds_of_some P (s ∷ ss) some h = h.0
 pub span_none : (unit closed first : ℕ) (is : List Item) → spots is ≡ [] → window_of unit closed first is ≡ record { first = closed * unit; last = 0 }
 span_none unit closed first is e = ap (window_of unit closed first) (no_items is e)
 
-module _ (b : Board) (a : Apertures) (board : IsBoard b) (lawful : HasLawfulDecls b) (pool : Pool) (pl : PlacedPool) (placed : IsPlaced b a pool pl) where
+module _ {b : Board} {a : Apertures} {pool : Pool} {pl : PlacedPool} (placed : IsPlaced b a pool pl) (board : IsBoard b) (lawful : HasLawfulDecls b) where
   pub count_pl : length pl.packs ≡ suc (length b)
   count_pl = count_packs b a pool pl.packs placed.packs
 
@@ -44,67 +44,60 @@ module _ (b : Board) (a : Apertures) (board : IsBoard b) (lawful : HasLawfulDecl
 
   -- ---- a window
 
-  module _ (i : ℕ) (r : Row) (at : slice_get b i ≡ Some r) where
+  module _ (i : ℕ) {r : Row} (at : slice_get b i ≡ Some r) where
     there : IsIn r b
     there = index_in b i r at
 
     inside : suc i ≤ length b
     inside = let w = slice_get_within b i r at in omega (arith, w)
 
-    pub behind_first_is : (n : ℕ) → slice_get pl.firsts (i + 1) ≡ Some n → n ≡ bus_first b a pool r.path
-    behind_first_is n e = first_is (suc i) inside n (let s : i + 1 ≡ suc i = omega arith in subst (λ j. slice_get pl.firsts j ≡ Some n) s e) ∙ ap (bus_first b a pool) (bus_behind b i r at)
+    pub behind_first_is : (n : ℕ) → n ≡ get_or pl.firsts (i + 1) n → n ≡ bus_first b a pool r.path
+    behind_first_is n e = first_is (suc i) inside n (read_at pl.firsts (suc i) n (omega (arith, inside, count_firsts)) (rw add-one at e)) ∙ ap (bus_first b a pool) (bus_behind b i r at)
 
-    pub behind_pack : (p : BusPack) → slice_get pl.packs (i + 1) ≡ Some p → p ≡ pack_of b a pool r.path
-    behind_pack p e = bus_pack (suc i) inside p (let s : i + 1 ≡ suc i = omega arith in subst (λ j. slice_get pl.packs j ≡ Some p) s e) ∙ ap (pack_of b a pool) (bus_behind b i r at)
+    pub behind_pack : (p : BusPack) → p ≡ get_or pl.packs (i + 1) p → p ≡ pack_of b a pool r.path
+    behind_pack p e = bus_pack (suc i) inside p (read_at pl.packs (suc i) p (omega (arith, inside, count_pl)) (rw add-one at e)) ∙ ap (pack_of b a pool) (bus_behind b i r at)
 
     bounds : (s : Spot) → IsIn s (spots (items_on b a pool r.path)) → (0 < need (unit_of pool) (items_on b a pool r.path)) × (bus_first b a pool r.path + need (unit_of pool) (items_on b a pool r.path) ≤ 2 ^ 63)
     bounds s m = window_bound b a pool board lawful placed.apertures placed.fit r.path (each_in (λ (x : Row). IsPath x.path) r b board.paths there).some (s.item, item_of s (items_on b a pool r.path) m)
 
-    pub window_some : (p : BusPack) → slice_get pl.packs (i + 1) ≡ Some p → Each (λ s. 0 < round_up (unit_of pool) p.end) p.spots
+    pub window_some : (p : BusPack) → p ≡ get_or pl.packs (i + 1) p → Each (λ s. 0 < round_up (unit_of pool) p.end) p.spots
     window_some p e = subst (λ (q : BusPack). Each (λ s. 0 < round_up (unit_of pool) q.end) q.spots) (sym (behind_pack p e))
         (each_from (λ s. 0 < need (unit_of pool) (items_on b a pool r.path)) (spots (items_on b a pool r.path)) (λ s m. (bounds s m).0))
 
-    pub window_room : (p : BusPack) → slice_get pl.packs (i + 1) ≡ Some p → (n : ℕ) → slice_get pl.firsts (i + 1) ≡ Some n → Each (λ s. n + round_up (unit_of pool) p.end ≤ 2 ^ 63) p.spots
+    pub window_room : (p : BusPack) → p ≡ get_or pl.packs (i + 1) p → (n : ℕ) → n ≡ get_or pl.firsts (i + 1) n → Each (λ s. n + round_up (unit_of pool) p.end ≤ 2 ^ 63) p.spots
     window_room p e n f = subst (λ (q : BusPack). Each (λ s. n + round_up (unit_of pool) q.end ≤ 2 ^ 63) q.spots) (sym (behind_pack p e))
         (each_from (λ s. n + need (unit_of pool) (items_on b a pool r.path) ≤ 2 ^ 63) (spots (items_on b a pool r.path)) (λ s m. let h = (bounds s m).1 in omega (arith, h, behind_first_is n f)))
 
     -- ---- a region
 
-    module _ (x : Above) (above : IsAboveAt b i x) where
+    module _ {x : Above} (above : IsAboveAt b i x) where
       row : IsAboveRow b r x
       row = above_row b above.all i r x above.told at above.there
 
-      pub in_packs : x.bus < length pl.packs
-      in_packs = let w = row.within in omega (arith, w, count_pl)
+      module _ {p : BusPack} (e : p ≡ get_or pl.packs x.bus p) where
+        own_pack_is : p ≡ pack_of b a pool (parent r.path)
+        own_pack_is = let w = row.within in bus_pack x.bus w p (read_at pl.packs x.bus p (omega (arith, w, count_pl)) e) ∙ ap (pack_of b a pool) row.bus
 
-      pub in_firsts : x.bus < length pl.firsts
-      in_firsts = let w = row.within in omega (arith, w, count_firsts)
+        pub region_strict : AreStrict p.spots
+        region_strict = subst (λ (q : BusPack). AreStrict q.spots) (sym own_pack_is) (spots_strict b a pool board lawful (parent r.path))
 
-      own_pack_is : (p : BusPack) → slice_get pl.packs x.bus ≡ Some p → p ≡ pack_of b a pool (parent r.path)
-      own_pack_is p e = bus_pack x.bus row.within p e ∙ ap (pack_of b a pool) row.bus
+        module _ {part : Part} (last : part ≡ last_part r.path) where
+          pub region_aligned : (k : Region) → IsRegionAt b i k → Each (λ s. IsTrue (is_item part (a_region k.index) s.item) → s.item.align ≡ k.size) p.spots
+          region_aligned k own =
+              let same : r ≡ record { path = own.path; decl = endpoint own.decl } = same_at b i r (record { path = own.path; decl = endpoint own.decl }) at own.there in
+              rw (own_pack_is, last) (region_align b a pool board lawful r there own.decl (ap (λ (y : Row). y.decl) same) k own.own)
 
-      own_first_is : (n : ℕ) → slice_get pl.firsts x.bus ≡ Some n → n ≡ bus_first b a pool (parent r.path)
-      own_first_is n e = first_is x.bus row.within n e ∙ ap (bus_first b a pool) row.bus
+          module _ {n : ℕ} (f : n ≡ get_or pl.firsts x.bus n) where
+            sum_is : (w : Placed) → n + offset_in p.spots part w ≡ bus_first b a pool (parent r.path) + offset_on b a pool (parent r.path) (last_part r.path) w
+            sum_is w =
+                let l = row.within in
+                let first = first_is x.bus l n (read_at pl.firsts x.bus n (omega (arith, l, count_firsts)) f) ∙ ap (bus_first b a pool) row.bus in
+                ap₂ (λ (m j : ℕ). m + j) first (ap₂ (λ (q : BusPack) (y : Part). offset_in q.spots y w) own_pack_is last)
 
-      pub region_strict : (p : BusPack) → slice_get pl.packs x.bus ≡ Some p → AreStrict p.spots
-      region_strict p e = subst (λ (q : BusPack). AreStrict q.spots) (sym (own_pack_is p e)) (spots_strict b a pool board lawful (parent r.path))
+            pub region_room : (w : Placed) → n + offset_in p.spots part w < 2 ^ 64
+            region_room w =
+                let high = found_bound b a pool board lawful placed.apertures placed.fit (parent r.path) (last_part r.path) w (first_bound b a pool board lawful placed.apertures placed.fit (parent r.path)) in
+                omega (arith, high, sum_is w)
 
-      pub region_aligned : (p : BusPack) → slice_get pl.packs x.bus ≡ Some p → (part : Part) → part ≡ last_part r.path → (k : Region) → IsRegionAt b i k → Each (λ s. IsTrue (is_item part (a_region k.index) s.item) → s.item.align ≡ k.size) p.spots
-      region_aligned p e part last k own =
-          let same : r ≡ record { path = own.path; decl = endpoint own.decl } = same_at b i r (record { path = own.path; decl = endpoint own.decl }) at own.there in
-          subst (λ (q : BusPack). Each (λ s. IsTrue (is_item part (a_region k.index) s.item) → s.item.align ≡ k.size) q.spots) (sym (own_pack_is p e))
-          (subst (λ (y : Part). Each (λ s. IsTrue (is_item y (a_region k.index) s.item) → s.item.align ≡ k.size) (spots (items_on b a pool (parent r.path)))) (sym last)
-          (region_align b a pool board lawful r there own.decl (ap (λ (y : Row). y.decl) same) k own.own))
-
-      sum_is : (p : BusPack) → slice_get pl.packs x.bus ≡ Some p → (n : ℕ) → slice_get pl.firsts x.bus ≡ Some n → (part : Part) → part ≡ last_part r.path → (w : Placed)
-          → n + offset_in p.spots part w ≡ bus_first b a pool (parent r.path) + offset_on b a pool (parent r.path) (last_part r.path) w
-      sum_is p e n f part last w = ap₂ (λ (m j : ℕ). m + j) (own_first_is n f) (ap₂ (λ (q : BusPack) (y : Part). offset_in q.spots y w) (own_pack_is p e) last)
-
-      pub region_room : (p : BusPack) → slice_get pl.packs x.bus ≡ Some p → (n : ℕ) → slice_get pl.firsts x.bus ≡ Some n → (part : Part) → part ≡ last_part r.path → (w : Placed) → n + offset_in p.spots part w < 2 ^ 64
-      region_room p e n f part last w =
-          let high = found_bound b a pool board lawful placed.apertures placed.fit (parent r.path) (last_part r.path) w (first_bound b a pool board lawful placed.apertures placed.fit (parent r.path)) in
-          omega (arith, high, sum_is p e n f part last w)
-
-      pub base_is : (p : BusPack) → slice_get pl.packs x.bus ≡ Some p → (n : ℕ) → slice_get pl.firsts x.bus ≡ Some n → (part : Part) → part ≡ last_part r.path → (k : Region) → pool_of a (bridges_above b r.path) k.kind ≡ pool
-          → n + offset_in p.spots part (a_region k.index) ≡ first_of b a r.path k
-      base_is p e n f part last k own = sum_is p e n f part last (a_region k.index) ∙ ap (λ (q : Pool). region_first b a q r.path k.index) (sym own)
+            pub base_is : (k : Region) → pool_of a (bridges_above b r.path) k.kind ≡ pool → n + offset_in p.spots part (a_region k.index) ≡ first_of b a r.path k
+            base_is k own = sum_is (a_region k.index) ∙ ap (λ (q : Pool). region_first b a q r.path k.index) (sym own)

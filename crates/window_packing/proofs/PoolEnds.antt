@@ -1,9 +1,10 @@
 -- Where a pool fits, none of its buses ends above 2 ^ 63; where one does, bus 0 does.
-use Rattle.std.{proofs.{Common.{ℕ, ◌≡◌, ◌<◌, ◌≤◌, ◌^◌, ◌⊎◌, inl, true, List, [], ◌∷◌, refl, arith}, lemmas.Bool.leb-true}, specs.Prelude.IsFalse}
+use Rattle.std.{proofs.{Common.{ℕ, ◌≡◌, ◌<◌, ◌≤◌, ◌^◌, ◌⊎◌, inl, true, List, [], ◌∷◌, refl, arith}, lemmas.Bool.leb-true}, specs.{Prelude.IsFalse, List.Sorted.IsPermutation}}
 use Rattle.model_registers.specs.Apertures.{IsLawfulApertures, Apertures}
 use Rattle.lists.specs.Elements.{IsIn}
 use Rattle.model_board.specs.{Paths.{Path, leads_to}, Board.{Board, IsBoard}, Lawful.HasLawfulDecls}
 use Rattle.model_set_up.{specs.{Pools.Pool, Placement.{Item, in_order, end_from, aperture_end, fits_items, fits, items_on}}, proofs.Nesting.{HasItems, nested, IsWithin, root_has}}
+use Rattle.window_packing.proofs.BusItems.{end_is}
 
 ends_below : (a : Apertures) → IsLawfulApertures a → (pool : Pool) → aperture_end a pool ≤ 2 ^ 63
 ends_below a h pool = grind arith
@@ -30,12 +31,17 @@ module _ (b : Board) (a : Apertures) (pool : Pool) (board : IsBoard b) (lawful :
   all_end h bus = ends_within (items_on b a pool bus) (2 ^ 63) (bus_ends h bus)
 
   -- so a pool with a bus that does doesn't fit
-  pub no_fit : (bus : Path) → 2 ^ 63 < end_from 0 (in_order (items_on b a pool bus)) → IsFalse (fits b a pool)
+  no_fit : (bus : Path) → 2 ^ 63 < end_from 0 (in_order (items_on b a pool bus)) → IsFalse (fits b a pool)
   no_fit bus h = grind (arith, all_end)
 
   -- bus 0 ends where the buses behind its bridges do, or above
-  pub root_past : (bus : Path) → 2 ^ 63 < end_from 0 (in_order (items_on b a pool bus)) → 2 ^ 63 < end_from 0 (in_order (items_on b a pool []))
+  root_past : (bus : Path) → 2 ^ 63 < end_from 0 (in_order (items_on b a pool bus)) → 2 ^ 63 < end_from 0 (in_order (items_on b a pool []))
   root_past bus h = omega (arith, h, ends_within (items_on b a pool bus) (end_from 0 (in_order (items_on b a pool []))) below)
     where
       below : HasItems b a pool bus → end_from 0 (in_order (items_on b a pool bus)) ≤ end_from 0 (in_order (items_on b a pool []))
       below has = let inside : IsWithin b a pool board lawful [] bus = nested b a pool board lawful bus has [] (from_root bus) in omega (arith, inside.begins, inside.ends)
+
+  -- so what is gathered for a bus and ends above says that the pool doesn't fit
+  pub too_large : (bus : Path) (is : List Item) → IsPermutation (items_on b a pool bus) is → 2 ^ 63 < end_from 0 (in_order is)
+      → IsFalse (fits b a pool) × (2 ^ 63 < end_from 0 (in_order (items_on b a pool [])))
+  too_large bus is same h = let past = rw (end_is b a pool lawful board bus is same) at h in (no_fit bus past, root_past bus past)

@@ -1,10 +1,10 @@
 -- The steps by which the buses of a pool are packed.
-use Rattle.std.{proofs.{Common.{◌≡◌, ℕ, zero, suc, ◌+◌, ◌-◌, ◌<◌, ◌≤◌, ◌^◌, Option, Some, List, [], ◌∷◌, ◌++◌, length, length-append, sym, ap, ◌∙◌, subst, arith}, lemmas.{List.{length-map, reverse-append}, Simd.map-map}}, specs.{Prelude.{map, reverse, slice_get, slice_set, option_to_list}, List.Sorted.IsPermutation}}
+use Rattle.std.{proofs.{Common.{◌≡◌, ℕ, zero, suc, ◌+◌, ◌-◌, ◌<◌, ◌≤◌, ◌^◌, Option, Some, List, [], ◌∷◌, ◌++◌, length, length-append, sym, ap, ◌∙◌, subst, arith}, lemmas.{List.{length-map, reverse-append}, Simd.map-map}}, specs.{Prelude.{map, reverse, slice_get, option_to_list}, List.Sorted.IsPermutation}}
 use Rattle.lists.{specs.Elements.Each, proofs.{EachLemmas.{each_map, each_both}, Indices.{map_at, each_at}}}
 use Rattle.model_board.specs.{Paths.{Path, parent}, Board.{Row, Board, IsBoard}, Lawful.HasLawfulDecls}
-use Rattle.model_set_up.specs.{Pools.{Pool, bridges_above}, Placement.{Item, items_of, items_on}}
+use Rattle.model_set_up.specs.{Pools.{Pool, bridges_above}, Placement.{Item, items_on}}
 use Rattle.model_registers.specs.Apertures.{Apertures}
-use Rattle.window_packing.{specs.{declared.bridges_above.Above.Above, Buses.{bus_path, AreAbove}, Packs.{BusPack, pack_of, IsBounded, IsOver}}, proofs.{BusIndices.bus_before, BusItems.{alignment_bounds, items_align}, Gathering.{IsGathered, last_gathered, root_gathered, more_gathered}}}
+use Rattle.window_packing.{specs.{declared.bridges_above.Above.Above, Buses.{bus_path, AreAbove}, Packs.{BusPack, pack_of, IsBounded, IsOver}}, proofs.{BusItems.{alignment_bounds, items_align}, Gathering.{IsGathered, root_gathered}}}
 
 -- ---- what is said of the bridges above a row
 
@@ -29,30 +29,9 @@ popped : {C : Type 0} (old new : List C) (o : Option C) (v : C) → old ≡ new 
 popped {C = C} old new o v e some = e ∙ ap (λ (x : Option C). new ++ option_to_list x) some
 
 module _ (b : Board) (a : Apertures) (pool : Pool) (board : IsBoard b) {C : Type 0} (contents : C → List Item) where
-  taken : (i : ℕ) (old new : List C) (o : Option C) (v : C) (packs : List BusPack) → 0 < i → IsGathered b a pool contents i old packs → old ≡ new ++ option_to_list o → o ≡ Some v
+  pub taken : (i : ℕ) (old new : List C) (o : Option C) (v : C) (packs : List BusPack) → 0 < i → IsGathered b a pool contents i old packs → old ≡ new ++ option_to_list o → o ≡ Some v
       → IsGathered b a pool contents (i - 1 + 1) (new ++ v ∷ []) packs × (length new ≡ i - 1 + 1)
   taken i old new o v packs some h e is = grind (arith, popped, length-append)
-
-  pub behind_is : (i : ℕ) (r : Row) (old new : List C) (o : Option C) (v : C) (packs : List BusPack) → 0 < i → slice_get b (i - 1) ≡ Some r → IsGathered b a pool contents i old packs
-      → old ≡ new ++ option_to_list o → o ≡ Some v → IsPermutation (items_on b a pool r.path) (contents v)
-  behind_is i r old new o v packs some at h e is =
-      let t = taken i old new o v packs some h e is in
-      last_gathered b a pool board contents (i - 1) r new v packs at t.0 t.1
-
-  -- the bus of the row is among those that are left
-  pub bus_left : (i : ℕ) (r : Row) (x : Above) (old new : List C) (o : Option C) (v : C) (packs : List BusPack) → 0 < i → slice_get b (i - 1) ≡ Some r → IsGathered b a pool contents i old packs
-      → old ≡ new ++ option_to_list o → o ≡ Some v → IsAboveRow b r x → x.bus < length new
-  bus_left i r x old new o v packs some at h e is above =
-      let t = taken i old new o v packs some h e is in
-      omega (arith, t.1, bus_before b board (i - 1) r x.bus at above.bus above.within)
-
-  pub row_done : (i : ℕ) (r : Row) (x : Above) (old new : List C) (o : Option C) (v : C) (packs : List BusPack) (pack : BusPack) (u w : C) → 0 < i → slice_get b (i - 1) ≡ Some r
-      → IsGathered b a pool contents i old packs → old ≡ new ++ option_to_list o → o ≡ Some v → IsAboveRow b r x
-      → pack ≡ pack_of b a pool r.path → pack.end ≤ 2 ^ 63 → slice_get new x.bus ≡ Some u → contents w ≡ contents u ++ items_of b a pool (items_on b a pool) r
-      → IsGathered b a pool contents (i - 1) (slice_set new x.bus w) (packs ++ pack ∷ [])
-  row_done i r x old new o v packs pack u w some at h e is above packed ends here added =
-      let t = taken i old new o v packs some h e is in
-      more_gathered b a pool board contents (i - 1) r new v packs pack x.bus u w at t.0 t.1 packed ends above.bus above.within here added
 
   -- ---- bus 0, when it alone is left
 

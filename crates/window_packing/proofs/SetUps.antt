@@ -65,7 +65,7 @@ own_claims r ready fs same = grind (arith, unique_claimant, placeable)
 -- ---- from reset on
 
 -- h is the host at reset, k the same host when it is enumerated, t the table of its functions, and a its apertures
-module _ (h k : HostState) (t : List TableRow) (found : IsEnumerated h k t) (a : Apertures) (same : a ≡ k.apertures) where
+module _ {h k : HostState} {t : List TableRow} (found : IsEnumerated h k t) {a : Apertures} (same : a ≡ k.apertures) where
   apertures_left : a ≡ h.apertures
   apertures_left = same ∙ ap (λ (x : HostState). x.apertures) found.host
 
@@ -83,7 +83,7 @@ module _ (h k : HostState) (t : List TableRow) (found : IsEnumerated h k t) (a :
       by_cause (inl e) = inl e
       by_cause (inr e) = inr (rules_after_scan (board_below h) h.apertures few ∙ e)
 
-  module _ (p : Plan) (planned_so : (b : Board) → IsTableOf b t → p ≡ planned b a) (placeable_so : (b : Board) → IsTableOf b t → CanBePlaced b a) where
+  module _ {p : Plan} (planned_so : (b : Board) → IsTableOf b t → p ≡ planned b a) (placeable_so : (b : Board) → IsTableOf b t → CanBePlaced b a) where
     pub placeable_left : CanBePlaced (board_below k) k.apertures
     placeable_left = subst (CanBePlaced (board_below k)) same (placeable_so (board_below k) found.table)
 
@@ -97,7 +97,7 @@ module _ (h k : HostState) (t : List TableRow) (found : IsEnumerated h k t) (a :
         ∙ kept_placeable (board_below h) a (placeable_so (board_below h) first_table)
 
     -- m is the host when it is programmed
-    module _ (m : HostState) (left : m ≡ record k { state = set_up_state (board_below k) k.apertures }) where
+    module _ {m : HostState} (left : m ≡ record k { state = set_up_state (board_below k) k.apertures }) where
       pub host_left : m ≡ record h { state = set_up_state (board_below h) h.apertures }
       host_left = grind arith
 

@@ -1,41 +1,39 @@
 use Rattle.std.{proofs.{Common.{◌≡◌, ◌||◌, Bool, false, not, Some, get_or, ap, sym, ◌∙◌, arith}, lemmas.Option.slice_get-get_or}, specs.List.{slice_get, list_all}}
 use Rattle.model_registers.specs.Declarations.{Bridge}
-use Rattle.model_board.specs.Board.{Row}
+use Rattle.model_board.specs.Board.{Row, Board}
 use Rattle.model_set_up.specs.{Pools.{bridges_above, opens_io, has_io}, FunctionTable.board_in}
 use Rattle.lists.proofs.Indices.{read_at, map_at, fails_at}
 use Rattle.window_packing.{specs.declared.bridges_above.Above.Above, proofs.{AboveRows.{length_board, tells_at}, BusIndex.row_in, PoolSteps.above_count, RowTests.{all_more, all_rows_pass}}}
 use Rattle.window_packing.proofs.planning.has_io_paths.Goals as goal
+use Rattle.window_packing.proofs.planning.has_io_paths.Goals.{After-has_io_path}
 
-abbrev nothing : Above
-nothing = record { bus = 0; io = false; pref = false; pref64 = false }
+abbrev passes : Board → Row → Bool
+passes b r = not (opens_io r.decl) || list_all (λ (d : Bridge). has_io d.io) (bridges_above b r.path)
+
+module _ (c : After-has_io_path) where
+  abbrev b : Board
+  b = board_in c.args.rows.now
+
+  at : slice_get b c.loop-i.i ≡ Some (row_in c.index-rows-i.result)
+  at = map_at row_in c.args.rows.now c.loop-i.i _ (read_at c.args.rows.now c.loop-i.i c.index-rows-i.result c.loop-i-test.true c.index-rows-i.is)
+
+  tested : c.has_io_path.result ≡ passes b (row_in c.index-rows-i.result)
+  tested =
+      let nothing : Above = record { bus = 0; io = false; pref = false; pref64 = false } in
+      let xs = c.args.above.now in
+      let told = slice_get-get_or xs c.loop-i.i nothing (omega (arith, above_count b xs c.requires, length_board c.args.rows.now, c.loop-i-test.true)) in
+      let io = (tells_at b xs c.loop-i.i (row_in c.index-rows-i.result) (get_or xs c.loop-i.i nothing) c.requires at told).io in
+      c.has_io_path.ensures ∙ ap (λ (t : Bool). not (opens_io c.index-rows-i.result.decl) || t) io
 
 pub returns-then-not-has_io_path : goal.returns-then-not-has_io_path
 returns-then-not-has_io_path c =
-    let rows = c.args.rows.now in
-    let b = board_in rows in
-    let above = c.args.above.now in
-    let i = c.loop-i.i in
-    let t = c.index-rows-i.result in
-    let x = get_or above i nothing in
-    let at : slice_get b i ≡ Some (row_in t) = map_at row_in rows i t (read_at rows i t c.loop-i-test.true c.index-rows-i.is) in
-    let told : slice_get above i ≡ Some x = slice_get-get_or above i nothing (omega (arith, above_count b above c.requires, length_board rows, c.loop-i-test.true)) in
-    let io : x.io ≡ list_all (λ (d : Bridge). has_io d.io) (bridges_above b t.path) = (tells_at b above i (row_in t) x c.requires at told).io in
-    grind (arith, fails_at)
+    let k = (goal.at.returns-then-not-has_io_path c).After-has_io_path in
+    sym (fails_at (passes (b k)) (b k) c.loop-i.i (row_in c.index-rows-i.result) (at k) (sym (tested k) ∙ c.if-not-has_io_path.true))
 
 pub loop-i-preserved : goal.loop-i-preserved
 loop-i-preserved c =
-    let rows = c.args.rows.now in
-    let b = board_in rows in
-    let above = c.args.above.now in
-    let i = c.loop-i.i in
-    let t = c.index-rows-i.result in
-    let x = get_or above i nothing in
-    let at : slice_get b i ≡ Some (row_in t) = map_at row_in rows i t (read_at rows i t c.loop-i-test.true c.index-rows-i.is) in
-    let told : slice_get above i ≡ Some x = slice_get-get_or above i nothing (omega (arith, above_count b above c.requires, length_board rows, c.loop-i-test.true)) in
-    let io : x.io ≡ list_all (λ (d : Bridge). has_io d.io) (bridges_above b t.path) = (tells_at b above i (row_in t) x c.requires at told).io in
-    let test = c.has_io_path.ensures ∙ ap (λ (v : Bool). not (opens_io t.decl) || v) io in
-    let passes : Row → Bool = λ r. not (opens_io r.decl) || list_all (λ (d : Bridge). has_io d.io) (bridges_above b r.path) in
-    all_more passes b i (row_in t) at c.loop-i.invariant (sym test ∙ c.if-not-has_io_path.false)
+    let k = (goal.at.loop-i-preserved c).After-has_io_path in
+    all_more (passes (b k)) (b k) c.loop-i.i (row_in c.index-rows-i.result) (at k) c.loop-i.invariant (sym (tested k) ∙ c.if-not-has_io_path.false)
 
 pub returns : goal.returns
 returns c = grind (arith, all_rows_pass, length_board)

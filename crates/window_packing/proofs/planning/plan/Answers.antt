@@ -13,7 +13,7 @@ is_lawful t rows e h = subst (λ (x : List TableRow). HasLawfulDecls (board_in x
 pub returns-in_err-placement-clause-refused : goal.returns-in_err-placement-clause-refused
 returns-in_err-placement-clause-refused c =
     let p = err_from_is_err_and c.from_residual-in_err-placement.result c.from_residual-in_err-placement.ensures.1 in
-    rw (p.1, p.2) (λ b h. refusal_of c.args.table.now c.rows-rows.result.now c.rows-rows.ensures b h c.args.apertures.now _ c.in_err-placement.ensures.refused)
+    rw (p.1, p.2) (λ b h. refusal_of _ _ c.rows-rows.ensures b h c.args.apertures.now _ c.in_err-placement.ensures.refused)
 
 pub new-requires : goal.new-requires
 new-requires c = grind (arith, listable_rows, is_board, is_lawful)
@@ -29,14 +29,12 @@ found c =
     c.in_ok-settings.settings.items c.in_ok-settings.ensures c.new.result c.new.ensures
 
 pub returns-clause-planned : goal.returns-clause-planned
-returns-clause-planned c = λ b h. plan_of c.args.table.now c.rows-rows.result.now c.rows-rows.ensures b h c.args.apertures.now c.new.result (found c)
+returns-clause-planned c = λ b h. plan_of _ _ c.rows-rows.ensures b h c.args.apertures.now _ (found c)
 
 pub returns-clause-lawful : goal.returns-clause-lawful
 returns-clause-lawful c = λ b h.
-    lawful_of c.args.table.now c.rows-rows.result.now c.rows-rows.ensures b h c.args.apertures.now
-    c.in_ok-placement.ensures.placed.io.apertures c.in_ok-placement.ensures.kept c.new.result (found c)
+    lawful_of _ _ c.rows-rows.ensures b h c.args.apertures.now c.in_ok-placement.ensures.placed.io.apertures c.in_ok-placement.ensures.kept _ (found c)
 
 pub returns-clause-placeable : goal.returns-clause-placeable
 returns-clause-placeable c = λ b h.
-    placeable_of c.args.table.now c.rows-rows.result.now c.rows-rows.ensures b h c.args.apertures.now
-    c.in_ok-placement.ensures.placed.io.apertures c.in_ok-placement.ensures.kept
+    placeable_of _ _ c.rows-rows.ensures b h c.args.apertures.now c.in_ok-placement.ensures.placed.io.apertures c.in_ok-placement.ensures.kept
