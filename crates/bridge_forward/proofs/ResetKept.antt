@@ -97,10 +97,12 @@ module _ {d : Endpoint} {cells : CellFile} {command : ℕ} {bars : List BaseAddr
 
   module _ {n : ℕ} {change inner : File → File} (c : IsBlockChange n change inner) where
     -- no block stands at the register
-    pub nothing_shown : false ≡ ltb n (length blocks) → with_file d (file_of cells bars blocks) ≡ with_file d (change (file_of cells bars blocks))
-    nothing_shown past = ap (with_file d) (sym (nothing_there d cells.now bars (block_at blocks) h.parts n change inner c (no_block blocks n (ltb-false n (length blocks) (sym past)))))
+    pub nothing_shown : false ≡ ltb n (length blocks) → {e : Function} → with_file d (file_of cells bars blocks) ≡ e → with_file d (file_of cells bars blocks) ≡ record e { file = change e.file }
+    nothing_shown past view =
+        ap (with_file d) (sym (nothing_there d cells.now bars (block_at blocks) h.parts n change inner c (no_block blocks n (ltb-false n (length blocks) (sym past)))))
+        ∙ ap (λ (e : Function). record e { file = change e.file }) view
 
-    module _ (f k : CellFile) (l : true ≡ ltb n (length blocks)) (there : f ≡ get_or blocks n f) (is : k ≡ record f { now = inner f.now }) where
+    module _ {f k : CellFile} (l : true ≡ ltb n (length blocks)) (there : f ≡ get_or blocks n f) (is : k ≡ record f { now = inner f.now }) where
       low : n < length blocks
       low = ltb-true n (length blocks) (sym l)
 
@@ -114,8 +116,10 @@ module _ {d : Endpoint} {cells : CellFile} {command : ℕ} {bars : List BaseAddr
         reset = know_block d cells blocks h.reset n f low there k (ap (λ (x : CellFile). x.initial) is) (ap places_of now ∙ c.all_places f.now);
       }
 
-      pub block_shown : with_file d (file_of cells bars (slice_set blocks n k)) ≡ with_file d (change (file_of cells bars blocks))
-      block_shown = ap (with_file d) (sym (table_changed d cells.now bars (block_at blocks) h.parts blocks refl n f low there change inner c k now))
+      pub block_shown : {e : Function} → with_file d (file_of cells bars blocks) ≡ e → with_file d (file_of cells bars (slice_set blocks n k)) ≡ record e { file = change e.file }
+      block_shown view =
+          ap (with_file d) (sym (table_changed d cells.now bars (block_at blocks) h.parts blocks refl n f low there change inner c k now))
+          ∙ ap (λ (e : Function). record e { file = change e.file }) view
 
   pub short_there : (n : ℕ) (f : CellFile) → true ≡ ltb n (length blocks) → f ≡ get_or blocks n f → IsShort f.now
   short_there n f l there = subst IsShort (block_there blocks n f (ltb-true n (length blocks) (sym l)) there) (block_short d cells.now bars (block_at blocks) h.parts n)

@@ -1,7 +1,9 @@
-use Rattle.std.proofs.Common.{arith, sym, ◌∙◌}
+use Rattle.std.{proofs.Common.{◌≡◌, ◌≤◌, ◌<◌, Some, arith, sym, ◌∙◌}, specs.List.slice_get}
 use Rattle.lists.proofs.Indices.{read_at}
-use Rattle.bridge_forward.proofs.{Nodes.inside, Reached.{passed_none, passed_next, first_here, none_on_bus}, Skipping.{passed_at, passed_whole}}
+use Rattle.model_board.specs.Paths.{Path}
+use Rattle.bridge_forward.{specs.{Layout.IsLaidOut, Search.IsSide, Skips.AreSkipped}, proofs.{Nodes.inside, Reached.{Passed, passed_none, passed_next, first_here, none_on_bus}, Skipping.{passed_at, passed_whole}}}
 use Rattle.bridge_forward.proofs.walk.bridge_on_bus.Goals as goal
+use Rattle.bridge_forward.proofs.walk.bridge_on_bus.Goals.{After-index-nodes-at, After-index-nodes-i}
 
 pub loop-i-init : goal.loop-i-init
 loop-i-init c = record {
@@ -9,14 +11,29 @@ loop-i-init c = record {
   passed = λ laid bus side. passed_none c.args.nodes.now laid bus c.args.number c.args.from c.args.to side;
 }
 
+-- from the index up to the next bridge all is passed
+module _ (c : After-index-nodes-i) where
+  skipped : AreSkipped c.args.nodes.now c.loop-i.i c.index-nodes-i.result.bridge
+  skipped =
+      c.requires.tree.skips c.loop-i.i c.index-nodes-i.result
+      (read_at c.args.nodes.now c.loop-i.i c.index-nodes-i.result (omega (arith, c.loop-i-test.true, c.requires.range)) c.index-nodes-i.is)
+
+  ahead : c.args.from ≤ c.index-nodes-i.result.bridge
+  ahead = let s = skipped.ahead in omega (arith, s, c.loop-i.invariant.begun)
+
+  passed : c.index-nodes-i.result.bridge < c.args.to → (laid : IsLaidOut c.args.nodes.now) (bus : Path) (side : IsSide c.args.nodes.now bus c.args.from c.args.to)
+      → Passed c.args.nodes.now laid bus c.args.number c.args.from c.args.to side c.index-nodes-i.result.bridge
+  passed h laid bus side = passed_at _ _ _ _ _ _ _ c.loop-i.i _ (c.loop-i.invariant.passed laid bus side) skipped c.loop-i.invariant.begun h
+
+-- the next bridge, as it is read
+there : (c : After-index-nodes-at) → slice_get c.args.nodes.now c.index-nodes-i.result.bridge ≡ Some c.index-nodes-at.result
+there c = read_at c.args.nodes.now c.index-nodes-i.result.bridge c.index-nodes-at.result (omega (arith, c.if-at-to.false, c.requires.range)) c.index-nodes-at.is
+
 pub returns-then-at-to-clause-none : goal.returns-then-at-to-clause-none
 returns-then-at-to-clause-none c = λ bus side.
-    let nodes = c.args.nodes.now in
-    let laid = c.requires.tree.laid in
-    let n = c.index-nodes-i.result in
-    let e = read_at nodes c.loop-i.i n (omega (arith, c.loop-i-test.true, c.requires.range)) c.index-nodes-i.is in
-    none_on_bus nodes laid bus c.args.number c.args.from c.args.to side c.args.to
-    (passed_whole nodes laid bus c.args.number c.args.from c.args.to side c.loop-i.i n.bridge (c.loop-i.invariant.passed laid bus side) (c.requires.tree.skips c.loop-i.i n e) c.loop-i.invariant.begun
+    let k = (goal.at.returns-then-at-to-clause-none c).After-index-nodes-i in
+    none_on_bus _ _ _ _ _ _ _ c.args.to
+    (passed_whole _ _ _ _ _ _ _ c.loop-i.i _ (c.loop-i.invariant.passed c.requires.tree.laid bus side) (skipped k) c.loop-i.invariant.begun
     c.loop-i-test.true c.if-at-to.true) (omega arith)
 
 pub returns-then-covers-clause-within : goal.returns-then-covers-clause-within
@@ -24,40 +41,26 @@ returns-then-covers-clause-within c = grind (arith, read_at)
 
 pub returns-then-covers-clause-found : goal.returns-then-covers-clause-found
 returns-then-covers-clause-found c = λ bus side.
-    let nodes = c.args.nodes.now in
-    let laid = c.requires.tree.laid in
-    let n = c.index-nodes-i.result in
-    let at = n.bridge in
-    let e = read_at nodes c.loop-i.i n (omega (arith, c.loop-i-test.true, c.requires.range)) c.index-nodes-i.is in
-    let skipped = c.requires.tree.skips c.loop-i.i n e in
-    let ahead = skipped.ahead in
-    let there = read_at nodes at c.index-nodes-at.result (omega (arith, c.if-at-to.false, c.requires.range)) c.index-nodes-at.is in
-    first_here nodes laid bus c.args.number c.args.from c.args.to side at c.index-nodes-at.result
-    (passed_at nodes laid bus c.args.number c.args.from c.args.to side c.loop-i.i n.bridge (c.loop-i.invariant.passed laid bus side) skipped c.loop-i.invariant.begun c.if-at-to.false)
-    there (omega (arith, ahead, c.loop-i.invariant.begun)) c.if-at-to.false (sym c.covers.ensures ∙ c.if-covers.true)
+    let k = goal.at.returns-then-covers-clause-found c in
+    first_here _ _ _ _ _ _ _ c.index-nodes-i.result.bridge c.index-nodes-at.result (passed k.After-index-nodes-i c.if-at-to.false c.requires.tree.laid bus side)
+    (there k.After-index-nodes-at) (ahead k.After-index-nodes-i) c.if-at-to.false (sym c.covers.ensures ∙ c.if-covers.true)
 
 pub loop-i-smaller : goal.loop-i-smaller
 loop-i-smaller c = grind (arith, read_at, inside)
 
 pub loop-i-preserved : goal.loop-i-preserved
 loop-i-preserved c =
-    let nodes = c.args.nodes.now in
-    let n = c.index-nodes-i.result in
-    let at = n.bridge in
-    let e = read_at nodes c.loop-i.i n (omega (arith, c.loop-i-test.true, c.requires.range)) c.index-nodes-i.is in
-    let skipped = c.requires.tree.skips c.loop-i.i n e in
-    let ahead = skipped.ahead in
-    let there = read_at nodes at c.index-nodes-at.result (omega (arith, c.if-at-to.false, c.requires.range)) c.index-nodes-at.is in
-    let w = inside nodes c.requires.tree.laid at c.index-nodes-at.result there in
+    let k = goal.at.loop-i-preserved c in
+    let from = ahead k.After-index-nodes-i in
+    let here = there k.After-index-nodes-at in
+    let w = inside c.args.nodes.now c.requires.tree.laid c.index-nodes-i.result.bridge c.index-nodes-at.result here in
     record {
-      begun = omega (arith, w.0, ahead, c.loop-i.invariant.begun);
+      begun = omega (arith, w.0, from);
       passed = λ laid bus side.
-          passed_next nodes laid bus c.args.number c.args.from c.args.to side at c.index-nodes-at.result
-          (passed_at nodes laid bus c.args.number c.args.from c.args.to side c.loop-i.i n.bridge (c.loop-i.invariant.passed laid bus side) skipped c.loop-i.invariant.begun c.if-at-to.false)
-          there (omega (arith, ahead, c.loop-i.invariant.begun)) c.if-at-to.false (sym c.covers.ensures ∙ c.if-covers.false);
+          passed_next _ _ _ _ _ _ _ c.index-nodes-i.result.bridge c.index-nodes-at.result (passed k.After-index-nodes-i c.if-at-to.false laid bus side)
+          here from c.if-at-to.false (sym c.covers.ensures ∙ c.if-covers.false);
     }
 
 pub returns-clause-none : goal.returns-clause-none
 returns-clause-none c = λ bus side.
-    none_on_bus c.args.nodes.now c.requires.tree.laid bus c.args.number c.args.from c.args.to side c.loop-i.i
-    (c.loop-i.invariant.passed c.requires.tree.laid bus side) (omega (arith, c.loop-i-test.false))
+    none_on_bus _ _ _ _ _ _ _ c.loop-i.i (c.loop-i.invariant.passed c.requires.tree.laid bus side) (omega (arith, c.loop-i-test.false))

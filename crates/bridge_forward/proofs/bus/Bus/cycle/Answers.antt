@@ -1,6 +1,15 @@
-use Rattle.std.proofs.Common.{List, sym, subst, arith}
-use Rattle.bridge_forward.{specs.{Cycled.reached_by, declared.bus.Node.Node, Leading.AreRoutes}, proofs.{Changes.{laid_set, cells_set, found_there, node_there}, KnownRoutes.routes_cycled, Skipping.{cells_leaf, tree_set}}}
+use Rattle.std.{proofs.Common.{◌≡◌, Some, List, sym, subst, arith}, specs.List.slice_get}
+use Rattle.bridge_forward.{specs.{Cycled.reached_by, declared.bus.Node.Node, Layout.{function_of, functions_of}, Leading.AreRoutes}, proofs.{Changes.{laid_set, cells_set, found_there, node_there}, KnownRoutes.routes_cycled, Skipping.{cells_leaf, tree_set}}}
 use Rattle.bridge_forward.proofs.bus.Bus.cycle.Goals as goal
+use Rattle.bridge_forward.proofs.bus.Bus.cycle.Goals.{After-index_mut-node}
+
+-- the function that the cycle reaches, as it is read
+module _ (c : After-index_mut-node) where
+  there : slice_get c.self.inside.nodes.items c.in_ok-at.at ≡ Some c.index_mut-node.result.now
+  there = node_there _ _ c.in_ok-at.at _ (λ fs. reached_by fs c.args.cycle) c.deref.ensures.value c.in_ok-at.ensures.found c.index_mut-node.ensures.value
+
+  reached : reached_by (functions_of c.self.inside.nodes.items) c.args.cycle ≡ Some (function_of c.index_mut-node.result.now)
+  reached = found_there _ _ c.in_ok-at.at _ (λ fs. reached_by fs c.args.cycle) c.deref.ensures.value c.in_ok-at.ensures.found there
 
 pub invariant_of-self : goal.invariant_of-self
 invariant_of-self c = grind arith
@@ -9,7 +18,7 @@ pub invariant_of-self-2 : goal.invariant_of-self-2
 invariant_of-self-2 c =
     let nodes = c.self.inside.nodes.items in
     let n = c.index_mut-node.result.now in
-    let e = node_there nodes c.deref.result.now c.in_ok-at.at n (λ fs. reached_by fs c.args.cycle) c.deref.ensures.value c.in_ok-at.ensures.found c.index_mut-node.ensures.value in
+    let e = there (goal.at.invariant_of-self-2 c).After-index_mut-node in
     let g = c.access-reply.new.self in
     let y = c.args.cycle in
     let routes = subst (λ (ms : List Node). AreRoutes ms c.reach.new.known) c.deref.ensures.value c.in_ok-at.ensures.routes in
@@ -20,18 +29,9 @@ invariant_of-self-2 c =
     }
 
 pub returns-clause-reply : goal.returns-clause-reply
-returns-clause-reply c =
-    let nodes = c.self.inside.nodes.items in
-    let n = c.index_mut-node.result.now in
-    let y = c.args.cycle in
-    let e = node_there nodes c.deref.result.now c.in_ok-at.at n (λ fs. reached_by fs y) c.deref.ensures.value c.in_ok-at.ensures.found c.index_mut-node.ensures.value in
-    grind (arith, found_there)
+returns-clause-reply c = grind (arith, reached (goal.at.returns-clause-reply c).After-index_mut-node)
 
 pub returns-clause-after : goal.returns-clause-after
 returns-clause-after c =
-    let nodes = c.self.inside.nodes.items in
-    let n = c.index_mut-node.result.now in
-    let y = c.args.cycle in
-    let e = node_there nodes c.deref.result.now c.in_ok-at.at n (λ fs. reached_by fs y) c.deref.ensures.value c.in_ok-at.ensures.found c.index_mut-node.ensures.value in
-    let at = found_there nodes c.deref.result.now c.in_ok-at.at n (λ fs. reached_by fs y) c.deref.ensures.value c.in_ok-at.ensures.found e in
-    grind (arith, cells_set)
+    let k = (goal.at.returns-clause-after c).After-index_mut-node in
+    grind (arith, cells_set, there k, reached k)

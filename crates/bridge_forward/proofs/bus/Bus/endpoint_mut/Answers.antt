@@ -1,7 +1,8 @@
-use Rattle.std.{proofs.{Common.{refl, ◌≡◌, false, ap, arith, inr, ◌∙◌, sym}, lemmas.Option.slice_get_within}, specs.Prelude.find}
+use Rattle.std.{proofs.{Common.{refl, ◌≡◌, false, Some, get_or, ap, arith, inr, ◌∙◌, sym}, lemmas.Option.slice_get_within}, specs.{Prelude.find, List.slice_get}}
 use Rattle.model_board.specs.{Paths.path_eq, Board.is_bridge}
-use Rattle.bridge_forward.{specs.{declared.{bus.Node.Node, function.Function.TheVariants.Endpoint}, Lending.{endpoint_at, with_endpoint}, Functions.decl_of}, proofs.{Nodes.functions_in_order, Changes.{endpoint_set, endpoint_there, found_there, kept, node_there, same_read, same_order}, KnownRoutes.{bus_same, bus_set, none_lent, same_read_at}}}
+use Rattle.bridge_forward.{specs.{declared.{bus.Node.Node, function.Function.TheVariants.Endpoint}, Layout.{function_of, functions_of}, Lending.{endpoint_at, with_endpoint}, Functions.{decl_of, endpoint_in}}, proofs.{Nodes.functions_in_order, Changes.{endpoint_set, endpoint_there, found_there, kept, node_there, same_read, same_order}, KnownRoutes.{bus_same, bus_set, none_lent, same_read_at}}}
 use Rattle.bridge_forward.proofs.bus.Bus.endpoint_mut.Goals as goal
+use Rattle.bridge_forward.proofs.bus.Bus.endpoint_mut.Goals.{After-is_bridge}
 
 pub returns-in_err-at : goal.returns-in_err-at
 returns-in_err-at c = grind (arith, same_order, functions_in_order)
@@ -9,43 +10,46 @@ returns-in_err-at c = grind (arith, same_order, functions_in_order)
 pub index_mut-node-requires : goal.index_mut-node-requires
 index_mut-node-requires c = grind (arith, slice_get_within)
 
+-- the function at the path, as it is read
+module _ (c : After-is_bridge) {n : Node} (is : n ≡ get_or c.self.inside.nodes.items c.in_ok-at.at n) where
+  there : slice_get c.self.inside.nodes.items c.in_ok-at.at ≡ Some n
+  there = node_there _ _ c.in_ok-at.at n (find (λ f. path_eq f.path c.args.path.now)) c.deref.ensures.value c.in_ok-at.ensures.found is
+
+  found : find (λ f. path_eq f.path c.args.path.now) (functions_of c.self.inside.nodes.items) ≡ Some (function_of n)
+  found = found_there _ _ c.in_ok-at.at n (find (λ f. path_eq f.path c.args.path.now)) c.deref.ensures.value c.in_ok-at.ensures.found there
+
+  value : endpoint_in n.function ≡ endpoint_at c.args.self.now c.args.path.now
+  value = endpoint_there _ c.self.invariant.tree.laid c.in_ok-at.at n there _ found ∙ ap (λ fs. endpoint_at fs c.args.path.now) c.self.view_is
+
 pub invariant_of-self-lent : goal.invariant_of-self-lent
 invariant_of-self-lent c =
-    let nodes = c.self.inside.nodes.items in
     let n = c.index_mut-node.result.now in
-    let e = node_there nodes c.deref.result.now c.in_ok-at.at n (find (λ f. path_eq f.path c.args.path.now)) c.deref.ensures.value c.in_ok-at.ensures.found c.index_mut-node.ensures.value in
+    let e = there (goal.at.invariant_of-self-lent c).After-is_bridge c.index_mut-node.ensures.value in
     let leaf : is_bridge (decl_of n.function) ≡ false =
-    ap (λ (m : Node). is_bridge (decl_of m.function)) (same_read_at nodes c.in_ok-at.at n c.index.result.now e c.index.ensures) ∙ sym c.is_bridge.ensures ∙ c.if-is_bridge.false in
-    λ _. (λ w. bus_set nodes c.in_ok-at.at n (Endpoint w) e leaf refl c.self.inside.known c.self.invariant, bus_same nodes c.in_ok-at.at n c.self.inside.known e c.self.invariant)
+    ap (λ (m : Node). is_bridge (decl_of m.function)) (same_read_at c.self.inside.nodes.items c.in_ok-at.at n c.index.result.now e c.index.ensures)
+    ∙ sym c.is_bridge.ensures ∙ c.if-is_bridge.false in
+    λ _. (λ w. bus_set _ c.in_ok-at.at n (Endpoint w) e leaf refl c.self.inside.known c.self.invariant, bus_same _ c.in_ok-at.at n c.self.inside.known e c.self.invariant)
 
 pub returns : goal.returns
 returns c =
-    let nodes = c.self.inside.nodes.items in
-    let n = c.index_mut-node.result.now in
-    let path = c.args.path.now in
-    let e = node_there nodes c.deref.result.now c.in_ok-at.at n (find (λ f. path_eq f.path path)) c.deref.ensures.value c.in_ok-at.ensures.found c.index_mut-node.ensures.value in
-    let at = found_there nodes c.deref.result.now c.in_ok-at.at n (find (λ f. path_eq f.path path)) c.deref.ensures.value c.in_ok-at.ensures.found e in (
+    let k = (goal.at.returns c).After-is_bridge in
+    let is = c.index_mut-node.ensures.value in (
       same_read _ _ _ _ _
-          (λ w. endpoint_set nodes c.self.invariant.tree.laid c.in_ok-at.at n e path at w ∙ ap (with_endpoint path w) c.self.view_is)
-          (kept nodes c.self.invariant.tree.laid c.in_ok-at.at n e ∙ c.self.view_is),
+          (λ w. endpoint_set _ c.self.invariant.tree.laid c.in_ok-at.at _ (there k is) _ (found k is) w ∙ ap (with_endpoint c.args.path.now w) c.self.view_is)
+          (kept _ c.self.invariant.tree.laid c.in_ok-at.at _ (there k is) ∙ c.self.view_is),
       record {
         lends = tt;
-        value = c.endpoint_mut.ensures.value ∙ endpoint_there nodes c.self.invariant.tree.laid c.in_ok-at.at n e path at ∙ ap (λ fs. endpoint_at fs path) c.self.view_is;
-        in_order = same_order c.self.view_is (functions_in_order nodes c.self.invariant.tree.laid);
+        value = c.endpoint_mut.ensures.value ∙ value k is;
+        in_order = same_order c.self.view_is (functions_in_order _ c.self.invariant.tree.laid);
       },
     )
 
 pub returns-then-is_bridge : goal.returns-then-is_bridge
-returns-then-is_bridge c =
-    let nodes = c.self.inside.nodes.items in
-    let n = c.index.result.now in
-    let path = c.args.path.now in
-    let e = node_there nodes c.deref.result.now c.in_ok-at.at n (find (λ f. path_eq f.path path)) c.deref.ensures.value c.in_ok-at.ensures.found c.index.ensures in
-    let at = found_there nodes c.deref.result.now c.in_ok-at.at n (find (λ f. path_eq f.path path)) c.deref.ensures.value c.in_ok-at.ensures.found e in (
-      ap (λ fs. inr fs) c.self.view_is,
-      record {
-        lends = tt;
-        value = none_lent n.function (sym c.is_bridge.ensures ∙ c.if-is_bridge.true) ∙ endpoint_there nodes c.self.invariant.tree.laid c.in_ok-at.at n e path at ∙ ap (λ fs. endpoint_at fs path) c.self.view_is;
-        in_order = same_order c.self.view_is (functions_in_order nodes c.self.invariant.tree.laid);
-      },
-    )
+returns-then-is_bridge c = (
+  ap (λ fs. inr fs) c.self.view_is,
+  record {
+    lends = tt;
+    value = none_lent _ (sym c.is_bridge.ensures ∙ c.if-is_bridge.true) ∙ value (goal.at.returns-then-is_bridge c).After-is_bridge c.index.ensures;
+    in_order = same_order c.self.view_is (functions_in_order _ c.self.invariant.tree.laid);
+  },
+)

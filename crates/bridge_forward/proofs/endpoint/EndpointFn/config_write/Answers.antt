@@ -6,32 +6,28 @@ use Rattle.bridge_forward.{specs.EndpointParts.{region_parts, block_at, IsHeader
 use Rattle.bridge_forward.proofs.endpoint.EndpointFn.config_write.Goals as goal
 
 pub invariant_of-self : goal.invariant_of-self
-invariant_of-self c =
-    let e = c.self.inside in
-    record {
-      parts = config_kept e.decl e.config.now e.bars (block_at e.blocks.items) c.self.invariant.parts e.config.now c.write.new.self c.write.ensures.regions c.self.invariant.parts.config_places (λ q. refl);
-      command_is = c.self.invariant.command_is;
-      reset = c.self.invariant.reset;
-    }
+invariant_of-self c = record {
+  parts = config_kept _ _ _ _ c.self.invariant.parts c.self.inside.config.now c.write.new.self c.write.ensures.regions c.self.invariant.parts.config_places (λ q. refl);
+  command_is = c.self.invariant.command_is;
+  reset = c.self.invariant.reset;
+}
 
 pub invariant_of-self-in-None : goal.invariant_of-self-in-None
 invariant_of-self-in-None c =
-    let e = c.self.inside in
+    let cells = c.self.inside.config in
     let ons = lanes c.args.enables in
-    let later = c.write-in-None.new.self in
     let now = ap (λ (f : CellFile). f.now) c.write-in-None.ensures.cells in
-    config_invariant c.self.invariant later _ (ap (λ (f : CellFile). f.initial) c.write-in-None.ensures.cells) c.command.ensures c.write-in-None.ensures.places
-    (λ q. ap (λ (xs : File). has_place xs (config q)) now ∙ places_stay ons c.args.data (config c.from.result) (config q) e.config.now)
-    (subst (λ (xs : File). Each (IsHeaderKept e.config.initial) xs) (sym now) (header_written e.config.initial ons c.args.data (config c.from.result) e.config.now c.self.invariant.reset.header))
+    config_invariant c.self.invariant c.write-in-None.new.self _ (ap (λ (f : CellFile). f.initial) c.write-in-None.ensures.cells) c.command.ensures c.write-in-None.ensures.places
+    (λ q. ap (λ (xs : File). has_place xs (config q)) now ∙ places_stay ons c.args.data (config c.from.result) (config q) cells.now)
+    (subst (λ (xs : File). Each (IsHeaderKept cells.initial) xs) (sym now) (header_written cells.initial ons c.args.data (config c.from.result) cells.now c.self.invariant.reset.header))
 
 pub returns-in-Some : goal.returns-in-Some
 returns-in-Some c =
-    let e = c.self.inside in
     let ons = lanes c.args.enables in
     let at = c.in-Some.ensures.there in
-    sym (ap (λ (xs : File). record { decl = e.decl; file = xs })
-    (write_base e.decl e.config.now e.bars (block_at e.blocks.items) c.self.invariant.parts c.args.off c.args.data ons c.write.new.self (omega (arith, at.0, at.1)) (omega (arith, at.0, at.1))
-    c.write.ensures.regions (c.write.ensures.cells ∙ ap (λ n. write ons c.args.data (config n) (base_file e.bars)) (sym at.1))))
+    sym (ap (λ (xs : File). record { decl = c.self.inside.decl; file = xs })
+    (write_base _ _ _ _ c.self.invariant.parts c.args.off c.args.data ons c.write.new.self (omega (arith, at.0, at.1)) (omega (arith, at.0, at.1))
+    c.write.ensures.regions (c.write.ensures.cells ∙ ap (λ n. write ons c.args.data (config n) (base_file c.self.inside.bars)) (sym at.1))))
     ∙ ap (λ (f : Function). record f { file = write ons c.args.data (config c.args.off) f.file }) c.self.view_is
 
 pub returns-in-None : goal.returns-in-None
@@ -41,5 +37,5 @@ returns-in-None c =
     ap (λ (xs : File). record { decl = e.decl; file = xs ++ region_parts e.bars (block_at e.blocks.items) })
     (ap (λ (f : CellFile). f.now) c.write-in-None.ensures.cells ∙ ap (λ n. write ons c.args.data (config n) e.config.now) c.from.ensures)
     ∙ sym (ap (λ (xs : File). record { decl = e.decl; file = xs })
-    (write_config e.decl e.config.now e.bars (block_at e.blocks.items) c.self.invariant.parts c.args.off c.args.data ons (word_away c.args.off c.requires c.in-None.ensures.elsewhere)))
+    (write_config _ _ _ _ c.self.invariant.parts c.args.off c.args.data ons (word_away c.args.off c.requires c.in-None.ensures.elsewhere)))
     ∙ ap (λ (f : Function). record f { file = write ons c.args.data (config c.args.off) f.file }) c.self.view_is

@@ -1,12 +1,11 @@
 use Rattle.std.{proofs.Common.{ap, ◌∙◌}, specs.Prelude.map}
 use Rattle.model_registers.specs.Decoding.{Function, base_address}
 use Rattle.bars.specs.Slots.{bases_from}
-use Rattle.bridge_forward.{specs.EndpointParts.block_at, proofs.EndpointHits.regions_now}
+use Rattle.bridge_forward.proofs.EndpointHits.{regions_now}
 use Rattle.bridge_forward.proofs.endpoint.EndpointFn.placed.Goals as goal
 
 pub returns : goal.returns
 returns c =
-    let e = c.self.inside in
     ap (bases_from 0) c.six.ensures
-    ∙ c.regions.ensures.bases ∙ regions_now e.decl e.config.now e.bars (block_at e.blocks.items) c.self.invariant.parts e.command c.regions.ensures.lawful
+    ∙ c.regions.ensures.bases ∙ regions_now _ _ _ _ c.self.invariant.parts c.self.inside.command c.regions.ensures.lawful
     ∙ ap (λ (f : Function). map (base_address f.file) f.decl.regions) c.self.view_is

@@ -1,5 +1,5 @@
 use Rattle.std.proofs.Common.{ap, sym, ◌∙◌, arith}
-use Rattle.model_registers.specs.{Cell.raised, Registers.{Place, config, block, raise}, Decoding.Function}
+use Rattle.model_registers.specs.{Cell.raised, Registers.{Place, config, block, raise}}
 use Rattle.headers.specs.Places.{place_of}
 use Rattle.bridge_forward.proofs.{EndpointAccess.{change_in_block, raise_config}, ResetKept.{header_changed, constant_raised, cell_invariant, short_there, block_invariant, block_shown, nothing_shown}}
 use Rattle.bridge_forward.proofs.endpoint.EndpointFn.raise.Goals as goal
@@ -17,16 +17,14 @@ raise-requires-in-Some c = short_there c.self.invariant c.from.result c.in-Some.
 
 pub invariant_of-self-in-Some : goal.invariant_of-self-in-Some
 invariant_of-self-in-Some c =
-    block_invariant c.self.invariant (change_in_block (raised c.args.mask) c.from.result c.args.off) c.in-Some.block.now c.raise-in-Some.new.cells c.in-Some.ensures.item.0 c.in-Some.ensures.item.1 c.raise-in-Some.ensures
+    block_invariant c.self.invariant (change_in_block (raised c.args.mask) c.from.result c.args.off) c.in-Some.ensures.item.0 c.in-Some.ensures.item.1 c.raise-in-Some.ensures
 
 pub returns-in-Some : goal.returns-in-Some
 returns-in-Some c =
-    block_shown c.self.invariant (change_in_block (raised c.args.mask) c.from.result c.args.off) c.in-Some.block.now c.raise-in-Some.new.cells c.in-Some.ensures.item.0 c.in-Some.ensures.item.1 c.raise-in-Some.ensures
-    ∙ ap (λ (f : Function). record f { file = raise c.args.mask (block c.from.result c.args.off) f.file }) c.self.view_is
+    block_shown c.self.invariant (change_in_block (raised c.args.mask) c.from.result c.args.off) c.in-Some.ensures.item.0 c.in-Some.ensures.item.1 c.raise-in-Some.ensures c.self.view_is
     ∙ ap (λ (p : Place). record c.args.self.now { file = raise c.args.mask p c.args.self.now.file }) (ap (λ m. block m c.args.off) c.from.ensures ∙ ap (λ p. place_of p c.args.off) (sym c.in-Bar.is))
 
 pub returns-in_default : goal.returns-in_default
 returns-in_default c =
-    nothing_shown c.self.invariant (change_in_block (raised c.args.mask) c.from.result c.args.off) c.in_default.ensures.item.0
-    ∙ ap (λ (f : Function). record f { file = raise c.args.mask (block c.from.result c.args.off) f.file }) c.self.view_is
+    nothing_shown c.self.invariant (change_in_block (raised c.args.mask) c.from.result c.args.off) c.in_default.ensures.item.0 c.self.view_is
     ∙ ap (λ (p : Place). record c.args.self.now { file = raise c.args.mask p c.args.self.now.file }) (ap (λ m. block m c.args.off) c.from.ensures ∙ ap (λ p. place_of p c.args.off) (sym c.in-Bar.is))
