@@ -1,8 +1,8 @@
 -- What a table answers, where its claims are those of the board.
-use Rattle.std.{proofs.{Common.{◌≡◌, ℕ, ◌+◌, ◌-◌, ◌≤◌, ◌<◌, Bool, true, false, cond, List, [], ◌∷◌, ◌++◌, length, get_or, Option, Some, None, refl, sym, ap, ap₂, ◌∙◌, subst, leb, ltb}, lemmas.{List.map-append, Simd.map-map, Bool.leb-true, Option.{slice_get_within, slice_get-get_or, unwrap_or-slice_get}}}, specs.{Prelude.{map, find, slice_get}, Option.option_map}}
+use Rattle.std.{proofs.{Common.{◌++◌, arith, ◌≡◌, ℕ, ◌+◌, ◌-◌, ◌≤◌, ◌<◌, Bool, true, false, cond, List, [], ◌∷◌, length, get_or, Option, Some, None, refl, sym, ap, ap₂, ◌∙◌, subst, leb, ltb}, lemmas.{List.map-append, Simd.map-map, Bool.leb-true, Option.{slice_get_within, slice_get-get_or, unwrap_or-slice_get}}}, specs.{Prelude.{map, find, slice_get}, Option.option_map}}
 use Rattle.lists.{specs.Elements.{Each, first_of_two, first_some}, proofs.{EachLemmas.{each_parts, each_from_map}, Tests.left_true, FirstFound.{found_passes, each_found}}}
 use Rattle.model_registers.specs.Decoding.{Space, io, memory}
-use Rattle.model_board.specs.{Paths.Path, State.BoardFunction, Claims.{Claim, claim_at, first_claim}}
+use Rattle.model_board.specs.{Paths.Path, State.BoardFunction, Claims.{Claim, first_claim}}
 use Rattle.bridge_forward.specs.Locating.{located_claim}
 use Rattle.model_set_up.specs.PlacedRegions.{claim_in}
 use Rattle.host_bridge.specs.HostState.{HostState}
@@ -44,11 +44,7 @@ other_claim_memory qs n (e ∷ es) = other_claim_memory qs n es
 
 first_some-append : {A B : Type 0} (f : A → Option B) (xs ys : List A) → first_some f (xs ++ ys) ≡ first_of_two (first_some f xs) (first_some f ys)
 first_some-append f [] ys = refl
-first_some-append {A} {B} f (x ∷ xs) ys = by_case (f x) (first_some-append f xs ys)
-  where
-    by_case : (o : Option B) → first_some f (xs ++ ys) ≡ first_of_two (first_some f xs) (first_some f ys) → first_of_two o (first_some f (xs ++ ys)) ≡ first_of_two (first_of_two o (first_some f xs)) (first_some f ys)
-    by_case None more = more
-    by_case (Some y) more = refl
+first_some-append {A} {B} f (x ∷ xs) ys = grind (arith, first_some-append f xs ys)
 
 or_none : {B : Type 0} (o : Option B) → first_of_two o None ≡ o
 or_none None = refl
@@ -56,10 +52,7 @@ or_none (Some y) = refl
 
 module _ (qs : List Path) (ports mems : List RegionEntry) (n : ℕ) where
   split : (space : Space) → table_claim (table_of qs ports mems) space n ≡ first_of_two (first_some (claim_in space n) (map (region_of qs io) ports)) (first_some (claim_in space n) (map (region_of qs memory) mems))
-  split space =
-      ap (first_some (claim_in space n)) (map-append (λ (e : TableEntry). e.region) (map (table_entry qs io) ports) (map (table_entry qs memory) mems)
-      ∙ ap₂ ◌++◌ (map-map (λ (e : TableEntry). e.region) (table_entry qs io) ports) (map-map (λ (e : TableEntry). e.region) (table_entry qs memory) mems))
-      ∙ first_some-append (claim_in space n) (map (region_of qs io) ports) (map (region_of qs memory) mems)
+  split space = grind (arith, map-append, map-map, first_some-append, region_of)
 
   pub claim_found : (space : Space) → table_claim (table_of qs ports mems) space n ≡ option_map (claim_for qs n) (find (lies_in n) (by_space space ports mems))
   claim_found io = split io ∙ ap₂ first_of_two (own_claim qs io n ports) (other_claim_io qs n mems) ∙ or_none (option_map (claim_for qs n) (find (lies_in n) ports))
@@ -99,17 +92,7 @@ module _ (qs : List Path) (ports mems : List RegionEntry) (t : List TableEntry) 
     of_entry = each_found (λ (d : RegionEntry). IsOfFunction hosted (table_entry qs space d)) (lies_in n) (by_space space ports mems) e (of_space space) found
 
     pub located : (located_claim hosted (Some (record { index = e.function; region = e.region; offset = n - e.first })) ≡ first_claim hosted space n) × (e.function < length hosted)
-    located = by_case (slice_get hosted e.function) refl of_entry
-      where
-        by_case : (o : Option BoardFunction) → slice_get hosted e.function ≡ o → option_map (λ (f : BoardFunction). f.path) o ≡ Some (path_nth qs e.function)
-            → (located_claim hosted (Some (record { index = e.function; region = e.region; offset = n - e.first })) ≡ first_claim hosted space n) × (e.function < length hosted)
-        by_case None at path = cc
-        by_case (Some f) at path =
-            let same : f.path ≡ path_nth qs e.function = cc in (
-              ap (option_map (λ (g : BoardFunction). claim_at g.path (record { index = e.region; offset = n - e.first }))) at
-                  ∙ ap (λ (p : Path). Some (claim_at p (record { index = e.region; offset = n - e.first }))) same ∙ claimed,
-              slice_get_within hosted e.function f at,
-            )
+    located = grind (arith, of_entry, claimed, slice_get_within)
 
 pub none_claimed : (qs : List Path) (ports mems : List RegionEntry) (t : List TableEntry) (h : HostState) → table_of qs ports mems ≡ t → FitsTable t h → (space : Space) (n : ℕ) → find (lies_in n) (by_space space ports mems) ≡ None → None ≡ first_claim h.state.functions space n
 none_claimed qs ports mems t h is fits space n none = sym (ap (option_map (claim_for qs n)) none) ∙ answer qs ports mems t h is fits space n

@@ -25,20 +25,11 @@ module _ (ps : List Path) (space : Space) (i : ℕ) (p : Path) (path : path_nth 
 
   open_kept : ((k : Space) → same_space k space ≡ true → opens_space command k ≡ true) → (bs : List BaseAddress) → told bs ≡ kept bs
   open_kept opens [] = refl
-  open_kept opens (b ∷ bs) = by_tests (same_space (space_of b.kind) space) (opens_space command (space_of b.kind)) refl refl (open_kept opens bs)
-    where
-      by_tests : (s o : Bool) → same_space (space_of b.kind) space ≡ s → opens_space command (space_of b.kind) ≡ o → told bs ≡ kept bs
-          → map (region_of ps space) (map (entry_for i) (cond s (b ∷ of_space space bs) (of_space space bs)))
-          ≡ filter (is_of space) (cond o (region_now p b ∷ filter (λ (q : PlacedRegion). opens_space command q.space) (map (region_now p) bs)) (filter (λ (q : PlacedRegion). opens_space command q.space) (map (region_now p) bs)))
-      by_tests s o e f more = grind (arith, entry_is)
+  open_kept opens (b ∷ bs) = grind (arith, region_of, is_of, entry_is, open_kept opens bs)
 
   closed_kept : ((k : Space) → same_space k space ≡ true → opens_space command k ≡ false) → (bs : List BaseAddress) → [] ≡ kept bs
   closed_kept opens [] = refl
-  closed_kept opens (b ∷ bs) = by_tests (same_space (space_of b.kind) space) (opens_space command (space_of b.kind)) refl refl (closed_kept opens bs)
-    where
-      by_tests : (s o : Bool) → same_space (space_of b.kind) space ≡ s → opens_space command (space_of b.kind) ≡ o → [] ≡ kept bs
-          → [] ≡ filter (is_of space) (cond o (region_now p b ∷ filter (λ (q : PlacedRegion). opens_space command q.space) (map (region_now p) bs)) (filter (λ (q : PlacedRegion). opens_space command q.space) (map (region_now p) bs)))
-      by_tests s o e f more = grind arith
+  closed_kept opens (b ∷ bs) = grind (arith, is_of, closed_kept opens bs)
 
   of_row : (rs : Ranges) → map (region_of ps space) (open_at space i (record { path = p; command = command; ranges = rs })) ≡ filter (is_of space) (open_of (record { path = p; command = command; ranges = rs }))
   of_row (windows wio wmem wpref) = refl
@@ -100,12 +91,7 @@ module _ (h : HostState) (board : IsStateOfBoard h.state.functions) (order : IsO
   all_of space = open_entries space 0 (routing fs)
 
   gathered : AreGathered ps (open_regions (routing fs)) all_of
-  gathered = record {
-    regions = λ space. of_rows ps space 0 (routing fs) (λ j r e. let z : 0 + j ≡ j = omega arith in ap (path_nth ps) z ∙ paths_read (λ (x : RoutingRow). x.path) (routing fs) j r e);
-    apart = claims.apart;
-    sized = sized fs board.declarations;
-    known = λ space. known space 0 (routing fs) (length ps) (let n : length ps ≡ length (routing fs) = length-map (routing fs) (λ (r : RoutingRow). r.path) in omega (arith, n));
-  }
+  gathered = grind (arith, of_rows, paths_read, claims, sized, known, length-map)
 
   module _ (qs : List Path) (rows : List RoutingRow) (rows_are : rows ≡ routing fs) (paths_are : qs ≡ map (λ (r : RoutingRow). r.path) rows) where
     own_paths : qs ≡ ps

@@ -1,7 +1,7 @@
 -- Some regions that share no address, as a table lists them: its entries stand apart, and its claims are theirs.
 --     region_of, is_of      the region of an entry; whether a region lies in a space
 --     IsSortedOf es fs      fs has the entries es, by first address
-use Rattle.std.{proofs.{Common.{◌≡◌, ℕ, ◌<◌, ◌⊎◌, inl, inr, Bool, true, List, ◌++◌, length, sym, ap, ap₂, ◌∙◌, subst, arith}, lemmas.{List.map-append, Simd.map-map}}, specs.{Prelude.{map, filter, ◌↔◌}, List.Sorted.{IsPermutation, IsNonDecreasingBy}}}
+use Rattle.std.{proofs.{Common.{◌++◌, ◌≡◌, ℕ, ◌<◌, ◌⊎◌, inl, inr, Bool, true, List, length, sym, subst, arith}, lemmas.{List.map-append, Simd.map-map}}, specs.{Prelude.{map, filter, ◌↔◌}, List.Sorted.{IsPermutation, IsNonDecreasingBy}}}
 use Rattle.lists.{specs.Elements.{Each, EachPair, first_some, IsIn}, proofs.{EachLemmas.{each_permutation, pairs_map, pairs_filter, each_filter, each_from_map, pairs_from_map}, Members.{in_front, in_back, front_or_back, in_map, from_map, in_filter, from_filter}}}
 use Rattle.model_registers.specs.Decoding.{Space, io, memory, same_space}
 use Rattle.model_board.specs.Paths.{Path}
@@ -74,10 +74,7 @@ module _ (ps : List Path) (rs : List PlacedRegion) (all_of : Space → List Regi
         by_space m here = grind (arith, in_front, listed_in, in_back)
 
     regions_listed : map (λ (e : TableEntry). e.region) (table_of ps ports mems) ≡ listed
-    regions_listed =
-        map-append (λ (e : TableEntry). e.region) (map (table_entry ps io) ports) (map (table_entry ps memory) mems)
-        ∙ ap₂ ◌++◌ (map-map (λ (e : TableEntry). e.region) (table_entry ps io) ports) (map-map (λ (e : TableEntry). e.region) (table_entry ps memory) mems)
+    regions_listed = grind (arith, map-append, map-map)
 
     pub claims_listed : (space : Space) (n : ℕ) → table_claim (table_of ps ports mems) space n ≡ first_some (claim_in space n) rs
-    claims_listed space n =
-        ap (first_some (claim_in space n)) regions_listed ∙ same_members space n rs listed of.apart (λ q. (same_regions q).1) (λ q. (same_regions q).0)
+    claims_listed space n = grind (arith, regions_listed, same_members, same_regions)

@@ -67,11 +67,7 @@ module _ (n : ℕ) (es : List RegionEntry) (i : ℕ) (point : IsPartitionPoint (
   last = get_or es (i - 1) d
 
   before : i - 1 < i
-  before = by_size i some
-    where
-      by_size : (k : ℕ) → (k ≡ 0 → ⊥) → k - 1 < k
-      by_size zero h = absurd (h refl)
-      by_size (suc k) h = omega arith
+  before = grind arith
 
   begins : begins_by n last ≡ true
   begins = point.0 (i - 1) d (omega arith) before
@@ -80,8 +76,7 @@ module _ (n : ℕ) (es : List RegionEntry) (i : ℕ) (point : IsPartitionPoint (
   begins_here = leb-true last.first n begins
 
   found_here : AreApart es → i ≤ length es → find (lies_in n) es ≡ cond (lies_in n last) (Some last) None
-  found_here apart within =
-      last_holds n es (i - 1) last apart (λ k x l. point.0 k x (omega arith) (omega (arith, before))) (λ k x l m. point.1 k x (omega (arith, before)) m) (slice_get-get_or es (i - 1) d (omega (arith, before)))
+  found_here apart within = grind (arith, last_holds, before, slice_get-get_or)
 
   pub holds_here : AreApart es → i ≤ length es → n - last.first < last.size → find (lies_in n) es ≡ Some last
   holds_here apart within l = found_here apart within ∙ ap (λ t. cond t (Some last) None) (holds_by_offset n last begins l)

@@ -39,11 +39,7 @@ distinct_from (e ∷ es) h = (by_each es h.0, distinct_from es h.1)
     by_each (d ∷ ds) k = (meet_none e d k.0, by_each ds k.1)
 
 ordered : (d e : RegionEntry) → d.first ≤ e.first → 0 < e.size → meet d e ≡ false → d.first + d.size ≤ e.first
-ordered d e up some h = by_side (or_cases (leb (d.first + d.size) e.first) (leb (e.first + e.size) d.first) (not-false (leb (d.first + d.size) e.first || leb (e.first + e.size) d.first) h))
-  where
-    by_side : (leb (d.first + d.size) e.first ≡ true) ⊎ (leb (e.first + e.size) d.first ≡ true) → d.first + d.size ≤ e.first
-    by_side (inl t) = leb-true _ _ t
-    by_side (inr t) = let l : e.first + e.size ≤ d.first = leb-true _ _ t in absurd (omega arith)
+ordered d e up some h = grind (arith, or_cases, not-false, leb-true)
 
 rising : (es : List RegionEntry) → IsNonDecreasingBy (λ (e : RegionEntry). e.first) es → Each (λ (e : RegionEntry). 0 < e.size) es → IsDistinct meet es → AreApart es
 unfolding IsDistinct
