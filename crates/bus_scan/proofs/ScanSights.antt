@@ -10,11 +10,11 @@ pub data Sight (b : Board) (bus : Path) (number n : ℕ) (o : Option Seen) : Typ
   Nothing : stands_at b (on bus n) ≡ false → o ≡ None → Sight b bus number n o
   Function : (r : Row) (seen : Seen) → o ≡ Some seen → IsFound b bus number n r seen → Sight b bus number n o
 
-pub sighted : (b : Board) (bus : Path) (number : ℕ) → OnBus b bus number → (n : ℕ) (s : State) (rows : List TableRow) (last : ℕ) → IsAt b (on bus n) s rows last → (a : BusAddress) → a ≡ record { bus = number; part = nth_part n }
-    → (o : Option Seen) → (reached s.functions a ≡ None → o ≡ None)
+pub sighted : {b : Board} {bus : Path} {number : ℕ} → OnBus b bus number → (n : ℕ) {s : State} {rows : List TableRow} {last : ℕ} → IsAt b (on bus n) s rows last → {a : BusAddress} → a ≡ record { bus = number; part = nth_part n }
+    → {o : Option Seen} → (reached s.functions a ≡ None → o ≡ None)
     → ((c : Board) (numbers : Path → BusNumbers) (f : BoardFunction) → reached s.functions a ≡ Some f → f.file ≡ numbered_file c numbers f.path f.decl → IsLawfulDecl f.decl → o ≡ Some (seen_of (is_multifunction c f.path) f.decl))
     → Sight b bus number n o
-sighted b bus number on_bus n s rows last at a is o none some = by_stands (stands_at b (on bus n)) refl
+sighted {b} {bus} {number} on_bus n {s} {rows} {last} at {a} is {o} none some = by_stands (stands_at b (on bus n)) refl
   where
     found_here : reached s.functions a ≡ find (λ f. path_eq f.path (on bus n)) (scan_state b (on bus n)).functions
     found_here =
@@ -36,23 +36,23 @@ sighted b bus number on_bus n s rows last at a is o none some = by_stands (stand
 -- ---- what the program sees
 
 -- a look changes nothing but the latch, which is 0
-pub after_look : (b : Board) (here : Path) (s : State) (rows : List TableRow) (last : ℕ) → IsAt b here s rows last → (new : State) → new ≡ record s { latch = 0 } → IsAt b here new rows last
-after_look b here s rows last at new is = grind arith
+pub after_look : {b : Board} {here : Path} {s : State} {rows : List TableRow} {last : ℕ} → IsAt b here s rows last → {new : State} → new ≡ record s { latch = 0 } → IsAt b here new rows last
+after_look at is = grind arith
 
-pub none_seen : (b : Board) (bus : Path) (number n : ℕ) (o : Option Seen) → Sight b bus number n o → o ≡ None → stands_at b (on bus n) ≡ false
-none_seen b bus number n o none h = grind arith
+pub none_seen : {b : Board} {bus : Path} {number n : ℕ} {o : Option Seen} → Sight b bus number n o → o ≡ None → stands_at b (on bus n) ≡ false
+none_seen none h = grind arith
 
 pub record Finds (b : Board) (bus : Path) (number n : ℕ) (seen : Seen) : Type 0 where
   pub row : Row
   pub found : IsFound b bus number n row seen
   pub next : (m : ℕ) → m ≡ cond (eqb (n % 8) 0 && not seen.is_multifunction) (n + 8) (n + 1) → m ≡ next_part b bus n
 
-pub finds : (b : Board) (bus : Path) (number n : ℕ) (o : Option Seen) → Sight b bus number n o → (seen : Seen) → o ≡ Some seen → Finds b bus number n seen
-finds b bus number n o (Nothing none e) seen h = cc
-finds b bus number n o (Function r known e found) seen h = grind (arith, next_is, stands_true)
+pub finds : {b : Board} {bus : Path} {number n : ℕ} {o : Option Seen} → Sight b bus number n o → {seen : Seen} → o ≡ Some seen → Finds b bus number n seen
+finds (Nothing none e) h = cc
+finds (Function r known e found) h = grind (arith, next_is, stands_true)
 
-pub bridge_seen : (b : Board) (bus : Path) (number n : ℕ) (r : Row) (seen : Seen) → IsFound b bus number n r seen → seen.layout ≡ BridgeLayout → is_bridge r.decl ≡ true
-bridge_seen b bus number n r seen found h = grind arith
+bridge_seen : {b : Board} {bus : Path} {number n : ℕ} {r : Row} {seen : Seen} → IsFound b bus number n r seen → seen.layout ≡ BridgeLayout → is_bridge r.decl ≡ true
+bridge_seen found h = grind arith
 
 -- the row of an endpoint that was met
 abbrev pub endpoint_row : Path → ℕ → ℕ → Seen → TableRow
@@ -63,9 +63,9 @@ endpoint_row path number pin seen = record {
   decl = decl_of seen.vendor seen.device (FoundEndpoint pin (None ∷ None ∷ None ∷ None ∷ None ∷ None ∷ []));
 }
 
-pub past_function : (b : Board) (bus : Path) (number n pin : ℕ) (r : Row) (seen : Seen) → IsFound b bus number n r seen → seen.layout ≡ EndpointLayout pin → (path : Path) → path ≡ on bus n → (s : State) (rows : List TableRow) (last : ℕ)
+pub past_function : {b : Board} {bus : Path} {number n pin : ℕ} {r : Row} {seen : Seen} → IsFound b bus number n r seen → seen.layout ≡ EndpointLayout pin → {path : Path} → path ≡ on bus n → {s : State} {rows : List TableRow} {last : ℕ}
     → IsAt b (on bus n) s rows last → IsAt b (on bus (next_part b bus n)) s (rows ++ endpoint_row path number pin seen ∷ []) last
-past_function b bus number n pin r seen found h path path_is s rows last at = by_decl r.decl refl
+past_function {b} {bus} {number} {n} {pin} {r} {seen} found h {path} path_is {s} {rows} {last} at = by_decl r.decl refl
   where
     by_decl : (d : Decl) → r.decl ≡ d → IsAt b (on bus (next_part b bus n)) s (rows ++ endpoint_row path number pin seen ∷ []) last
     by_decl (bridge d) e = let bad : BridgeLayout ≡ EndpointLayout pin = ap (λ (x : Seen). x.layout) (sym (found.shows ∙ ap (seen_of (is_multifunction b (on bus n))) e)) ∙ h in cc
@@ -84,11 +84,11 @@ past_function b bus number n pin r seen found h path path_is s rows last at = by
         at (endpoint_row path number pin seen) (row ∙ ap (λ (d : Decl). met_row b (scan_numbers b (on bus n)) (record r { decl = d })) (sym e))
 
 -- a bridge that was found, as the steps take it
-pub bridge_found : (b : Board) (bus : Path) (number n : ℕ) (r : Row) (at : BusAddress) → IsBridgeThere b bus number n r at → (path : Path) → path ≡ on bus n → (seen : Seen) → seen ≡ seen_of (is_multifunction b path) r.decl → IsFound b bus number n r seen
-bridge_found b bus number n r at is path path_is seen shows = record { on_bus = is.on_bus; stands = is.stands; shows = shows ∙ ap (λ (p : Path). seen_of (is_multifunction b p) r.decl) path_is }
+pub bridge_found : {b : Board} {bus : Path} {number n : ℕ} {r : Row} {at : BusAddress} → IsBridgeThere b bus number n r at → {path : Path} → path ≡ on bus n → {seen : Seen} → seen ≡ seen_of (is_multifunction b path) r.decl → IsFound b bus number n r seen
+bridge_found {b} {r = r} is path_is shows = record { on_bus = is.on_bus; stands = is.stands; shows = shows ∙ ap (λ (p : Path). seen_of (is_multifunction b p) r.decl) path_is }
 
-pub bridge_there_of : (b : Board) (bus : Path) (number n : ℕ) (r : Row) (seen : Seen) → IsFound b bus number n r seen → seen.layout ≡ BridgeLayout → (at : BusAddress) → at ≡ record { bus = number; part = nth_part n } → IsBridgeThere b bus number n r at
-bridge_there_of b bus number n r seen found layout at at_is = record { on_bus = found.on_bus; stands = found.stands; is_bridge_there = bridge_seen b bus number n r seen found layout; address = at_is }
+pub bridge_there_of : {b : Board} {bus : Path} {number n : ℕ} {r : Row} {seen : Seen} → IsFound b bus number n r seen → seen.layout ≡ BridgeLayout → {at : BusAddress} → at ≡ record { bus = number; part = nth_part n } → IsBridgeThere b bus number n r at
+bridge_there_of found layout at_is = record { on_bus = found.on_bus; stands = found.stands; is_bridge_there = bridge_seen found layout; address = at_is }
 
-pub shows_at : (b : Board) (bus : Path) (number n : ℕ) (r : Row) (seen : Seen) → IsFound b bus number n r seen → (path : Path) → path ≡ on bus n → seen ≡ seen_of (is_multifunction b path) r.decl
-shows_at b bus number n r seen found path path_is = found.shows ∙ sym (ap (λ (p : Path). seen_of (is_multifunction b p) r.decl) path_is)
+pub shows_at : {b : Board} {bus : Path} {number n : ℕ} {r : Row} {seen : Seen} → IsFound b bus number n r seen → {path : Path} → path ≡ on bus n → seen ≡ seen_of (is_multifunction b path) r.decl
+shows_at {b} {r = r} found path_is = found.shows ∙ sym (ap (λ (p : Path). seen_of (is_multifunction b p) r.decl) path_is)

@@ -1,24 +1,23 @@
-use Rattle.std.proofs.{Common.{◌≡◌, ℕ, ◌∙◌, List, [], ◌∷◌, ◌++◌, sym, ap, subst, arith, length}, lemmas.Result.err_from_is_err_and}
+use Rattle.std.proofs.{Common.{◌≡◌, ℕ, ◌∙◌, List, sym, ap, subst, arith, length}, lemmas.Result.err_from_is_err_and}
 use Rattle.model_board.specs.{Paths.Path, Board.{Board, is_multifunction}, State.State}
 use Rattle.model_set_up.specs.{FunctionTable.TableRow, ScanOrder.{on, next_part}}
-use Rattle.paths.specs.BusAddresses.{bus_address_of}
 use Rattle.host_bridge.specs.HostState.{HostState}
-use Rattle.bus_scan.{specs.{declared.enumeration.Enumeration.Enumeration, Scans.{IsAt, OnBus}, Sights.seen_of}, proofs.{ScanSteps.{side, deepest, rows_length, past_nothing}, ScanSights.{sighted, none_seen, finds, after_look, past_function, endpoint_row, bridge_there_of, shows_at}, enumeration.Enumeration.+scan.Goals.{scan_bridge-then-parts-lt-DEEPEST+in_ok-scan_bus, scan_bridge-else-parts-lt-DEEPEST, scan_place-in-Endpoint+in_ok-push-in-Endpoint, scan_place-in-Bridge+in_ok-scan_bridge-in-Bridge}}}
+use Rattle.bus_scan.{specs.{declared.enumeration.Enumeration.Enumeration, Scans.{IsAt, OnBus}, Sights.seen_of}, proofs.{ScanSteps.{side, deepest, rows_length, past_nothing}, ScanSights.{sighted, none_seen, finds, after_look, past_function, bridge_there_of, shows_at}, enumeration.Enumeration.+scan.Goals.{scan_bridge-then-parts-lt-DEEPEST+in_ok-scan_bus, scan_bridge-else-parts-lt-DEEPEST, scan_place-in-Endpoint+in_ok-push-in-Endpoint, scan_place-in-Bridge+in_ok-scan_bridge-in-Bridge}}}
 use Rattle.bus_scan.proofs.enumeration.Enumeration.+scan.Goals as goal
 
 -- the parts of a path as a bus
-at_parts : (b : Board) (p q : Path) (k : ℕ) → q ≡ p → OnBus b p k → OnBus b q k
-at_parts b p q k is on_bus = subst (λ (x : Path). OnBus b x k) (sym is) on_bus
+at_parts : {b : Board} {p q : Path} {k : ℕ} → q ≡ p → OnBus b p k → OnBus b q k
+at_parts {b} {k = k} is on_bus = subst (λ (x : Path). OnBus b x k) (sym is) on_bus
 
-begins : (b : Board) (p q : Path) (n : ℕ) (s : State) (rows : List TableRow) (last : ℕ) → q ≡ p → IsAt b (on p n) s rows last → IsAt b (on q n) s rows last
-begins b p q n s rows last is at = subst (λ (x : Path). IsAt b (on x n) s rows last) (sym is) at
+begins : {b : Board} {p q : Path} (n : ℕ) {s : State} {rows : List TableRow} {last : ℕ} → q ≡ p → IsAt b (on p n) s rows last → IsAt b (on q n) s rows last
+begins {b} n {s} {rows} {last} is at = subst (λ (x : Path). IsAt b (on x n) s rows last) (sym is) at
 
-placed : (b : Board) (here : Path) (h k : HostState) (e f : Enumeration) → k ≡ h → f ≡ e → IsAt b here h.state e.rows.items e.last → IsAt b here k.state f.rows.items f.last
-placed b here h k e f same_host same at =
+placed : {b : Board} {here : Path} {h k : HostState} {e f : Enumeration} → k ≡ h → f ≡ e → IsAt b here h.state e.rows.items e.last → IsAt b here k.state f.rows.items f.last
+placed {b} {here} {h} {f = f} same_host same at =
     subst (λ (k : HostState). IsAt b here k.state f.rows.items f.last) (sym same_host) (subst (λ (f : Enumeration). IsAt b here h.state f.rows.items f.last) (sym same) at)
 
-pushed : (b : Board) (here : Path) (s : State) (xs ys : List TableRow) (m n : ℕ) → ys ≡ xs → n ≡ m → IsAt b here s xs m → IsAt b here s ys n
-pushed b here s xs ys m n rows last at = subst (λ (ys : List TableRow). IsAt b here s ys n) (sym rows) (subst (λ n. IsAt b here s xs n) (sym last) at)
+pushed : {b : Board} {here : Path} {s : State} {xs ys : List TableRow} {m n : ℕ} → ys ≡ xs → n ≡ m → IsAt b here s xs m → IsAt b here s ys n
+pushed {b} {here} {s} {xs} {n = n} rows last at = subst (λ (ys : List TableRow). IsAt b here s ys n) (sym rows) (subst (λ n. IsAt b here s xs n) (sym last) at)
 
 pub scan_bridge-returns-in_err-number-clause-scanned :
     goal.scan_bridge-returns-in_err-number-clause-scanned
@@ -31,8 +30,8 @@ scan_bridge-returns-in_err-scan_bus-clause-scanned t c = λ b bus n r is path sh
     let p = err_from_is_err_and c.from_residual-in_err-scan_bus.result c.from_residual-in_err-scan_bus.ensures.1 in
     let opened = c.in_ok-number.ensures.opened b bus n r is (c.copied.ensures ∙ path) (shows ∙ ap (λ (p : Path). seen_of (is_multifunction b p) r.decl) (sym c.copied.ensures)) here in
     let same : c.parts-parts.result.now ≡ on bus n = c.parts-parts.ensures.value ∙ path in
-    rw (p.1, p.2) (c.in_err-scan_bus.ensures.scanned b (at_parts b (on bus n) c.parts-parts.result.now c.in_ok-number.number same (side b bus c.args.bus n r is.on_bus is.stands is.is_bridge_there c.in_ok-number.number opened.0))
-    (begins b (on bus n) c.parts-parts.result.now 0 c.open_bridge.new.host.state c.open_bridge.new.self.rows.items c.open_bridge.new.self.last same opened.1))
+    let behind = side b bus c.args.bus n r is.on_bus is.stands is.is_bridge_there c.in_ok-number.number opened.0 in
+    rw (p.1, p.2) (c.in_err-scan_bus.ensures.scanned b (at_parts same behind) (begins 0 same opened.1))
 
 pub scan_bridge-returns-clause-scanned : goal.scan_bridge-returns-clause-scanned
 scan_bridge-returns-clause-scanned t c = λ b bus n r is path shows here.
@@ -42,12 +41,10 @@ scan_bridge-returns-clause-scanned t c = λ b bus n r is path shows here.
     c.close_bridge.ensures.closed b bus n r is opened.0 (index ∙ rows_length b (on bus n) c.args.host.now.state c.args.self.now.rows.items c.args.self.now.last here)
     (elim c.if-parts-lt-DEEPEST.branch [
       | scan_bridge-then-parts-lt-DEEPEST+in_ok-scan_bus w ↦
-          let scanned = w.in_ok-scan_bus.ensures.scanned b (at_parts b (on bus n) c.parts-parts.result.now c.in_ok-number.number same (side b bus c.args.bus n r is.on_bus is.stands is.is_bridge_there c.in_ok-number.number opened.0))
-          (begins b (on bus n) c.parts-parts.result.now 0 c.open_bridge.new.host.state c.open_bridge.new.self.rows.items c.open_bridge.new.self.last same opened.1) in
-          placed b (on (on bus n) 128) w.scan_bus.new.host c.if-parts-lt-DEEPEST.host w.scan_bus.new.self c.if-parts-lt-DEEPEST.self w.host-is w.self-is (begins b c.parts-parts.result.now (on bus n) 128 w.scan_bus.new.host.state w.scan_bus.new.self.rows.items w.scan_bus.new.self.last (sym same) scanned)
+          let behind = side b bus c.args.bus n r is.on_bus is.stands is.is_bridge_there c.in_ok-number.number opened.0 in
+          placed w.host-is w.self-is (begins 128 (sym same) (w.in_ok-scan_bus.ensures.scanned b (at_parts same behind) (begins 0 same opened.1)))
       | scan_bridge-else-parts-lt-DEEPEST w ↦
-          placed b (on (on bus n) 128) c.open_bridge.new.host c.if-parts-lt-DEEPEST.host c.open_bridge.new.self c.if-parts-lt-DEEPEST.self w.host-is w.self-is
-          (deepest b is.on_bus.board (on bus n) (omega (arith, w.if-parts-lt-DEEPEST.false, ap length same)) c.open_bridge.new.host.state c.open_bridge.new.self.rows.items c.open_bridge.new.self.last opened.1)
+          placed w.host-is w.self-is (deepest b is.on_bus.board (on bus n) (omega (arith, w.if-parts-lt-DEEPEST.false, ap length same)) _ _ _ opened.1)
     ])
 
 pub scan_bus-returns-clause-scanned : goal.scan_bus-returns-clause-scanned
@@ -57,33 +54,29 @@ scan_bus-returns-clause-scanned t c = λ b on_bus at.
 
 pub scan_place-returns-in_default-clause-scanned : goal.scan_place-returns-in_default-clause-scanned
 scan_place-returns-in_default-clause-scanned t c = λ b on_bus at.
-    let sight = sighted b c.args.bus.now c.args.number on_bus c.args.n c.args.host.now.state c.args.self.now.rows.items c.args.self.now.last at (bus_address_of c.address-at.result) c.address-at.ensures c.look.result c.look.ensures.none c.look.ensures.some in
-    past_nothing b on_bus.board c.args.bus.now c.args.n c.next_part.result c.look.new.host.state c.args.self.now.rows.items c.args.self.now.last
-    (none_seen b c.args.bus.now c.args.number c.args.n c.look.result sight c.in_default.is) c.next_part.ensures.next
-    (after_look b (on c.args.bus.now c.args.n) c.args.host.now.state c.args.self.now.rows.items c.args.self.now.last at c.look.new.host.state (ap (λ (h : HostState). h.state) c.look.ensures.after))
+    let sight = sighted on_bus c.args.n at c.address-at.ensures c.look.ensures.none c.look.ensures.some in
+    past_nothing b on_bus.board c.args.bus.now c.args.n c.next_part.result _ _ _ (none_seen sight c.in_default.is) c.next_part.ensures.next
+    (after_look at (ap (λ (h : HostState). h.state) c.look.ensures.after))
 
 pub scan_place-returns-in_err-scan_bridge-in-Bridge-clause-scanned :
     goal.scan_place-returns-in_err-scan_bridge-in-Bridge-clause-scanned
 scan_place-returns-in_err-scan_bridge-in-Bridge-clause-scanned t c = λ b on_bus at.
     let p = err_from_is_err_and c.from_residual-in_err-scan_bridge-in-Bridge.result c.from_residual-in_err-scan_bridge-in-Bridge.ensures.1 in
-    let sight = sighted b c.args.bus.now c.args.number on_bus c.args.n c.args.host.now.state c.args.self.now.rows.items c.args.self.now.last at (bus_address_of c.address-at.result) c.address-at.ensures c.look.result c.look.ensures.none c.look.ensures.some in
-    let f = finds b c.args.bus.now c.args.number c.args.n c.look.result sight c.in-Some.seen c.in-Some.is in
-    rw (p.1, p.2) (c.in_err-scan_bridge-in-Bridge.ensures.scanned b c.args.bus.now c.args.n f.row (bridge_there_of b c.args.bus.now c.args.number c.args.n f.row c.in-Some.seen f.found c.in-Bridge.is (bus_address_of c.address-at.result) c.address-at.ensures) c.path_on-path.ensures (shows_at b c.args.bus.now c.args.number c.args.n f.row c.in-Some.seen f.found c.path_on-path.result c.path_on-path.ensures)
-    (after_look b (on c.args.bus.now c.args.n) c.args.host.now.state c.args.self.now.rows.items c.args.self.now.last at c.look.new.host.state (ap (λ (h : HostState). h.state) c.look.ensures.after)))
+    let f = finds (sighted on_bus c.args.n at c.address-at.ensures c.look.ensures.none c.look.ensures.some) c.in-Some.is in
+    let looked = after_look at (ap (λ (h : HostState). h.state) c.look.ensures.after) in
+    rw (p.1, p.2) (c.in_err-scan_bridge-in-Bridge.ensures.scanned b c.args.bus.now c.args.n f.row (bridge_there_of f.found c.in-Bridge.is c.address-at.ensures)
+    c.path_on-path.ensures (shows_at f.found c.path_on-path.ensures) looked)
 
 pub scan_place-returns-clause-scanned : goal.scan_place-returns-clause-scanned
 scan_place-returns-clause-scanned t c = λ b on_bus at.
-    let sight = sighted b c.args.bus.now c.args.number on_bus c.args.n c.args.host.now.state c.args.self.now.rows.items c.args.self.now.last at (bus_address_of c.address-at.result) c.address-at.ensures c.look.result c.look.ensures.none c.look.ensures.some in
-    let f = finds b c.args.bus.now c.args.number c.args.n c.look.result sight c.in-Some.seen c.in-Some.is in
-    let looked = after_look b (on c.args.bus.now c.args.n) c.args.host.now.state c.args.self.now.rows.items c.args.self.now.last at c.look.new.host.state (ap (λ (h : HostState). h.state) c.look.ensures.after) in
+    let f = finds (sighted on_bus c.args.n at c.address-at.ensures c.look.ensures.none c.look.ensures.some) c.in-Some.is in
+    let looked = after_look at (ap (λ (h : HostState). h.state) c.look.ensures.after) in
     subst (λ m. IsAt b (on c.args.bus.now m) c.match-seen.host.state c.match-seen.self.rows.items c.match-seen.self.last) (sym (f.next c.next_part-2.result c.next_part-2.ensures.next))
     (elim c.match-seen.branch [
       | scan_place-in-Endpoint+in_ok-push-in-Endpoint w ↦
-          placed b (on c.args.bus.now (next_part b c.args.bus.now c.args.n)) c.look.new.host c.match-seen.host w.push.new.self c.match-seen.self w.host-is w.self-is
-          (pushed b (on c.args.bus.now (next_part b c.args.bus.now c.args.n)) c.look.new.host.state (c.args.self.now.rows.items ++ endpoint_row c.path_on-path.result c.args.number w.in-Endpoint.pin c.in-Some.seen ∷ []) w.push.new.self.rows.items
-          c.args.self.now.last w.push.new.self.last w.in_ok-push-in-Endpoint.ensures.rows w.in_ok-push-in-Endpoint.ensures.last
-          (past_function b c.args.bus.now c.args.number c.args.n w.in-Endpoint.pin f.row c.in-Some.seen f.found w.in-Endpoint.is c.path_on-path.result c.path_on-path.ensures c.look.new.host.state c.args.self.now.rows.items c.args.self.now.last looked))
+          placed w.host-is w.self-is (pushed w.in_ok-push-in-Endpoint.ensures.rows w.in_ok-push-in-Endpoint.ensures.last
+          (past_function f.found w.in-Endpoint.is c.path_on-path.ensures looked))
       | scan_place-in-Bridge+in_ok-scan_bridge-in-Bridge w ↦
-          placed b (on c.args.bus.now (next_part b c.args.bus.now c.args.n)) w.scan_bridge.new.host c.match-seen.host w.scan_bridge.new.self c.match-seen.self w.host-is w.self-is
-          (w.in_ok-scan_bridge-in-Bridge.ensures.scanned b c.args.bus.now c.args.n f.row (bridge_there_of b c.args.bus.now c.args.number c.args.n f.row c.in-Some.seen f.found w.in-Bridge.is (bus_address_of c.address-at.result) c.address-at.ensures) c.path_on-path.ensures (shows_at b c.args.bus.now c.args.number c.args.n f.row c.in-Some.seen f.found c.path_on-path.result c.path_on-path.ensures) looked)
+          placed w.host-is w.self-is (w.in_ok-scan_bridge-in-Bridge.ensures.scanned b c.args.bus.now c.args.n f.row (bridge_there_of f.found w.in-Bridge.is c.address-at.ensures)
+          c.path_on-path.ensures (shows_at f.found c.path_on-path.ensures) looked)
     ])

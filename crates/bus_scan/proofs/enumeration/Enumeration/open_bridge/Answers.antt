@@ -6,7 +6,7 @@ use Rattle.bus_scan.proofs.enumeration.Enumeration.open_bridge.Goals as goal
 
 pub returns-then-self-clause-opened : goal.returns-then-self-clause-opened
 returns-then-self-clause-opened c = λ b bus n r is path shows here.
-    let found = bridge_found b bus c.args.bus n r (bus_address_of c.args.at) is c.args.path path c.args.seen shows in
+    let found = bridge_found is path shows in
     record {
       cause = inr (refl, too_many b found.on_bus.board (on bus n) r found.stands is.is_bridge_there c.args.host.now.state c.args.self.now.rows.items c.args.self.now.last c.if-self.true here);
       registers = (scan_numbers b (on bus n), here.state);
@@ -14,6 +14,6 @@ returns-then-self-clause-opened c = λ b bus n r is path shows here.
 
 pub returns-clause-opened : goal.returns-clause-opened
 returns-clause-opened c = λ b bus n r is path shows here.
-    let found = bridge_found b bus c.args.bus n r (bus_address_of c.args.at) is c.args.path path c.args.seen shows in
+    let found = bridge_found is path shows in
     bridge_opened b bus c.args.bus n r c.args.seen found is.is_bridge_there c.args.path path c.args.host.now.state c.args.self.now.rows.items c.args.self.now.last here c.if-self.false
     (bus_address_of c.args.at) is.address c.write_numbers.new.host.state c.write_numbers.ensures.written c.push.new.self.rows.items c.in_ok-push.ensures.rows
