@@ -1,5 +1,5 @@
 -- What is kept of a guest shows what its regions are, and what its accesses hit.
-use Rattle.std.{proofs.{Common.{◌≡◌, ◌≤◌, ◌<◌, ℕ, zero, suc, ◌+◌, ◌*◌, ◌/◌, Bool, false, cond, eqb, List, [], ◌∷◌, Some, None, Option, Err, slice_get, refl, sym, ap, ap₂, ◌∙◌, subst, arith, rules}, lemmas.Bool.Decides.nat_tests}, specs.{Prelude.{find, map, option_map, Result}, Option.{option_map_or, ok_or}}}
+use Rattle.std.{proofs.{Common.{◌≡◌, ◌≤◌, ◌<◌, ℕ, zero, suc, ◌+◌, ◌*◌, ◌/◌, Bool, true, false, cond, eqb, List, [], ◌∷◌, length, get_or, Some, None, Option, Err, slice_get, refl, sym, ap, ap₂, ◌∙◌, subst, arith, rules}, lemmas.{Bool.{ltb-true, ltb-false, Decides.nat_tests}, Option.{slice_get_read, slice_get_past}}}, specs.{Prelude.{find, map, nat_lt, option_map, unwrap_or, Result}, Option.{option_map_or, ok_or}}}
 use Rattle.lists.proofs.{Indices.{found_at, index_in}, Members.{each_in, in_map}}
 use Rattle.model_registers.specs.{Registers.{config, File, read, number, all_bytes}, ByteEnables.lanes, Declarations.{Kind, mem64, Region, registers_of, IsLawfulRegion, HasLawfulRegions}, EndpointTable.BaseAddress, OwnCopies.{OwnCopies, HoldsOwn, IsLawfulOwn, handed_on, bare}, Decoding.{Function, space_of, base, is_open, base_address}}
 use Rattle.model_board.specs.{Paths.Path, State.State, Ports.file_at}
@@ -47,6 +47,15 @@ wide_base own file holds n low high others more first second k pref is room =
     ap (λ (m : ℕ). m / 16 * 16) (sym eight) ∙ ap (base file n) (sym is)
 
 -- ---- the region that begins at a register
+
+-- as code reads it, and past the last
+module _ (slots : List (Option BasedRegion)) (n : ℕ) where
+  pub slot_read : {x o : Option BasedRegion} → true ≡ nat_lt n (length slots) → x ≡ get_or slots n x → x ≡ o → bars.slot_at slots n ≡ o
+  slot_read {x} {o} low is same =
+      ap (λ (y : Option (Option BasedRegion)). unwrap_or y None) (slice_get_read slots (length slots) n x refl (ltb-true n (length slots) (sym low)) is) ∙ same
+
+  pub slot_past : false ≡ nat_lt n (length slots) → bars.slot_at slots n ≡ None
+  slot_past past = ap (λ (y : Option (Option BasedRegion)). unwrap_or y None) (slice_get_past slots n (ltb-false n (length slots) (sym past)))
 
 none_from : (n k : ℕ) (slots : List (Option BasedRegion)) → n < k → find (λ (x : BaseAddress). eqb x.index n) (bars.bases_from k slots) ≡ None
 none_from n k [] h = refl
