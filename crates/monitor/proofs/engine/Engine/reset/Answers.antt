@@ -1,6 +1,8 @@
-use Rattle.std.proofs.Common.{◌∙◌, List, sym, subst, arith}
+use Rattle.std.proofs.Common.{◌≡◌, ◌∙◌, List, sym, subst, arith}
 use Rattle.model_guests.specs.DeviceEvents.{resets}
-use Rattle.monitor.{specs.{declared.guest.Guest.Guest, ByIndex.name_nth, Configs.HoldsAt, Counts.{counted_both, counts_of}, Moves.HasSlot}, proofs.{Calls.{back_in, guest_in, inside_guests}, ResetSteps.{device_refused, nothing_changed, reset_done, reset_left}, Machines.{both_one, counts_lent, grew, happens, is_counted, not_counted, refused_all}, TakingSteps.{fault_named, may_take}, Steps.{fault_lent, slot_lent}, Exchanges.{has_nth, holds_nth, over_lent}, Writable.after_action_sound}}
+use Rattle.model_handoff.specs.Changes.{after_on_machine}
+use Rattle.monitor.{specs.{declared.guest.Guest.Guest, ByIndex.name_nth, Configs.HoldsAt, Counts.{counted_both, counts_of}, Moves.HasSlot}, proofs.{Calls.{guest_in, inside_guests}, ResetSteps.{device_refused, nothing_changed, reset_done, reset_left}, Machines.{both_one, grew, happens, is_counted, not_counted, refused_all}, TakingSteps.{fault_named, may_take}, Steps.{fault_lent, slot_lent}, Exchanges.{has_nth, holds_nth, over_lent}, Writable.after_action_sound}}
+use Rattle.monitor.proofs.Ended.{Ends, ends}
 use Rattle.monitor.proofs.engine.Engine.reset.Goals as goal
 
 pub index-requires : goal.index-requires
@@ -34,23 +36,22 @@ returns-in-Ok-clause-reply g c =
     let at = guest_in c.self.invariant.1 c.self.view_is c.args.guest c.requires c.index.ensures in
     reset_done at (slot_lent at c.deref.ensures.value c.in-Ok.ensures.there.there) c.in-Ok.ensures.there.low
 
+reset : (g : _) (c : goal.After-self-in-Ok-1 g)
+    → Ends c.self.inside c.hand_over.new.host c.hand_over.new.guests
+    (λ m. m ≡ after_on_machine c.args.self.now (happens c.args.self.now c.args.guest (resets c.args.slot)))
+reset g c =
+    let at = guest_in c.self.invariant.1 c.self.view_is c.args.guest c.requires c.index.ensures in
+    let slot = slot_lent at c.deref.ensures.value c.in-Ok.ensures.there.there in
+    let event = happens c.args.self.now c.args.guest (resets c.args.slot) in
+    ends c.self.inside c.deref_mut.ensures.value (c.hand_over.auto.guests ∙ c.deref_mut.ensures.len)
+    (reset_left at slot c.in-Ok.ensures.there.low (over_lent c.deref_mut.ensures.value c.hand_over.ensures.over))
+    (after_action_sound c.self.invariant.1 c.self.view_is event) (counted_both c.args.guest c.args.guest) c.hand_over.ensures.counts
+    (λ left counts. grew c.self.invariant.1 c.self.view_is event c.args.guest c.requires left (counts ∙ both_one c.args.guest (counts_of c.self.inside.guests.items))
+    (is_counted (name_nth c.args.self.now.world c.args.guest) (may_take at c.args.slot slot c.in-Ok.ensures.there.low)))
+
 pub invariant_of-self : goal.invariant_of-self
 invariant_of-self g c =
-    let e = c.self.inside in
-    let at = guest_in c.self.invariant.1 c.self.view_is c.args.guest c.requires c.index.ensures in
-    let slot = slot_lent at c.deref.ensures.value c.in-Ok.ensures.there.there in
-    let left = back_in e.guests.items e.guests.len (c.hand_over.auto.guests ∙ c.deref_mut.ensures.len)
-    (reset_left at slot c.in-Ok.ensures.there.low (over_lent c.deref_mut.ensures.value c.hand_over.ensures.over)) in
-    (g.met.R.Route.by_routing e.route e.host c.hand_over.new.host left.routes c.self.invariant.0, after_action_sound c.self.invariant.1 c.self.view_is (happens c.args.self.now c.args.guest (resets c.args.slot)) left)
+    (g.met.R.Route.by_routing c.self.inside.route c.self.inside.host c.hand_over.new.host (reset g c).routes c.self.invariant.0, (reset g c).sound)
 
 pub returns-in-Ok-clause-after : goal.returns-in-Ok-clause-after
-returns-in-Ok-clause-after g c =
-    let e = c.self.inside in
-    let now = c.args.self.now in
-    let at = guest_in c.self.invariant.1 c.self.view_is c.args.guest c.requires c.index.ensures in
-    let slot = slot_lent at c.deref.ensures.value c.in-Ok.ensures.there.there in
-    let count = c.hand_over.auto.guests ∙ c.deref_mut.ensures.len in
-    grew c.self.invariant.1 c.self.view_is (happens now c.args.guest (resets c.args.slot)) c.args.guest c.requires
-    (back_in e.guests.items e.guests.len count (reset_left at slot c.in-Ok.ensures.there.low (over_lent c.deref_mut.ensures.value c.hand_over.ensures.over)))
-    (counts_lent _ (counted_both c.args.guest c.args.guest) c.deref_mut.ensures.value c.hand_over.ensures.counts e.guests.len count ∙ both_one c.args.guest (counts_of e.guests.items))
-    (is_counted (name_nth now.world c.args.guest) (may_take at c.args.slot slot c.in-Ok.ensures.there.low))
+returns-in-Ok-clause-after g c = (reset g c).shown
