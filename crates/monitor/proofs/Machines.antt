@@ -1,5 +1,5 @@
 -- The machine after a call: the world that the call leaves, and the counts.
---     untouched, same_machine      where nothing changes
+--     untouched, same_machine, still_shown      where nothing changes
 --     accessed      after an access that a guest is counted for, or isn't
 --     by_name      after an event of a guest by its index
 --     refused_all, read_after      after an action that is refused, or one that reads
@@ -78,6 +78,9 @@ module _ {h : HostState} {names : List Text} {gs : List Guest} (sound : IsSound 
 
   kept : IsKept now.world h names gs
   kept = kept_in sound view
+
+  pub still_shown : {new : HostState} → new ≡ h → machine_shown new names gs ≡ now
+  still_shown same = ap (λ (k : HostState). machine_shown k names gs) same ∙ view
 
   pub accessed : (i : ℕ) {t u : Bool} {v : WorldNow} {new : HostState} {back : List Guest} → Leaves v h new names back → counts_of back ≡ counted_nth i t (counts_of gs) → t ≡ u
       → machine_shown new names back ≡ machine v (counted_nth i u now.counts)

@@ -1,7 +1,6 @@
-use Rattle.std.proofs.Common.{◌∙◌, ap, arith}
-use Rattle.monitor.{specs.{DeviceBytes.device_byte, Views.{machine_shown, texts}}, proofs.{DeviceSteps.{device_read, endpoint_reached, refused_there}, Machines.read_after, ResetSteps.device_refused, Calls.{guest_in, inside_guests}}}
+use Rattle.std.proofs.Common.{◌∙◌, arith}
+use Rattle.monitor.{specs.DeviceBytes.device_byte, proofs.{DeviceSteps.{device_read, endpoint_reached, refused_there}, Machines.{read_after, still_shown}, ResetSteps.device_refused, Calls.{guest_in, inside_guests}}}
 use Rattle.model_guests.specs.DeviceEvents.{device_reads}
-use Rattle.host_bridge.specs.HostState.{HostState}
 use Rattle.monitor.proofs.engine.Engine.device_read.Goals as goal
 
 pub index-requires : goal.index-requires
@@ -19,8 +18,7 @@ returns-in-Ok-clause-reply g c =
 
 pub returns-in-Ok-clause-after : goal.returns-in-Ok-clause-after
 returns-in-Ok-clause-after g c =
-    let e = c.self.inside in
-    ap (λ (h : HostState). machine_shown h (texts e.names) e.guests.items) c.device_value_nth-value.ensures.after ∙ c.self.view_is
+    still_shown c.self.invariant.1 c.self.view_is c.device_value_nth-value.ensures.after
     ∙ read_after c.args.self.now c.args.guest (device_byte c.args.slot c.args.place c.args.off)
 
 pub returns-in-Err-clause-reply : goal.returns-in-Err-clause-reply

@@ -4,8 +4,7 @@ use Rattle.model_guests.specs.{Accesses.{reads, writes}, Slots.Landing}
 use Rattle.model_handoff.specs.RegionBytes.{byte_reply, reply_there, after_there, register_of}
 use Rattle.config_bytes.specs.declared.op.Op.{Op}
 use Rattle.accesses.specs.Accesses.{op_of, part_of}
-use Rattle.host_bridge.specs.HostState.{HostState}
-use Rattle.monitor.{specs.{Views.{machine_shown, texts}, ByIndex.lone_nth, Counts.{after_byte_nth, after_nth}, DeviceBytes.device_byte}, proofs.{Calls.{guest_in, inside_guests}, Machines.accessed, RegionBytes.{byte_refused, byte_closed, lands, opening_is, read_stays, slot_refused}, RegionSteps.{read_there, written_there}, Steps.slot_lent, Writable.after_write_sound}}
+use Rattle.monitor.{specs.{ByIndex.lone_nth, Counts.{after_byte_nth, after_nth}, DeviceBytes.device_byte}, proofs.{Calls.{guest_in, inside_guests}, Machines.{accessed, still_shown}, RegionBytes.{byte_refused, byte_closed, lands, opening_is, read_stays, slot_refused}, RegionSteps.{read_there, written_there}, Steps.slot_lent, Writable.after_write_sound}}
 use Rattle.monitor.proofs.engine.Engine.region_byte.Goals as goal
 
 pub index-requires : goal.index-requires
@@ -67,15 +66,12 @@ pub returns-in-Read-clause-after : goal.returns-in-Read-clause-after
 returns-in-Read-clause-after g c =
     let at = guest_in c.self.invariant.1 c.self.view_is c.args.guest c.requires c.index.ensures in
     let opening = opening_is at c.deref.ensures.value c.args.slot c.args.place c.args.off c.in-Ok.ensures.there c.in-Some.ensures in
-    let e = c.self.inside in
-    ap (λ (h : HostState). machine_shown h (texts e.names) e.guests.items) c.region_read-value.ensures.after ∙ c.self.view_is
+    still_shown c.self.invariant.1 c.self.view_is c.region_read-value.ensures.after
     ∙ read_stays {m = c.args.self.now} at (device_byte c.args.slot c.args.place c.args.off) (opening ∙ ap Ok c.if-not-opened.false)
     ∙ ap (λ (op : Op). after_byte_nth c.args.guest (op_of op) (device_byte c.args.slot c.args.place c.args.off) c.args.self.now) (sym c.in-Read.is)
 
 pub returns-in-Read-clause-read : goal.returns-in-Read-clause-read
-returns-in-Read-clause-read g c =
-    let e = c.self.inside in
-    λ _. ap (λ (h : HostState). machine_shown h (texts e.names) e.guests.items) c.region_read-value.ensures.after ∙ c.self.view_is
+returns-in-Read-clause-read g c = λ _. still_shown c.self.invariant.1 c.self.view_is c.region_read-value.ensures.after
 
 pub invariant_of-self-in-Write : goal.invariant_of-self-in-Write
 invariant_of-self-in-Write g c =
