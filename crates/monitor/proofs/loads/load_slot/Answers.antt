@@ -50,4 +50,5 @@ returns-clause-kept c = λ k can.
 
 pub returns-clause-behind : goal.returns-clause-behind
 returns-clause-behind c = λ k.
-    filled_behind (at c k) c.args.slot c.in-Some.first c.in-Some.count (filled c k) c.args.bytes.now c.behind-bytes.result.now c.behind-2.result.now c.behind-bytes.ensures c.behind-2.ensures
+    filled_behind (at c k) c.args.slot c.in-Some.first c.in-Some.count (filled c k)
+    c.args.bytes.now c.behind-bytes.result.now c.behind-2.result.now c.behind-bytes.ensures c.behind-2.ensures

@@ -18,7 +18,8 @@ returns-in-Some-Some-clause-told c = λ s p f held lawful.
 pub returns-in-Some-None-clause-told : goal.returns-in-Some-None-clause-told
 returns-in-Some-None-clause-told c = λ s p f held lawful.
     let here : c.in-Some-None.field-0.now ≡ None = let i = c.in-Some-None.is in let j = c.in-Some-None.field-0-is in cc in
-    ap (option_map (standing f.file c.args.bar)) (sym (slot_read c.args.held.now.placed c.args.bar c.in-Some-None.ensures.lookup.0 c.in-Some-None.ensures.lookup.1 here))
+    ap (option_map (standing f.file c.args.bar))
+    (sym (slot_read c.args.held.now.placed c.args.bar c.in-Some-None.ensures.lookup.0 c.in-Some-None.ensures.lookup.1 here))
 
 pub returns-in-None-clause-told : goal.returns-in-None-clause-told
 returns-in-None-clause-told c = λ s p f held lawful.
