@@ -16,11 +16,12 @@ pub record Ends {R : Type 0} (e : Inside R) (new : HostState) (left : List Guest
   pub sound : IsSound new (texts e.names) (back e left)
   pub shown : promised (machine_shown new (texts e.names) (back e left))
 
-pub ends : {R : Type 0} (e : Inside R) {ms left : List Guest} {new : HostState} {v : WorldNow} {promised : MachineNow → Type 0} → ms ≡ e.guests.items → length left ≡ e.guests.len
+pub ends : {R : Type 0} (e : Inside R) {ms left : List Guest} {new : HostState} {v : WorldNow} {promised : MachineNow → Type 0}
+    → ms ≡ e.guests.items → length left ≡ e.guests.len
     → Leaves v e.host new (texts e.names) left → (Leaves v e.host new (texts e.names) (back e left) → IsSound new (texts e.names) (back e left))
     → (f : List ℕ → List ℕ) → counts_of left ≡ f (counts_of ms)
-    → (Leaves v e.host new (texts e.names) (back e left) → counts_of (back e left) ≡ f (counts_of e.guests.items) → promised (machine_shown new (texts e.names) (back e left)))
-    → Ends e new left promised
+    → (Leaves v e.host new (texts e.names) (back e left) → counts_of (back e left) ≡ f (counts_of e.guests.items)
+    → promised (machine_shown new (texts e.names) (back e left))) → Ends e new left promised
 ends e {ms} {left} lent count leaves sound f counts shown =
     let whole = back_in e.guests.items e.guests.len count leaves in
     record { routes = whole.routes; sound = sound whole; shown = shown whole (counts_lent left f lent counts e.guests.len count) }
