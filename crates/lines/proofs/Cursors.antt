@@ -1,5 +1,5 @@
 -- The front of a text: its first word, and the number that this writes.
-use Rattle.std.{proofs.{Common.{◌≡◌, ℕ, ◌+◌, ◌<◌, ◌≤◌, ◌==◌, ◌&&◌, ◌||◌, ◌^◌, Bool, true, false, cond, List, [], ◌∷◌, Option, Some, None, length, drop, filter, option_map, refl, sym, ap, ◌∙◌, arith, ◌*◌, get_or, Bor}, lemmas.Bool.Decides.nat_tests}, specs.{Prelude.MatchOption, List.starts_with}}
+use Rattle.std.{proofs.{Common.{◌≡◌, ℕ, ◌+◌, ◌<◌, ◌≤◌, ◌==◌, ◌&&◌, ◌||◌, ◌^◌, Bool, true, false, cond, List, [], ◌∷◌, Option, Some, None, length, drop, filter, option_map, refl, sym, ap, subst, ◌∙◌, arith, ◌*◌, get_or, Bor}, lemmas.{Bool.Decides.nat_tests, List.drop_more}}, specs.{Prelude.MatchOption, List.starts_with}}
 use Rattle.model_guests.specs.{Text.{Text, onto, pieces, is_blank, words}, Numbers.{below, digit_of, digits_from, digits_in, is_hexadecimal, number_of}}
 use Rattle.lines.{specs.Cursors.{before_blank, after_blank, IsAtWord, Numbered, numbered}, proofs.{Digits.{longer, longer-None}, Splitting.{is_word, place_is}}}
 
@@ -88,12 +88,12 @@ digits_in-before base [] some h = absurd (omega arith)
 digits_in-before base (c ∷ cs) some h = rw (at_other c cs h).0 refl
 
 -- a byte that is neither a digit nor a blank, or a digit too many
-pub no_longer : (limit base n b : ℕ) (t : Text) → 1 ≤ base → is_blank b ≡ false
-    → None ≡ below limit (option_map (λ d. n * base + d) (below base (digit_of b)))
-    → None ≡ below limit (digits_from base n (before_blank (b ∷ t)))
-no_longer limit base n b t some h e =
-    longer-None limit base n (before_blank t) (below base (digit_of b)) some e
-    ∙ ap (λ (xs : Text). below limit (digits_from base n xs)) (sym (at_other b t h).0)
+pub no_longer : (limit base n i : ℕ) (t : Text) → i < length t → 1 ≤ base → is_blank (get_or t i 0) ≡ false
+    → None ≡ below limit (option_map (λ d. n * base + d) (below base (digit_of (get_or t i 0))))
+    → None ≡ below limit (digits_from base n (before_blank (drop i t)))
+no_longer limit base n i t low some h e =
+    longer-None limit base n (before_blank (drop (i + 1) t)) (below base (digit_of (get_or t i 0))) some e
+    ∙ ap (λ (xs : Text). below limit (digits_from base n xs)) (sym (at_other (get_or t i 0) (drop (i + 1) t) h).0 ∙ ap before_blank (sym (drop_more t i 0 low)))
 
 longer_is : (limit base n m : ℕ) (cs : Text) (digit : Option ℕ) → Some m ≡ below limit (option_map (λ d. n * base + d) digit)
     → digits_from base m cs ≡ longer base n cs digit
@@ -104,11 +104,16 @@ pub no_blank : (b : Bool) (limit base n m c : ℕ) → is_blank c ≡ b
 no_blank b limit base n m c h e = grind (arith, digit_or_blank)
 
 -- a digit more
-pub record Longer (limit base n m b : ℕ) (t : Text) : Type 0 where
-  pub read : digits_from base m (before_blank t) ≡ digits_from base n (before_blank (b ∷ t))
-  pub after : after_blank t ≡ after_blank (b ∷ t)
+pub record Longer (limit base n m : ℕ) (old new : Text) : Type 0 where
+  pub read : digits_from base m (before_blank new) ≡ digits_from base n (before_blank old)
+  pub after : after_blank new ≡ after_blank old
   pub small : m < limit
 
-pub one_longer : (limit base n m b : ℕ) (t : Text)
-    → Some m ≡ below limit (option_map (λ d. n * base + d) (below base (digit_of b))) → Longer limit base n m b t
-one_longer limit base n m b t e = grind (arith, at_other, no_blank, longer_is, nat_tests, place_is)
+by_digit : (limit base n m b : ℕ) (t : Text)
+    → Some m ≡ below limit (option_map (λ d. n * base + d) (below base (digit_of b))) → Longer limit base n m (b ∷ t) t
+by_digit limit base n m b t e = grind (arith, at_other, no_blank, longer_is, nat_tests, place_is)
+
+pub one_longer : (limit base n m i : ℕ) (t : Text) → i < length t
+    → Some m ≡ below limit (option_map (λ d. n * base + d) (below base (digit_of (get_or t i 0)))) → Longer limit base n m (drop i t) (drop (i + 1) t)
+one_longer limit base n m i t low e =
+    subst (λ (xs : Text). Longer limit base n m xs (drop (i + 1) t)) (sym (drop_more t i 0 low)) (by_digit limit base n m (get_or t i 0) (drop (i + 1) t) e)

@@ -75,27 +75,6 @@ last_lines : {S : Type 0} {p : Protocol S} {w : S} {text rest : Text} {long : Bo
     → (r : Reaches p w text rest long old mid end) → lines text ≡ r.whole ++ lines (r.before ++ rest)
 last_lines {rest = rest} r = ap lines r.in_order ∙ lines_of_pieces r.whole r.each_line (r.before ++ rest)
 
--- where the last line's answer is known of whatever was passed over of it
-pub output_on : {S : Type 0} {p : Protocol S} {w : S} (old_rest new_rest : Option Text) {text rest script : Text} {long : Bool} {old mid : Option Text} (new : Option Text) {end : S}
-    → Consumes old_rest new_rest text → IsAtEnd new_rest → Reaches p w text rest long old mid end → HasNoEnd rest
-    → ((before : Text) → IsBefore long before → HasNoEnd (before ++ rest) → Appends mid new (output p end (lines (before ++ rest))))
-    → old_rest ≡ Some script → Appends old new (output p w (lines script))
-output_on {p = p} {w = w} old_rest new_rest {text} {rest} {script} {old = old} {mid = mid} new {end} taken done r clean written known =
-    let along = Appends-trans old mid new (output p w r.whole) (output p end (lines (r.before ++ rest))) r.written (written r.before r.passed (no_end_along r.before rest r.clean clean)) in
-    subst (Appends old new)
-    (ap (λ e. output p w r.whole ++ output p e (lines (r.before ++ rest))) r.events ∙ sym (output_along p w r.whole (lines (r.before ++ rest)))
-    ∙ ap (output p w) (sym (last_lines r) ∙ ap lines (whole_script old_rest new_rest text script taken done known)))
-    along
-
-pub after_on : {S : Type 0} {p : Protocol S} {w : S} (old_rest new_rest : Option Text) {text rest script : Text} {long : Bool} {old mid : Option Text} {end last : S}
-    → Consumes old_rest new_rest text → IsAtEnd new_rest → Reaches p w text rest long old mid end → HasNoEnd rest
-    → ((before : Text) → IsBefore long before → HasNoEnd (before ++ rest) → last ≡ after_lines p end (lines (before ++ rest)))
-    → old_rest ≡ Some script → last ≡ after_lines p w (lines script)
-after_on {p = p} {w = w} old_rest new_rest {text} {rest} {script} taken done r clean events known =
-    events r.before r.passed (no_end_along r.before rest r.clean clean) ∙ ap (λ e. after_lines p e (lines (r.before ++ rest))) r.events
-    ∙ sym (after_along p w r.whole (lines (r.before ++ rest)))
-    ∙ ap (after_lines p w) (sym (last_lines r) ∙ ap lines (whole_script old_rest new_rest text script taken done known))
-
 stopped_on : {S : Type 0} {p : Protocol S} {w : S} {text rest : Text} {long : Bool} {old mid new : Option Text} {end last : S}
     → (r : Reaches p w text rest long old mid end) → IsStopped p end (lines (r.before ++ rest)) mid new last → IsStopped p w (lines text) old new last
 stopped_on {S} {p = p} {w = w} {old = old} {mid = mid} {new = new} {end = end} r s =
@@ -114,18 +93,53 @@ stopped_on {S} {p = p} {w = w} {old = old} {mid = mid} {new = new} {end = end} r
           ∙ ap (after_lines p w) (sym (append_assoc r.whole s.whole (take 1 s.rest)));
     }
 
--- a failed write or flush at the end of the script
-pub stopped_last : {S : Type 0} {p : Protocol S} {w : S} {old_rest new_rest : Option Text} {text rest script : Text} {long : Bool} {old mid new : Option Text} {end last : S}
-    → Consumes old_rest new_rest text → IsAtEnd new_rest → Reaches p w text rest long old mid end → HasNoEnd rest
-    → ((before : Text) → IsBefore long before → HasNoEnd (before ++ rest) → IsStopped p end (lines (before ++ rest)) mid new last)
-    → old_rest ≡ Some script → IsStoppedIn p w script old_rest new_rest old new last
-stopped_last {p = p} {w = w} {old_rest} {new_rest} {text} {rest} {script} {old = old} {new = new} {last = last} taken done r clean s known = record {
-  read = text;
-  consumed = taken;
-  stop = subst (λ (t : Text). IsStopped p w (lines t) old new last) (whole_script old_rest new_rest text script taken done known)
-      (stopped_on r (s r.before r.passed (no_end_along r.before rest r.clean clean)));
-  in_time = inr done;
-}
+module _ {S : Type 0} {p : Protocol S} {w : S} (old_rest new_rest : Option Text) {text rest script : Text} {long : Bool} {old mid : Option Text} {end : S}
+    (taken : Consumes old_rest new_rest text) (done : IsAtEnd new_rest) (r : Reaches p w text rest long old mid end) (clean : HasNoEnd rest) (known : old_rest ≡ Some script) where
+  all_read : text ≡ script
+  all_read = whole_script old_rest new_rest text script taken done known
+
+  all_lines : lines script ≡ r.whole ++ lines (r.before ++ rest)
+  all_lines = ap lines (sym all_read) ∙ last_lines r
+
+  last_clean : HasNoEnd (r.before ++ rest)
+  last_clean = no_end_along r.before rest r.clean clean
+
+  -- where the last line's answer is known of whatever was passed over of it
+  pub output_on : (new : Option Text) → ((before : Text) → IsBefore long before → HasNoEnd (before ++ rest) → Appends mid new (output p end (lines (before ++ rest))))
+      → Appends old new (output p w (lines script))
+  output_on new written =
+      subst (Appends old new)
+      (ap (λ e. output p w r.whole ++ output p e (lines (r.before ++ rest))) r.events ∙ sym (output_along p w r.whole (lines (r.before ++ rest))) ∙ ap (output p w) (sym all_lines))
+      (Appends-trans old mid new (output p w r.whole) (output p end (lines (r.before ++ rest))) r.written (written r.before r.passed last_clean))
+
+  pub after_on : {last : S} → ((before : Text) → IsBefore long before → HasNoEnd (before ++ rest) → last ≡ after_lines p end (lines (before ++ rest))) → last ≡ after_lines p w (lines script)
+  after_on events =
+      events r.before r.passed last_clean ∙ ap (λ e. after_lines p e (lines (r.before ++ rest))) r.events
+      ∙ sym (after_along p w r.whole (lines (r.before ++ rest))) ∙ ap (after_lines p w) (sym all_lines)
+
+  -- a failed write or flush at the end of the script
+  pub stopped_last : {new : Option Text} {last : S} → ((before : Text) → IsBefore long before → HasNoEnd (before ++ rest) → IsStopped p end (lines (before ++ rest)) mid new last)
+      → IsStoppedIn p w script old_rest new_rest old new last
+  stopped_last {new} {last} s = record {
+    read = text;
+    consumed = taken;
+    stop = subst (λ (t : Text). IsStopped p w (lines t) old new last) all_read (stopped_on r (s r.before r.passed last_clean));
+    in_time = inr done;
+  }
+
+  -- memory is out for the last line
+  pub lacking_last : ((before : Text) → IsBefore long before → 0 < length (before ++ rest)) → IsLackingIn p w script old_rest new_rest old mid end
+  lacking_last some = record {
+    read = text;
+    consumed = taken;
+    whole = r.whole;
+    line = r.before ++ rest;
+    rest = [];
+    in_order = all_lines ∙ ap (λ (ls : List Text). r.whole ++ ls) (some_line (r.before ++ rest) last_clean (some r.before r.passed));
+    in_time = inr done;
+    written = r.written;
+    events = r.events;
+  }
 
 -- all lines were answered, but what they wrote was not flushed
 pub stopped_after : {S : Type 0} (p : Protocol S) (w : S) (ls : List Text) (old new : Option Text) (end : S)
@@ -165,20 +179,3 @@ pub last_stopped : {S : Type 0} (p : Protocol S) (w : S) (line part : Text) (old
     → StartsWith (p.writes w line) part → Appends old new part → end ≡ p.next w line → IsStopped p w (lines line) old new end
 last_stopped {S} p w line part old new end clean some begins written events =
     subst (λ (ls : List Text). IsStopped p w ls old new end) (sym (some_line line clean some)) (stopped_one p w line part old new end begins written events)
-
--- memory is out for the last line
-pub lacking_last : {S : Type 0} {p : Protocol S} {w : S} {old_rest new_rest : Option Text} {text rest script : Text} {long : Bool} {old mid : Option Text} {end : S}
-    → Consumes old_rest new_rest text → IsAtEnd new_rest → Reaches p w text rest long old mid end → HasNoEnd rest
-    → ((before : Text) → IsBefore long before → 0 < length (before ++ rest)) → old_rest ≡ Some script → IsLackingIn p w script old_rest new_rest old mid end
-lacking_last {old_rest = old_rest} {new_rest} {text} {rest} {script} taken done r clean some known = record {
-  read = text;
-  consumed = taken;
-  whole = r.whole;
-  line = r.before ++ rest;
-  rest = [];
-  in_order = ap lines (sym (whole_script old_rest new_rest text script taken done known)) ∙ last_lines r
-      ∙ ap (λ (ls : List Text). r.whole ++ ls) (some_line (r.before ++ rest) (no_end_along r.before rest r.clean clean) (some r.before r.passed));
-  in_time = inr done;
-  written = r.written;
-  events = r.events;
-}

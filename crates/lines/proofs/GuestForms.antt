@@ -68,16 +68,16 @@ reads_port (a ∷ b ∷ c ∷ d ∷ e ∷ ws) = read_many port (number_of a) b c
 abbrev slot_by : Option ℕ → Option ℕ → List Text → Option Placed
 slot_by o q ws = option_and_then (λ (s : ℕ). placed_by (configuration s) q ws) o
 
-slot_then : (o : Option ℕ) (b : Text) (ws : List Text)
-    → option_and_then (λ (s : Numbered). option_map (λ (o : Numbered).
-    record { target = configuration s.number o.number; rest = o.rest }) (numbered s.rest)) (numbered_by o (b ∷ ws))
-    ≡ slot_by o (number_of b) ws
-slot_then o b ws = grind arith
+abbrev slot_in : Option Numbered → Option Placed
+slot_in a = option_and_then (λ (s : Numbered). option_map (λ (o : Numbered).
+    record { target = configuration s.number o.number; rest = o.rest }) (numbered s.rest)) a
 
-no_offset : (o : Option ℕ)
-    → option_and_then {U = Placed} (λ (s : Numbered). option_map (λ (o : Numbered).
-    record { target = configuration s.number o.number; rest = o.rest }) (numbered s.rest)) (numbered_by o []) ≡ None
+no_offset : (o : Option ℕ) → None ≡ slot_in (numbered_by o [])
 no_offset o = grind arith
+
+in_slot : (f : Option Placed → Option Event) (o : Option ℕ) (b : Text) (ws : List Text)
+    → f (slot_by o (number_of b) ws) ≡ f (slot_in (numbered_by o (b ∷ ws)))
+in_slot f o b ws = ap f (grind arith)
 
 read_slot_no_width : (o q : Option ℕ) → None ≡ read_after (slot_by o q [])
 read_slot_no_width o q = grind (arith, read_no_width)
@@ -94,15 +94,11 @@ read_slot_many o q w c cs = grind (arith, read_many)
 
 reads_slot : (ws : List Text) → event_of ((99 ∷ 114 ∷ []) ∷ ws) ≡ read_after (placed 99 ws)
 reads_slot [] = refl
-reads_slot (a ∷ []) = ap read_after (sym (no_offset (number_of a)))
-reads_slot (a ∷ b ∷ []) = read_slot_no_width (number_of a) (number_of b) ∙ ap read_after (sym (slot_then (number_of a) b []))
-reads_slot (a ∷ b ∷ c ∷ []) =
-    alone _ ∙ read_slot_width (number_of a) (number_of b) c ∙ ap read_after (sym (slot_then (number_of a) b (c ∷ [])))
-reads_slot (a ∷ b ∷ c ∷ d ∷ []) =
-    read_slot_many (number_of a) (number_of b) c d [] ∙ ap read_after (sym (slot_then (number_of a) b (c ∷ d ∷ [])))
-reads_slot (a ∷ b ∷ c ∷ d ∷ e ∷ ws) =
-    read_slot_many (number_of a) (number_of b) c d (e ∷ ws)
-    ∙ ap read_after (sym (slot_then (number_of a) b (c ∷ d ∷ e ∷ ws)))
+reads_slot (a ∷ []) = ap read_after (no_offset (number_of a))
+reads_slot (a ∷ b ∷ []) = read_slot_no_width (number_of a) (number_of b) ∙ in_slot read_after (number_of a) b []
+reads_slot (a ∷ b ∷ c ∷ []) = alone _ ∙ read_slot_width (number_of a) (number_of b) c ∙ in_slot read_after (number_of a) b (c ∷ [])
+reads_slot (a ∷ b ∷ c ∷ d ∷ []) = read_slot_many (number_of a) (number_of b) c d [] ∙ in_slot read_after (number_of a) b (c ∷ d ∷ [])
+reads_slot (a ∷ b ∷ c ∷ d ∷ e ∷ ws) = read_slot_many (number_of a) (number_of b) c d (e ∷ ws) ∙ in_slot read_after (number_of a) b (c ∷ d ∷ e ∷ ws)
 
 -- ---- writes
 
@@ -179,17 +175,11 @@ write_slot_many o q w v c cs = grind (arith, write_many)
 
 writes_slot : (ws : List Text) → event_of ((99 ∷ 119 ∷ []) ∷ ws) ≡ written_after (placed 99 ws)
 writes_slot [] = refl
-writes_slot (a ∷ []) = ap written_after (sym (no_offset (number_of a)))
-writes_slot (a ∷ b ∷ []) =
-    write_slot_place (number_of a) (number_of b) ∙ ap written_after (sym (slot_then (number_of a) b []))
-writes_slot (a ∷ b ∷ c ∷ []) =
-    write_slot_width (number_of a) (number_of b) c ∙ ap written_after (sym (slot_then (number_of a) b (c ∷ [])))
-writes_slot (a ∷ b ∷ c ∷ d ∷ []) =
-    alone _ ∙ write_slot_whole (number_of a) (number_of b) c d
-    ∙ ap written_after (sym (slot_then (number_of a) b (c ∷ d ∷ [])))
-writes_slot (a ∷ b ∷ c ∷ d ∷ e ∷ ws) =
-    write_slot_many (number_of a) (number_of b) c d e ws
-    ∙ ap written_after (sym (slot_then (number_of a) b (c ∷ d ∷ e ∷ ws)))
+writes_slot (a ∷ []) = ap written_after (no_offset (number_of a))
+writes_slot (a ∷ b ∷ []) = write_slot_place (number_of a) (number_of b) ∙ in_slot written_after (number_of a) b []
+writes_slot (a ∷ b ∷ c ∷ []) = write_slot_width (number_of a) (number_of b) c ∙ in_slot written_after (number_of a) b (c ∷ [])
+writes_slot (a ∷ b ∷ c ∷ d ∷ []) = alone _ ∙ write_slot_whole (number_of a) (number_of b) c d ∙ in_slot written_after (number_of a) b (c ∷ d ∷ [])
+writes_slot (a ∷ b ∷ c ∷ d ∷ e ∷ ws) = write_slot_many (number_of a) (number_of b) c d e ws ∙ in_slot written_after (number_of a) b (c ∷ d ∷ e ∷ ws)
 
 -- ---- a first word that is no form's
 

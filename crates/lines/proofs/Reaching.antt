@@ -61,7 +61,8 @@ stops_on {S} {p = p} {w = w} {end = end} r s =
 -- one more line ran
 pub reaches_line : {S : Type 0} {p : Protocol S} {w : S} {text piece after : Text} (line : Text) {long : Bool} {old mid new : Option Text} {end last : S} {P : Type 0}
     → piece ≡ line ++ 10 ∷ after → (r : Reaches p w text piece long old mid end) → HasNoEnd line
-    → Appends mid new (p.writes end (r.before ++ line)) → last ≡ p.next end (r.before ++ line)
+    → ((before : Text) → IsBefore long before → Appends mid new (p.writes end (before ++ line)))
+    → ((before : Text) → IsBefore long before → last ≡ p.next end (before ++ line))
     → (s : Reaches p w text after false old new last) × (P → 0 < length s.whole)
 reaches_line {S} {p = p} {w = w} {text = text} {after = after} line {old = old} {mid = mid} {new = new} {end = end} cut r clean written events =
     let one : List Text = (r.before ++ line) ∷ [] in
@@ -80,8 +81,8 @@ reaches_line {S} {p = p} {w = w} {text = text} {after = after} line {old = old} 
         clean = refl;
         passed = refl;
         in_order = order;
-        written = subst (Appends old new) wrote (Appends-trans old mid new (output p w r.whole) (p.writes end (r.before ++ line)) r.written written);
-        events = events ∙ ap (λ (e : S). p.next e (r.before ++ line)) r.events ∙ sym (after_along p w r.whole one);
+        written = subst (Appends old new) wrote (Appends-trans old mid new (output p w r.whole) (p.writes end (r.before ++ line)) r.written (written r.before r.passed));
+        events = events r.before r.passed ∙ ap (λ (e : S). p.next e (r.before ++ line)) r.events ∙ sym (after_along p w r.whole one);
       },
       λ wrote. some,
     )

@@ -1,6 +1,6 @@
-use Rattle.std.proofs.{Common.{◌≡◌, ℕ, ◌+◌, ◌*◌, ◌<◌, ◌^◌, false, Some, option_map, drop, get_or, ap, sym, subst, ◌∙◌, arith}, lemmas.List.at_drop_more}
-use Rattle.model_guests.specs.{Text.{Text, is_blank}, Numbers.{below, digit_of, digits_from}}
-use Rattle.lines.{specs.Cursors.{before_blank, after_blank, IsRead}, proofs.{Splitting.rest_is, Cursors.{one_longer, no_blank, digits_in-before}}}
+use Rattle.std.proofs.Common.{◌≡◌, ℕ, ◌+◌, ◌*◌, ◌<◌, ◌^◌, false, Some, option_map, drop, get_or, ap, sym, subst, ◌∙◌, arith}
+use Rattle.model_guests.specs.{Text.{Text, is_blank}, Numbers.{below, digit_of}}
+use Rattle.lines.{specs.Cursors.IsRead, proofs.{Splitting.rest_is, Cursors.{one_longer, no_blank, digits_in-before}}}
 use Rattle.lines.proofs.cursor.eight_digits.Goals as goal
 
 -- the digit at the front is no blank, and the others change nothing
@@ -11,19 +11,14 @@ word_begins t i n m e before = grind (arith, no_blank)
 
 pub loop-i-preserved : goal.loop-i-preserved
 loop-i-preserved c =
-    let t = c.args.text.now in
-    let i = c.loop-i.i in
-    let n = c.loop-i.number in
     let step = sym c.in_ok-number.was ∙ c.with_digit.ensures in
-    let more = one_longer (2 ^ 64) 16 n c.in_ok-number.number (get_or t i 0) (drop (i + 1) t) step in
+    let more = one_longer (2 ^ 64) 16 c.loop-i.number c.in_ok-number.number c.loop-i.i c.args.text.now (omega arith) step in
     record {
       read = record {
-        read = ap (below (2 ^ 64)) more.read
-            ∙ sym (at_drop_more (λ (xs : Text). below (2 ^ 64) (digits_from 16 n (before_blank xs))) t i 0 (omega arith))
-            ∙ c.loop-i.invariant.read.read;
-        after = more.after ∙ sym (at_drop_more after_blank t i 0 (omega arith)) ∙ c.loop-i.invariant.read.after;
+        read = ap (below (2 ^ 64)) more.read ∙ c.loop-i.invariant.read.read;
+        after = more.after ∙ c.loop-i.invariant.read.after;
       };
-      word = λ h. word_begins t i n c.in_ok-number.number step c.loop-i.invariant.word;
+      word = λ h. word_begins c.args.text.now c.loop-i.i c.loop-i.number c.in_ok-number.number step c.loop-i.invariant.word;
     }
 
 pub returns-clause-read : goal.returns-clause-read

@@ -4,9 +4,11 @@ use Rattle.lines.{specs.declared.pieces.Stop.TheVariants.{Failed, Memory}, proof
 use Rattle.lines.proofs.pieces.run_lines.Goals as goal
 
 -- a line and its LF are taken off the front
-taken_more : (text done rest line after : Text) → text ≡ done ++ rest → rest ≡ line ++ 10 ∷ after → text ≡ (done ++ (line ++ 10 ∷ [])) ++ after
-taken_more text done rest line after e cut =
-    e ∙ ap (λ (t : Text). done ++ t) (cut ∙ sym (append_assoc line (10 ∷ []) after)) ∙ sym (append_assoc done (line ++ 10 ∷ []) after)
+taken_more : (text rest line after : Text) → (done : Text) × (text ≡ done ++ rest) → rest ≡ line ++ 10 ∷ after → (done : Text) × (text ≡ done ++ after)
+taken_more text rest line after taken cut = (
+  taken.0 ++ (line ++ 10 ∷ []),
+  taken.1 ∙ ap (λ (t : Text). taken.0 ++ t) (cut ∙ sym (append_assoc line (10 ∷ []) after)) ∙ sym (append_assoc taken.0 (line ++ 10 ∷ []) after),
+)
 
 pub loop-line-init : goal.loop-line-init
 loop-line-init g c = grind (arith, reaches_first)
@@ -38,30 +40,22 @@ pub returns-in-Err-Memory-clause-flushed : goal.returns-in-Err-Memory-clause-flu
 returns-in-Err-Memory-clause-flushed g c = grind (arith, by_flag)
 
 pub loop-line-preserved-then-wrote : goal.loop-line-preserved-then-wrote
-loop-line-preserved-then-wrote g c =
-    let taken = c.loop-line.invariant.taken in
-    let line = c.in-Some.line.now in
-    record {
-      taken = (taken.0 ++ (line ++ 10 ∷ []), taken_more c.args.text.now taken.0 c.loop-line.rest.now line c.in-Some.after.now taken.1 c.in-Some.ensures.line.1);
-      runs = λ before clean passed.
-          let run = (c.loop-line.invariant.runs before clean passed).0 in
-          reaches_line line c.in-Some.ensures.line.1 run c.in-Some.ensures.line.0 (c.in-Ok.ensures.output run.before run.passed) (c.in-Ok.ensures.after run.before run.passed);
-      silent = λ untold. absurd (let wrong : true ≡ false = sym c.if-wrote.true ∙ untold in cc);
-      failures = omega (arith, c.in-Ok.ensures.failures, c.loop-line.invariant.failures);
-    }
+loop-line-preserved-then-wrote g c = record {
+  taken = taken_more c.args.text.now c.loop-line.rest.now c.in-Some.line.now c.in-Some.after.now c.loop-line.invariant.taken c.in-Some.ensures.line.1;
+  runs = λ before clean passed.
+      reaches_line c.in-Some.line.now c.in-Some.ensures.line.1 (c.loop-line.invariant.runs before clean passed).0 c.in-Some.ensures.line.0 c.in-Ok.ensures.output c.in-Ok.ensures.after;
+  silent = λ untold. absurd (let wrong : true ≡ false = sym c.if-wrote.true ∙ untold in cc);
+  failures = omega (arith, c.in-Ok.ensures.failures, c.loop-line.invariant.failures);
+}
 
 pub loop-line-preserved : goal.loop-line-preserved
-loop-line-preserved g c =
-    let taken = c.loop-line.invariant.taken in
-    let line = c.in-Some.line.now in
-    record {
-      taken = (taken.0 ++ (line ++ 10 ∷ []), taken_more c.args.text.now taken.0 c.loop-line.rest.now line c.in-Some.after.now taken.1 c.in-Some.ensures.line.1);
-      runs = λ before clean passed.
-          let run = (c.loop-line.invariant.runs before clean passed).0 in
-          reaches_line line c.in-Some.ensures.line.1 run c.in-Some.ensures.line.0 (c.in-Ok.ensures.output run.before run.passed) (c.in-Ok.ensures.after run.before run.passed);
-      silent = λ untold. c.in-Ok.ensures.silent untold ∙ c.loop-line.invariant.silent c.if-wrote.false;
-      failures = omega (arith, c.in-Ok.ensures.failures, c.loop-line.invariant.failures);
-    }
+loop-line-preserved g c = record {
+  taken = taken_more c.args.text.now c.loop-line.rest.now c.in-Some.line.now c.in-Some.after.now c.loop-line.invariant.taken c.in-Some.ensures.line.1;
+  runs = λ before clean passed.
+      reaches_line c.in-Some.line.now c.in-Some.ensures.line.1 (c.loop-line.invariant.runs before clean passed).0 c.in-Some.ensures.line.0 c.in-Ok.ensures.output c.in-Ok.ensures.after;
+  silent = λ untold. c.in-Ok.ensures.silent untold ∙ c.loop-line.invariant.silent c.if-wrote.false;
+  failures = omega (arith, c.in-Ok.ensures.failures, c.loop-line.invariant.failures);
+}
 
 pub returns-clause-runs : goal.returns-clause-runs
 returns-clause-runs g c = rw (rest_is_last c.args.text.now c.loop-line.invariant.taken.0 c.loop-line.rest.now c.loop-line.invariant.taken.1) c.loop-line.invariant.runs

@@ -1,22 +1,20 @@
 use Rattle.std.proofs.Common.{Err, ap}
-use Rattle.lines.{specs.Runs.{Runs, ends}, proofs.{Endings.{output_on, after_on, stopped_last, lacking_last}, Results.{by_stop, by_fault}}}
+use Rattle.lines.{specs.Runs.{Runs}, proofs.{Endings.{output_on, after_on, stopped_last, lacking_last}, Results.{by_stop, by_fault}}}
 use Rattle.lines.proofs.runs.run.Goals as goal
 
 pub returns-in_err-run_pieces-clause-runs : goal.returns-in_err-run_pieces-clause-runs
 returns-in_err-run_pieces-clause-runs g c =
-    let at = ends (g.R.Reader.rest c.args.reader.now) (g.R.Reader.rest c.run_pieces.new.reader) (g.W.Writer.written c.args.writer.now) (g.W.Writer.written c.run_pieces.new.writer) (g.W.Writer.flushed c.run_pieces.new.writer) in
-    by_fault (Runs g.S.Answers.protocol c.args.server.now c.run_pieces.new.server at) c.from_residual.result _ c.from_residual.ensures.1 c.in_err-run_pieces.ensures.failed
+    by_fault (Runs g.S.Answers.protocol c.args.server.now c.run_pieces.new.server _) c.from_residual.result _ c.from_residual.ensures.1 c.in_err-run_pieces.ensures.failed
 
 pub returns-in_err-run_last-clause-runs : goal.returns-in_err-run_last-clause-runs
 returns-in_err-run_last-clause-runs g c =
-    let at = ends (g.R.Reader.rest c.args.reader.now) (g.R.Reader.rest c.run_pieces.new.reader) (g.W.Writer.written c.args.writer.now) (g.W.Writer.written c.run_last.new.writer) (g.W.Writer.flushed c.run_last.new.writer) in
     let before = c.in_ok-run_pieces.ensures in
     let runs = before.runs in
     let last = c.in_err-run_last.ensures in
-    by_stop (Runs g.S.Answers.protocol c.args.server.now c.run_last.new.server at)
+    by_stop (Runs g.S.Answers.protocol c.args.server.now c.run_last.new.server _)
     c.from_residual-in_err-run_last.result _ c.from_residual-in_err-run_last.ensures.1
-    (λ is script known. stopped_last runs.1 before.end runs.2 before.rest (last.stopped (ap Err is)) known)
-    (λ is script known. let lacking = last.lacking (ap Err is) in rw (lacking.0, lacking.1) (lacking_last runs.1 before.end runs.2 before.rest (last.some (ap Err is)) known))
+    (λ is script known. stopped_last _ _ runs.1 before.end runs.2 before.rest known (last.stopped (ap Err is)))
+    (λ is script known. let lacking = last.lacking (ap Err is) in rw (lacking.0, lacking.1) (lacking_last _ _ runs.1 before.end runs.2 before.rest known (last.some (ap Err is))))
 
 pub returns-clause-runs : goal.returns-clause-runs
 returns-clause-runs g c =
@@ -24,9 +22,9 @@ returns-clause-runs g c =
     let runs = before.runs in
     record {
       read = before.end;
-      output = λ script known. output_on (g.R.Reader.rest c.args.reader.now) (g.R.Reader.rest c.run_pieces.new.reader) (g.W.Writer.written c.run_last.new.writer)
-          runs.1 before.end runs.2 before.rest c.in_ok-run_last.ensures.output known;
+      output = λ script known. output_on (g.R.Reader.rest c.args.reader.now) (g.R.Reader.rest c.run_pieces.new.reader)
+          runs.1 before.end runs.2 before.rest known (g.W.Writer.written c.run_last.new.writer) c.in_ok-run_last.ensures.output;
       events = λ script known. after_on (g.R.Reader.rest c.args.reader.now) (g.R.Reader.rest c.run_pieces.new.reader)
-          runs.1 before.end runs.2 before.rest c.in_ok-run_last.ensures.after known;
+          runs.1 before.end runs.2 before.rest known c.in_ok-run_last.ensures.after;
       flushed = c.in_ok-run_last.ensures.flushed;
     }

@@ -1,12 +1,10 @@
-use Rattle.lines.{specs.Runs.ends, proofs.Watched.{watched_early, watched_end}}
+use Rattle.lines.proofs.Watched.{watched_early, watched_end}
 use Rattle.lines.proofs.watching.run_watched.Goals as goal
 
 pub returns-in_err-run-clause-runs : goal.returns-in_err-run-clause-runs
 returns-in_err-run-clause-runs g c =
-    let at = ends (g.R.Reader.rest c.args.reader.now) (g.R.Reader.rest c.run.new.reader) (g.W.Writer.written c.args.writer.now) (g.W.Writer.written c.run.new.writer) (g.W.Writer.flushed c.run.new.writer) in
-    watched_early g.S.Answers.protocol g.S.Answers.refusal g.S.Answers.speakers c.args.server _ c.run.new.server at c.from_residual.result _ c.from_residual.ensures.1 c.in_err-run.ensures.runs
+    watched_early g.S.Answers.protocol g.S.Answers.refusal g.S.Answers.speakers c.args.server _ c.run.new.server _ c.from_residual.result _ c.from_residual.ensures.1 c.in_err-run.ensures.runs
 
 pub returns-clause-runs : goal.returns-clause-runs
 returns-clause-runs g c =
-    let at = ends (g.R.Reader.rest c.args.reader.now) (g.R.Reader.rest c.run.new.reader) (g.W.Writer.written c.args.writer.now) (g.W.Writer.written c.run.new.writer) (g.W.Writer.flushed c.run.new.writer) in
-    watched_end g.S.Answers.protocol g.S.Answers.refusal g.S.Answers.speakers c.args.server _ c.run.new.server at c.none.ensures c.in_ok-run.ensures.runs
+    watched_end g.S.Answers.protocol g.S.Answers.refusal g.S.Answers.speakers c.args.server _ c.run.new.server _ c.none.ensures c.in_ok-run.ensures.runs
