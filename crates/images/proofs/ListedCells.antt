@@ -1,6 +1,6 @@
 -- The cell at an index of a file that is made of parts.
-use Rattle.std.proofs.Common.{◌≡◌, ℕ, zero, suc, ◌+◌, ◌/◌, ◌%◌, ◌<◌, ◌≤◌, List, [], ◌∷◌, ◌++◌, Some, None, length, get_or, refl, sym, ap, ap₂, ◌∙◌, arith, length-append}
-use Rattle.model_registers.specs.{Cell.Cell, Registers.{Place, config, after, File, field, cells_from}}
+use Rattle.std.{proofs.Common.{◌≡◌, ℕ, zero, suc, ◌+◌, ◌/◌, ◌%◌, ◌<◌, ◌≤◌, false, List, [], ◌∷◌, ◌++◌, Some, None, length, get_or, refl, sym, ap, ◌∙◌, arith, length-append}, specs.Prelude.flat_map}
+use Rattle.model_registers.specs.{Cell.Cell, Registers.{Place, config, after, File, field, cells_from}, Declarations.{Region, ConfigBlock, Endpoint}, EndpointTable.{block_cells, endpoint_reset, header_cells, region_cells}}
 use Rattle.model_images.specs.Layouts.{le_bytes}
 use Rattle.images.specs.Cells.{told_at}
 
@@ -37,21 +37,28 @@ told_cells at next a (c ∷ cs) (suc n) d h = grind (arith, told_cells at next (
 
 -- ---- three parts, as they were walked
 
-module _ (xs ys zs one two three : File) (n : ℕ) (first : one ≡ xs) (second : two ≡ ys) (third : three ≡ zs) where
-  are : (one ++ two) ++ three ≡ (xs ++ ys) ++ zs
-  are = ap₂ (λ (x y : File). (x ++ y) ++ three) first second ∙ ap (λ (z : File). (xs ++ ys) ++ z) third
+pub record AreParts (whole one two three : File) : Type 0 where
+  pub are : whole ≡ (one ++ two) ++ three
 
-  pub in_first : (t : Place × ℕ) → told_at one n ≡ Some t → Some t ≡ told_at ((xs ++ ys) ++ zs) n
-  in_first t h = sym (ap (λ (file : File). told_at file n) (sym are) ∙ told_first (one ++ two) three n t (told_first one two n t h))
+pub endpoint_parts : (d : Endpoint) (bs : List ConfigBlock) (rs : List Region) → bs ≡ d.blocks → rs ≡ d.regions
+    → AreParts (endpoint_reset d false) (header_cells d false 0) (flat_map block_cells bs) (flat_map (region_cells (λ r. 0)) rs)
+endpoint_parts d bs rs blocks regions = record { are = rw (blocks, regions) refl }
 
-  pub in_second : (k : ℕ) (t : Place × ℕ) → n ≡ length one + k → told_at two k ≡ Some t → Some t ≡ told_at ((xs ++ ys) ++ zs) n
-  in_second k t h there = sym (ap (λ (file : File). told_at file n) (sym are) ∙ told_first (one ++ two) three n t (told_behind one two n k h ∙ there))
+module _ {whole one two three : File} (parts : AreParts whole one two three) (n : ℕ) where
+  in_parts : told_at whole n ≡ told_at ((one ++ two) ++ three) n
+  in_parts = ap (λ (file : File). told_at file n) parts.are
 
-  behind_both : (k j : ℕ) → n ≡ length one + k → k ≡ length two + j → told_at ((xs ++ ys) ++ zs) n ≡ told_at three j
-  behind_both k j h g = let both = length-append one two in ap (λ (file : File). told_at file n) (sym are) ∙ told_behind (one ++ two) three n j (omega arith)
+  pub in_first : (t : Place × ℕ) → told_at one n ≡ Some t → Some t ≡ told_at whole n
+  in_first t h = sym (in_parts ∙ told_first (one ++ two) three n t (told_first one two n t h))
 
-  pub in_third : (k j : ℕ) (t : Place × ℕ) → n ≡ length one + k → k ≡ length two + j → told_at three j ≡ Some t → Some t ≡ told_at ((xs ++ ys) ++ zs) n
+  pub in_second : (k : ℕ) (t : Place × ℕ) → n ≡ length one + k → told_at two k ≡ Some t → Some t ≡ told_at whole n
+  in_second k t h there = sym (in_parts ∙ told_first (one ++ two) three n t (told_behind one two n k h ∙ there))
+
+  behind_both : (k j : ℕ) → n ≡ length one + k → k ≡ length two + j → told_at whole n ≡ told_at three j
+  behind_both k j h g = let both = length-append one two in in_parts ∙ told_behind (one ++ two) three n j (omega arith)
+
+  pub in_third : (k j : ℕ) (t : Place × ℕ) → n ≡ length one + k → k ≡ length two + j → told_at three j ≡ Some t → Some t ≡ told_at whole n
   in_third k j t h g there = sym (behind_both k j h g ∙ there)
 
-  pub in_none : (k j i : ℕ) → n ≡ length one + k → k ≡ length two + j → j ≡ length three + i → None ≡ told_at ((xs ++ ys) ++ zs) n
+  pub in_none : (k j i : ℕ) → n ≡ length one + k → k ≡ length two + j → j ≡ length three + i → None ≡ told_at whole n
   in_none k j i h g past = sym (behind_both k j h g ∙ told_past three j i past)

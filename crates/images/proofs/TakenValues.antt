@@ -1,8 +1,9 @@
 -- Values that are taken one after the other.
-use Rattle.std.{proofs.{Common.{◌≡◌, ℕ, suc, ◌+◌, ◌-◌, ◌/◌, ◌%◌, ◌<◌, ◌≤◌, true, false, List, [], ◌∷◌, ◌++◌, length, drop, Ok, Err, refl, sym, ap, ap₂, ◌∙◌, arith}, lemmas.Bool.Decides.nat_tests}, specs.Prelude.flat_map}
+use Rattle.std.{proofs.{Common.{◌≡◌, ℕ, suc, ◌+◌, ◌-◌, ◌/◌, ◌%◌, ◌<◌, ◌≤◌, true, false, List, [], ◌∷◌, ◌++◌, length, drop, Ok, Err, refl, sym, ap, ◌∙◌, arith}, lemmas.Bool.Decides.nat_tests}, specs.Prelude.flat_map}
 use Rattle.lists.specs.Elements.{Each}
 use Rattle.model_registers.specs.{Cell.Cell, Registers.{Place, config, block, after, PlacedCell, File, field, cells_from}, Declarations.{Region, ConfigBlock, Endpoint}, EndpointTable.{base_cells, block_cells, header_cells, endpoint_reset}, DeviceBytes.is_device_byte}
 use Rattle.model_images.specs.{Images.can_hold, LoadedBytes.{then_read, after_values}}
+use Rattle.images.proofs.ListedCells.{endpoint_parts}
 use Rattle.model_registers.specs.EndpointTable as table
 
 values_both : (xs ys : File) (bytes : List ℕ) → after_values (xs ++ ys) bytes ≡ then_read (after_values ys) (after_values xs bytes)
@@ -17,13 +18,13 @@ pub values_end : (n : ℕ) (xs ys : File) (bytes : List ℕ) → after_values xs
 values_end n xs ys bytes h = values_both xs ys bytes ∙ ap (then_read (after_values ys)) h
 
 -- the first of a list
-pub values_go_on_of : {A : Type 0} (f : A → File) (x : A) (left others : List A) (own : File) (bytes rest : List ℕ) → left ≡ x ∷ others → own ≡ f x → after_values own bytes ≡ Ok rest
+pub values_go_on_of : {A : Type 0} (f : A → File) (x : A) (left others : List A) (bytes rest : List ℕ) → left ≡ x ∷ others → after_values (f x) bytes ≡ Ok rest
     → after_values (flat_map f others) rest ≡ after_values (flat_map f left) bytes
-values_go_on_of f x left others own bytes rest first are h = grind (arith, values_go_on)
+values_go_on_of f x left others bytes rest first h = grind (arith, values_go_on)
 
-pub values_end_of : {A : Type 0} (f : A → File) (x : A) (left others : List A) (n : ℕ) (own : File) (bytes : List ℕ) → left ≡ x ∷ others → own ≡ f x → after_values own bytes ≡ Err n
+pub values_end_of : {A : Type 0} (f : A → File) (x : A) (left others : List A) (n : ℕ) (bytes : List ℕ) → left ≡ x ∷ others → after_values (f x) bytes ≡ Err n
     → after_values (flat_map f left) bytes ≡ Err n
-values_end_of f x left others n own bytes first are h = grind (arith, values_end)
+values_end_of f x left others n bytes first h = grind (arith, values_end)
 
 -- ---- one register
 
@@ -111,24 +112,21 @@ module _ (d : Endpoint) (bs : List ConfigBlock) (rs : List Region) (blocks : bs 
   abbrev header : File
   header = header_cells d false 0
 
-  reset_is : endpoint_reset d false ≡ (header ++ flat_map block_cells bs) ++ flat_map region_reset rs
-  reset_is = ap₂ (λ (x : List ConfigBlock) (y : List Region). (header ++ flat_map block_cells x) ++ flat_map region_reset y) (sym blocks) (sym regions)
+  abbrev front : File
+  front = header ++ flat_map block_cells bs
+
+  in_parts : after_values (endpoint_reset d false) bytes ≡ after_values (front ++ flat_map region_reset rs) bytes
+  in_parts = ap (λ (file : File). after_values file bytes) (endpoint_parts d bs rs blocks regions).are
 
   pub header_ends : (n : ℕ) → after_values header bytes ≡ Err n → after_values (endpoint_reset d false) bytes ≡ Err n
-  header_ends n h =
-      ap (λ (file : File). after_values file bytes) reset_is
-      ∙ values_end n (header ++ flat_map block_cells bs) (flat_map region_reset rs) bytes (values_end n header (flat_map block_cells bs) bytes h)
+  header_ends n h = in_parts ∙ values_end n front (flat_map region_reset rs) bytes (values_end n header (flat_map block_cells bs) bytes h)
 
   module _ (next : List ℕ) (first : after_values header bytes ≡ Ok next) where
     pub blocks_end : (n : ℕ) → after_values (flat_map block_cells bs) next ≡ Err n → after_values (endpoint_reset d false) bytes ≡ Err n
-    blocks_end n h =
-        ap (λ (file : File). after_values file bytes) reset_is
-        ∙ values_end n (header ++ flat_map block_cells bs) (flat_map region_reset rs) bytes (values_go_on header (flat_map block_cells bs) bytes next first ∙ h)
+    blocks_end n h = in_parts ∙ values_end n front (flat_map region_reset rs) bytes (values_go_on header (flat_map block_cells bs) bytes next first ∙ h)
 
     pub regions_decide : (rest : List ℕ) → after_values (flat_map block_cells bs) next ≡ Ok rest → after_values (endpoint_reset d false) bytes ≡ after_values (flat_map region_reset rs) rest
-    regions_decide rest h =
-        ap (λ (file : File). after_values file bytes) reset_is
-        ∙ values_go_on (header ++ flat_map block_cells bs) (flat_map region_reset rs) bytes rest (values_go_on header (flat_map block_cells bs) bytes next first ∙ h)
+    regions_decide rest h = in_parts ∙ values_go_on front (flat_map region_reset rs) bytes rest (values_go_on header (flat_map block_cells bs) bytes next first ∙ h)
 
 pub header_ends_of : (d : Endpoint) (bytes : List ℕ) (n : ℕ) → after_values (header_cells d false 0) bytes ≡ Err n → after_values (endpoint_reset d false) bytes ≡ Err n
 header_ends_of d bytes n h = header_ends d d.blocks d.regions refl refl bytes n h
