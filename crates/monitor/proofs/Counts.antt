@@ -2,7 +2,7 @@
 --     counts_none      where no name passes, no count grows
 --     counted_one, counted_two      the counts of a guest by its index, or of two
 --     set_counted      guests of whom one has another count
-use Rattle.std.{proofs.{Common.{◌≡◌, ◌≢◌, ◌<◌, ℕ, zero, suc, Bool, true, false, not, ◌&&◌, ◌||◌, ◌==◌, List, [], ◌∷◌, Some, Option, slice_get, slice_set, refl, sym, ap, ap₂, ◌∙◌, subst, arith}, lemmas.Bool.Decides.nat_tests}, specs.{Prelude.{IsFalse, nat_lt, unwrap_or}, Str.bytes_eq}}
+use Rattle.std.{proofs.{Common.{◌≡◌, ◌≢◌, ℕ, zero, suc, Bool, true, false, not, ◌&&◌, ◌||◌, ◌==◌, List, [], ◌∷◌, Some, slice_get, slice_set, refl, sym, ap, ap₂, ◌∙◌, subst, arith}, lemmas.Bool.Decides.nat_tests}, specs.{Prelude.IsFalse, Str.bytes_eq}}
 use Rattle.lists.{specs.Elements.{Each, EachPair}, proofs.{Indices.{each_at, map_at, map_set, pair_at, set_same}, Tests.{and_true, and_false}}}
 use Rattle.model_guests.{specs.{Text.Text, Guests.{GuestNow, GuestsNow}, WorldNow.names_of}, proofs.Names.{equal_texts, same_text}}
 use Rattle.model_handoff.specs.Changes.{after_change, counts_where}
@@ -43,27 +43,16 @@ one_of (k ∷ gs) (n ∷ ns) zero g apart at =
     let same : k ≡ g = cc in
     subst (λ (x : GuestNow). counted_nth 0 true (n ∷ ns) ≡ counts_where (bytes_eq x.name) (names_of (k ∷ gs)) (n ∷ ns)) same
     (ap₂ (λ (u : Bool) (xs : List ℕ). after_change u n ∷ xs) (sym (same_text k.name)) (sym (others_stay k.name gs ns apart.0)))
-one_of (k ∷ gs) (n ∷ ns) (suc i) g apart at =
-    ap₂ (λ (u : Bool) (xs : List ℕ). after_change u n ∷ xs)
-    (sym (apart_too k.name g.name (each_at (λ (x : GuestNow). IsFalse (bytes_eq k.name x.name)) gs i g apart.0 at)))
-    (one_of gs ns i g apart.1 at)
+one_of (k ∷ gs) (n ∷ ns) (suc i) g apart at = grind (arith, apart_too, each_at, one_of gs ns i g apart.1 at)
 
 both_of : (p q : Text → Bool) → ((x : Text) → p x ≡ true → q x ≡ false) → (ts : List Text) (ns : List ℕ)
     → counts_where q ts (counts_where p ts ns) ≡ counts_where (λ x. p x || q x) ts ns
 both_of p q apart [] ns = refl
 both_of p q apart (t ∷ ts) [] = refl
-both_of p q apart (t ∷ ts) (n ∷ ns) = ap₂ (λ (x : ℕ) (xs : List ℕ). x ∷ xs) (one (p t) (q t) (apart t)) (both_of p q apart ts ns)
-  where
-    one : (u v : Bool) → (u ≡ true → v ≡ false) → after_change v (after_change u n) ≡ after_change (u || v) n
-    one true v not_both = ap (λ (x : Bool). after_change x (after_change true n)) (not_both refl)
-    one false v not_both = refl
+both_of p q apart (t ∷ ts) (n ∷ ns) = grind (arith, both_of p q apart ts ns)
 
 names_differ : (gs : GuestsNow) → AreApart gs → (i j : ℕ) → j ≢ i → (g k : GuestNow) → slice_get gs i ≡ Some g → slice_get gs j ≡ Some k → bytes_eq g.name k.name ≡ false
-names_differ gs apart i j other g k at_i at_j = cases (nat_lt i j) refl
-  where
-    cases : (t : Bool) → nat_lt i j ≡ t → bytes_eq g.name k.name ≡ false
-    cases true e = let below : i < j = grind (arith, nat_tests) in pair_at (λ (x y : GuestNow). IsFalse (bytes_eq x.name y.name)) gs i j g k apart below at_i at_j
-    cases false e = let above : j < i = grind (arith, nat_tests) in apart_too k.name g.name (pair_at (λ (x y : GuestNow). IsFalse (bytes_eq x.name y.name)) gs j i k g apart above at_j at_i)
+names_differ gs apart i j other g k at_i at_j = grind (arith, nat_tests, pair_at, apart_too)
 
 -- one guest is counted, or none
 pub counted_one : (gs : GuestsNow) → AreApart gs → (i : ℕ) (g : GuestNow) → slice_get gs i ≡ Some g → (t : Bool) (ns : List ℕ) → counted_nth i t ns ≡ counts_where (λ x. bytes_eq g.name x && t) (names_of gs) ns
@@ -97,10 +86,5 @@ counted_two gs apart i j g k at_i at_j ns = cases (j == i) refl
 -- ---- counts that are kept
 
 pub set_counted : (gs : List Guest) (i : ℕ) (g k : Guest) (t : Bool) → slice_get gs i ≡ Some g → k.changed ≡ after_change t g.changed → counts_of (slice_set gs i k) ≡ counted_nth i t (counts_of gs)
-set_counted gs i g k true at is =
-    map_set (λ (x : Guest). x.changed) gs i k
-    ∙ ap (slice_set (counts_of gs) i)
-    (is ∙ ap (λ (o : Option ℕ). after_change true (unwrap_or o 0)) (sym (map_at (λ (x : Guest). x.changed) gs i g at)))
-set_counted gs i g k false at is =
-    map_set (λ (x : Guest). x.changed) gs i k
-    ∙ ap (slice_set (counts_of gs) i) is ∙ set_same (counts_of gs) i g.changed (map_at (λ (x : Guest). x.changed) gs i g at)
+set_counted gs i g k true at is = grind (arith, map_set, map_at)
+set_counted gs i g k false at is = grind (arith, map_set, set_same, map_at)

@@ -3,7 +3,7 @@ use Rattle.std.{proofs.Common.{◌≡◌, ℕ, Bool, true, false, not, cond, Lis
 use Rattle.lists.proofs.Indices.{set_same}
 use Rattle.model_registers.{specs.{Cell.Cell, Registers.{Place, place_eq, cell_at, File}, FileLaws.has_place, OwnCopies.is_own, DeviceBytes.{is_device_byte, set_value}, Decoding.Function, CopiedFiles.{agreed_file, places_of}}, proofs.{RegisterFiles.place_same, Files.change_none, DeviceBytes.{device_not_own, change_beside}}}
 use Rattle.model_board.specs.{Paths.Path, State.{BoardFunction, State}, AtReset.board_at}
-use Rattle.model_guests.{specs.{Accesses.{answered, done}, Slots.{Slots, slot_at}, Lone.LoneGuest, Guests.lone_of, AgreedBoard.with_change_at, Text.Text, DeviceEvents.{DeviceByte, device_reads, device_writes, device_place, byte_fault, device_fault, device_answer, device_after, after_device_event, byte_landing, after_device}, DeviceByteLaws.byte_change, WorldNow.{WorldNow, board_state}}, proofs.{AgreedFiles.{stands, agreed_places, agreed_common}, GuestFiles.with_file_there, DeviceBytes.{passes, read_there, write_answered, written_there, write_reaches_board}, DeviceSeats.seated_after}}
+use Rattle.model_guests.{specs.{Accesses.{answered, done}, Slots.slot_at, Lone.LoneGuest, Guests.lone_of, AgreedBoard.with_change_at, Text.Text, DeviceEvents.{DeviceByte, device_reads, device_writes, device_place, byte_fault, device_fault, device_answer, device_after, after_device_event, byte_landing, after_device}, DeviceByteLaws.byte_change, WorldNow.{WorldNow, board_state}}, proofs.{AgreedFiles.{stands, agreed_places, agreed_common}, GuestFiles.with_file_there, DeviceBytes.{passes, read_there, write_answered, written_there, write_reaches_board}, DeviceSeats.seated_after}}
 use Rattle.headers.specs.Places.{place_of}
 use Rattle.bridge_forward.specs.Lending.{as_endpoint, endpoint_at, endpoint_nth, with_endpoint}
 use Rattle.host_bridge.{specs.{ByIndex.{file_nth, with_file_nth}, HostState.{HostState, with_functions}}, proofs.Lent.changed_endpoint}
@@ -20,8 +20,7 @@ device_named_place f place off h = grind (arith, named_place)
 
 -- a slot that is refused
 pub byte_refused : (slots : List (Option Held)) (n : ℕ) {number : ℕ} (place : headers.Place) (off : ℕ) → IsSlotFault slots n number → Refuses slots n place off number
-byte_refused slots n place off fault = λ s qs fs are.
-    refused_first (nat_le 32 n) (is_some (slot_at fs n)) (cond (not (is_some (byte_landing (slot_at fs n) (device_byte n place off)))) (Some 303) None) (fault s qs fs are)
+byte_refused slots n place off fault = grind (arith, refused_first)
 
 pub out_of_reach : {slots : List (Option Held)} {n : ℕ} {held : Held} (place : headers.Place) (off : ℕ) → IsInSlot slots n held
     → ((s : State) (p : Path) (f : Function) → IsHeld s p f held → is_some (device_place f (part_of place) off) ≡ false) → Refuses slots n place off 303
@@ -84,9 +83,7 @@ module _ {w : WorldNow} {h : HostState} {names : List Text} {gs : List Guest} {i
         ∙ changed_endpoint (byte_change slot.f.file v put_at) slot.p found fs (distinct at) endpoint_found)
 
     pub byte_put : after_device_event (lone_nth w i) (device_writes put_of v) ≡ record (lone_nth w i) { slots = slice_set (lone_nth w i).slots n (Some as_put) }
-    byte_put =
-        written_there (lone_nth w i) put_of low slot.f slot.function put_at reaches v
-        ∙ ap (λ (ss : Slots). record (lone_nth w i) { slots = ss }) (with_file_there (set_value v put_at) n (lone_nth w i).slots slot.f slot.function)
+    byte_put = grind (arith, written_there, low, reaches, with_file_there)
 
     pub put_kept : {new : HostState} → new ≡ with_functions (with_file_nth (set_value v put_at) held.index h.state.functions) h → IsKept (with_lone_nth i (after_device_event (lone_nth w i) (device_writes put_of v)) w) new names gs
     put_kept {new} is_new =

@@ -50,8 +50,7 @@ module _ (h : HostState) where
       grind (arith, map-append, slots_push)
 
   pub all_filled : (ps : List Path) (i : ℕ) (os : List (Option Held)) → length ps ≤ i → AreSlotsWith h (take i ps) 0 os → (k : ℕ) → k ≡ 0 → AreSlotsWith h ps k os
-  all_filled ps i os past are k none =
-      subst (λ n. AreSlotsWith h ps n os) (sym none) (subst (λ (qs : List Path). AreSlotsWith h qs 0 os) (take_all i ps past) are)
+  all_filled ps i os past are k none = grind (arith, take_all)
 
   pub empty_pushed : (ps : List Path) (k : ℕ) (os : List (Option Held)) → AreSlotsWith h ps k os → AreSlotsWith h ps (suc k) (os ++ None ∷ [])
   empty_pushed ps k os are =

@@ -1,6 +1,6 @@
 -- What is kept of guests and of the board says what is told of functions.
-use Rattle.std.{proofs.{Common.{◌≡◌, ◌≤◌, ℕ, zero, suc, ◌+◌, ◌-◌, Bool, true, false, cond, List, [], ◌∷◌, Some, None, Option, Err, get_or, take, drop, length, refl, sym, ap, ap₂, ◌∙◌, arith}, lemmas.List.take_all}, specs.{Prelude.{nat_le, option_map, option_and_then, position, unwrap_or, Result, is_some}, Option.ok_or, List.slice_get}}
-use Rattle.lists.{specs.Elements.first_of_two, proofs.Indices.map_at}
+use Rattle.std.{proofs.{Common.{◌≡◌, ◌≤◌, ℕ, zero, suc, ◌+◌, ◌-◌, Bool, true, false, cond, List, [], ◌∷◌, Some, None, Option, Err, get_or, take, drop, length, refl, sym, ap, ◌∙◌, arith}, lemmas.List.take_all}, specs.{Prelude.{nat_le, option_map, option_and_then, position, unwrap_or, Result, is_some}, Option.ok_or, List.slice_get}}
+use Rattle.lists.proofs.Indices.{map_at}
 use Rattle.model_registers.specs.Decoding.{Function}
 use Rattle.model_board.specs.{Paths.Path, Board.{Row, Board, IsBoard}, AtReset.board_at, State.{BoardFunction, State, row_at}}
 use Rattle.model_guests.{specs.{Text.Text, Slots.{Slots, slot_at}, Guests.{GuestsNow, path_in}, WorldNow.{WorldNow, board_state}}, proofs.GuestsByName.path_at}
@@ -13,10 +13,7 @@ use Rattle.monitor.{specs.{declared.guest.{Held.Held, Guest.Guest}, Keeping.{Are
 seats_shown : (s : State) → IsBoard (board_at s.functions) → (i : ℕ) (r : Row) → slice_get (board_at s.functions) i ≡ Some r
     → (k : ℕ) (ts : List Text) (ws : GuestsNow) (gs : List Guest) → AreGuests s ts ws gs → seat_kept i k gs ≡ seat_from r.path k ws
 seats_shown s board i r at k [] [] [] are = refl
-seats_shown s board i r at k (t ∷ ts) (w ∷ ws) (g ∷ gs) are =
-    ap₂ first_of_two
-    (ap (option_map (λ (n : ℕ). let x : Seat = record { guest = k; slot = n } in x)) (found_in_slots s board i r at w.paths w.lone.slots g.slots.items are.0.slots))
-    (seats_shown s board i r at (k + 1) ts ws gs are.1)
+seats_shown s board i r at k (t ∷ ts) (w ∷ ws) (g ∷ gs) are = grind (arith, found_in_slots, seats_shown s board i r at (k + 1) ts ws gs are.1)
 seats_shown s board i r at k ts ws gs are = absurd are
 
 -- the seat is none of the first guest's

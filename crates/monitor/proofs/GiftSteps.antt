@@ -1,8 +1,8 @@
 -- A function of the board that no guest of a world that is kept has: the checks in their order, and how it is kept in a slot.
-use Rattle.std.{proofs.{Common.{◌≡◌, ◌≤◌, ◌+◌, ℕ, Bool, true, false, not, ◌||◌, cond, List, [], ◌∷◌, Some, None, Option, refl, sym, ap, ap₂, ◌∙◌, subst, arith, rules}, lemmas.Bool.lt-leb}, specs.{Prelude.{find, map, is_some, nat_le, option_map, slice_get, Ok, Err, MatchOption, ⊤}, List.list_any, Option.option_map_or}}
+use Rattle.std.{proofs.{Common.{◌≡◌, ◌≤◌, ◌+◌, ℕ, Bool, true, false, not, ◌||◌, cond, List, [], ◌∷◌, Some, None, Option, refl, sym, ap, ◌∙◌, subst, arith, rules}, lemmas.Bool.lt-leb}, specs.{Prelude.{find, map, is_some, nat_le, option_map, slice_get, Ok, Err, MatchOption, ⊤}, List.list_any, Option.option_map_or}}
 use Rattle.lists.proofs.{FirstFound.found_passes, Indices.map_at}
 use Rattle.model_registers.specs.{Registers.{File, config, number}, Declarations.{Region as Declared, Endpoint, HasLawfulRegions}, DeclarationRules.IsLawfulEndpoint, EndpointTable.{BaseAddress, opened}, Decoding.{Function, base_address, command_word, opens_space, space_of}}
-use Rattle.model_board.{specs.{Paths.Path, Board.{Row, Board, IsBoard, Decl, endpoint, bridge}, AtReset.board_at, Ports.file_at, Routing.{regions, windows, ranges_of}, Windows.Window, State.{BoardFunction, State, row_at}}, proofs.PathOrder.path_same}
+use Rattle.model_board.{specs.{Paths.Path, Board.{Row, Board, IsBoard, Decl, endpoint, bridge}, AtReset.board_at, Ports.file_at, Routing.{regions, windows, ranges_of}, Windows.Window, State.{BoardFunction, State}}, proofs.PathOrder.path_same}
 use Rattle.model_findings.specs.Orderly.{IsStateOfBoard}
 use Rattle.model_guests.{specs.{Slots.reset_function, Text.Text, World.declared, Guests.{GuestsNow, file_of, function_in}, WorldNow.{WorldNow, board_state}}, proofs.CopiesNeverRise.declared_lawful}
 use Rattle.model_handoff.{specs.{ViewLaws.sits, Giving.{has_closed_region, give_fault, endpoint_fault}}, proofs.{Keeping.{keeps_board, keeps_routing}, Regions.state_stays, Standing.at_path, Alike.command_at}}
@@ -75,8 +75,7 @@ none_at s p i at told = grind (arith, not_there)
 pub in_guests : (s : State) → IsBoard (board_at s.functions) → (i : ℕ) (r : Row) → slice_get (board_at s.functions) i ≡ Some r
     → (ts : List Text) (ws : GuestsNow) (gs : List Guest) → AreGuests s ts ws gs → has_index i gs ≡ sits ws r.path
 in_guests s board i r at [] [] [] are = refl
-in_guests s board i r at (t ∷ ts) (w ∷ ws) (g ∷ gs) are =
-    ap₂ ◌||◌ (in_slots s board i r at w.paths w.lone.slots g.slots.items are.0.slots) (in_guests s board i r at ts ws gs are.1)
+in_guests s board i r at (t ∷ ts) (w ∷ ws) (g ∷ gs) are = grind (arith, in_slots, in_guests s board i r at ts ws gs are.1)
 in_guests s board i r at ts ws gs are = absurd are
 
 -- ---- closed regions
@@ -148,9 +147,7 @@ module _ (w : WorldNow) (h : HostState) (names : List Text) (gs : List Guest) (k
       fault_is had full closed a b c = search (rules, declared_is, within)
 
       row_is : slice_get (board_at w.handoff.functions) i ≡ Some (record { path = p; decl = endpoint is.d })
-      row_is =
-          ap (λ (b : Board). slice_get b i) (sym board_is)
-          ∙ map_at row_at h.state.functions i (record { path = p; decl = endpoint is.d; file = file_at h.state.functions p }) is.there
+      row_is = grind (arith, board_is, map_at)
 
       had_is : (had : Bool) → has_index i gs ≡ had → sits w.guests p ≡ had
       had_is had e = sym (in_guests w.handoff kept.lawful.handoff.board.places i (record { path = p; decl = endpoint is.d }) row_is names w.guests gs kept.guests) ∙ e

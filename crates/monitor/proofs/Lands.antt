@@ -1,10 +1,10 @@
 -- Which accesses of a guest land on Command or on a base address register: those of configuration space alone.
-use Rattle.std.{proofs.{Common.{◌≡◌, ℕ, zero, suc, ◌+◌, Bool, true, false, ◌&&◌, ◌==◌, not, cond, [], ◌∷◌, Some, None, Option, refl, sym, ap, ap₂, ◌∙◌, arith}, lemmas.Bool.Decides.nat_tests}, specs.{Prelude.{is_some, option_map}, Option.option_map_or}}
-use Rattle.lists.{specs.Elements.first_of_two, proofs.Tests.and_false}
-use Rattle.model_registers.specs.{Registers.block, ConfigAddress.{is_address_port, is_data_port, is_enabled}, Decoding.{Space, io, memory, Hit, lone_claim}}
-use Rattle.model_guests.specs.{Accesses.{Target, Access, access, configuration, port, address, Op, reads, writes}, Slots.{Slots, Landing, landing_from, fault_of}, Lone.{LoneGuest, Destination, own_latch, no_function, at_target, destination, ordinary, Select, select_at, by_select, changed_by}}
+use Rattle.std.{proofs.{Common.{◌≡◌, ℕ, zero, suc, ◌+◌, Bool, false, ◌&&◌, not, [], ◌∷◌, Some, None, Option, refl, sym, ap, ◌∙◌, arith}, lemmas.Bool.Decides.nat_tests}, specs.{Prelude.is_some, Option.option_map_or}}
+use Rattle.lists.proofs.Tests.{and_false}
+use Rattle.model_registers.specs.{Registers.block, Decoding.{Space, io, memory, Hit}}
+use Rattle.model_guests.specs.{Accesses.{Target, access, configuration, port, address, Op, reads, writes}, Slots.{Slots, Landing, landing_from, fault_of}, Lone.{LoneGuest, Destination, own_latch, no_function, at_target, destination}}
 use Rattle.model_handoff.specs.{Located.landing_at, StayLaws.any_tells, Changes.{MachineNow, lands_own, moves_own}}
-use Rattle.monitor.specs.{ByIndex.lone_nth, Counts.{changes_at, after_nth, after_access_nth, after_event_nth}, Reaches.target_in}
+use Rattle.monitor.specs.{ByIndex.lone_nth, Counts.{changes_at, after_access_nth, after_event_nth}, Reaches.target_in}
 
 abbrev tells : ℕ → Option Landing → Bool
 tells w o = option_map_or (λ (l : Landing). any_tells w l.place) o false
@@ -20,12 +20,7 @@ hit_at n h = record { slot = n; place = block h.index h.offset }
 in_regions : (w n : ℕ) (space : Space) (a : ℕ) (fs : Slots) → tells w (landing_from n space a fs) ≡ false
 in_regions w n space a [] = refl
 in_regions w n space a (None ∷ fs) = in_regions w (n + 1) space a fs
-in_regions w n space a (Some f ∷ fs) = by (lone_claim f space a) (in_regions w (n + 1) space a fs)
-  where
-    by : (o : Option Hit) → tells w (landing_from (n + 1) space a fs) ≡ false
-        → tells w (first_of_two (option_map (hit_at n) o) (landing_from (n + 1) space a fs)) ≡ false
-    by None more = more
-    by (Some h) more = in_block w h.index h.offset
+in_regions w n space a (Some f ∷ fs) = grind (arith, in_block, in_regions w (n + 1) space a fs)
 
 unchanged : (g : LoneGuest) (op : Op) (w : ℕ) (d : Destination) → tells w (landing_at g d) ≡ false → changes_at g op w d ≡ false
 unchanged g reads w d none = refl
@@ -45,28 +40,7 @@ nowhere_unchanged g op w = unchanged g op w no_function refl
 
 -- four bytes at CF8h land nowhere, and a byte there on no such register
 at_port : (g : LoneGuest) (a w : ℕ) → tells w (landing_at g (destination g.latch w (port a))) ≡ tells w (landing_at g (destination g.latch 1 (port a)))
-at_port g a w = cases (is_address_port a w) refl
-  where
-    goes : Bool → Destination
-    goes t = cond t own_latch (by_select (port a) (select_at g.latch a))
-
-    is_ordinary : (e d : Bool) (s : Select) → d ≡ false → cond (not (e && d)) ordinary s ≡ ordinary
-    is_ordinary true true s h = cc
-    is_ordinary true false s h = refl
-    is_ordinary false d s h = refl
-
-    no_byte : is_address_port a 1 ≡ false
-    no_byte = and_false (a == 0xcf8)
-
-    no_data : is_address_port a w ≡ true → is_data_port a ≡ false
-    no_data e = grind (arith, nat_tests)
-
-    cases : (t : Bool) → is_address_port a w ≡ t → tells w (landing_at g (cond t own_latch (by_select (port a) (select_at g.latch a)))) ≡ tells w (landing_at g (destination g.latch 1 (port a)))
-    cases true e =
-        sym (in_regions w 0 io a g.slots)
-        ∙ sym (ap (λ (s : Select). tells w (landing_at g (by_select (port a) s))) (is_ordinary (is_enabled g.latch) (is_data_port a) _ (no_data e)))
-        ∙ sym (ap (λ (t : Bool). tells w (landing_at g (cond t own_latch (by_select (port a) (select_at g.latch a))))) no_byte)
-    cases false e = sym (ap (λ (t : Bool). tells w (landing_at g (cond t own_latch (by_select (port a) (select_at g.latch a))))) no_byte)
+at_port g a w = grind (arith, and_false, nat_tests, in_regions)
 
 lands : (g : LoneGuest) (t : Target) (w : ℕ) → tells w (landing_at g (destination g.latch w t)) ≡ lands_own g t w
 lands g (configuration slot off) w = refl
@@ -80,8 +54,4 @@ moves g t w (writes v) passes = lands g t w ∙ ap (λ (o : Option ℕ). not (is
 
 pub access_done : (i : ℕ) (m : MachineNow) (t : Target) (w : ℕ) (op : Op) → fault_of (record { target = t; width = w; op = op }) ≡ None
     → after_access_nth i op w (destination (lone_nth m.world i).latch w t) m ≡ after_event_nth i (access (record { target = t; width = w; op = op })) m
-access_done i m t w op passes =
-    let g = lone_nth m.world i in
-    let a : Access = record { target = t; width = w; op = op } in
-    ap₂ (λ (l : LoneGuest) (u : Bool). after_nth i l u m)
-    (ap (λ (o : Option ℕ). cond (is_some o) g (changed_by g (access a))) (sym passes)) (moves g t w op passes)
+access_done i m t w op passes = grind (arith, moves)

@@ -59,11 +59,7 @@ changed_twice f g i fs = cases (slice_get fs i) refl
         ∙ sym (ap (λ (o : Option BoardFunction). option_map_or (λ (y : BoardFunction). with_file (λ file. g (f file)) y.path fs) o fs) at)
 
 pub changed_back : (i : ℕ) (fs : List BoardFunction) → with_file_nth (λ file. file) i fs ≡ fs
-changed_back i fs = cases (slice_get fs i) refl
-  where
-    cases : (o : Option BoardFunction) → slice_get fs i ≡ o → with_file_nth (λ file. file) i fs ≡ fs
-    cases None at = ap (λ (o : Option BoardFunction). option_map_or (λ (y : BoardFunction). with_file (λ file. file) y.path fs) o fs) at
-    cases (Some x) at = ap (λ (o : Option BoardFunction). option_map_or (λ (y : BoardFunction). with_file (λ file. file) y.path fs) o fs) at ∙ same_files x.path fs
+changed_back i fs = grind (arith, same_files)
 
 is_endpoint : (x y : BoardFunction) → y.decl ≡ x.decl → IsSome (as_endpoint x) → IsSome (as_endpoint y)
 is_endpoint x y same some = grind arith
@@ -153,10 +149,7 @@ module _ {h : HostState} {gs : List Guest} {i n : ℕ} (k : KeepsFunction h gs i
         ∙ ap (λ (fs : Slots). with_lone_nth i (record (lone_nth k.world i) { slots = fs }) k.world) (set-set (lone_nth k.world i).slots n (Some (record k.f { file = file })) o)
 
     pub chained : {next : File} {last : HostState} {left : List Guest} → Becomes go_on next last left → Becomes k next last left
-    chained {next} {last} {left} c = record {
-      kept = subst (λ (w : WorldNow). IsKept w last k.names left) (world_twice (Some (record k.f { file = next }))) c.kept;
-      holds = c.holds;
-    }
+    chained {next} {last} {left} c = grind (arith, world_twice)
 
 -- ---- bytes that a device puts
 

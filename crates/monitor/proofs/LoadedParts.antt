@@ -60,9 +60,7 @@ any_there t (y ∷ ys) (suc j) x at is = grind (arith, any_there t ys j x at is)
 -- ---- the bytes that a device reaches
 
 config_reached : (f : Function) (off : ℕ) → off < 256 → is_device_byte (config off) ≡ true → ReachesByte f Cfg off
-config_reached f off low own =
-    let inside : nat_lt off 256 ≡ true = lt-ltb off 256 low in
-    record { reaches = grind (arith, inside, own); own = own }
+config_reached f off low own = grind (arith, lt-ltb)
 
 pub status_reached : (f : Function) (m : ℕ) → m < 2 → ReachesByte f Cfg (6 + m)
 status_reached f zero low = record { reaches = refl; own = refl }
@@ -78,9 +76,7 @@ own_byte : (off : ℕ) → 0x40 ≤ off → is_device_byte (config off) ≡ true
 own_byte off low = grind (arith, nat_tests)
 
 pub block_reached : (f : Function) (b : ConfigBlock) → IsConfigBlock b → (m : ℕ) → m < length b.cells → ReachesByte f Cfg (b.offset + m)
-block_reached f b is m low =
-    let begins = is.begins in let ends = is.ends in
-    config_reached f (b.offset + m) (omega arith) (own_byte (b.offset + m) (omega arith))
+block_reached f b is m low = grind (arith, begins, config_reached, own_byte)
 
 pub region_reached : (f : Function) (j : ℕ) (r : Region) → slice_get f.decl.regions j ≡ Some r → IsLawfulRegion r → (m : ℕ) → m < length r.cells → ReachesByte f (Bar r.index) (0 + m)
 region_reached f j r at is m low =
@@ -171,9 +167,7 @@ module _ {h : HostState} {gs : List Guest} {i n : ℕ} (k : KeepsFunction h gs i
     last_left = sym (ap (λ (xs : List ConfigBlock). drop (blocks_size xs) left) none) ∙ at.after
 
   pub last_region : AtRegion k values m count left now back → count ≤ m → Becomes k (regions_steps k.f.decl.regions values k.f.file) now back
-  last_region at past =
-      let many = at.many in
-      finishes k at.passed (ap (λ (xs : List Region). regions_steps xs left at.passed.file) (drop_all m k.f.decl.regions (omega arith)))
+  last_region at past = grind (arith, finishes, drop_all, decl)
 
   module _ (at : AtBlock k values m count left now back) {told : ℕ × ℕ} (block : IsBlockAt k.f.decl m told) where
     abbrev bs : List ConfigBlock
@@ -195,15 +189,10 @@ module _ {h : HostState} {gs : List Guest} {i n : ℕ} (k : KeepsFunction h gs i
     block_fits = let sum = ap blocks_size split in let s = size in omega (arith, at.enough)
 
     pub block_low : told.0 + length (take told.1 left) < 2 ^ 63
-    block_low =
-        let first = ap (λ (x : ℕ × ℕ). x.0) block.is in let s = size in
-        let few = few_taken told.1 left in let ends = lawful_block.ends in
-        omega arith
+    block_low = grind (arith, size, few_taken, lawful_block)
 
     block_reaches : (f : Function) (j : ℕ) → j < length (take told.1 left) → ReachesByte f Cfg (told.0 + j)
-    block_reaches f j low =
-        let few = few_taken told.1 left in let s = size in
-        subst (λ (x : ℕ). ReachesByte f Cfg (x + j)) (sym (ap (λ (x : ℕ × ℕ). x.0) block.is)) (block_reached f b lawful_block j (omega arith))
+    block_reaches f j low = grind (arith, few_taken, size, block_reached, lawful_block)
 
     pub block_own : (j : ℕ) → j < length (take told.1 left) → is_device_byte (config (told.0 + j)) ≡ true
     block_own j low = (block_reaches k.f j low).own
@@ -258,10 +247,7 @@ module _ {h : HostState} {gs : List Guest} {i n : ℕ} (k : KeepsFunction h gs i
   narrow = let few = few_registers r.kind in let w = told_width in omega arith
 
   region_reaches : (f : Function) → f.decl ≡ k.f.decl → (vs : List ℕ) (j : ℕ) → j < length (take told.2 vs) → ReachesByte f (Bar told.0) (0 + j)
-  region_reaches f same vs j low =
-      let few = few_taken told.2 vs in let c = told_cells in
-      let at : slice_get f.decl.regions m ≡ Some r = ap (λ (d : Endpoint). slice_get d.regions m) same ∙ there in
-      subst (λ (x : ℕ). ReachesByte f (Bar x) (0 + j)) (sym (ap (λ (x : ℕ × ℕ × ℕ). x.0) is)) (region_reached f m r at lawful_region j (omega arith))
+  region_reaches f same vs j low = grind (arith, few_taken, told_cells, decl, region_reached, lawful_region)
 
   pub region_done : (values : List ℕ) {mid new : HostState} {gone : List Guest} → (written : Becomes k (written_run (take told.1 values) (config (0x10 + 4 * told.0)) k.f.file) mid gone)
       → {index : ℕ} → index ≡ written.holds.slot.held.index → IsPut mid index (put_run (take told.2 (drop told.1 values)) (block told.0 0)) new → Becomes k (region_steps r values k.f.file) new gone
@@ -279,19 +265,11 @@ fit_length (e ∷ es) (v ∷ vs) h = ap suc (fit_length es vs (right_true (can_h
 
 blocks_count : (bs : List ConfigBlock) → length (flat_map block_cells bs) ≡ blocks_size bs
 blocks_count [] = refl
-blocks_count (b ∷ bs) =
-    let both = length-append (block_cells b) (flat_map block_cells bs) in
-    let more = blocks_count bs in
-    let here = many_cells (config b.offset) b.cells in
-    omega arith
+blocks_count (b ∷ bs) = grind (arith, length-append, many_cells, blocks_count bs)
 
 regions_count : (rs : List Region) → length (flat_map (region_cells (λ r. 0)) rs) ≡ regions_size rs
 regions_count [] = refl
-regions_count (r ∷ rs) =
-    let both = length-append (region_cells (λ r. 0) r) (flat_map (region_cells (λ r. 0)) rs) in
-    let more = regions_count rs in
-    let here = region_cell_count r in
-    omega arith
+regions_count (r ∷ rs) = grind (arith, length-append, region_cell_count, regions_count rs)
 
 many_values : (f : Function) (vs : List ℕ) → fit_cells (endpoint_reset f.decl false) vs ≡ true → length vs ≡ 23 + blocks_size f.decl.blocks + regions_size f.decl.regions
 many_values f vs fits =
@@ -310,11 +288,7 @@ module _ {h : HostState} {gs : List Guest} {i n : ℕ} (k : KeepsFunction h gs i
     enough_blocks = let many = many_values k.f values l.fits in omega arith
 
     pub enough_regions : {left : List ℕ} → left ≡ drop (blocks_size k.f.decl.blocks) rest → regions_size k.f.decl.regions ≤ length left
-    enough_regions {left} is =
-        let many = many_values k.f values l.fits in
-        let dropped = length-drop (blocks_size k.f.decl.blocks) rest in
-        let same = ap (λ (vs : List ℕ). length vs) is in
-        omega arith
+    enough_regions {left} is = grind (arith, many_values, length-drop, decl)
 
 -- ---- all parts
 

@@ -7,7 +7,7 @@
 use Rattle.std.{proofs.{Common.{◌≡◌, ◌<◌, ℕ, Bool, cond, zero, suc, List, [], ◌∷◌, length, take, drop, Some, None, Option, Ok, Err, slice_set, refl, ap, ap₂, ◌∙◌, arith}, lemmas.Bool.eq-eqb}, specs.Prelude.{map, option_map}}
 use Rattle.model_registers.specs.{Decoding.Function, ConfigAddress.latched}
 use Rattle.model_guests.specs.{Slots.{Slots, slot_at}, Lone.LoneGuest}
-use Rattle.model_images.specs.{Images.{SavedFunction, restored, function_at_reset, FitsSlot}, Layouts.{parsed, parse_number}, ByteLaws.AreBytes, LoadedBytes.{Left, after_latch, after_number, after_slot, after_slots, then_read}, TakenBytes.{SlotsAreTaken, slot_size, taken_slot, taken_slots}}
+use Rattle.model_images.specs.{Images.{restored, function_at_reset, FitsSlot}, Layouts.{parsed, parse_number}, ByteLaws.AreBytes, LoadedBytes.{Left, after_latch, after_number, after_slot, after_slots, then_read}, TakenBytes.{SlotsAreTaken, slot_size, taken_slot, taken_slots}}
 use Rattle.monitor.specs.Loads.{AreLoadable, CanLoad, slot_loaded}
 
 -- ---- slot after slot
@@ -47,10 +47,7 @@ abbrev pub loaded_lone : ℕ → List ℕ → LoneGuest → LoneGuest
 loaded_lone n bytes g = record g { slots = loaded_to n g.slots bytes }
 
 pub one_more : (n : ℕ) (bytes : List ℕ) (g : LoneGuest) → slot_loaded n (rest_at n g.slots bytes) (loaded_lone n bytes g) ≡ loaded_lone (suc n) bytes g
-one_more n bytes g =
-    ap (λ (f : Option Function). let l : LoneGuest = record g { slots = slice_set (loaded_to n g.slots bytes) n (option_map restored (taken_slot f (rest_at n g.slots bytes))) } in l)
-    (still_there n g.slots bytes)
-    ∙ ap (λ (xs : Slots). let l : LoneGuest = record g { slots = xs } in l) (one_set n g.slots bytes)
+one_more n bytes g = grind (arith, still_there, one_set)
 
 -- ---- what stands there can be taken
 
@@ -80,11 +77,7 @@ fits_at law zero (f ∷ fs) bytes rest h within = (law f fs bytes rest h).fits
 fits_at law (suc n) (f ∷ fs) bytes rest h within = fits_at law n fs (drop (slot_size f) bytes) rest (law f fs bytes rest h).others (omega (arith, within))
 
 pub can_load : SlotsAreTaken → (n : ℕ) (fs : Slots) (bytes : List ℕ) → AreLoadable fs bytes → n < length fs → CanLoad (slot_at fs n) (rest_at n fs bytes)
-can_load law n fs bytes are within = record {
-  at_reset = ap (λ (xs : Slots). slot_at xs n) are.at_reset ∙ reset_at n fs;
-  fits = fits_at law n fs bytes [] are.taken within;
-  are_bytes = bytes_at n fs bytes are.are_bytes;
-}
+can_load law n fs bytes are within = grind (arith, reset_at, fits_at, bytes_at)
 
 -- ---- a guest at reset
 
@@ -118,9 +111,7 @@ size_one (Some f) = refl
 
 pub reset_taken : (fs : Slots) (bytes : List ℕ) → taken_slots (map function_at_reset fs) bytes ≡ taken_slots fs bytes
 reset_taken [] bytes = refl
-reset_taken (f ∷ fs) bytes =
-    ap₂ (λ (x : Option SavedFunction) (xs : List (Option SavedFunction)). x ∷ xs) (taken_one f bytes)
-    (ap (λ (n : ℕ). taken_slots (map function_at_reset fs) (drop n bytes)) (size_one f) ∙ reset_taken fs (drop (slot_size f) bytes))
+reset_taken (f ∷ fs) bytes = grind (arith, taken_one, size_one, reset_taken fs)
 
 -- ---- the latch
 

@@ -13,13 +13,12 @@
 --     takes_named, image_fits      bytes that the guest of this name takes; they are an image of it
 --     loaded_is, keeps_lent, load_left, is_loaded      the guest by its name, and what the call leaves
 use Rattle.std.{proofs.{Common.{◌≡◌, ◌<◌, ◌+◌, ℕ, suc, true, false, List, length, take, drop, Some, None, Option, Ok, slice_get, slice_set, refl, sym, ap, ap₂, ◌∙◌, subst, arith}, lemmas.{Option.same_Some, List.drop-drop}}, specs.Prelude.{map, option_map, unwrap_or}}
-use Rattle.lists.specs.Elements.{Each}
 use Rattle.model_registers.specs.{ConfigAddress.latched, EndpointTable.endpoint_reset, Decoding.Function}
 use Rattle.model_guests.specs.{Text.Text, Slots.{Slots, slot_at}, Lone.LoneGuest, Guests.{GuestsNow, lone_of}, WorldNow.WorldNow}
 use Rattle.model_handoff.specs.Changes.{MachineNow}
-use Rattle.model_images.{specs.{Images.{Image, SavedFunction, restored, loaded, lone_of_image, after_load, at_reset, fits_declaration}, ByteLaws.{AreBytes, IsSavableGuest}, LoadedBytes.{after_latch, load_fault}, LoadedLaws.IsFittingImage, TakenBytes.{values_begin, slot_size, taken_function, taken_slot, taken_image, le_number}}, proofs.{LoadedBytes.savable_is_declared, TakenBytes.{accepted_is_taken, image_is_taken, slots_are_taken}}}
+use Rattle.model_images.{specs.{Images.{Image, restored, loaded, lone_of_image, after_load, at_reset}, ByteLaws.{AreBytes, IsSavableGuest}, LoadedBytes.{after_latch, load_fault}, LoadedLaws.IsFittingImage, TakenBytes.{values_begin, slot_size, taken_function, taken_slot, taken_image, le_number}}, proofs.{LoadedBytes.savable_is_declared, TakenBytes.{accepted_is_taken, image_is_taken, slots_are_taken}}}
 use Rattle.host_bridge.specs.HostState.{HostState}
-use Rattle.monitor.{specs.{declared.guest.{Held.Held, Guest.Guest}, ByIndex.{guest_nth, lone_nth, name_nth, with_lone_nth}, Configs.HoldsAt, Counts.{counted_nth, counts_of}, Keeping.{IsKept, IsSound}, Views.{machine_shown, slot_shown}, Loadings.{KeepsFunction, Becomes, IsLoadable, filled_with, with_slot_nth}, Loads.{AreLoadable, CanLoad, IsLoaded, KeepsWorld, Takes, slot_loaded, slots_loaded, value_span}}, proofs.{Landed.same_count, Steps.{GuestAt, kept_latch, lone_named, slot_empty, slot_nth, with_named, with_same}, Exchanges.holds_nth, Calls.{Leaves, leaves}, RestartSteps.{lone_set, none_set, requested, set_again}, SavedImages.{few_slots, lone_is}, LoadedSlots.{all_loaded, bytes_after, bytes_before, can_load, latch_there, loaded_lone, next_rest, one_more, reset_taken, reset_takes, reset_twice, rest_at, still_there}}}
+use Rattle.monitor.{specs.{declared.guest.{Held.Held, Guest.Guest}, ByIndex.{guest_nth, lone_nth, name_nth, with_lone_nth}, Configs.HoldsAt, Counts.{counted_nth, counts_of}, Keeping.{IsKept, IsSound}, Views.{machine_shown, slot_shown}, Loadings.{KeepsFunction, Becomes, IsLoadable, filled_with}, Loads.{AreLoadable, CanLoad, IsLoaded, KeepsWorld, Takes, slot_loaded, slots_loaded, value_span}}, proofs.{Landed.same_count, Steps.{GuestAt, kept_latch, lone_named, slot_empty, slot_nth, with_named, with_same}, Exchanges.holds_nth, Calls.{Leaves, leaves}, RestartSteps.{lone_set, none_set, requested, set_again}, SavedImages.{few_slots, lone_is}, LoadedSlots.{all_loaded, bytes_after, bytes_before, can_load, latch_there, loaded_lone, next_rest, one_more, reset_taken, reset_takes, reset_twice, rest_at, still_there}}}
 
 -- ---- a slot
 
@@ -32,9 +31,7 @@ pub record Filled (o : Option Function) (first count : ℕ) : Type 0 where
 
 span_of : (o : Option Function) (first count : ℕ) → Some (first, count) ≡ option_map value_span o → Filled o first count
 span_of None first count h = cc
-span_of (Some f) first count h =
-    let same : (first, count) ≡ value_span f = same_Some (first, count) (value_span f) h in
-    record { f = f; function = refl; begins = ap (λ (p : ℕ × ℕ). p.0) (sym same); many = ap (λ (p : ℕ × ℕ). p.1) (sym same) }
+span_of (Some f) first count h = grind (arith, same_Some)
 
 -- of a slot that is told by another
 pub filled_at : {o p : Option Function} → p ≡ o → (first count : ℕ) → Some (first, count) ≡ option_map value_span p → Filled o first count
@@ -45,11 +42,7 @@ none_of None h = refl
 none_of (Some f) h = cc
 
 held_there : (os : List (Option Held)) (n : ℕ) (held : Held) → unwrap_or (slice_get os n) None ≡ Some held → slice_get os n ≡ Some (Some held)
-held_there os n held h = by (slice_get os n) h
-  where
-    by : (o : Option (Option Held)) → unwrap_or o None ≡ Some held → o ≡ Some (Some held)
-    by None e = cc
-    by (Some x) e = ap (λ (y : Option Held). Some y) e
+held_there os n held h = grind arith
 
 module _ {w : WorldNow} {h : HostState} {names : List Text} {gs : List Guest} {i : ℕ} {g : Guest} (at : GuestAt w h names gs i g) where
   pub lone_count : length (lone_nth w i).slots ≡ 32
@@ -74,26 +67,14 @@ module _ {w : WorldNow} {h : HostState} {names : List Text} {gs : List Guest} {i
       values_are = are ∙ ap₂ (λ (m k : ℕ). take m (drop k bytes)) (sym is.many) (sym is.begins)
 
       pub is_loadable : CanLoad (slot_at (lone_nth w i).slots n) bytes → IsLoadable keeps_function values
-      is_loadable can =
-          let one = subst (λ (o : Option Function). CanLoad o bytes) is.function can in
-          record {
-            at_reset = ap (λ (f : Function). f.file) (same_Some _ _ one.at_reset);
-            fits = subst (λ (vs : List ℕ). fits_declaration (filled_with vs is.f) ≡ true) (sym values_are) one.fits.values;
-            bytes = subst (λ (vs : List ℕ). Each (λ v. v < 256) vs) (sym are) (bytes_before count (drop first bytes) (bytes_after first bytes one.are_bytes));
-          }
+      is_loadable can = grind (arith, same_Some, values_are, bytes_before, bytes_after)
 
       pub slot_kept : {new : HostState} {back : List Guest} → Becomes keeps_function (restored (filled_with values is.f)).file new back
           → IsKept (with_lone_nth i (slot_loaded n bytes (lone_nth w i)) w) new names back
-      slot_kept {new} {back} holds = subst (λ (o : Option Function). IsKept (with_slot_nth i n o w) new names back) same holds.kept
-        where
-          same : (let f : Function = record is.f { file = (restored (filled_with values is.f)).file } in Some f) ≡ option_map restored (taken_slot (slot_at (lone_nth w i).slots n) bytes)
-          same =
-              ap (λ (vs : List ℕ). Some (restored (filled_with vs is.f))) values_are
-              ∙ ap (λ (o : Option Function). option_map restored (taken_slot o bytes)) (sym is.function)
+      slot_kept {new} {back} holds = grind (arith, values_are)
 
     pub filled_behind : (bytes values result : List ℕ) → values ≡ drop first bytes → result ≡ drop count values → result ≡ drop (slot_size (slot_at (lone_nth w i).slots n)) bytes
-    filled_behind bytes values result are h =
-        h ∙ ap (drop count) are ∙ drop-drop count first bytes ∙ ap₂ (λ (k m : ℕ). drop (k + m) bytes) (sym is.begins) (sym is.many) ∙ ap (λ (o : Option Function). drop (slot_size o) bytes) (sym is.function)
+    filled_behind bytes values result are h = grind (arith, drop-drop)
 
   module _ (n : ℕ) (none : slot_at (lone_nth w i).slots n ≡ None) where
     pub empty_behind : (bytes result : List ℕ) → result ≡ drop 1 bytes → result ≡ drop (slot_size (slot_at (lone_nth w i).slots n)) bytes
@@ -141,16 +122,10 @@ module _ {w : WorldNow} {h : HostState} {names : List Text} {gs : List Guest} {i
         more = omega (arith, next)
 
         pub rest_so_far : (result : List ℕ) → result ≡ drop (slot_size (slot_at (lone_nth (slots_so_far n bytes i w) i).slots n)) left → result ≡ rest_at m (lone_nth w i).slots bytes
-        rest_so_far result h =
-            h ∙ ap₂ (λ (o : Option Function) (xs : List ℕ). drop (slot_size o) xs) same_slot are ∙ next_rest n (lone_nth w i).slots bytes
-            ∙ ap (λ (k : ℕ). rest_at k (lone_nth w i).slots bytes) more
+        rest_so_far result h = grind (arith, same_slot, next_rest, rest_at, more)
 
         pub goes_on : with_lone_nth i (slot_loaded n left (lone_nth (slots_so_far n bytes i w) i)) (slots_so_far n bytes i w) ≡ slots_so_far m bytes i w
-        goes_on =
-            set_again w i at.there now (slot_loaded n left (lone_nth (slots_so_far n bytes i w) i))
-            ∙ ap₂ (λ (xs : List ℕ) (l : LoneGuest). with_lone_nth i (slot_loaded n xs l) w) are (lone_set w i at.there now)
-            ∙ ap (λ (l : LoneGuest). with_lone_nth i l w) (one_more n bytes (lone_nth w i))
-            ∙ ap (λ (k : ℕ). slots_so_far k bytes i w) more
+        goes_on = grind (arith, set_again, lone_set, one_more, more)
 
     pub ends : n ≡ 32 → slots_so_far n bytes i w ≡ with_lone_nth i (slots_loaded bytes (lone_nth w i)) w
     ends is =
@@ -188,16 +163,10 @@ module _ {w : WorldNow} {h : HostState} {names : List Text} {gs : List Guest} {i
     with_slots = with_lone_nth i (slots_loaded slots (lone_nth world_at_reset i)) world_at_reset
 
     filled_is : with_slots ≡ with_lone_nth i filled w
-    filled_is =
-        set_again w i at.there (at_reset (lone_nth w i)) (slots_loaded slots (lone_nth world_at_reset i))
-        ∙ ap₂ (λ (xs : List ℕ) (l : LoneGuest). with_lone_nth i (slots_loaded xs l) w) are lone_at_reset
+    filled_is = grind (arith, set_again, lone_at_reset)
 
     pub all_loaded_is : with_lone_nth i (record (lone_nth with_slots i) { latch = the_image.latch }) with_slots ≡ with_lone_nth i (lone_of_image the_image) w
-    all_loaded_is =
-        ap (λ (v : WorldNow). with_lone_nth i (record (lone_nth v i) { latch = the_image.latch }) v) filled_is
-        ∙ ap (λ (l : LoneGuest). with_lone_nth i (record l { latch = the_image.latch }) (with_lone_nth i filled w)) (lone_set w i at.there filled)
-        ∙ set_again w i at.there filled (record filled { latch = the_image.latch })
-        ∙ ap (λ (xs : List (Option SavedFunction)). with_lone_nth i (record { slots = map (option_map restored) xs; latch = the_image.latch }) w) (reset_taken (lone_nth w i).slots (drop 12 bytes))
+    all_loaded_is = grind (arith, filled_is, lone_set, set_again, reset_taken)
 
 -- its latch, which is written last
 pub latch_kept : {w : WorldNow} {h : HostState} {names : List Text} {gs back : List Guest} {i : ℕ} {g : Guest} → GuestAt w h names gs i g → (n value : ℕ) → value ≡ n → latched n ≡ n
@@ -207,10 +176,7 @@ latch_kept {w} {h} {names} {gs} {back} {i} {g} at n value same is_latch is =
     subst (IsKept (with_lone_nth i (record (lone_nth w i) { latch = n }) w) h names) (sym is) (kept_latch at n k (ap latched same ∙ is_latch) refl)
 
 pub latch_read : (l : LoneGuest) (bytes from : List ℕ) (n : ℕ) → load_fault l bytes ≡ None → from ≡ drop 8 bytes → ((rest : List ℕ) → after_latch from ≡ Ok rest → n ≡ le_number (take 4 from)) → n ≡ (taken_image l bytes).latch
-latch_read l bytes from n accepted are reads =
-    let image = image_is_taken l bytes accepted in
-    let there = ap after_latch are ∙ latch_there (drop 8 bytes) (taken_image l bytes).latch (drop 12 bytes) image.read image.latch in
-    reads (drop 12 bytes) there ∙ ap (λ (xs : List ℕ). le_number (take 4 xs)) are
+latch_read l bytes from n accepted are reads = grind (arith, image_is_taken, latch_there)
 
 -- ---- the guest by its name
 

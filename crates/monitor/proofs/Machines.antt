@@ -4,11 +4,11 @@
 --     by_name      after an event of a guest by its index
 --     refused_all, read_after      after an action that is refused, or one that reads
 --     stood, grew, both_grew      after an action that counts nobody, one guest, or two
-use Rattle.std.{proofs.{Common.{◌≡◌, ◌<◌, ℕ, Bool, true, false, not, ◌&&◌, ◌||◌, ◌==◌, cond, List, [], ◌∷◌, drop, take, length, map, ◌++◌, Some, None, Option, refl, sym, ap, ap₂, ◌∙◌, arith}, lemmas.{Bool.Decides.nat_tests, List.take_at}}, specs.{Prelude.is_some, Str.bytes_eq}}
+use Rattle.std.{proofs.{Common.{◌≡◌, ◌<◌, ℕ, Bool, true, false, not, ◌&&◌, ◌||◌, ◌==◌, List, [], ◌∷◌, drop, take, length, map, ◌++◌, Some, None, Option, refl, sym, ap, ap₂, ◌∙◌, arith}, lemmas.{Bool.Decides.nat_tests, List.take_at}}, specs.{Prelude.is_some, Str.bytes_eq}}
 use Rattle.lists.proofs.Tests.{and_false}
 use Rattle.model_board.specs.State.{State}
-use Rattle.model_guests.{specs.{Accesses.{Access, access, Event, Op, reads, writes}, Slots.fault_of, Text.Text, Lines.guest_event, Lone.{LoneGuest, Destination, after_event, changed_by}, World.{Guest as Declared, World}, Guests.{GuestNow, GuestsNow, guest_at_first}, WorldNow.{WorldNow, names_now, world_over}, DeviceEvents.{DeviceByte, DeviceEvent, device_reads}, Calls.{asks, at_device}}, proofs.DeviceBytes.reads_leave_guests}
-use Rattle.model_handoff.specs.{StayLaws.is_write, Actions.{Action, calls, after_action}, Changes.{MachineNow, BeginsIn, after_on_machine, changes, counts_where, lands_own, moves_own}}
+use Rattle.model_guests.{specs.{Accesses.{Access, access, Event, reads}, Slots.fault_of, Text.Text, Lines.guest_event, Lone.{LoneGuest, Destination, after_event}, World.{Guest as Declared, World}, Guests.{GuestNow, GuestsNow, guest_at_first}, WorldNow.{WorldNow, names_now, world_over}, DeviceEvents.{DeviceByte, DeviceEvent, device_reads}, Calls.{asks, at_device}}, proofs.DeviceBytes.reads_leave_guests}
+use Rattle.model_handoff.specs.{Actions.{Action, calls, after_action}, Changes.{MachineNow, BeginsIn, after_on_machine, changes, counts_where, moves_own}}
 use Rattle.host_bridge.specs.HostState.{HostState}
 use Rattle.monitor.{specs.{declared.guest.Guest.Guest, ByIndex.{lone_nth, name_nth, with_lone_nth}, Counts.{counts_of, counted_nth, counted_both, after_nth, after_access_nth, after_event_nth}, Keeping.{IsKept, IsSound}, Views.{machine_shown, world_shown}}, proofs.{Calls.{Leaves, kept_in}, Counts.{counted_one, counted_two, counts_alike, counts_none}, Named.{changed_by_name, lone_by_name, nth_stands, same_nth}}}
 
@@ -22,13 +22,7 @@ pub same_machine : (m : MachineNow) (i : ℕ) → i < length m.world.guests → 
 same_machine m i inside w d = untouched m i _ false (same_nth m.world i inside) refl
 
 pub access_refused : (m : MachineNow) (i : ℕ) → i < length m.world.guests → (a : Access) {number : ℕ} → fault_of a ≡ Some number → m ≡ after_event_nth i (access a) m
-access_refused m i inside a {number} fault =
-    let g = lone_nth m.world i in
-    untouched m i _ (moves_own g (access a)) (same_nth m.world i inside ∙ ap (λ (o : Option ℕ). with_lone_nth i (cond (is_some o) g (changed_by g (access a))) m.world) (sym fault)) (quiet a.op)
-  where
-    quiet : (op : Op) → (is_write op && not (is_some (fault_of a)) && lands_own (lone_nth m.world i) a.target a.width) ≡ false
-    quiet reads = refl
-    quiet (writes v) = ap (λ (o : Option ℕ). not (is_some o) && lands_own (lone_nth m.world i) a.target a.width) fault
+access_refused m i inside a {number} fault = grind (arith, untouched, same_nth)
 
 -- ---- what an action changes
 
@@ -57,17 +51,11 @@ none_yet w (d ∷ ds) = ap (λ (ns : List ℕ). 0 ∷ ns) (none_yet w ds)
 
 pub begins_counted : (w : World) (s : State) (k : HostState) (names : List Text) (gs : List Guest) {m : MachineNow} → m ≡ machine_shown k names gs → world_shown k names gs ≡ world_over w s
     → counts_of gs ≡ map {B = ℕ} (λ (d : Declared). 0) w.guests → BeginsIn (λ v. v ≡ world_over w s) m
-begins_counted w s k names gs {m} made shown none =
-    let world : m.world ≡ world_over w s = ap (λ (n : MachineNow). n.world) made ∙ shown in
-    record {
-      world = world;
-      counts = ap (λ (n : MachineNow). n.counts) made ∙ none ∙ none_yet w w.guests ∙ ap (λ (v : WorldNow). map {B = ℕ} (λ (g : GuestNow). 0) v.guests) (sym world);
-    }
+begins_counted w s k names gs {m} made shown none = grind (arith, none_yet)
 
 -- those that were lent
 pub counts_lent : {ms gs : List Guest} (left : List Guest) (f : List ℕ → List ℕ) → ms ≡ gs → counts_of left ≡ f (counts_of ms) → (n : ℕ) → length left ≡ n → counts_of (take n (left ++ drop (length left) gs)) ≡ f (counts_of gs)
-counts_lent {ms} {gs} left f same is n count =
-    ap counts_of (take_at left (drop (length left) gs) n count) ∙ is ∙ ap (λ (ls : List Guest). f (counts_of ls)) same
+counts_lent {ms} {gs} left f same is n count = grind (arith, take_at)
 
 pub both_one : (i : ℕ) (ns : List ℕ) → counted_both i i ns ≡ counted_nth i true ns
 both_one i ns = let one : (i == i) ≡ true = grind (arith, nat_tests) in ap (λ (t : Bool). counted_nth i (not t) (counted_nth i true ns)) one

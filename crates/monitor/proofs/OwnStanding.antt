@@ -2,8 +2,8 @@
 --     six_standing      six regions with the bases of a file
 --     same_bases      their registers are those of the declared regions
 --     own_empty, own_there      a slot of a guest by its index
-use Rattle.std.{proofs.Common.{◌≡◌, ◌+◌, ℕ, List, [], ◌∷◌, length, Some, None, Option, slice_get, refl, sym, ap, ap₂, ◌∙◌, subst, arith}, specs.Prelude.{map, option_map, unwrap_or}}
-use Rattle.model_registers.specs.{Registers.File, Declarations.Region, EndpointTable.BaseAddress, OwnCopies.IsLawfulOwn, Decoding.{Function, base, base_address}}
+use Rattle.std.{proofs.Common.{◌≡◌, ◌+◌, ℕ, List, [], ◌∷◌, length, Some, None, Option, slice_get, refl, sym, ap, ◌∙◌, subst, arith}, specs.Prelude.{map, option_map, unwrap_or}}
+use Rattle.model_registers.specs.{Registers.File, Declarations.Region, OwnCopies.IsLawfulOwn, Decoding.{Function, base_address}}
 use Rattle.model_board.specs.{Paths.Path, State.State}
 use Rattle.model_guests.specs.{Slots.slot_at, WorldNow.WorldNow}
 use Rattle.bars.specs.declared.region.BasedRegion.{BasedRegion}
@@ -31,12 +31,7 @@ rebased old new [] n [] e = refl
 rebased old new (r ∷ rs) n [] e = cc
 rebased old new rs n (None ∷ placed) e = rebased old new rs (n + 1) placed e
 rebased old new [] n (Some x ∷ placed) e = cc
-rebased old new (r ∷ rs) n (Some x ∷ placed) e =
-    let here : bars.placed n x ≡ base_address old r = cc in
-    let more : bars.bases_from (n + 1) placed ≡ map (base_address old) rs = cc in
-    ap₂ (λ (b : BaseAddress) (bs : List BaseAddress). b ∷ bs)
-    (ap (λ (b : BaseAddress). let c : BaseAddress = record b { base = base new b.index b.kind } in c) here)
-    (rebased old new rs (n + 1) placed more)
+rebased old new (r ∷ rs) n (Some x ∷ placed) e = grind (arith, rebased old new rs (n + 1) placed)
 
 pub six_standing : (old new : File) (rs : List Region) (placed : List (Option BasedRegion)) → length placed ≡ 6 → bars.bases_from 0 placed ≡ map (base_address old) rs
     → (a b c d e f : Option BasedRegion)

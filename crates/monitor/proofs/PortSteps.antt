@@ -30,8 +30,7 @@ nothing_after l (writes v) w = refl
 
 pub latch_lent : {gs ms left : List Guest} (i v : ℕ) {g : Guest} → ms ≡ gs → slice_get gs i ≡ Some g
     → ((k : Guest) → slice_get ms i ≡ Some k → left ≡ slice_set ms i (record k { latch = latched v })) → left ≡ slice_set gs i (record g { latch = latched v })
-latch_lent {gs} {ms} {left} i v {g} same there written =
-    subst (λ (ls : List Guest). (k : Guest) → slice_get ls i ≡ Some k → left ≡ slice_set ls i (record k { latch = latched v })) same written g there
+latch_lent {gs} {ms} {left} i v {g} same there written = grind arith
 
 pub latch_written : {w : WorldNow} {h : HostState} {names : List Text} {gs : List Guest} {i : ℕ} {g : Guest} → GuestAt w h names gs i g → (v : ℕ) {left : List Guest} → left ≡ slice_set gs i (record g { latch = latched v })
     → Leaves (with_lone_nth i (after_access_at (lone_nth w i) (writes v) 4 own_latch) w) h h names left

@@ -1,7 +1,7 @@
 -- An access of one byte of a region by slot and register: the checks in their order, where it lands, and the machine after it.
-use Rattle.std.{proofs.{Common.{◌≡◌, ◌<◌, ℕ, Bool, true, false, cond, eqb, List, [], Some, None, Option, Ok, Err, refl, sym, ap, ◌∙◌, subst, arith}, lemmas.Bool.Decides.nat_tests}, specs.{Prelude.{nat_lt, option_map, Result}, Option.{option_map_or, ok_or}}}
+use Rattle.std.{proofs.{Common.{◌≡◌, ◌<◌, ℕ, Bool, true, false, cond, List, [], Some, None, Option, Ok, Err, refl, sym, ap, ◌∙◌, subst, arith}, lemmas.Bool.Decides.nat_tests}, specs.{Prelude.{nat_lt, option_map, Result}, Option.{option_map_or, ok_or}}}
 use Rattle.lists.{specs.Elements.IsIn, proofs.Indices.{found_at, index_in}}
-use Rattle.model_registers.specs.{OwnCopies.IsLawfulOwn, Declarations.Region, Decoding.{Function, space_of, is_open}}
+use Rattle.model_registers.specs.{OwnCopies.IsLawfulOwn, Declarations.Region, Decoding.{Function, is_open}}
 use Rattle.model_board.specs.{Paths.Path, State.State}
 use Rattle.model_guests.specs.{Accesses.{RaisePlace, in_config, in_region, Op, reads, writes, refused}, Slots.{slot_at, perform}, Lone.LoneGuest, Text.Text, WorldNow.WorldNow, DeviceEvents.DeviceByte}
 use Rattle.model_handoff.specs.{GuestRegions.{RegionNow, region_at, region_now}, RegionBytes.{opening, byte_opening, byte_reply, reply_there, after_there, register_of}, Changes.MachineNow}
@@ -15,13 +15,7 @@ use Rattle.headers.specs.declared.place.Place as headers
 
 pub opening_told : (f : Function) (n off : ℕ) (o : Option RegionNow) → o ≡ option_map (region_now f.file) (region_at f n)
     → option_map_or (λ (r : RegionNow). cond {A = Option Bool} (nat_lt off r.size) (Some r.is_open) None) o None ≡ opening f (in_region n) off
-opening_told f n off o is = by (region_at f n) o is
-  where
-    by : (q : Option Region) (o : Option RegionNow) → o ≡ option_map (region_now f.file) q
-        → option_map_or (λ (r : RegionNow). cond {A = Option Bool} (nat_lt off r.size) (Some r.is_open) None) o None
-        ≡ option_map_or (λ (r : Region). cond {A = Option Bool} (nat_lt off r.size) (Some (is_open f.file (space_of r.kind))) None) q None
-    by None o e = ap (λ (x : Option RegionNow). option_map_or (λ (r : RegionNow). cond {A = Option Bool} (nat_lt off r.size) (Some r.is_open) None) x None) e
-    by (Some q) o e = ap (λ (x : Option RegionNow). option_map_or (λ (r : RegionNow). cond {A = Option Bool} (nat_lt off r.size) (Some r.is_open) None) x None) e
+opening_told f n off o is = grind arith
 
 -- a region that opens, or is closed, to a byte
 pub record HasByte (f : Function) (n off : ℕ) : Type 0 where
@@ -32,18 +26,7 @@ pub record HasByte (f : Function) (n off : ℕ) : Type 0 where
 
 pub has_byte : (f : Function) (part : RaisePlace) (off : ℕ) (t : Bool) → Some t ≡ opening f part off → HasByte f (register_of part) off
 has_byte f in_config off t is = cc
-has_byte f (in_region n) off t is = by (region_at f n) refl is
-  where
-    by : (q : Option Region) → region_at f n ≡ q → Some t ≡ option_map_or (λ (r : Region). cond {A = Option Bool} (nat_lt off r.size) (Some (is_open f.file (space_of r.kind))) None) q None → HasByte f n off
-    by None there e = cc
-    by (Some r) there e =
-        let found = found_at (λ (y : Region). eqb y.index n) f.decl.regions r there in
-        record {
-          region = r;
-          declared = index_in f.decl.regions found.1.0 r found.1.1;
-          index = grind (arith, nat_tests);
-          inside = grind (arith, nat_tests);
-        }
+has_byte f (in_region n) off t is = grind (arith, found_at, index_in, nat_tests)
 
 -- ---- the checks
 

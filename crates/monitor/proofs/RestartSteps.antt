@@ -64,18 +64,13 @@ one_more n g = cases (slot_at g.slots n) refl
 
 module _ (w : WorldNow) (i : ℕ) (there : slice_get w.guests i ≡ Some (guest_nth w i)) where
   guest_set : (l : LoneGuest) → guest_nth (with_lone_nth i l w) i ≡ (let x : GuestNow = record (guest_nth w i) { lone = l } in x)
-  guest_set l =
-      let x : GuestNow = record (guest_nth w i) { lone = l } in
-      sym (nth_there (with_lone_nth i l w) i x (get_set w.guests i (guest_nth w i) x there))
+  guest_set l = grind (arith, nth_there, get_set)
 
   pub lone_set : (l : LoneGuest) → lone_nth (with_lone_nth i l w) i ≡ l
   lone_set l = ap (λ (x : GuestNow). x.lone) (guest_set l)
 
   pub set_again : (l m : LoneGuest) → with_lone_nth i m (with_lone_nth i l w) ≡ with_lone_nth i m w
-  set_again l m =
-      ap (λ (xs : GuestsNow). record w { guests = xs })
-      (ap (λ (x : GuestNow). slice_set (slice_set w.guests i (record (guest_nth w i) { lone = l })) i (record x { lone = m })) (guest_set l)
-      ∙ set-set w.guests i (record (guest_nth w i) { lone = l }) (record (guest_nth w i) { lone = m }))
+  set_again l m = grind (arith, guest_set, set-set)
 
 -- ---- a world that is kept
 
@@ -149,10 +144,7 @@ module _ {w : WorldNow} {h : HostState} {names : List Text} {gs : List Guest} {i
 
   -- first its latch, and then its slots
   pub both : slots_at_reset i (latch_cleared i w) ≡ with_lone_nth i (at_reset (lone_nth w i)) w
-  both =
-      let clear : LoneGuest = record (lone_nth w i) { latch = 0 } in
-      ap (λ (l : LoneGuest). with_lone_nth i (record l { slots = map function_at_reset l.slots }) (latch_cleared i w)) (lone_set w i at.there clear)
-      ∙ set_again w i at.there clear (at_reset (lone_nth w i))
+  both = grind (arith, lone_set, set_again)
 
   pub kept_clear : (t : Bool) {back : List Guest} → back ≡ slice_set gs i (record g { latch = 0; changed = after_change t g.changed }) → IsKept (latch_cleared i w) h names back
   kept_clear t is =

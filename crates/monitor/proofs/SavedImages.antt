@@ -10,24 +10,20 @@
 --     fault_told      what is told of that
 --     image_put      an image that is put into a buffer, part by part
 --     size_now, fault_now      what calls about a guest answer
-use Rattle.std.{proofs.Common.{◌≡◌, ◌≤◌, ◌+◌, ℕ, zero, suc, Bool, true, false, cond, List, [], ◌∷◌, ◌++◌, length, Some, None, Option, Ok, Err, slice_get, refl, sym, ap, ap₂, ◌∙◌, subst, arith, length-append}, specs.{Prelude.{map, option_map, IfErr, IfOk, Result}, Result.result_err}}
+use Rattle.std.{proofs.Common.{◌≡◌, ◌≤◌, ◌+◌, ℕ, zero, suc, false, List, [], ◌∷◌, ◌++◌, length, Some, None, Option, Ok, Err, slice_get, refl, sym, ap, ap₂, ◌∙◌, subst, arith, length-append}, specs.{Prelude.{map, option_map, IfErr, IfOk, Result}, Result.result_err}}
 use Rattle.lists.{specs.Elements.Each, proofs.{EachLemmas.each_from_map, Members.flat_map_map}}
-use Rattle.model_registers.specs.{Registers.{File, Place, PlacedCell, cell_at}, EndpointTable.endpoint_reset, OwnCopies.{is_own, OwnCopies, own_file}, CopiedFiles.{copied, places_of, with_copies}, Decoding.Function}
+use Rattle.model_registers.specs.{Registers.{File, Place, PlacedCell}, EndpointTable.endpoint_reset, OwnCopies.{OwnCopies, own_file}, CopiedFiles.{copied, places_of, with_copies}, Decoding.Function}
 use Rattle.model_board.specs.{Paths.Path, Board.Board, AtReset.board_at, State.BoardFunction}
 use Rattle.model_guests.{specs.{Slots.Slots, Text.Text, Lone.LoneGuest, Guests.{GuestNow, lone_of}, WorldNow.WorldNow, Seated.AreSeats}, proofs.FoundFiles.same_places}
 use Rattle.model_images.specs.{Images.{Image, image_of_lone, image_of_guest}, Layouts.le_bytes, ImageBytes.{image_bytes, magic, version}, LoadedBytes.{Left, after_beginning, after_bytes, after_image, after_latch, after_slot, after_slots, at_end, fault_of, header, load_fault, then_read}}
 use Rattle.images.{specs.{declared.fault.ImageFault.ImageFault, Faults.number_of, Puts.put, Shown.{HasDeclaredPlaces, after_filled, function_bytes, seen, slot_bytes}}, proofs.{Puts.next, ComparedFunctions.filled_is, ShownValues.guest_bytes}}
 use Rattle.host_bridge.specs.HostState.{HostState}
-use Rattle.monitor.{specs.{declared.guest.{Held.Held, Guest.Guest}, Views.{guest_shown, guests_shown, slot_shown}, ByIndex.{guest_nth, lone_nth, name_nth}, ShownImages.{HasPlaces, HavePlaces, lone_shown, slots_image}}, proofs.{Shown.is_shown, Steps.{GuestAt, lone_named, slots_count}, Reached.seated}}
+use Rattle.monitor.{specs.{declared.guest.{Held.Held, Guest.Guest}, Views.{guests_shown, slot_shown}, ByIndex.{guest_nth, lone_nth, name_nth}, ShownImages.{HasPlaces, HavePlaces, lone_shown, slots_image}}, proofs.{Shown.is_shown, Steps.{GuestAt, lone_named, slots_count}, Reached.seated}}
 
 -- ---- places
 
 place_kept : (copies : File) (x : PlacedCell) → (copied copies x).place ≡ x.place
-place_kept copies x = by (is_own x.place) (record x { cell = cell_at copies x.place }) refl
-  where
-    by : (t : Bool) (y : PlacedCell) → y.place ≡ x.place → (cond {A = PlacedCell} t y x).place ≡ x.place
-    by true y same = same
-    by false y same = refl
+place_kept copies x = grind arith
 
 same_with : (copies file : File) → places_of (with_copies copies file) ≡ places_of file
 same_with copies [] = refl
@@ -49,10 +45,7 @@ places_seated b (Some p ∷ qs) (Some f ∷ fs) h = (same_places f.file (endpoin
 shown_nth : (fs : List BoardFunction) (ts : List Text) (gs : List Guest) (i : ℕ) (g : Guest) (x : GuestNow) → slice_get gs i ≡ Some g → slice_get (guests_shown fs ts gs) i ≡ Some x → x.lone ≡ lone_shown fs g
 shown_nth fs [] gs i g x stands at = cc
 shown_nth fs (t ∷ ts) [] i g x stands at = cc
-shown_nth fs (t ∷ ts) (k ∷ gs) zero g x stands at =
-    let one : k ≡ g = cc in
-    let here : guest_shown fs t k ≡ x = cc in
-    ap (λ (y : GuestNow). y.lone) (sym here) ∙ ap (lone_shown fs) one
+shown_nth fs (t ∷ ts) (k ∷ gs) zero g x stands at = grind arith
 shown_nth fs (t ∷ ts) (k ∷ gs) (suc i) g x stands at = shown_nth fs ts gs i g x stands at
 
 module _ {w : WorldNow} {h : HostState} {names : List Text} {gs : List Guest} {i : ℕ} {g : Guest} (at : GuestAt w h names gs i g) where
@@ -83,13 +76,7 @@ module _ (fs : List BoardFunction) (g : Guest) where
   bytes_are = guest_bytes (lone_shown fs g) ∙ ap (λ (xs : List ℕ). header ++ (le_bytes 4 g.latch ++ xs)) (flat_map_map slot_bytes (slot_shown fs) g.slots.items)
 
   pub size_is : length (image_bytes (image_of_lone (lone_shown fs g))) ≡ 12 + length (slots_image fs g.slots.items)
-  size_is =
-      let whole = ap (λ (xs : List ℕ). length xs) bytes_are in
-      let a = length-append header (le_bytes 4 g.latch ++ slots_image fs g.slots.items) in
-      let b = length-append (le_bytes 4 g.latch) (slots_image fs g.slots.items) in
-      let eight : length header ≡ 8 = refl in
-      let four : length (le_bytes 4 g.latch) ≡ 4 = refl in
-      omega arith
+  size_is = grind (arith, bytes_are, length-append)
 
 pub filled_bytes : (o : Option Function) (f : Function) → Some f ≡ o → (1 ∷ []) ++ function_bytes f ≡ slot_bytes o
 filled_bytes o f is = ap (λ (x : Option Function). slot_bytes x) is
@@ -98,10 +85,7 @@ pub empty_bytes : (o : Option Function) → None ≡ o → 0 ∷ [] ≡ slot_byt
 empty_bytes o is = ap (λ (x : Option Function). slot_bytes x) is
 
 pub slot_size_is : (o : Option Function) (e : Function) (own : OwnCopies) (n : ℕ) → Some (seen e own) ≡ o → ((p : OwnCopies) → n ≡ length (function_bytes (seen e p))) → 1 + n ≡ length (slot_bytes o)
-slot_size_is o e own n is many =
-    let whole = ap (λ (xs : List ℕ). length xs) (filled_bytes o (seen e own) is) in
-    let size = many own in
-    omega arith
+slot_size_is o e own n is many = grind (arith, filled_bytes)
 
 -- ---- bytes that are compared with it
 
@@ -114,13 +98,11 @@ empty_after o bytes is = ap (λ (x : Option Function). after_slot x bytes) is
 module _ (fs : List BoardFunction) where
   pub slots_go_on : (o : Option Held) (left others : List (Option Held)) (bytes rest : List ℕ) → left ≡ o ∷ others → after_slot (slot_shown fs o) bytes ≡ Ok rest
       → after_slots (map (slot_shown fs) others) rest ≡ after_slots (map (slot_shown fs) left) bytes
-  slots_go_on o left others bytes rest first h =
-      sym (ap (λ (xs : List (Option Held)). after_slots (map (slot_shown fs) xs) bytes) first ∙ ap (then_read (after_slots (map (slot_shown fs) others))) h)
+  slots_go_on o left others bytes rest first h = grind arith
 
   pub slots_end : (o : Option Held) (left others : List (Option Held)) (bytes : List ℕ) (n : ℕ) → left ≡ o ∷ others → after_slot (slot_shown fs o) bytes ≡ Err n
       → after_slots (map (slot_shown fs) left) bytes ≡ Err n
-  slots_end o left others bytes n first h =
-      ap (λ (xs : List (Option Held)). after_slots (map (slot_shown fs) xs) bytes) first ∙ ap (then_read (after_slots (map (slot_shown fs) others))) h
+  slots_end o left others bytes n first h = grind arith
 
   pub slots_done : (left : List (Option Held)) (bytes : List ℕ) → left ≡ [] → at_end bytes ≡ after_slots (map (slot_shown fs) left) bytes
   slots_done left bytes none = sym (ap (λ (xs : List (Option Held)). after_slots (map (slot_shown fs) xs) bytes) none)

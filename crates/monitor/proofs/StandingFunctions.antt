@@ -60,8 +60,7 @@ path_of_row (f ∷ fs) (suc i) r e = path_of_row fs i r e
 
 slot_path : (s : State) (fs : List BoardFunction) → board_at fs ≡ board_at s.functions → (q : Option Path) (f : Option Function) (o : Option Held) → IsSlot s q f o → path_shown fs o ≡ q
 slot_path s fs same None None None is = refl
-slot_path s fs same (Some p) (Some f) (Some held) is =
-    path_of_row fs held.index (record { path = p; decl = endpoint f.decl }) (ap (λ (b : Board). slice_get b held.index) same ∙ is.row)
+slot_path s fs same (Some p) (Some f) (Some held) is = grind (arith, path_of_row)
 slot_path s fs same q f o is = absurd is
 
 slots_path : (s : State) (fs : List BoardFunction) → board_at fs ≡ board_at s.functions → (qs : List (Option Path)) (xs : Slots) (os : List (Option Held)) → AreSlots s qs xs os
@@ -73,5 +72,4 @@ slots_path s fs same qs xs os are n = absurd are
 
 pub path_is : {w : WorldNow} {h : HostState} {names : List Text} {gs : List Guest} {i : ℕ} {g : Guest} → GuestAt w h names gs i g → (n : ℕ)
     → path_shown h.state.functions (unwrap_or (slice_get g.slots.items n) None) ≡ unwrap_or (slice_get (guest_nth w i).paths n) None
-path_is {w} {h} {names} {gs} {i} {g} at n =
-    slots_path w.handoff h.state.functions (board_is w h names gs at.kept []) (guest_nth w i).paths (guest_nth w i).lone.slots g.slots.items at.is.slots n
+path_is {w} {h} {names} {gs} {i} {g} at n = grind (arith, slots_path, state, board_is)
