@@ -1,5 +1,5 @@
 -- Bytes that are compared with fields, one after the other.
-use Rattle.std.{proofs.Common.{◌≡◌, ◌≤◌, ◌+◌, ◌*◌, ◌/◌, ◌%◌, ℕ, zero, suc, List, [], ◌∷◌, ◌++◌, length, take, refl, sym, ap, ◌∙◌, arith}, specs.Prelude.{codes, flat_map}}
+use Rattle.std.{proofs.Common.{◌≡◌, ◌≤◌, ◌+◌, ◌*◌, ◌/◌, ◌%◌, ℕ, zero, suc, List, [], ◌∷◌, ◌++◌, length, take, refl, ap, ◌∙◌, arith}, specs.Prelude.{codes, flat_map}}
 use Rattle.byteorder.specs.{Endian.little_from, Numbers.little_from-cons}
 use Rattle.model_registers.specs.Declarations.{Endpoint}
 use Rattle.model_images.specs.{Layouts.le_bytes, TakenBytes.le_number, Differences.{Field, Compared, after_field, after_fields, block_fields, endpoint_fields, field, head_fields, of_function, region_fields}}
@@ -27,13 +27,9 @@ one_after (f ∷ fs) gs c = one_after fs gs (after_field f c)
 -- the first of a list
 pub goes_on : {A : Type 0} (f : A → List Field) (x : A) (left others : List A) (c now : Compared) → left ≡ x ∷ others → now ≡ after_fields (f x) c
     → after_fields (flat_map f others) now ≡ after_fields (flat_map f left) c
-goes_on f x left others c now first is =
-    ap (after_fields (flat_map f others)) is ∙ sym (one_after (f x) (flat_map f others) c) ∙ ap (λ xs. after_fields (flat_map f xs) c) (sym first)
+goes_on f x left others c now first is = grind (arith, one_after)
 
 -- what an endpoint declares of itself, its regions, how many blocks it has, and these
 pub all_fields : (d : Endpoint) (c one two three four : Compared) → one ≡ after_fields (head_fields d) c → two ≡ after_fields (flat_map region_fields d.regions) one
     → three ≡ after_field (block_count d) two → four ≡ after_fields (flat_map block_fields d.blocks) three → four ≡ after_fields (endpoint_fields d) c
-all_fields d c one two three four head regions count blocks =
-    let more : List Field = block_count d ∷ flat_map block_fields d.blocks in
-    blocks ∙ ap (after_fields (flat_map block_fields d.blocks)) (count ∙ ap (after_field (block_count d)) (regions ∙ ap (after_fields (flat_map region_fields d.regions)) head))
-    ∙ sym (one_after (head_fields d) (flat_map region_fields d.regions ++ more) c ∙ one_after (flat_map region_fields d.regions) more (after_fields (head_fields d) c))
+all_fields d c one two three four head regions count blocks = grind (arith, one_after)

@@ -1,8 +1,8 @@
 -- How long the parts of a declaration are.
-use Rattle.std.{proofs.Common.{◌≡◌, ◌+◌, ◌*◌, ◌≤◌, ℕ, zero, suc, false, List, [], ◌∷◌, ◌++◌, ◌/◌, length, refl, ap, ◌∙◌, arith, length-append}, specs.Prelude.flat_map}
-use Rattle.model_registers.specs.{Cell.Cell, Declarations.{Kind, io_kind, mem32, mem64, registers_of, Region, ConfigBlock, Endpoint}, EndpointTable.{block_cells, endpoint_reset, header_cells, region_cells}, Registers.{Place, after, File, field}, DeclarationRules.IsLawfulEndpoint}
+use Rattle.std.{proofs.Common.{◌≡◌, ◌+◌, ◌*◌, ◌≤◌, ℕ, zero, suc, false, List, [], ◌∷◌, ◌/◌, length, refl, ap, ◌∙◌, arith, length-append}, specs.Prelude.flat_map}
+use Rattle.model_registers.specs.{Cell.Cell, Declarations.{Kind, io_kind, mem32, mem64, registers_of, Region, ConfigBlock, Endpoint}, EndpointTable.{block_cells, endpoint_reset, region_cells}, Registers.{Place, after, File, field}, DeclarationRules.IsLawfulEndpoint}
 use Rattle.model_images.proofs.Savable.{region_count, block_count}
-use Rattle.images.{proofs.TakenValues.many_cells, specs.Parts.{cell_bytes, endpoint_head, region_head, block_head, region_bytes, block_bytes, counted_blocks, rest_bytes, declared_bytes}}
+use Rattle.images.{proofs.TakenValues.many_cells, specs.Parts.{cell_bytes, endpoint_head, region_head, block_head, region_bytes, block_bytes, declared_bytes}}
 
 cells_length : (cs : List Cell) → length (flat_map cell_bytes cs) ≡ 3 * length cs
 unfolding cell_bytes
@@ -33,13 +33,7 @@ first_length f x left rest first = ap (λ (l : List _). length (flat_map f l)) f
 
 pub parts_length : (d : Endpoint) (rs : List Region) (bs : List ConfigBlock) → rs ≡ d.regions → bs ≡ d.blocks
     → 19 + length (flat_map region_bytes rs) + length (flat_map block_bytes bs) ≡ length (declared_bytes d)
-parts_length d rs bs regions blocks =
-    let a = length-append (endpoint_head d) (rest_bytes d) in
-    let h = endpoint_head_length d in
-    let b = length-append (flat_map region_bytes d.regions) (counted_blocks d.blocks) in
-    let x = ap (λ (l : List Region). length (flat_map region_bytes l)) regions in
-    let y = ap (λ (l : List ConfigBlock). length (flat_map block_bytes l)) blocks in
-    omega arith
+parts_length d rs bs regions blocks = grind (arith, length-append, endpoint_head_length)
 
 -- how many there are
 
@@ -68,11 +62,4 @@ region_cell_count r = grind (arith, field_count, many_cells)
 
 pub cells_count : (d : Endpoint) (rs : List Region) (bs : List ConfigBlock) → rs ≡ d.regions → bs ≡ d.blocks
     → 23 + length (flat_map block_cells bs) + length (flat_map (region_cells (λ r. 0)) rs) ≡ length (endpoint_reset d false)
-cells_count d rs bs regions blocks =
-    let header = header_cells d false 0 in
-    let h : length header ≡ 23 = refl in
-    let a = length-append header (flat_map block_cells d.blocks) in
-    let b = length-append (header ++ flat_map block_cells d.blocks) (flat_map (region_cells (λ r. 0)) d.regions) in
-    let x = ap (λ (l : List Region). length (flat_map (region_cells (λ r. 0)) l)) regions in
-    let y = ap (λ (l : List ConfigBlock). length (flat_map block_cells l)) blocks in
-    omega arith
+cells_count d rs bs regions blocks = grind (arith, length-append)

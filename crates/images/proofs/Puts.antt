@@ -31,11 +31,7 @@ pub record IsNext (at n : ℕ) (first rest out new : List ℕ) : Type 0 where
   pub bytes : put n rest new ≡ put at (first ++ rest) out
 
 pub next : (at n : ℕ) (first rest out new : List ℕ) → new ≡ put at first out → n ≡ at + length first → at + length (first ++ rest) ≤ length out → IsNext at n first rest out new
-next at n first rest out new is end room =
-    let both = length-append first rest in
-    let less : at + length first ≤ length out = omega arith in
-    let same = ap (λ (l : List ℕ). length l) is ∙ put_length at first out less in
-    record { room = omega arith; end = omega arith; bytes = ap (put n rest) is ∙ put_both at n first rest out end less }
+next at n first rest out new is end room = grind (arith, length-append, put_length, put_both)
 
 -- the first of a list
 pub record IsNextOf {A : Type 0} (f : A → List ℕ) (at n : ℕ) (left rest : List A) (out new : List ℕ) : Type 0 where

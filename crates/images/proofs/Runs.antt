@@ -1,6 +1,6 @@
 -- Bytes that are put one after the other, from a place on.
 use Rattle.std.{proofs.Common.{◌≡◌, ℕ, zero, suc, ◌+◌, ◌*◌, ◌-◌, ◌≤◌, ◌<◌, List, [], ◌∷◌, ◌++◌, length, refl, sym, ap, ◌∙◌, arith, length-append}, specs.Prelude.flat_map}
-use Rattle.model_registers.specs.{Registers.{Place, config, block, after}, Decoding.Function, Declarations.{Endpoint, registers_of, Region}, EndpointTable.base_register, OwnCopies.OwnCopies}
+use Rattle.model_registers.specs.{Registers.{Place, after}, Decoding.Function, Declarations.{Endpoint, registers_of, Region}, OwnCopies.OwnCopies}
 use Rattle.headers.specs.Places.{place_of}
 use Rattle.images.{specs.{Puts.put, Shown.{block_values, bytes_from, header_values, region_values, shown_byte, shown_values}}, proofs.Puts.{next, put_none}}
 use Rattle.headers.specs.declared.place.Place as headers
@@ -42,24 +42,10 @@ module _ (e : Function) (own : OwnCopies) where
   at_end p n left out none = sym (ap (λ (xs : List ℕ). put n xs out) (run_none p left none) ∙ put_none n out)
 
   pub header_length : length (header_values e own) ≡ 23
-  header_length =
-      let one = run_length (config 0) 15 in
-      let two = run_length (config 0x2c) 4 in
-      let three = run_length (config 0x3c) 4 in
-      let a = length-append (bytes_from e own (config 0) 15) (bytes_from e own (config 0x2c) 4 ++ bytes_from e own (config 0x3c) 4) in
-      let b = length-append (bytes_from e own (config 0x2c) 4) (bytes_from e own (config 0x3c) 4) in
-      omega arith
+  header_length = grind (arith, run_length, length-append)
 
   pub region_length : (r : Region) → length (region_values e own r) ≡ 4 * registers_of r.kind + length r.cells
-  region_length r =
-      let one = run_length (base_register r.index) (4 * registers_of r.kind) in
-      let two = run_length (block r.index 0) (length r.cells) in
-      let both = length-append (bytes_from e own (base_register r.index) (4 * registers_of r.kind)) (bytes_from e own (block r.index 0) (length r.cells)) in
-      omega arith
+  region_length r = grind (arith, run_length, length-append)
 
   pub values_length : (d : Endpoint) → length (shown_values e own d) ≡ 23 + length (flat_map (block_values e own) d.blocks) + length (flat_map (region_values e own) d.regions)
-  values_length d =
-      let head = header_length in
-      let a = length-append (header_values e own) (flat_map (block_values e own) d.blocks ++ flat_map (region_values e own) d.regions) in
-      let b = length-append (flat_map (block_values e own) d.blocks) (flat_map (region_values e own) d.regions) in
-      omega arith
+  values_length d = grind (arith, header_length, length-append)

@@ -73,13 +73,7 @@ module _ (e : Function) (own : OwnCopies) where
   function_is lawful places = sym (function_parts ∙ ap (λ (xs : List ℕ). declaration_bytes e.decl ++ xs) (values_are lawful places))
 
   pub size_is : HasDeclaredPlaces e → length (declaration_bytes e.decl) + length (endpoint_reset e.decl false) ≡ length (function_bytes (seen e own))
-  size_is places =
-      let copies : File = with_copies (own_file own) e.file in
-      let whole = length-append (declaration_bytes e.decl) (flat_map (le_bytes 1) (values_of copies)) in
-      let cells : length (flat_map (le_bytes 1) (values_of copies)) ≡ length (endpoint_reset e.decl false) =
-      one_each (values_of copies) ∙ length-map copies (λ (x : PlacedCell). x.cell.value) ∙ length-map e.file (copied (own_file own))
-      ∙ sym (length-map e.file (λ (x : PlacedCell). x.place)) ∙ ap (λ (ps : List Place). length ps) places ∙ length-map (endpoint_reset e.decl false) (λ (x : PlacedCell). x.place) in
-      ap (λ n. length (declaration_bytes e.decl) + n) (sym cells) ∙ sym whole ∙ ap (λ (xs : List ℕ). length xs) (sym function_parts)
+  size_is places = grind (arith, length-append, one_each, length-map, function_parts)
 
   one_shown : (file : File) → length (shown_in file) ≡ length file
   one_shown [] = refl

@@ -1,5 +1,5 @@
 -- Values that are taken one after the other.
-use Rattle.std.{proofs.{Common.{◌≡◌, ℕ, suc, ◌+◌, ◌-◌, ◌/◌, ◌%◌, ◌<◌, ◌≤◌, true, false, List, [], ◌∷◌, ◌++◌, length, drop, Ok, Err, refl, sym, ap, ◌∙◌, arith}, lemmas.Bool.Decides.nat_tests}, specs.Prelude.flat_map}
+use Rattle.std.{proofs.{Common.{◌≡◌, ℕ, suc, ◌+◌, ◌-◌, ◌/◌, ◌%◌, ◌<◌, ◌≤◌, true, false, List, [], ◌∷◌, ◌++◌, length, drop, Ok, Err, refl, ap, ◌∙◌, arith}, lemmas.Bool.Decides.nat_tests}, specs.Prelude.flat_map}
 use Rattle.lists.specs.Elements.{Each}
 use Rattle.model_registers.specs.{Cell.Cell, Registers.{Place, config, block, after, PlacedCell, File, field, cells_from}, Declarations.{Region, ConfigBlock, Endpoint}, EndpointTable.{base_cells, block_cells, header_cells, endpoint_reset}, DeviceBytes.is_device_byte}
 use Rattle.model_images.specs.{Images.can_hold, LoadedBytes.{then_read, after_values}}

@@ -54,10 +54,7 @@ module _ (w : WorldNow) (savable : IsSavableWorld w) (gs : List SavedGuest) (sea
   one f = grind (arith, both_reset, restored_sit)
 
   cells_held : flat_map (own.held_cells false) (under_guests w gs).functions ≡ held_under w seats
-  cells_held =
-      ap (flat_map (own.held_cells false)) under_is ∙ flat_map_map (own.held_cells false) (held_function back) (map (held_function w.guests) fs)
-      ∙ flat_map_map (λ f. own.held_cells false (held_function back f)) (held_function w.guests) fs
-      ∙ flat_map_same (λ f. own.held_cells false (held_function back (held_function w.guests f))) (λ f. own.held_cells (has_seat w seats f) f) fs (λ f among. one f)
+  cells_held = grind (arith, under_is, flat_map_map, flat_map_same, one)
 
   pub held_is : w.handoff.latch ≡ 0 → held_bytes (under_guests w gs) ≡ held_under w seats ++ le_bytes 4 0
   held_is clear = ap₂ (λ (xs : List ℕ) (n : ℕ). xs ++ le_bytes 4 n) (cells_each (under_guests w gs).functions ∙ cells_held) clear

@@ -1,10 +1,10 @@
 -- What a machine reads of bytes, from front to back, and what its guests then get.
-use Rattle.std.{proofs.Common.{◌≡◌, ◌++◌, ℕ, List, [], ◌∷◌, Option, Some, Result, Ok, Err, length, ap, ◌∙◌, sym, arith}, specs.Result.result_err}
+use Rattle.std.{proofs.Common.{◌≡◌, ◌++◌, ℕ, List, [], ◌∷◌, Option, Some, Result, Ok, Err, length, ap, ◌∙◌, arith}, specs.Result.result_err}
 use Rattle.lists.specs.Elements.{Each}
 use Rattle.model_board.specs.{Paths.Path, State.State}
 use Rattle.model_guests.specs.WorldNow.{WorldNow, names_now}
-use Rattle.model_images.{specs.{MachineImages.{SavedGuest, MachineImage, saved_handoff}, MachineLaws.IsSavableWorld, Layouts.{le_bytes, parsed}, MachineBytes.{machine_magic, machine_version}, LoadedBytes.{Left, after_beginning, after_bytes, at_end, then_read}, LoadedMachines.{Read, and_then, held_bytes, known_bytes, load_all_fault, read_guests, read_held, read_machine, under_guests, with_paths}}, proofs.{ReadMachines.{AreGoodGuests, guests_good}, TakenMachines.read_fits}}
-use Rattle.machine_images.{specs.Judging.{AreGuestsRead, IsPlanned, functions_now, held_under, paths_seated}, proofs.JudgedHandoffs.held_is}
+use Rattle.model_images.{specs.{MachineImages.{SavedGuest, MachineImage, saved_handoff}, MachineLaws.IsSavableWorld, Layouts.{le_bytes, parsed}, MachineBytes.{machine_magic, machine_version}, LoadedBytes.{Left, after_beginning, after_bytes, at_end, then_read}, LoadedMachines.{Read, and_then, known_bytes, load_all_fault, read_guests, read_held, read_machine, under_guests, with_paths}}, proofs.{ReadMachines.{AreGoodGuests, guests_good}, TakenMachines.read_fits}}
+use Rattle.machine_images.{specs.Judging.{AreGuestsRead, IsPlanned, held_under}, proofs.JudgedHandoffs.held_is}
 
 each_32 : (s : State) (taken : List Path) (gs : List SavedGuest) → AreGoodGuests s taken gs → Each (λ (g : SavedGuest). length g.paths ≡ 32) gs
 each_32 s taken [] good = tt
@@ -39,12 +39,7 @@ module _ (w : WorldNow) (bytes : List ℕ) where
         by_held l = and_then (λ (rest : List ℕ). Ok image) l
 
         held_decides : read_machine w bytes ≡ by_held (then_read at_end (after_bytes 907 (held_under w slots ++ le_bytes 4 0) three))
-        held_decides =
-            known_decides ∙ ap by_known known ∙ ap by_guests is.read ∙ at_once (after_bytes 907 (held_bytes (under_guests w is.guests)) three)
-            ∙ ap (λ (xs : List ℕ). by_held (then_read at_end (after_bytes 907 xs three))) (held_is w savable is.guests slots (is.paths ∙ ap (paths_seated (functions_now w)) (sym same)) clear)
-          where
-            at_once : (l : Left) → by_held (and_then at_end l) ≡ by_held (then_read at_end l)
-            at_once l = grind arith
+        held_decides = grind (arith, known_decides, held_is)
 
         pub planned : then_read at_end (after_bytes 907 (held_under w slots ++ le_bytes 4 0) three) ≡ Ok [] → IsPlanned w bytes seats runs
         planned h =

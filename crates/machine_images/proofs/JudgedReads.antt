@@ -13,11 +13,7 @@ module _ {A : Type 0} (next : Parsed A → Read (List A)) where
   all r = and_then (λ (q : Parsed A). preceded q.value (next q)) r
 
   pub reads_on : (xs : List A) (r : Read A) (x : Parsed A) → r ≡ Ok x → behind (xs ++ x.value ∷ []) (next x) ≡ behind xs (all r)
-  reads_on xs r x h = of (next x) ∙ sym (ap (λ (y : Read A). behind xs (all y)) h)
-    where
-      of : (more : Read (List A)) → behind (xs ++ x.value ∷ []) more ≡ behind xs (preceded x.value more)
-      of (Ok p) = ap (λ (l : List A). Ok (parsed l p.rest)) (append_assoc xs (x.value ∷ []) p.value)
-      of (Err k) = refl
+  reads_on xs r x h = grind (arith, append_assoc)
 
   pub read_ends : (xs : List A) (r : Read A) (k : ℕ) → r ≡ Err k → behind xs (all r) ≡ Err k
   read_ends xs r k h = ap (λ (y : Read A). behind xs (all y)) h

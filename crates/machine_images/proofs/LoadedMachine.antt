@@ -1,5 +1,5 @@
 -- A machine that is emptied, filled and loaded as bytes say that it doesn't refuse.
-use Rattle.std.{proofs.{Common.{◌≡◌, ◌*◌, ℕ, List, [], ◌∷◌, ◌++◌, length, Option, Some, refl, sym, ap, ◌∙◌, subst, length-append, arith}, lemmas.List.length-map}, specs.{Prelude.{flat_map, map}, Result.result_err}}
+use Rattle.std.{proofs.{Common.{◌≡◌, ◌*◌, ℕ, List, [], ◌∷◌, ◌++◌, length, Option, Some, refl, sym, ap, ◌∙◌, subst, length-append, arith}, lemmas.List.length-map}, specs.Prelude.{flat_map, map}}
 use Rattle.lists.specs.Elements.{Each}
 use Rattle.model_board.specs.Board.{Board}
 use Rattle.model_guests.specs.{Text.Text, WorldNow.{WorldNow, names_now}}
@@ -9,10 +9,7 @@ use Rattle.machine_images.{specs.{Judging.{AreRuns, IsPlanned, functions_now, pa
 
 many_paths : (gs : List SavedGuest) → Each (λ (g : SavedGuest). length g.paths ≡ 32) gs → length (flat_map (λ (g : SavedGuest). g.paths) gs) ≡ 32 * length gs
 many_paths [] h = refl
-many_paths (g ∷ gs) h =
-    let both = length-append g.paths (flat_map (λ (x : SavedGuest). x.paths) gs) in
-    let more = many_paths gs h.1 in
-    let one = h.0 in omega arith
+many_paths (g ∷ gs) h = grind (arith, length-append, many_paths gs h.1)
 
 module _ (old : MachineNow) {bytes : List ℕ} {seats : List (Option ℕ)} {runs : List (List ℕ)} (plan : IsPlanned old.world bytes seats runs) where
   abbrev gs : List SavedGuest
@@ -34,8 +31,7 @@ module _ (old : MachineNow) {bytes : List ℕ} {seats : List (Option ℕ)} {runs
   many_runs_there = grind (arith, many_runs, many_names, length-map)
 
   is_image : IsSavableWorld old.world → AreBytes bytes → IsWritableMachine old.world → machine_of bytes ≡ Some plan.image
-  is_image savable all can =
-      let i = accepted_is_machine old.world savable can bytes all (ap result_err plan.read) in i.1.image ∙ ap Some (same_ok i.0 plan.image (sym i.1.read ∙ plan.read))
+  is_image savable all can = grind (arith, accepted_is_machine, same_ok)
 
   module _ {m : MachineNow} (taken : m ≡ after_all_requests old taking) where
     pub gives : {slots : List (Option ℕ)} → slots ≡ seats → GivesSeats m 0 slots gs

@@ -50,9 +50,7 @@ path_on_board fs i = grind (arith, slice_get-map)
 
 pub same_path : (v w : WorldNow) → board_of v ≡ board_of w → (o : Option ℕ) → path_seated (functions_now v) o ≡ path_seated (functions_now w) o
 same_path v w same None = refl
-same_path v w same (Some i) =
-    path_on_board (functions_now v) i ∙ ap (λ (b : Board). option_map (λ (r : Row). r.path) (slice_get b i)) (board_shown v ∙ same ∙ sym (board_shown w))
-    ∙ sym (path_on_board (functions_now w) i)
+same_path v w same (Some i) = grind (arith, path_on_board, board_shown)
 
 module _ (old m new : MachineNow) (guest slot : ℕ) (left rest : List (Option ℕ)) (seat : Option ℕ) (at : left ≡ seat ∷ rest) (names : names_now m.world ≡ names_now old.world) (board : board_of m.world ≡ board_of old.world)
     (h : new ≡ after_all_requests m (gift (name_nth m.world guest) slot (path_seated (functions_now m.world) seat))) where
@@ -123,11 +121,7 @@ module _ (m new : MachineNow) (i : ℕ) (left own rest : List (Option ℕ)) (at 
 
 pub none_given : (m : MachineNow) (i : ℕ) (left : List (Option ℕ)) (gs : List SavedGuest) → length left < 32 → GivesSeats m i left gs → m ≡ after_all_requests m (flat_map gifts_of gs)
 none_given m i left [] few h = refl
-none_given m i left (g ∷ gs) few h =
-    let count = h.count.0 in
-    let all = ap (λ (qs : List (Option Path)). length qs) h.paths ∙ length-map left (path_seated (functions_now m.world)) in
-    let both = length-append g.paths (flat_map (λ (x : SavedGuest). x.paths) gs) in
-    absurd (omega arith)
+none_given m i left (g ∷ gs) few h = grind (arith, length-map, length-append)
 
 -- ---- guests are loaded
 
@@ -164,18 +158,7 @@ module _ (m : MachineNow) (i : ℕ) (run : List ℕ) (left rest : List (List ℕ
 
   first_by : (gs : List SavedGuest) → map (λ (g : SavedGuest). g.name) gs ≡ drop i (names_now m.world) → AreRuns (board_of m.world) gs (run ∷ rest) → AreFittingRequests m.world (map load_of gs) → IsFirst gs
   first_by [] names runs fits = absurd runs
-  first_by (g ∷ gs) names runs fits =
-      let d = at_drop (names_now m.world) (map (λ (h : SavedGuest). h.name) gs) i g.name (sym names) in
-      record {
-        g = g;
-        others = gs;
-        all = refl;
-        own = same_at (names_now m.world) i (name_nth m.world i) g.name (name_at m.world i inside) d.0;
-        names = sym d.1;
-        holds = runs.0;
-        runs = runs.1;
-        fits = fits;
-      }
+  first_by (g ∷ gs) names runs fits = grind (arith, at_drop, same_at, name_at)
 
   first : (gs : List SavedGuest) → LoadsRuns m i left gs → IsFirst gs
   first gs h = first_by gs h.names (subst (AreRuns (board_of m.world) gs) at h.are) h.fits

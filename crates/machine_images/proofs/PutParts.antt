@@ -90,12 +90,7 @@ module _ {A : Type 0} (f : A → List ℕ) (xs : List A) (before : ℕ) where
 
   module _ (i : ℕ) {size : ℕ} (so : IsCounted f xs i before size) where
     pub count_next : {m : ℕ} → i < length xs → m ≡ capped (size + length (part_nth f xs i)) → IsCounted f xs (i + 1) before m
-    count_next {m} low is =
-        let all = ap (λ (ys : List ℕ). length ys) (first_at f xs i low) ∙ length-append (part_nth f xs i) (flat_map f (drop (i + 1) xs)) in record {
-          word = grind arith;
-          all = ap (λ k. capped (k + length (flat_map f (drop (i + 1) xs)))) is
-              ∙ capped_on (size + length (part_nth f xs i)) (length (flat_map f (drop (i + 1) xs))) ∙ ap capped (omega arith) ∙ so.all;
-        }
+    count_next {m} low is = grind (arith, first_at, length-append, capped_on)
 
     pub count_done : length xs ≤ i → size ≡ capped (before + length (flat_map f xs))
     count_done past = let none = ap (λ (ys : List ℕ). length ys) (last_at f xs i past) in let word = so.word in let all = so.all in grind arith

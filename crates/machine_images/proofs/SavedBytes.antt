@@ -1,12 +1,12 @@
 -- The bytes of a machine's image are its parts.
-use Rattle.std.{proofs.{Common.{◌≡◌, ◌+◌, ℕ, List, [], ◌∷◌, ◌++◌, length, refl, sym, ap, ap₂, arith, length-append}, lemmas.List.length-map}, specs.Prelude.{map, flat_map}}
+use Rattle.std.{proofs.{Common.{◌≡◌, ◌+◌, ℕ, List, [], ◌∷◌, ◌++◌, length, refl, sym, ap₂, arith, length-append}, lemmas.List.length-map}, specs.Prelude.{map, flat_map}}
 use Rattle.lists.{proofs.Members.flat_map_map, specs.Elements.Each}
 use Rattle.model_board.specs.{Board.Board, AtReset.board_at, State.{BoardFunction, State, row_at}}
 use Rattle.model_guests.specs.{Guests.GuestsNow, World.{declared, endpoint_of}, WorldNow.{WorldNow, board_state}, AgreedBoard.agreed_function}
 use Rattle.model_handoff.{specs.{Kept.IsLawfulOver, ViewLaws.{seated_files, with_seated_reset}}, proofs.{Functions.{Facts, facts}, Keeping.rows_stay, Regions.state_stays, Views.reset_shown}}
 use Rattle.model_images.specs.{Images.values_of, MachineImages.{image_of_machine, saved_guest, saved_handoff, shown_handoff, values_in}, LoadedMachines.machine_header, Layouts.{bytes_each, le_bytes}, MachineBytes.{cells_layout, guest_layout, machine_bytes, row_layout}}
 use Rattle.images.specs.BoardBytes.{held_cells, row_bytes}
-use Rattle.machine_images.specs.SavedParts.{board_bytes, guest_bytes, guests_bytes, held_now, name_bytes, own_bytes, saved_bytes, seat_bytes}
+use Rattle.machine_images.specs.SavedParts.{guest_bytes, held_now, name_bytes, own_bytes, saved_bytes, seat_bytes}
 
 -- ---- what stands where
 
@@ -63,8 +63,4 @@ module _ (w : WorldNow) (lawful : IsLawfulOver w) (clear : w.handoff.latch ≡ 0
   saved_is = grind (arith, shown, layout_is, rows_stay, parts_are)
 
   pub saved_count : length (machine_bytes (image_of_machine w)) ≡ 18 + length (flat_map row_bytes s.functions) + length (flat_map guest_bytes w.guests) + length (flat_map (held_now w.guests) s.functions)
-  saved_count =
-      let a = length-append (board_bytes s.functions) (guests_bytes w.guests ++ (flat_map (held_now w.guests) s.functions ++ le_bytes 4 0)) in
-      let b = length-append (guests_bytes w.guests) (flat_map (held_now w.guests) s.functions ++ le_bytes 4 0) in
-      let c = length-append (flat_map (held_now w.guests) s.functions) (le_bytes 4 0) in
-      let all = ap (λ (xs : List ℕ). length xs) saved_is in omega arith
+  saved_count = grind (arith, length-append, saved_is)

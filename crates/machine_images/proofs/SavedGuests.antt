@@ -12,7 +12,7 @@ use Rattle.arrayvec.specs.ArrayString.{ArrayString}
 use Rattle.model_board.specs.{Paths.Path, AtReset.board_at, State.BoardFunction}
 use Rattle.model_guests.{specs.{Text.Text, Lone.reset_guest, Guests.{GuestNow, GuestsNow}, WorldNow.{WorldNow, names_now}, Seated.IsSeatedGuest}, proofs.Along.by_index}
 use Rattle.model_handoff.specs.{ViewLaws.sits, Kept.IsLawfulOver}
-use Rattle.model_images.{specs.{Images.{image_of_guest, image_of_lone}, ImageBytes.image_bytes, Layouts.le_bytes}, proofs.Numbers.one_each}
+use Rattle.model_images.{specs.{Images.image_of_guest, ImageBytes.image_bytes, Layouts.le_bytes}, proofs.Numbers.one_each}
 use Rattle.images.{specs.{Puts.put, BoardBytes.{bytes_nth, held_cells, path_bytes}}, proofs.{FoundParts.{AreBytes, are_bytes}, RowBytes.path_length}}
 use Rattle.monitor.specs.ByIndex.{guest_nth, name_nth}
 use Rattle.machine_images.{specs.SavedParts.{IsPut, guest_bytes, held_now, name_bytes, own_bytes, part_nth, seat_bytes}, proofs.PutParts.nth_is}
@@ -56,18 +56,14 @@ module _ (w : WorldNow) (lawful : IsLawfulOver w) (i : ℕ) (there : i < length 
 
   pub own_is : image_bytes (image_of_guest (name_nth w i) w) ≡ own_bytes (guest_nth w i)
   unfolding own_bytes
-  own_is =
-      ap (λ (o : Option GuestNow). image_bytes (image_of_lone (option_map_or (λ (g : GuestNow). g.lone) o (reset_guest []))))
-      (by_index w.guests lawful.seated.names_apart i (guest_nth w i) stands).0
+  own_is = grind (arith, by_index, stands)
 
   module _ (at : ℕ) (out : List ℕ) (room : at + length (own_bytes (guest_nth w i)) ≤ length out) where
     abbrev rest : List ℕ
     rest = mid_of at (length out - at) out
 
     pub own_fits : length (image_bytes (image_of_guest (name_nth w i) w)) ≤ length rest
-    own_fits =
-        let all = ap (λ (xs : List ℕ). length xs) (take_rest out at) ∙ length-drop at out in
-        let own = ap (λ (xs : List ℕ). length xs) own_is in omega (arith, room)
+    own_fits = grind (arith, take_rest, length-drop, own_is)
 
     pub own_put : (k : ℕ) (new : List ℕ) → new ≡ put 0 (image_bytes (image_of_guest (name_nth w i) w)) rest → k ≡ length (image_bytes (image_of_guest (name_nth w i) w))
         → IsPut (own_bytes (guest_nth w i)) at out (at + k) (put_mid at (length out - at) out new)
@@ -83,10 +79,7 @@ module _ (w : WorldNow) (lawful : IsLawfulOver w) (i : ℕ) (there : i < length 
   seat_there n q low is = let all : n < length qs = omega (arith, low, many_seats) in (ap seat_bytes is ∙ nth_is seat_bytes qs n None all, all)
 
 pub guest_count : (g : GuestNow) → length (guest_bytes g) ≡ 1 + length g.name + (length (flat_map seat_bytes g.paths) + length (own_bytes g))
-guest_count g =
-    let all = length-append (name_bytes g.name) (flat_map seat_bytes g.paths ++ own_bytes g) in
-    let rest = length-append (flat_map seat_bytes g.paths) (own_bytes g) in
-    let name = name_count g.name in omega arith
+guest_count g = grind (arith, length-append, name_count)
 
 pub guest_nth_is : (w : WorldNow) (i : ℕ) → i < length w.guests → guest_bytes (guest_nth w i) ≡ part_nth guest_bytes w.guests i
 guest_nth_is w i low = nth_is guest_bytes w.guests i (record { name = []; paths = []; lone = reset_guest [] }) low
