@@ -1,5 +1,5 @@
 -- The front of a text: its first word, and the number that this writes.
-use Rattle.std.{proofs.{Common.{◌≡◌, ℕ, ◌+◌, ◌<◌, ◌≤◌, ◌==◌, ◌&&◌, ◌||◌, ◌^◌, Bool, true, false, cond, List, [], ◌∷◌, Option, Some, None, length, drop, filter, option_map, refl, sym, ap, subst, ◌∙◌, arith, ◌*◌, get_or, Bor}, lemmas.{Bool.Decides.nat_tests, List.drop_more}}, specs.{Prelude.MatchOption, List.starts_with}}
+use Rattle.std.{proofs.{Common.{◌≡◌, ℕ, ◌+◌, ◌<◌, ◌≤◌, ◌==◌, ◌&&◌, ◌||◌, ◌^◌, Bool, true, false, cond, List, [], ◌∷◌, Option, Some, None, length, drop, filter, option_map, refl, sym, ap, ◌∙◌, arith, ◌*◌, get_or, Bor}, lemmas.{Bool.Decides.nat_tests, List.drop_more}}, specs.{Prelude.MatchOption, List.starts_with}}
 use Rattle.model_guests.specs.{Text.{Text, onto, pieces, is_blank, words}, Numbers.{below, digit_of, digits_from, digits_in, is_hexadecimal, number_of}}
 use Rattle.lines.{specs.Cursors.{before_blank, after_blank, IsAtWord, Numbered, numbered}, proofs.{Digits.{longer, longer-None}, Splitting.{is_word, place_is}}}
 
@@ -20,8 +20,7 @@ kept w ws h = grind (arith, nat_tests)
 -- the first word is what stands before the first blank
 pub words-first : (c : ℕ) (cs : Text) → is_blank c ≡ false
     → words (c ∷ cs) ≡ before_blank (c ∷ cs) ∷ words (after_blank (c ∷ cs))
-words-first c cs h =
-    rw h (ap (filter is_word) (pieces-onto c cs) ∙ kept (c ∷ before_blank cs) (pieces is_blank (after_blank cs)) (omega arith))
+words-first c cs h = grind (arith, is_word, pieces-onto, kept)
 
 pub at_other : (c : ℕ) (cs : Text) → is_blank c ≡ false
     → (before_blank (c ∷ cs) ≡ c ∷ before_blank cs) × (after_blank (c ∷ cs) ≡ after_blank cs)
@@ -115,5 +114,4 @@ by_digit limit base n m b t e = grind (arith, at_other, no_blank, longer_is, nat
 
 pub one_longer : (limit base n m i : ℕ) (t : Text) → i < length t
     → Some m ≡ below limit (option_map (λ d. n * base + d) (below base (digit_of (get_or t i 0)))) → Longer limit base n m (drop i t) (drop (i + 1) t)
-one_longer limit base n m i t low e =
-    subst (λ (xs : Text). Longer limit base n m xs (drop (i + 1) t)) (sym (drop_more t i 0 low)) (by_digit limit base n m (get_or t i 0) (drop (i + 1) t) e)
+one_longer limit base n m i t low e = grind (arith, drop_more, by_digit)

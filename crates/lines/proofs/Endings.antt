@@ -29,8 +29,7 @@ lines_read text line after more whole each clean e =
 
 -- and how the text begins
 text_read : (text line after : Text) (whole : List Text) → text ≡ text_of_lines whole ++ (line ++ 10 ∷ after) → StartsWith text (text_of_lines (whole ++ line ∷ []))
-text_read text line after whole e =
-    starts_with_of_append text (text_of_lines (whole ++ line ∷ [])) after (grind (arith, text_of_one, append_assoc, text_of_lines-append))
+text_read text line after whole e = grind (arith, starts_with_of_append, text_of_one, append_assoc, text_of_lines-append)
 
 -- a failed write or flush at a line that LF ends
 pub stopped_of : {S : Type 0} {p : Protocol S} {w : S} {old_rest new_rest : Option Text} {text script : Text} {old new : Option Text} {end : S}
@@ -113,9 +112,7 @@ module _ {S : Type 0} {p : Protocol S} {w : S} (old_rest new_rest : Option Text)
       (Appends-trans old mid new (output p w r.whole) (output p end (lines (r.before ++ rest))) r.written (written r.before r.passed last_clean))
 
   pub after_on : {last : S} → ((before : Text) → IsBefore long before → HasNoEnd (before ++ rest) → last ≡ after_lines p end (lines (before ++ rest))) → last ≡ after_lines p w (lines script)
-  after_on events =
-      events r.before r.passed last_clean ∙ ap (λ e. after_lines p e (lines (r.before ++ rest))) r.events
-      ∙ sym (after_along p w r.whole (lines (r.before ++ rest))) ∙ ap (after_lines p w) (sym all_lines)
+  after_on events = grind (arith, last_clean, after_along, all_lines)
 
   -- a failed write or flush at the end of the script
   pub stopped_last : {new : Option Text} {last : S} → ((before : Text) → IsBefore long before → HasNoEnd (before ++ rest) → IsStopped p end (lines (before ++ rest)) mid new last)
@@ -129,17 +126,7 @@ module _ {S : Type 0} {p : Protocol S} {w : S} (old_rest new_rest : Option Text)
 
   -- memory is out for the last line
   pub lacking_last : ((before : Text) → IsBefore long before → 0 < length (before ++ rest)) → IsLackingIn p w script old_rest new_rest old mid end
-  lacking_last some = record {
-    read = text;
-    consumed = taken;
-    whole = r.whole;
-    line = r.before ++ rest;
-    rest = [];
-    in_order = all_lines ∙ ap (λ (ls : List Text). r.whole ++ ls) (some_line (r.before ++ rest) last_clean (some r.before r.passed));
-    in_time = inr done;
-    written = r.written;
-    events = r.events;
-  }
+  lacking_last some = grind (arith, consumed, all_lines, some_line, last_clean)
 
 -- all lines were answered, but what they wrote was not flushed
 pub stopped_after : {S : Type 0} (p : Protocol S) (w : S) (ls : List Text) (old new : Option Text) (end : S)
@@ -177,5 +164,4 @@ last_after {S} p w line clean some = ap (after_lines p w) (sym (some_line line c
 
 pub last_stopped : {S : Type 0} (p : Protocol S) (w : S) (line part : Text) (old new : Option Text) (end : S) → HasNoEnd line → 0 < length line
     → StartsWith (p.writes w line) part → Appends old new part → end ≡ p.next w line → IsStopped p w (lines line) old new end
-last_stopped {S} p w line part old new end clean some begins written events =
-    subst (λ (ls : List Text). IsStopped p w ls old new end) (sym (some_line line clean some)) (stopped_one p w line part old new end begins written events)
+last_stopped {S} p w line part old new end clean some begins written events = grind (arith, some_line, stopped_one)

@@ -1,18 +1,14 @@
 -- Where line feeds stand in a text.
-use Rattle.std.{proofs.{Common.{◌≡◌, ℕ, suc, ◌+◌, ◌<◌, ◌||◌, Bool, false, not, cond, List, [], ◌∷◌, ◌++◌, Some, None, length, take, drop, get_or, refl, sym, ap, ap₂, ◌∙◌, arith, take-append-drop}, Math.Seq.drop-cons, lemmas.{Bool.{or_parts, Decides.nat_tests}, Iterator.Adapters.position_from-zero, List.Quantifiers.position-Some}}, specs.List.{list_any, position, position_from, position_or_len}}
+use Rattle.std.{proofs.{Common.{◌≡◌, ℕ, suc, ◌+◌, ◌<◌, Bool, false, not, cond, List, [], ◌∷◌, ◌++◌, Some, None, length, take, drop, get_or, refl, sym, ap, ap₂, ◌∙◌, arith, take-append-drop}, Math.Seq.drop-cons, lemmas.{Bool.{or_parts, Decides.nat_tests}, Iterator.Adapters.position_from-zero, List.Quantifiers.position-Some}}, specs.List.{position, position_from, position_or_len}}
 use Rattle.model_guests.specs.{Text.{Text, ends_line, lines, onto}, LineRuns.HasNoEnd}
 
 pub no_end_along : (a b : Text) → HasNoEnd a → HasNoEnd b → HasNoEnd (a ++ b)
 no_end_along [] b p q = q
-no_end_along (c ∷ cs) b p q =
-    let parts = or_parts (ends_line c) (list_any ends_line cs) p in
-    ap₂ (λ (x y : Bool). x || y) parts.0 (no_end_along cs b parts.1 q)
+no_end_along (c ∷ cs) b p q = grind (arith, or_parts, no_end_along cs b)
 
 pub no_end_first : (a b : Text) → HasNoEnd (a ++ b) → HasNoEnd a
 no_end_first [] b h = refl
-no_end_first (c ∷ cs) b h =
-    let parts = or_parts (ends_line c) (list_any ends_line (cs ++ b)) h in
-    ap₂ (λ (x y : Bool). x || y) parts.0 (no_end_first cs b parts.1)
+no_end_first (c ∷ cs) b h = grind (arith, or_parts, no_end_first cs b)
 
 -- no byte before the first place is a line feed
 before_first : (b : Bool) (c n : ℕ) (cs : Text) → ends_line c ≡ b → HasNoEnd (take n cs) → HasNoEnd (take (cond (not b) (1 + n) 0) (c ∷ cs))
@@ -46,9 +42,7 @@ one_more_byte b c cs ls e h = grind arith
 
 pub one_line : (c : ℕ) (cs : Text) → HasNoEnd (c ∷ cs) → lines (c ∷ cs) ≡ (c ∷ cs) ∷ []
 one_line c [] h = grind (arith, or_parts)
-one_line c (d ∷ ds) h =
-    let parts = or_parts (ends_line c) (list_any ends_line (d ∷ ds)) h in
-    one_more_byte (ends_line c) c (d ∷ ds) (lines (d ∷ ds)) parts.0 (one_line d ds parts.1)
+one_line c (d ∷ ds) h = grind (arith, or_parts, one_more_byte, one_line d ds)
 
 pub some_line : (xs : Text) → HasNoEnd xs → 0 < length xs → lines xs ≡ xs ∷ []
 some_line [] h some = absurd (omega arith)

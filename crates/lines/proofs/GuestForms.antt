@@ -189,8 +189,7 @@ none_is : (r m cr iw mw cw raise : Bool) (f g h i j k l : Option Event)
     → (None ≡ first_of_two (cond r f None) (cond m g None))
     × (None ≡ first_of_two (cond cr h None) (first_of_two (cond iw i None) (cond mw j None)))
     × (None ≡ first_of_two (cond cw k None) (cond raise l None))
-none_is r m cr iw mw cw raise f g h i j k l a b c d e x y =
-    (simp (a, b) refl, simp (c, d, e) refl, simp (x, y) refl)
+none_is r m cr iw mw cw raise f g h i j k l a b c d e x y = grind arith
 
 -- a word that is none of these
 pub record IsOther (op : Text) : Type 0 where
@@ -272,13 +271,11 @@ not_accessed s k ws r w = grind (arith, nothing_with)
 
 by_kind : (s k : ℕ) (ws : List Text) (a b : Bool) → (k == 114) ≡ a → (k == 119) ≡ b
     → event_of ((s ∷ k ∷ []) ∷ ws) ≡ accessed s k ws
-by_kind s k ws true b x y =
-    subst (λ (n : ℕ). event_of ((s ∷ n ∷ []) ∷ ws) ≡ accessed s n ws) (is_place k 114 x) (reads_are s ws)
+by_kind s k ws true b x y = grind (arith, is_place, reads_are)
 by_kind s k ws false true x y =
     subst (λ (n : ℕ). event_of ((s ∷ n ∷ []) ∷ ws) ≡ accessed s n ws) (is_place k 119 y)
     (writes_are s ws ∙ written_from (placed s ws))
-by_kind s k ws false false x y =
-    sym (no_form (s ∷ k ∷ []) ws (other_kind s k (is_no_place k 114 x) (is_no_place k 119 y))) ∙ not_accessed s k ws x y
+by_kind s k ws false false x y = grind (arith, no_form, other_kind, is_no_place, not_accessed)
 
 -- an access is of the form that its two letters tell
 pub accesses_are : (s k : ℕ) (ws : List Text) → event_of ((s ∷ k ∷ []) ∷ ws) ≡ accessed s k ws

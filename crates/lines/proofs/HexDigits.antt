@@ -8,11 +8,7 @@ power_up k = sym (pow-add 2 4 (4 * k)) ∙ ap (λ e. 2 ^ e) (omega arith)
 -- k + 1 digits are the highest and the k lower ones
 pub hex_digits_from_high : (k n : ℕ) → hex_digits (suc k) n ≡ digit_glyph false (n / 2 ^ (4 * k) % 16) ∷ hex_digits k n
 hex_digits_from_high zero n = ap (λ d. digit_glyph false (d % 16) ∷ []) (sym (div-one n))
-hex_digits_from_high (suc k) n =
-    let shifted : n / 16 / 2 ^ (4 * k) ≡ n / 2 ^ (4 * suc k) =
-    div-div-eq-div-mul n 16 (2 ^ (4 * k)) ∙ ap (λ p. n / p) (power_up k) in
-    ap (λ ds. ds ++ digit_glyph false (n % 16) ∷ []) (hex_digits_from_high k (n / 16))
-    ∙ ap (λ d. digit_glyph false (d % 16) ∷ hex_digits (suc k) n) shifted
+hex_digits_from_high (suc k) n = grind (arith, div-div-eq-div-mul, power_up, hex_digits_from_high k (n / 16))
 
 -- the two digits of a byte stand before those of the bytes below it
 pub hex_digits_from_byte : (k n : ℕ)

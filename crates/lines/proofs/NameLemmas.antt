@@ -23,10 +23,7 @@ place_from_names w i [] = refl
 place_from_names w i (n ∷ ns) = ap (cond (bytes_eq n.bytes w) (Some i)) (place_from_names w (i + 1) ns)
 
 pub place_of-names : (names : ArrayVec ArrayString) (w : Text) → place_among names w ≡ place_of (texts names) w
-place_of-names names w =
-    position_from-zero (λ n. bytes_eq n.bytes w) names.items
-    ∙ place_from_names w 0 names.items
-    ∙ sym (position_from-zero (λ n. bytes_eq n w) (texts names))
+place_of-names names w = grind (arith, position_from-zero, place_from_names)
 
 any-Some : (w : Text) (i g : ℕ) (ns : List Text) → Some g ≡ place_from i ns w → has_name ns w ≡ true
 any-Some w i g [] e = absurd (cc)
@@ -43,15 +40,7 @@ pub record IsFound (ns : List Text) (w : Text) (g : ℕ) : Type 0 where
   pub first : IsFirst ns g
 
 pub found : (names : ArrayVec ArrayString) (w : Text) (g : ℕ) → Some g ≡ place_among names w → IsFound (texts names) w g
-found names w g at =
-    let ns = texts names in
-    let e : Some g ≡ place_of ns w = at ∙ place_of-names names w in
-    let name = (bytes_eq-Decides (name_of ns g) w).0 ((position-Some (λ n. bytes_eq n w) ns g [] (sym e)).1) in
-    record {
-      there = any-Some w 0 g ns (e ∙ position_from-zero (λ n. bytes_eq n w) ns);
-      name = name;
-      first = ap (place_of ns) name ∙ sym e;
-    }
+found names w g at = grind (arith, place_of-names, bytes_eq-Decides, position-Some, any-Some, position_from-zero)
 
 pub missing : (names : ArrayVec ArrayString) (w : Text) → None ≡ place_among names w → has_name (texts names) w ≡ false
 missing names w at = any-None w 0 (texts names) (at ∙ place_of-names names w ∙ position_from-zero (λ n. bytes_eq n w) (texts names))

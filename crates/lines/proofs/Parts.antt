@@ -3,7 +3,7 @@
 --     runs_of_part      so does a run
 --     same_refusals      each line is refused as it is of the part
 --     same_error, same_end      how a run ended tells the same whatever it gives
-use Rattle.std.{proofs.Common.{◌≡◌, ◌++◌, ◌||◌, Bool, List, [], ◌∷◌, Option, is_some, Result, Ok, Err, refl, ap, ap₂, ◌∙◌, subst, take}, specs.Io.{StartsWith, KnownBytes.Appends}}
+use Rattle.std.{proofs.Common.{arith, ◌≡◌, ◌++◌, ◌||◌, Bool, List, [], ◌∷◌, Option, is_some, Result, Ok, Err, refl, ap, ap₂, ◌∙◌, subst, take}, specs.Io.{StartsWith, KnownBytes.Appends}}
 use Rattle.model_guests.specs.{Text.{Text, lines}, LineRuns.{Protocol, output, after_lines, first_output, IsCut, IsStopped}}
 use Rattle.lines.specs.{Pieces.{IsStoppedIn, IsLackingIn}, Runs.{Ends, Runs}, declared.runs.RunFault.RunFault, Refusals.{Refusal, refuses}}
 use Rattle.lines.specs.declared.runs.RunFault.TheVariants as run
@@ -41,15 +41,7 @@ same_refusals {p = p} {q = q} is f g same s (line ∷ more) =
 
 cut_of_part : {S T : Type 0} {p : Protocol S} {q : Protocol T} {part : S → T} → IsPart p q part → (s end : S) {old_rest new_rest old new : Option Text}
     → IsCut p s old_rest new_rest old new end → IsCut q (part s) old_rest new_rest old new (part end)
-cut_of_part is s end {old_rest} {new_rest} {old} {new} cut = record {
-  whole = cut.whole;
-  part = cut.part;
-  each_line = cut.each_line;
-  last_line = cut.last_line;
-  read = cut.read;
-  written = subst (Appends old new) (same_output is s cut.whole) cut.written;
-  events = part_events is s end cut.whole cut.events;
-}
+cut_of_part is s end {old_rest} {new_rest} {old} {new} cut = grind (arith, same_output, part_events)
 
 abbrev stop_of_part : {S T : Type 0} {p : Protocol S} {q : Protocol T} {part : S → T} → IsPart p q part → (s end : S) (ls : List Text) {old new : Option Text}
     → IsStopped p s ls old new end → IsStopped q (part s) ls old new (part end)
@@ -75,17 +67,7 @@ stopped_of_part is s end {script} stopped = record {
 
 lacking_of_part : {S T : Type 0} {p : Protocol S} {q : Protocol T} {part : S → T} → IsPart p q part → (s end : S) {script : Text} {old_rest new_rest old new : Option Text}
     → IsLackingIn p s script old_rest new_rest old new end → IsLackingIn q (part s) script old_rest new_rest old new (part end)
-lacking_of_part is s end {script} {old_rest} {new_rest} {old} {new} lacking = record {
-  read = lacking.read;
-  consumed = lacking.consumed;
-  whole = lacking.whole;
-  line = lacking.line;
-  rest = lacking.rest;
-  in_order = lacking.in_order;
-  in_time = lacking.in_time;
-  written = subst (Appends old new) (same_output is s lacking.whole) lacking.written;
-  events = part_events is s end lacking.whole lacking.events;
-}
+lacking_of_part is s end {script} {old_rest} {new_rest} {old} {new} lacking = grind (arith, same_output, part_events)
 
 pub runs_of_part : {S T X : Type 0} {p : Protocol S} {q : Protocol T} {part : S → T} → IsPart p q part → (s end : S) (at : Ends) (r : Result X RunFault)
     → Runs p s end at r → Runs q (part s) (part end) at r

@@ -27,8 +27,7 @@ by_test false x cut rest first same = grind arith
 
 pub pieces-split : (p : ℕ → Bool) (xs : Text) → without_last (slice_split p xs) ≡ pieces p xs
 pieces-split p [] = refl
-pieces-split p (x ∷ xs) =
-    by_test (p x) x (slice_split p xs) (pieces p xs) (without_last-split p [] xs) (pieces-split p xs)
+pieces-split p (x ∷ xs) = grind (arith, by_test, without_last-split, pieces-split p xs)
 
 -- `&xs[n..]`
 pub rest_is : (xs : Text) (n : ℕ) → take (length xs - n) (drop n xs) ≡ drop n xs
