@@ -1,7 +1,7 @@
 -- The bridge above a bus is what stands at its path, if that is a bridge.
-use Rattle.std.{proofs.Common.{◌≡◌, ℕ, ◌⊎◌, Bool, true, false, ◌&&◌, cond, List, [], ◌∷◌, Some, None, Option, refl, sym, ap, ◌∙◌, eqb, length, arith}, specs.{Prelude.{find, slice_get, unwrap_or, IsTrue}, Option.option_map_or}}
+use Rattle.std.{proofs.Common.{◌≡◌, ℕ, Bool, true, false, ◌&&◌, List, [], ◌∷◌, Some, None, Option, refl, sym, ap, ◌∙◌, eqb, length, arith}, specs.{Prelude.{find, slice_get, unwrap_or}, Option.option_map_or}}
 use Rattle.lists.{specs.Elements.IsIn, proofs.{EachLemmas.pairs_from_map, FirstFound.found_in, Members.pair_in}}
-use Rattle.model_board.{specs.{Paths.{Path, path_eq, path_before}, Board.{Row, Decl, endpoint, bridge, is_bridge}, State.{BoardFunction, row_at}, Cycles.secondary_register}, proofs.{PathOrder.path_same, PathEnds.not_before_itself}}
+use Rattle.model_board.{specs.{Paths.{Path, path_eq}, Board.{Decl, endpoint, bridge, is_bridge}, State.BoardFunction, Cycles.secondary_register}, proofs.{PathOrder.path_same, PathEnds.not_before_itself}}
 use Rattle.model_findings.{specs.{Orderly.IsStateOfBoard, Found.{is_bridge_at, bus_now}}, proofs.Found.is_found_at}
 use Rattle.bridge_forward.specs.RoutingRows.{secondary_of, secondary_nth}
 
@@ -17,22 +17,14 @@ parts a b h = grind arith
 
 none_at : (p : Path) (fs : List BoardFunction) → find (stands_at p) fs ≡ None → find (is_bridge_at p) fs ≡ None
 none_at p [] h = refl
-none_at p (f ∷ fs) h = by (is_bridge f.decl) (stands_at p f) h (none_at p fs)
-  where
-    by : (a b : Bool) → cond b (Some f) (find (stands_at p) fs) ≡ None → (find (stands_at p) fs ≡ None → find (is_bridge_at p) fs ≡ None) → cond (a && b) (Some f) (find (is_bridge_at p) fs) ≡ None
-    by a b h more = grind arith
+none_at p (f ∷ fs) h = grind (arith, none_at p fs)
 
 module _ (fs : List BoardFunction) (state : IsStateOfBoard fs) (p : Path) where
   abbrev there : Option BoardFunction
   there = find (stands_at p) fs
 
   one_function : (f g : BoardFunction) → IsIn f fs → IsIn g fs → f.path ≡ g.path → f ≡ g
-  one_function f g m k e =
-      by (pair_in (λ (x y : BoardFunction). IsTrue (path_before x.path y.path)) f g fs
-      (pairs_from_map (λ (r s : Row). IsTrue (path_before r.path s.path)) row_at fs state.places.in_order) m k)
-    where
-      by : (f ≡ g) ⊎ (IsTrue (path_before f.path g.path) ⊎ IsTrue (path_before g.path f.path)) → f ≡ g
-      by same = grind (arith, not_before_itself)
+  one_function f g m k e = grind (arith, pair_in, pairs_from_map, not_before_itself)
 
   no_bridge : (f : BoardFunction) → there ≡ Some f → is_bridge f.decl ≡ false → find (is_bridge_at p) fs ≡ None
   no_bridge f at other = by (find (is_bridge_at p) fs) refl

@@ -1,6 +1,6 @@
 -- What is told of blames is what the definitions say of all regions.
-use Rattle.std.{proofs.{Common.{◌≡◌, ℕ, Bool, true, false, cond, List, [], ◌∷◌, ◌++◌, map, Option, Some, None, refl, ap, ap₂, ◌∙◌}, lemmas.List.map-append}, specs.{Prelude.flat_map, Option.{option_map, option_to_list}}}
-use Rattle.lists.specs.Elements.{first_of_two, first_some}
+use Rattle.std.{proofs.{Common.{arith, ◌≡◌, ℕ, Bool, true, false, cond, List, [], ◌∷◌, map, Option, Some, None, refl, ap, ◌∙◌}, lemmas.List.map-append}, specs.{Prelude.flat_map, Option.{option_map, option_to_list}}}
+use Rattle.lists.specs.Elements.{first_some}
 use Rattle.model_board.specs.{Paths.leads_to, Routing.RoutingRow}
 use Rattle.model_set_up.specs.PlacedRegions.{PlacedRegion}
 use Rattle.model_findings.specs.{OpenRegions.open_regions, Problems.{unforwarded, forwarding_problem}, Lacks.{plain_regions, first_prefetched, prefetch_blame, prefetch_lack}}
@@ -11,11 +11,7 @@ use Rattle.model_findings.specs.Problems as audit
 module _ {B : Type 0} (c : Charge) (to : Blame → B) (g : PlacedRegion → RoutingRow → Option B) (same : (q : PlacedRegion) (r : RoutingRow) → option_map to (blame c q r) ≡ g q r) where
   first_told : (rows : List RoutingRow) (q : PlacedRegion) → option_map to (first_some (blame c q) rows) ≡ first_some (g q) rows
   first_told [] q = refl
-  first_told (r ∷ rows) q = mapped (blame c q r) (first_some (blame c q) rows) ∙ ap₂ first_of_two (same q r) (first_told rows q)
-    where
-      mapped : (x y : Option Blame) → option_map to (first_of_two x y) ≡ first_of_two (option_map to x) (option_map to y)
-      mapped None y = refl
-      mapped (Some b) y = refl
+  first_told (r ∷ rows) q = grind (arith, first_told rows q)
 
   listed : (o : Option Blame) → map to (option_to_list o) ≡ option_to_list (option_map to o)
   listed None = refl
@@ -23,9 +19,7 @@ module _ {B : Type 0} (c : Charge) (to : Blame → B) (g : PlacedRegion → Rout
 
   all_told : (rows : List RoutingRow) (qs : List PlacedRegion) → map to (flat_map (blames_of c rows) qs) ≡ flat_map (λ q. option_to_list (first_some (g q) rows)) qs
   all_told rows [] = refl
-  all_told rows (q ∷ qs) =
-      map-append to (blames_of c rows q) (flat_map (blames_of c rows) qs)
-      ∙ ap₂ ◌++◌ (listed (first_some (blame c q) rows) ∙ ap option_to_list (first_told rows q)) (all_told rows qs)
+  all_told rows (q ∷ qs) = grind (arith, map-append, listed, first_told, all_told rows qs)
 
 one_told : {B : Type 0} (to : Blame → B) (above : Bool) (at : Option ℕ) (of : ℕ → Blame) → option_map to (cond above (option_map of at) None) ≡ cond above (option_map (λ n. to (of n)) at) None
 one_told to true None of = refl

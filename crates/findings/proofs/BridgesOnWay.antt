@@ -1,8 +1,8 @@
 -- The bridges on the way of a cycle, one after the other.
 use Rattle.std.{proofs.{Common.{◌≡◌, ℕ, suc, ◌+◌, ◌-◌, ◌<◌, Bool, true, false, cond, List, [], ◌∷◌, ◌++◌, ◌&&◌, not, Option, Some, None, refl, sym, ap, ap₂, ◌∙◌, arith, append_assoc, append-nil}, lemmas.List.map-append}, specs.{Prelude.{map, filter, length, option_map, ◌==◌}, Option.{option_map_or, option_to_list}}}
-use Rattle.model_board.specs.{Routing.{RoutingRow, row_of, routing}, Paths.{Path, path_eq}, State.BoardFunction, Cycles.{secondary_register, taker, BusAddress, reached}}
-use Rattle.model_lines.specs.Ways.{takers, takers_by, takers_down, WayEnd, on_bus, no_taker, end_by, way_end, takers_on_way, end_of, Missing, missing_at, missing, has_number, is_found, WhyNumber, why_number}
-use Rattle.findings.specs.{declared.cycle_way.Taken.Taken, WhyByRows.selected, WhyOnWay.{taken, missing_by, is_unfound, unfound}}
+use Rattle.model_board.specs.{Routing.routing, Paths.{Path, path_eq}, State.BoardFunction, Cycles.{secondary_register, taker, BusAddress, reached}}
+use Rattle.model_lines.specs.Ways.{takers, takers_by, takers_down, WayEnd, on_bus, no_taker, end_by, way_end, takers_on_way, end_of, Missing, missing, has_number, is_found, why_number}
+use Rattle.findings.specs.{declared.cycle_way.Taken.Taken, WhyByRows.selected, WhyOnWay.{taken, missing_by, unfound}}
 
 abbrev path_of : BoardFunction → Path
 path_of f = f.path
@@ -16,12 +16,7 @@ module _ (fs : List BoardFunction) (n : ℕ) where
   told_below k o = map path_of (takers_by n (takers_down fs n k) o)
 
   none_taken : (k : ℕ) (bus : Path) → taken fs bus n ≡ None → (told_below k (taker fs bus n) ≡ []) × (way_end fs n (suc k) bus ≡ no_taker bus)
-  none_taken k bus e = by (taker fs bus n) e
-    where
-      by : (o : Option BoardFunction) → option_map as_taken o ≡ None
-          → (told_below k o ≡ []) × (end_by n (way_end fs n k) bus o ≡ no_taker bus)
-      by None h = (refl, refl)
-      by (Some f) h = cc
+  none_taken k bus e = grind arith
 
   one_taken : (k : ℕ) (bus : Path) (t : Taken) → taken fs bus n ≡ Some t
       → (told_below k (taker fs bus n) ≡ cond t.is_last [] (map path_of (takers_down fs n k t.path)))
@@ -64,21 +59,13 @@ module _ (fs : List BoardFunction) (n : ℕ) (told : List Path) (bus : Path) whe
     left = omega (arith, few)
 
     below : more ++ told_below fs n (16 - (i + 1)) (taker fs bus n) ≡ map path_of (takers_down fs n 16 [])
-    below =
-        ap (λ xs. xs ++ told_below fs n (16 - (i + 1)) (taker fs bus n)) added
-        ∙ append_assoc told (map path_of (takers fs n bus)) (told_below fs n (16 - (i + 1)) (taker fs bus n))
-        ∙ ap (λ xs. told ++ xs) (sym (map-append path_of (takers fs n bus) (takers_by n (takers_down fs n (16 - (i + 1))) (taker fs bus n))))
-        ∙ ap (λ k. told ++ map path_of (takers_down fs n k bus)) (sym left) ∙ on.so_far
+    below = grind (arith, append_assoc, map-append, left)
 
     end_here : way_end fs n (suc (16 - (i + 1))) bus ≡ way_end fs n 16 []
     end_here = ap (λ k. way_end fs n k bus) (sym left) ∙ on.to_end
 
     pub stops_here : taken fs bus n ≡ None → IsWhole fs n more (no_taker bus)
-    stops_here e =
-        let none = none_taken fs n (16 - (i + 1)) bus e in record {
-          bridges = sym (append-nil more) ∙ ap (λ xs. more ++ xs) (sym none.0) ∙ below;
-          end_is = sym none.1 ∙ end_here;
-        }
+    stops_here e = grind (arith, none_taken, append-nil, below, end_here)
 
     module _ (t : Taken) (e : taken fs bus n ≡ Some t) where
       step : (told_below fs n (16 - (i + 1)) (taker fs bus n) ≡ cond t.is_last [] (map path_of (takers_down fs n (16 - (i + 1)) t.path)))
@@ -86,16 +73,10 @@ module _ (fs : List BoardFunction) (n : ℕ) (told : List Path) (bus : Path) whe
       step = one_taken fs n (16 - (i + 1)) bus t e
 
       pub goes_on : t.is_last ≡ false → IsOnWay fs n more t.path (i + 1)
-      goes_on h = record {
-        so_far = ap (λ b. more ++ cond b [] (map path_of (takers_down fs n (16 - (i + 1)) t.path))) (sym h) ∙ ap (λ xs. more ++ xs) (sym step.0) ∙ below;
-        to_end = ap (λ b. cond b (on_bus t.path) (way_end fs n (16 - (i + 1)) t.path)) (sym h) ∙ sym step.1 ∙ end_here;
-      }
+      goes_on h = grind (arith, step, below, end_here)
 
       pub is_there : t.is_last ≡ true → IsWhole fs n more (on_bus t.path)
-      is_there h = record {
-        bridges = sym (append-nil more) ∙ ap (λ b. more ++ cond b [] (map path_of (takers_down fs n (16 - (i + 1)) t.path))) (sym h) ∙ ap (λ xs. more ++ xs) (sym step.0) ∙ below;
-        end_is = ap (λ b. cond b (on_bus t.path) (way_end fs n (16 - (i + 1)) t.path)) (sym h) ∙ sym step.1 ∙ end_here;
-      }
+      is_there h = grind (arith, append-nil, step, below, end_here)
 
 -- a bridge that takes the cycle, or none
 pub taking_at : (t : BoardFunction → Bool) (o : Option BoardFunction) → selected t path_of (option_to_list o) ≡ cond (option_map_or t o false) (option_to_list (option_map path_of o)) []
@@ -105,36 +86,16 @@ taking_at t (Some f) = append-nil (cond (t f) (f.path ∷ []) [])
 -- the functions that have a number and aren't found by it
 pub unfound_is : (fs : List BoardFunction) (at : BusAddress) (o : Option BoardFunction) (gs : List BoardFunction) → unfound fs at (option_map path_of o) (routing gs) ≡ map path_of (filter (λ f. has_number fs at f && not (is_found o f)) gs)
 unfound_is fs at o [] = refl
-unfound_is fs at o (g ∷ gs) = ap (λ u. map (λ (r : RoutingRow). r.path) (cond u (row_of g ∷ rest) rest)) (same o) ∙ by (has_number fs at g && not (is_found o g)) (unfound_is fs at o gs)
-  where
-    rest : List RoutingRow
-    rest = filter (λ (r : RoutingRow). is_unfound fs at (option_map path_of o) r.path) (routing gs)
-
-    same : (p : Option BoardFunction) → is_unfound fs at (option_map path_of p) g.path ≡ (has_number fs at g && not (is_found p g))
-    same None = refl
-    same (Some f) = refl
-
-    by : (u : Bool) → map (λ (r : RoutingRow). r.path) rest ≡ map path_of (filter (λ f. has_number fs at f && not (is_found o f)) gs)
-        → map (λ (r : RoutingRow). r.path) (cond u (row_of g ∷ rest) rest) ≡ map path_of (cond u (g ∷ filter (λ f. has_number fs at f && not (is_found o f)) gs) (filter (λ f. has_number fs at f && not (is_found o f)) gs))
-    by true more = ap (λ ps. g.path ∷ ps) more
-    by false more = more
+unfound_is fs at o (g ∷ gs) = grind (arith, unfound_is fs at o gs)
 
 -- nothing is missing where something is reached
 pub missing_is : (fs : List BoardFunction) (at : BusAddress) (e : WayEnd) → e ≡ end_of fs at → missing_by (option_map path_of (reached fs at)) e at ≡ missing fs at (reached fs at)
-missing_is fs at e same = by (reached fs at)
-  where
-    by : (o : Option BoardFunction) → missing_by (option_map path_of o) e at ≡ missing fs at o
-    by None = ap (λ (x : WayEnd). Some (missing_at x at)) same
-    by (Some f) = refl
+missing_is fs at e same = grind arith
 
 -- all that is told of a number
 pub number_is : (fs : List BoardFunction) (at : BusAddress) (r : Option Path) (bs ns : List Path) (m : Option Missing) → r ≡ option_map path_of (reached fs at) → bs ≡ map path_of (takers_on_way fs at)
     → m ≡ missing_by r (end_of fs at) at → ns ≡ unfound fs at r (routing fs) → record { reached = r; bridges = bs; missing = m; not_found = ns } ≡ why_number fs at
-number_is fs at r bs ns m found taken missed lost =
-    let m_is : m ≡ missing fs at (reached fs at) = missed ∙ ap (λ (x : Option Path). missing_by x (end_of fs at) at) found ∙ missing_is fs at (end_of fs at) refl in
-    let n_is = lost ∙ ap (λ (x : Option Path). unfound fs at x (routing fs)) found ∙ unfound_is fs at (reached fs at) fs in
-    let by : Option Path → List Path → Option Missing → List Path → WhyNumber = λ x y z w. record { reached = x; bridges = y; missing = z; not_found = w } in
-    ap₂ (λ x y. by x y m ns) found taken ∙ ap₂ (by (option_map path_of (reached fs at)) (map path_of (takers_on_way fs at))) m_is n_is
+number_is fs at r bs ns m found taken missed lost = grind (arith, missing_is, unfound_is)
 
 -- nothing is above bus 0
 pub path_eq-none : (p : Path) → path_eq p [] ≡ (length p == 0)

@@ -1,21 +1,16 @@
 -- What is told of regions that are held is what is told of the address.
-use Rattle.std.{proofs.{Common.{◌≡◌, ℕ, ◌+◌, ◌==◌, Bool, true, false, ◌&&◌, not, cond, ◌⊎◌, inl, List, [], ◌∷◌, ◌++◌, Option, Some, None, refl, sym, ap, ap₂, subst, ◌∙◌, append-nil, arith}, lemmas.List.{map-append, reverse-append, Folds.fold-map}}, specs.{Prelude.{map, filter, count_by, flat_map, reverse}, Option.option_to_list}}
+use Rattle.std.{proofs.{Common.{◌≡◌, ℕ, ◌==◌, Bool, true, false, ◌&&◌, not, cond, ◌⊎◌, inl, List, [], ◌∷◌, ◌++◌, Option, Some, None, refl, ap, subst, ◌∙◌, append-nil, arith}, lemmas.List.{map-append, reverse-append, Folds.fold-map}}, specs.Prelude.{map, filter, count_by, flat_map, reverse}}
 use Rattle.lists.{specs.Elements.IsIn, proofs.Members.{from_flat_map, from_option}}
 use Rattle.model_registers.specs.{EndpointTable.BaseAddress, Decoding.{Space, command_word, base_address, opens_space}}
-use Rattle.model_board.specs.{Board.{Decl, endpoint, bridge}, Paths.{Path, leads_to}, Claims.{Claim, first_claim}, State.BoardFunction, Windows.forwards, Routing.{ranges_of, row_of, routing}}
+use Rattle.model_board.specs.{Board.{Decl, endpoint, bridge}, Paths.Path, Claims.{Claim, first_claim}, State.BoardFunction, Routing.{ranges_of, row_of, routing}}
 use Rattle.model_set_up.specs.PlacedRegions.{PlacedRegion, holds}
 use Rattle.model_findings.specs.OpenRegions.{region_now, regions_of}
-use Rattle.model_lines.{specs.Why.{Hindrance, hindrance, Cause, closed_by, stopped_at, stop, stops, is_answer, causes_of, Told, told_of, is_closed, is_as_at_reset, apart, at_reset, Forwarder, forwarders, Why, told, why}, proofs.Why.from_reverse}
+use Rattle.model_lines.{specs.Why.{Hindrance, Cause, closed_by, stopped_at, stops, is_answer, causes_of, Told, told_of, is_closed, is_as_at_reset, apart, at_reset, Forwarder, forwarders, Why, told, why}, proofs.Why.from_reverse}
 use Rattle.findings.specs.{WhyByRows.{is_held, held_in, held_of, all_held, told_from, is_held_as_at_reset, held_apart}, declared.holding.Held.Held}
 
 filter_both : {A : Type 0} (s t : A → Bool) (xs : List A) → filter (λ x. s x && t x) xs ≡ filter t (filter s xs)
 filter_both s t [] = refl
-filter_both s t (x ∷ xs) = by (s x) (t x) refl (filter_both s t xs)
-  where
-    by : (u v : Bool) → v ≡ t x → filter (λ y. s y && t y) xs ≡ filter t (filter s xs)
-        → cond (u && v) (x ∷ filter (λ y. s y && t y) xs) (filter (λ y. s y && t y) xs) ≡ filter t (cond u (x ∷ filter s xs) (filter s xs))
-    by false v e more = more
-    by true v e more = ap (λ (w : Bool). cond w (x ∷ filter (λ y. s y && t y) xs) (filter (λ y. s y && t y) xs)) e ∙ ap (λ ys. cond (t x) (x ∷ ys) ys) more
+filter_both s t (x ∷ xs) = grind (arith, filter_both s t xs)
 
 not_stopped : (t : Bool) (p : Path) (w : ℕ) (h : Hindrance) → cond t (Some (stopped_at p h)) None ≡ Some (closed_by w) → ⊥
 not_stopped t p w h e = grind arith
@@ -38,14 +33,7 @@ module _ (fs : List BoardFunction) (space : Space) (n : ℕ) where
       → map (told_from fs space n) (map (λ q. record { region = q; command = command_word f.file }) (filter t (map (region_now f.path) bs)))
       ≡ map (tell f) (filter t (map (region_now f.path) bs))
   with_path f t [] = refl
-  with_path f t (b ∷ bs) = by (t (region_now f.path b)) (with_path f t bs)
-    where
-      by : (u : Bool) → map (told_from fs space n) (map (λ q. record { region = q; command = command_word f.file }) (filter t (map (region_now f.path) bs)))
-          ≡ map (tell f) (filter t (map (region_now f.path) bs))
-          → map (told_from fs space n) (map (λ q. record { region = q; command = command_word f.file }) (cond u (region_now f.path b ∷ filter t (map (region_now f.path) bs)) (filter t (map (region_now f.path) bs))))
-          ≡ map (tell f) (cond u (region_now f.path b ∷ filter t (map (region_now f.path) bs)) (filter t (map (region_now f.path) bs)))
-      by false more = more
-      by true more = ap (λ ts. tell f (region_now f.path b) ∷ ts) more
+  with_path f t (b ∷ bs) = grind (arith, with_path f t bs)
 
   function_told : (f : BoardFunction) → map (told_from fs space n) (held_of space n (first_claim fs space n) (row_of f)) ≡ told_of fs space n f
   function_told f = by f.decl
@@ -59,17 +47,13 @@ module _ (fs : List BoardFunction) (space : Space) (n : ℕ) where
 
   all_told : (gs : List BoardFunction) → map (told_from fs space n) (all_held space n (first_claim fs space n) (routing gs)) ≡ flat_map (told_of fs space n) gs
   all_told [] = refl
-  all_told (f ∷ gs) =
-      map-append (told_from fs space n) (held_of space n (first_claim fs space n) (row_of f)) (all_held space n (first_claim fs space n) (routing gs))
-      ∙ ap₂ ◌++◌ (function_told f) (all_told gs)
+  all_told (f ∷ gs) = grind (arith, map-append, function_told, all_told gs)
 
   -- ---- regions where reset leaves them
 
   -- a bridge above is no Command of the region's function
   none_closed : (p : Path) (w : ℕ) → IsIn (closed_by w) (stops fs space n p) → ⊥
-  none_closed p w m =
-      let f = from_flat_map (λ (g : BoardFunction). option_to_list (stop space n p g)) (closed_by w) fs m in
-      not_stopped (leads_to f.0.path p && not (forwards space n f.0)) f.0.path w (hindrance space f.0) (from_option (stop space n p f.0) (closed_by w) f.2)
+  none_closed p w m = grind (arith, from_flat_map, not_stopped, from_option)
 
   by_command : (p : Path) (command : ℕ) (u : Bool) → is_closed (reverse (stops fs space n p ++ cond u [] (closed_by command ∷ []))) ≡ not u
   by_command p command false = ap is_closed (reverse-append (stops fs space n p) (closed_by command ∷ []))
@@ -83,24 +67,14 @@ module _ (fs : List BoardFunction) (space : Space) (n : ℕ) where
 
   told_apart : (hs : List Held) → map (told_from fs space n) (held_apart space hs) ≡ apart (map (told_from fs space n) hs)
   told_apart [] = refl
-  told_apart (h ∷ hs) = by (is_held_as_at_reset space h) (sym (as_at_reset h)) (told_apart hs)
-    where
-      by : (u : Bool) → u ≡ is_as_at_reset (told_from fs space n h) → map (told_from fs space n) (held_apart space hs) ≡ apart (map (told_from fs space n) hs)
-          → map (told_from fs space n) (cond (not u) (h ∷ held_apart space hs) (held_apart space hs)) ≡ cond (not (is_as_at_reset (told_from fs space n h))) (told_from fs space n h ∷ apart (map (told_from fs space n) hs)) (apart (map (told_from fs space n) hs))
-      by u e more = grind arith
+  told_apart (h ∷ hs) = grind (arith, as_at_reset, told_apart hs)
 
   count_at_reset : (hs : List Held) → count_by (is_held_as_at_reset space) hs ≡ at_reset (map (told_from fs space n) hs)
-  count_at_reset hs =
-      let one_by_one : count_by (λ h. is_as_at_reset (told_from fs space n h)) hs ≡ count_by (is_held_as_at_reset space) hs = λ i. count_by (λ h. as_at_reset h i) hs in
-      sym one_by_one ∙ sym (fold-map (λ m t. m + cond (is_as_at_reset t) 1 0) (told_from fs space n) 0 hs)
+  count_at_reset hs = grind (arith, as_at_reset, fold-map)
 
   -- what is told by rows is what is told of the address
   pub why_by_rows : (answer : Option Claim) (hs : List Held) (gs : List Forwarder) (ts : List Told) (k : ℕ)
       → answer ≡ first_claim fs space n → hs ≡ all_held space n answer (routing fs) → gs ≡ forwarders fs space n
       → ts ≡ map (told_from fs space n) (held_apart space hs) → k ≡ count_by (is_held_as_at_reset space) hs
       → record { answer = answer; forwarders = gs; told = ts; at_reset = k } ≡ why fs space n
-  why_by_rows answer hs gs ts k claimed held forwarded tells left =
-      let all : map (told_from fs space n) hs ≡ told fs space n = ap (map (told_from fs space n)) (held ∙ ap (λ a. all_held space n a (routing fs)) claimed) ∙ all_told fs in
-      let apart_is : ts ≡ apart (told fs space n) = tells ∙ told_apart hs ∙ ap apart all in
-      let left_is : k ≡ at_reset (told fs space n) = left ∙ count_at_reset hs ∙ ap at_reset all in
-      cc
+  why_by_rows answer hs gs ts k claimed held forwarded tells left = grind (arith, all_told, told_apart, count_at_reset)

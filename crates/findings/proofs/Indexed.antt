@@ -1,5 +1,5 @@
 -- What elements give, from an index on.
-use Rattle.std.{proofs.{Common.{◌≡◌, ℕ, zero, suc, ◌+◌, List, [], ◌∷◌, ◌++◌, map, drop, refl, sym, ap, ◌∙◌, append-nil, append_assoc, add-one}, lemmas.List.map-append}, specs.{Prelude.{flat_map, slice_get}, Option.option_to_list}}
+use Rattle.std.{proofs.{Common.{arith, ◌≡◌, ℕ, zero, suc, ◌+◌, List, [], ◌∷◌, ◌++◌, map, drop, refl, sym, ap, append-nil, append_assoc, add-one}, lemmas.List.map-append}, specs.{Prelude.{flat_map, slice_get}, Option.option_to_list}}
 use Rattle.model_board.specs.State.{BoardFunction}
 use Rattle.model_findings.specs.Lacks.{primary_lack}
 use Rattle.findings.specs.{Findings.lack_of, declared.lack.Lack.Lack}
@@ -17,16 +17,8 @@ flat_step f xs i = rw add-one (flat_next f xs i)
 
 pub told_step : (fs : List BoardFunction) (told now : List Lack) (l : Lack) (i : ℕ) → now ≡ told ++ l ∷ [] → lack_of l ∷ [] ≡ flat_map (primary_lack fs) (option_to_list (slice_get fs i))
     → map lack_of now ++ flat_map (primary_lack fs) (drop (i + 1) fs) ≡ map lack_of told ++ flat_map (primary_lack fs) (drop i fs)
-told_step fs told now l i e told_is =
-    ap (λ xs. map lack_of xs ++ flat_map (primary_lack fs) (drop (i + 1) fs)) e
-    ∙ ap (λ xs. xs ++ flat_map (primary_lack fs) (drop (i + 1) fs)) (map-append lack_of told (l ∷ []))
-    ∙ append_assoc (map lack_of told) (lack_of l ∷ []) (flat_map (primary_lack fs) (drop (i + 1) fs))
-    ∙ ap (λ xs. map lack_of told ++ (xs ++ flat_map (primary_lack fs) (drop (i + 1) fs))) told_is
-    ∙ ap (λ xs. map lack_of told ++ xs) (sym (flat_step (primary_lack fs) fs i))
+told_step fs told now l i e told_is = grind (arith, map-append, append_assoc, flat_step)
 
 pub none_step : (fs : List BoardFunction) (told now : List Lack) (i : ℕ) → now ≡ told → [] ≡ flat_map (primary_lack fs) (option_to_list (slice_get fs i))
     → map lack_of now ++ flat_map (primary_lack fs) (drop (i + 1) fs) ≡ map lack_of told ++ flat_map (primary_lack fs) (drop i fs)
-none_step fs told now i e none =
-    ap (λ xs. map lack_of xs ++ flat_map (primary_lack fs) (drop (i + 1) fs)) e
-    ∙ ap (λ xs. map lack_of told ++ (xs ++ flat_map (primary_lack fs) (drop (i + 1) fs))) none
-    ∙ ap (λ xs. map lack_of told ++ xs) (sym (flat_step (primary_lack fs) fs i))
+none_step fs told now i e none = grind (arith, flat_step)

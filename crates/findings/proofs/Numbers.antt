@@ -47,8 +47,7 @@ pub bus_of_index : (fs : List BoardFunction) (bus : Path) (i : ℕ) → eqb (len
 bus_of_index fs bus i some e = grind (arith, first_at, position_is, left_true, some_bus)
 
 pub bus_of_none : (fs : List BoardFunction) (bus : Path) → eqb (length bus) 0 ≡ false → None ≡ position (is_bridge_row bus) (routing fs) → 0 ≡ bus_now fs bus
-bus_of_none fs bus some e =
-    sym (some_bus fs bus some ∙ ap (λ o. option_map_or (λ (f : BoardFunction). secondary_register f.file) o 0) (none_at (is_bridge_at bus) 0 fs (sym (position_is bus fs) ∙ sym e)))
+bus_of_none fs bus some e = grind (arith, some_bus, none_at, position_is)
 
 -- ---- what a number reaches
 

@@ -1,21 +1,15 @@
 -- What each function adds, and what is found first, from an index on.
-use Rattle.std.{proofs.{Common.{◌≡◌, ℕ, zero, suc, ◌+◌, Bool, true, false, cond, List, [], ◌∷◌, drop, ◌++◌, refl, sym, ap, ◌∙◌, add-one, append_assoc}, lemmas.List.{map-append, reverse-append}}, specs.{Prelude.{find, slice_get, map, filter, flat_map, reverse}, Option.{option_map_or, option_to_list}}}
+use Rattle.std.{proofs.{Common.{arith, ◌≡◌, ℕ, zero, suc, ◌+◌, Bool, false, cond, List, [], ◌∷◌, drop, ◌++◌, refl, sym, ap, ◌∙◌, add-one, append_assoc}, lemmas.List.{map-append, reverse-append}}, specs.{Prelude.{find, slice_get, map, filter, flat_map, reverse}, Option.{option_map_or, option_to_list}}}
 use Rattle.findings.{proofs.Indexed.flat_step, specs.WhyByRows.selected}
 
 -- what an index adds to what those before it gave
 pub next_one : {A B : Type 0} (h : A → List B) (xs : List A) (i : ℕ) (whole before after one : List B) → before ++ flat_map h (drop i xs) ≡ whole → one ≡ flat_map h (option_to_list (slice_get xs i)) → after ≡ before ++ one
     → after ++ flat_map h (drop (i + 1) xs) ≡ whole
-next_one h xs i whole before after one so_far e is =
-    ap (λ ys. ys ++ flat_map h (drop (i + 1) xs)) is ∙ append_assoc before one (flat_map h (drop (i + 1) xs))
-    ∙ ap (λ ys. before ++ (ys ++ flat_map h (drop (i + 1) xs))) e ∙ ap (λ ys. before ++ ys) (sym (flat_step h xs i)) ∙ so_far
+next_one h xs i whole before after one so_far e is = grind (arith, append_assoc, flat_step)
 
 pub selected_is : {A B : Type 0} (t : A → Bool) (g : A → B) (xs : List A) → selected t g xs ≡ map g (filter t xs)
 selected_is t g [] = refl
-selected_is t g (x ∷ xs) = by (t x) (selected_is t g xs)
-  where
-    by : (u : Bool) → selected t g xs ≡ map g (filter t xs) → cond u (g x ∷ []) [] ++ selected t g xs ≡ map g (cond u (x ∷ filter t xs) (filter t xs))
-    by false more = more
-    by true more = ap (λ ys. g x ∷ ys) more
+selected_is t g (x ∷ xs) = grind (arith, selected_is t g xs)
 
 pub map_reverse : {A B : Type 0} (f : A → B) (xs : List A) → map f (reverse xs) ≡ reverse (map f xs)
 map_reverse f [] = refl

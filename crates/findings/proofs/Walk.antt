@@ -105,10 +105,7 @@ few_contended agents spans groups moved rising apart = pruned (spans_from 0 agen
 
 pub spans_push : (n : ℕ) (xs : List Agent) (a : Agent) → spans_from n (xs ++ a ∷ []) ≡ spans_from n xs ++ agent_spans (n + length xs) a
 spans_push n [] a = let z : n ≡ n + 0 = omega arith in append-nil (agent_spans n a) ∙ ap (λ k. agent_spans k a) z
-spans_push n (x ∷ xs) a =
-    let z : n + 1 + length xs ≡ n + suc (length xs) = omega arith in
-    ap (λ ys. agent_spans n x ++ ys) (spans_push (n + 1) xs a ∙ ap (λ k. spans_from (n + 1) xs ++ agent_spans k a) z)
-    ∙ sym (append_assoc (agent_spans n x) (spans_from (n + 1) xs) (agent_spans (n + suc (length xs)) a))
+spans_push n (x ∷ xs) a = grind (arith, append_assoc, spans_push (n + 1) xs a)
 
 pub spans_more : (xs : List Agent) (i : ℕ) (a d : Agent) → a ≡ get_or xs i d → i < length xs → spans_from 0 (take i xs) ++ agent_spans i a ≡ spans_from 0 (take (i + 1) xs)
 spans_more xs i a d e h =
