@@ -1,11 +1,10 @@
-use Rattle.std.{proofs.Common.{◌≡◌, ◌∙◌, ℕ, List, ap, sym, subst, arith}, specs.Prelude.IsSome}
+use Rattle.std.{proofs.Common.{◌∙◌, ℕ, List, ap, sym, subst, arith}, specs.Prelude.IsSome}
 use Rattle.model_registers.specs.{ByteEnables.{enables_of, into_lanes}, Registers.config}
 use Rattle.model_guests.specs.{Accesses.{configuration, writes}, Lone.at_target}
 use Rattle.model_handoff.specs.StayLaws.{any_tells}
 use Rattle.bridge_forward.specs.Lending.{endpoint_nth}
 use Rattle.host_bridge.specs.Landings.{IsReached}
-use Rattle.monitor.{specs.{declared.guest.Guest.Guest, Configs.HoldsAt, Counts.{after_access_nth, counted_nth}}, proofs.{ConfigSteps.{config_changes, config_drops, config_quiet, config_written, written_lent}, Machines.{accessed, untouched}, Calls.{guest_in, inside_guests}, Steps.{empty_lent, slot_lent}, Exchanges.holds_nth, Reached.{endpoint_held, reached_held}, Writable.after_access_sound}}
-use Rattle.monitor.proofs.Ended.{Ends, ends}
+use Rattle.monitor.{specs.{declared.guest.Guest.Guest, Configs.HoldsAt, Counts.counted_nth}, proofs.{ConfigSteps.{config_changes, config_drops, config_quiet, config_written, written_lent}, Machines.{accessed, counts_lent, untouched}, Calls.{back_in, guest_in, inside_guests}, Steps.{empty_lent, slot_lent}, Exchanges.holds_nth, Reached.{endpoint_held, reached_held}, Writable.after_access_sound}}
 use Rattle.monitor.proofs.engine.Engine.config_write.Goals as goal
 
 pub index-requires : goal.index-requires
@@ -36,25 +35,29 @@ config_write_nth-requires-clause-reached g c =
     let written = written_lent c.deref_mut.ensures.value (holds_nth at slot) c.write_in-index.ensures.written in
     subst (λ (k : ℕ). IsReached c.self.inside.host.state.functions k) (sym written.slots.index) (reached_held at slot)
 
-written : (g : _) (c : goal.After-config_write_nth g)
-    → Ends c.self.inside c.config_write_nth.new.self c.write_in-index.new.guests
-    (λ m. m ≡ after_access_nth c.args.guest (writes c.args.value) c.args.width (at_target (configuration c.args.slot c.args.off)) c.args.self.now)
-written g c =
-    let at = guest_in c.self.invariant.1 c.self.view_is c.args.guest c.requires.there c.index.ensures in
-    let slot = slot_lent at c.deref.ensures.value c.in-Some.ensures.there in
-    let target = at_target (configuration c.args.slot c.args.off) in
-    ends c.self.inside c.deref_mut.ensures.value (c.write_in-index.auto.guests ∙ c.deref_mut.ensures.len)
-    (config_written at slot c.args.off c.args.width c.args.value c.requires.width c.requires.aligned
-    (c.enables_of-enables.ensures ∙ ap (λ x. enables_of x c.args.width) c.from-from.ensures) (c.into_lanes-moved.ensures ∙ ap (λ x. into_lanes x c.args.value) c.from-from.ensures)
-    (written_lent c.deref_mut.ensures.value (holds_nth at slot) c.write_in-index.ensures.written) c.config_write_nth.ensures)
-    (after_access_sound c.self.invariant.1 c.self.view_is c.args.guest c.requires.there (writes c.args.value) c.args.width target)
-    (counted_nth c.args.guest c.tells_regions-tells.result) c.write_in-index.ensures.counts
-    (λ left counts. accessed c.self.invariant.1 c.self.view_is c.args.guest left counts
-    (c.tells_regions-tells.ensures ∙ ap (λ x. any_tells c.args.width (config x)) c.from-from.ensures ∙ sym (config_changes at slot c.args.off c.args.width c.args.value)))
-
 pub invariant_of-self : goal.invariant_of-self
 invariant_of-self g c =
-    (g.met.R.Route.by_routing c.self.inside.route c.self.inside.host c.config_write_nth.new.self (written g c).routes c.self.invariant.0, (written g c).sound)
+    let e = c.self.inside in
+    let at = guest_in c.self.invariant.1 c.self.view_is c.args.guest c.requires.there c.index.ensures in
+    let slot = slot_lent at c.deref.ensures.value c.in-Some.ensures.there in
+    let written = written_lent c.deref_mut.ensures.value (holds_nth at slot) c.write_in-index.ensures.written in
+    let left = back_in e.guests.items e.guests.len (c.write_in-index.auto.guests ∙ c.deref_mut.ensures.len)
+    (config_written at slot c.args.off c.args.width c.args.value c.requires.width c.requires.aligned
+    (c.enables_of-enables.ensures ∙ ap (λ x. enables_of x c.args.width) c.from-from.ensures) (c.into_lanes-moved.ensures ∙ ap (λ x. into_lanes x c.args.value) c.from-from.ensures)
+    written c.config_write_nth.ensures) in
+    (g.met.R.Route.by_routing e.route e.host c.config_write_nth.new.self left.routes c.self.invariant.0, after_access_sound c.self.invariant.1 c.self.view_is c.args.guest c.requires.there (writes c.args.value) c.args.width (at_target (configuration c.args.slot c.args.off)) left)
 
 pub returns : goal.returns
-returns g c = (written g c).shown
+returns g c =
+    let e = c.self.inside in
+    let at = guest_in c.self.invariant.1 c.self.view_is c.args.guest c.requires.there c.index.ensures in
+    let slot = slot_lent at c.deref.ensures.value c.in-Some.ensures.there in
+    let written = written_lent c.deref_mut.ensures.value (holds_nth at slot) c.write_in-index.ensures.written in
+    let count = c.write_in-index.auto.guests ∙ c.deref_mut.ensures.len in
+    accessed c.self.invariant.1 c.self.view_is c.args.guest
+    (back_in e.guests.items e.guests.len count
+    (config_written at slot c.args.off c.args.width c.args.value c.requires.width c.requires.aligned
+    (c.enables_of-enables.ensures ∙ ap (λ x. enables_of x c.args.width) c.from-from.ensures) (c.into_lanes-moved.ensures ∙ ap (λ x. into_lanes x c.args.value) c.from-from.ensures)
+    written c.config_write_nth.ensures))
+    (counts_lent _ (counted_nth c.args.guest c.tells_regions-tells.result) c.deref_mut.ensures.value c.write_in-index.ensures.counts e.guests.len count)
+    (c.tells_regions-tells.ensures ∙ ap (λ x. any_tells c.args.width (config x)) c.from-from.ensures ∙ sym (config_changes at slot c.args.off c.args.width c.args.value))

@@ -1,8 +1,7 @@
-use Rattle.std.{proofs.Common.{◌≡◌, ◌∙◌, ◌&&◌, ◌||◌, ℕ, List, Option, not, ap, subst, arith, sym}, specs.{Prelude.is_some, Str.bytes_eq}}
+use Rattle.std.{proofs.Common.{◌∙◌, ◌&&◌, ◌||◌, ℕ, List, Option, not, ap, subst, arith, sym}, specs.{Prelude.is_some, Str.bytes_eq}}
 use Rattle.model_guests.specs.{Lines.host_move, Calls.asks}
-use Rattle.model_handoff.specs.{Actions.calls, Changes.after_on_machine}
-use Rattle.monitor.{specs.{declared.guest.Guest.Guest, Configs.HoldsAt, ByIndex.name_nth, Counts.counted_both, Moves.{HasSlot, move_nth}}, proofs.{Calls.{guest_in, inside_guests}, Machines.{both_grew, refused_all}, MoveSteps.{fault_is, has_moved, holds_moved, move_done, move_left, move_refused, nothing_moved}, Exchanges.over_lent, Writable.after_action_sound}}
-use Rattle.monitor.proofs.Ended.{Ends, ends}
+use Rattle.model_handoff.specs.Actions.{calls}
+use Rattle.monitor.{specs.{declared.guest.Guest.Guest, Configs.HoldsAt, ByIndex.name_nth, Counts.counted_both, Moves.{HasSlot, move_nth}}, proofs.{Calls.{back_in, guest_in, inside_guests}, Machines.{both_grew, counts_lent, refused_all}, MoveSteps.{fault_is, has_moved, holds_moved, move_done, move_left, move_refused, nothing_moved}, Exchanges.over_lent, Writable.after_action_sound}}
 use Rattle.monitor.proofs.engine.Engine.move_function.Goals as goal
 
 pub index-requires : goal.index-requires
@@ -45,24 +44,26 @@ returns-clause-reply g c =
     let to = guest_in c.self.invariant.1 c.self.view_is c.args.to c.requires.to c.index-2.ensures in
     move_done from to c.args.slot c.args.target c.deref.ensures.value c.deref-2.ensures.value c.in_default.ensures
 
-moved : (g : _) (c : goal.After-self-1 g)
-    → Ends c.self.inside c.hand_over.new.host c.hand_over.new.guests
-    (λ m. m ≡ after_on_machine c.args.self.now (calls (asks (host_move (move_nth c.args.self.now.world c.args.from c.args.slot c.args.to c.args.target)))))
-moved g c =
-    let now = c.args.self.now in
-    let move = calls (asks (host_move (move_nth now.world c.args.from c.args.slot c.args.to c.args.target))) in
-    let from = guest_in c.self.invariant.1 c.self.view_is c.args.from c.requires.from c.index.ensures in
-    let to = guest_in c.self.invariant.1 c.self.view_is c.args.to c.requires.to c.index-2.ensures in
-    ends c.self.inside c.deref_mut.ensures.value (c.hand_over.auto.guests ∙ c.deref_mut.ensures.len)
-    (move_left from to c.args.slot c.args.target c.deref.ensures.value c.deref-2.ensures.value c.in_default.ensures (over_lent c.deref_mut.ensures.value c.hand_over.ensures.over))
-    (after_action_sound c.self.invariant.1 c.self.view_is move) (counted_both c.args.from c.args.to) c.hand_over.ensures.counts
-    (λ left counts. both_grew c.self.invariant.1 c.self.view_is move c.args.from c.args.to c.requires.from c.requires.to left counts
-    (λ x. ap (λ (o : Option ℕ). not (is_some o) && (bytes_eq (name_nth now.world c.args.from) x || bytes_eq (name_nth now.world c.args.to) x))
-    (sym (c.in_default.ensures ∙ fault_is from to c.args.slot c.args.target c.deref.ensures.value c.deref-2.ensures.value))))
-
 pub invariant_of-self : goal.invariant_of-self
 invariant_of-self g c =
-    (g.met.R.Route.by_routing c.self.inside.route c.self.inside.host c.hand_over.new.host (moved g c).routes c.self.invariant.0, (moved g c).sound)
+    let e = c.self.inside in
+    let from = guest_in c.self.invariant.1 c.self.view_is c.args.from c.requires.from c.index.ensures in
+    let to = guest_in c.self.invariant.1 c.self.view_is c.args.to c.requires.to c.index-2.ensures in
+    let left = back_in e.guests.items e.guests.len (c.hand_over.auto.guests ∙ c.deref_mut.ensures.len)
+    (move_left from to c.args.slot c.args.target c.deref.ensures.value c.deref-2.ensures.value c.in_default.ensures (over_lent c.deref_mut.ensures.value c.hand_over.ensures.over)) in
+    (g.met.R.Route.by_routing e.route e.host c.hand_over.new.host left.routes c.self.invariant.0, after_action_sound c.self.invariant.1 c.self.view_is (calls (asks (host_move (move_nth c.args.self.now.world c.args.from c.args.slot c.args.to c.args.target)))) left)
 
 pub returns-clause-after : goal.returns-clause-after
-returns-clause-after g c = (moved g c).shown
+returns-clause-after g c =
+    let e = c.self.inside in
+    let now = c.args.self.now in
+    let from = guest_in c.self.invariant.1 c.self.view_is c.args.from c.requires.from c.index.ensures in
+    let to = guest_in c.self.invariant.1 c.self.view_is c.args.to c.requires.to c.index-2.ensures in
+    let count = c.hand_over.auto.guests ∙ c.deref_mut.ensures.len in
+    both_grew c.self.invariant.1 c.self.view_is (calls (asks (host_move (move_nth now.world c.args.from c.args.slot c.args.to c.args.target))))
+    c.args.from c.args.to c.requires.from c.requires.to
+    (back_in e.guests.items e.guests.len count
+    (move_left from to c.args.slot c.args.target c.deref.ensures.value c.deref-2.ensures.value c.in_default.ensures (over_lent c.deref_mut.ensures.value c.hand_over.ensures.over)))
+    (counts_lent _ (counted_both c.args.from c.args.to) c.deref_mut.ensures.value c.hand_over.ensures.counts e.guests.len count)
+    (λ x. ap (λ (o : Option ℕ). not (is_some o) && (bytes_eq (name_nth now.world c.args.from) x || bytes_eq (name_nth now.world c.args.to) x))
+    (sym (c.in_default.ensures ∙ fault_is from to c.args.slot c.args.target c.deref.ensures.value c.deref-2.ensures.value)))

@@ -1,9 +1,10 @@
 use Rattle.std.proofs.Common.{◌∙◌, false, ap, refl, sym, arith, rules}
 use Rattle.model_guests.specs.{Accesses.writes, Lone.{at_target, reply_at}}
 use Rattle.bars.specs.Kinds.{named_space}
+use Rattle.host_bridge.specs.HostState.{HostState}
 use Rattle.accesses.specs.Accesses.{op_of}
 use Rattle.config_bytes.specs.declared.op.Op.{Op}
-use Rattle.monitor.{specs.{ByIndex.lone_nth, Counts.after_access_nth, Reaches.target_in}, proofs.{RegionSteps.{after_nowhere, holds_landed, landing_at, region_written, reply_nowhere, reply_read}, Calls.{guest_in, inside_guests}, Lands.region_unchanged, Machines.{accessed, same_machine, still_shown, untouched}, Writable.after_access_sound}}
+use Rattle.monitor.{specs.{Views.{machine_shown, texts}, ByIndex.lone_nth, Counts.after_access_nth, Reaches.target_in}, proofs.{RegionSteps.{after_nowhere, holds_landed, landing_at, region_written, reply_nowhere, reply_read}, Calls.{guest_in, inside_guests}, Lands.region_unchanged, Machines.{accessed, same_machine, untouched}, Writable.after_access_sound}}
 use Rattle.monitor.proofs.engine.Engine.region_access.Goals as goal
 
 pub index-requires : goal.index-requires
@@ -41,8 +42,9 @@ returns-in-Read-clause-reply g c =
 
 pub returns-in-Read-clause-after : goal.returns-in-Read-clause-after
 returns-in-Read-clause-after g c =
+    let e = c.self.inside in
     let d = at_target (target_in (named_space c.args.space) c.args.addr) in
-    still_shown c.self.invariant.1 c.self.view_is c.region_read-value.ensures.after
+    ap (λ (h : HostState). machine_shown h (texts e.names) e.guests.items) c.region_read-value.ensures.after ∙ c.self.view_is
     ∙ same_machine c.args.self.now c.args.guest c.requires.there c.args.width d
     ∙ ap (λ (op : Op). after_access_nth c.args.guest (op_of op) c.args.width d c.args.self.now) (sym c.in-Read.is)
 
