@@ -24,8 +24,7 @@ each_test p (x ∷ xs) h = (left_true (p x) (list_all p xs) h, each_test p xs (r
 
 pub pairs_test : {A : Type 0} (p : A → A → Bool) (xs : List A) → all_pairs p xs ≡ true → EachPair (λ x y. IsTrue (p x y)) xs
 pairs_test p [] h = tt
-pairs_test p (x ∷ xs) h =
-    (each_test (p x) xs (left_true (list_all (p x) xs) (all_pairs p xs) h), pairs_test p xs (right_true (list_all (p x) xs) (all_pairs p xs) h))
+pairs_test p (x ∷ xs) h = grind (arith, each_test, left_true, right_true, pairs_test p xs)
 
 pub all-each : {A : Type 0} (P : A → Type 0) (xs : List A) → Each P xs → All P xs
 all-each P [] h k d lt = absurd (omega arith)

@@ -2,7 +2,7 @@
 -- that holds its own numbers is numbered.
 use Rattle.std.{proofs.{Common.{◌≡◌, ℕ, ◌⊎◌, inl, inr, Bool, true, false, ◌&&◌, List, [], ◌∷◌, ◌++◌, Option, Some, None, refl, sym, ap, ◌∙◌, subst, arith, append_assoc}, lemmas.Bool.{eqb-true, and_from}}, specs.{Prelude.{find, IsTrue}, Option.{option_map, option_map_or}}}
 use Rattle.lists.{proofs.{Tests.{left_true, right_true}, Members.{each_in, each_from, in_map, from_map, any_in, pair_in, none_each, each_none}, FirstFound.{found, found_in}, EachLemmas.{each_map, pairs_from_map}}, specs.Elements.IsIn}
-use Rattle.model_board.{specs.{Paths.{Part, Path, path_eq, parent, last_part}, Board.{Board, Row, is_bridge, IsBoard}, BusNumbers.{secondary, bus_behind}, State.{BoardFunction, row_at}, Cycles.{secondary_register, takes, is_route, ends_in, reached_type0, reached_type1, BusAddress, reached}}, proofs.{PathEnds.{path_self, not_before_itself, snoc_some}, PathOrder.path_same}}
+use Rattle.model_board.{specs.{Paths.{Part, Path, path_eq, parent, last_part}, Board.{Board, Row, is_bridge, IsBoard}, BusNumbers.{secondary, bus_behind}, State.{BoardFunction, row_at}, Cycles.{secondary_register, is_route, ends_in, reached_type0, reached_type1, BusAddress, reached}}, proofs.{PathEnds.{path_self, not_before_itself, snoc_some}, PathOrder.path_same}}
 use Rattle.model_set_up.{specs.Reach.{HasNumbers, address_of}, proofs.{Partings.{BridgeAt, bridge_at}, Routes.{reached_by_numbers, ends_is_last, last_flag}}}
 use Rattle.model_findings.specs.{Orderly.IsStateOfBoard, Found.{is_bridge_at, bus_now, address_now, path_reached, FoundOnce, NumbersOfBoard}, Problems.{Problem, not_found, numbering_problem}, Witnesses.{IsNotFound, NumberingDecides}}
 use Rattle.model_board.specs.Board as board
@@ -52,8 +52,7 @@ module _ (fs : List BoardFunction) (state : IsStateOfBoard fs) where
     way_ends above [] h = cc
     way_ends above (p ∷ []) h = cc
     way_ends above (p ∷ q ∷ []) h = grind (arith, found_in, path_same, left_true, right_true, number_of, eqb-true, last_flag)
-    way_ends above (p ∷ q ∷ r ∷ ps) h =
-        ap (bus_now fs) (sym (append_assoc above (p ∷ []) (parent (q ∷ r ∷ ps)))) ∙ way_ends (above ++ p ∷ []) (q ∷ r ∷ ps) (right_true (takes fs above n p false) (is_route fs n (above ++ p ∷ []) (q ∷ r ∷ ps)) h)
+    way_ends above (p ∷ q ∷ r ∷ ps) h = grind (arith, append_assoc, right_true, way_ends (above ++ p ∷ []) (q ∷ r ∷ ps))
 
   by_type0 : (t : Part) (f : BoardFunction) → reached_type0 fs t ≡ Some f → (bus_now fs (parent f.path) ≡ 0) × (last_part f.path ≡ t)
   by_type0 t f e =

@@ -131,10 +131,7 @@ module _ (b : Board) (a : Apertures) (few : Enumerates b) (can : CanBePlaced b a
           plain_unprefetched s.0.path s.0.decl q s.1 (subst (λ (x : RoutingRow). IsIn q (plain_of x)) s.2 f.2)
 
 routing_ready : (b : Board) (a : Apertures) → Enumerates b → CanBePlaced b a → lacks a (set_up_state b a).functions ≡ []
-routing_ready b a few can =
-    nothing_lacking a (set_up_state b a).functions
-    (lacks_nothing b a few can (layout_is_lawful b a can.places can.declarations can.room) (rows_are_declared b a can.places can.declarations)
-    (set_up_windows b a can.places can.declarations can.apertures can.io_paths can.room))
+routing_ready b a few can = grind (arith, nothing_lacking, lacks_nothing, layout_is_lawful, rows_are_declared, set_up_windows)
 
 pub set_up_is_ready : SetUpIsReady
 set_up_is_ready b a few can = record { no_problems = set_up_passes b a few can; no_lacks = routing_ready b a few can }

@@ -1,5 +1,5 @@
 -- There is one state that agrees with seated guests over a handoff.
-use Rattle.std.{proofs.Common.{◌≡◌, false, List, [], ◌∷◌, Some, None, Option, refl, sym, ap₂, subst, arith}, specs.Prelude.map}
+use Rattle.std.{proofs.Common.{◌≡◌, false, List, [], ◌∷◌, Some, None, Option, refl, sym, subst, arith}, specs.Prelude.map}
 use Rattle.lists.specs.Elements.{Each, EachPair}
 use Rattle.model_registers.specs.{Registers.{Place, File}, Declarations.Endpoint, EndpointTable.endpoint_reset, CopiedFiles.{agreed_file, places_of, shape_of}}
 use Rattle.model_board.specs.{Board.{Decl, endpoint, Board}, Lawful.IsLawfulDecl, State.BoardFunction}
@@ -36,8 +36,7 @@ module _ (b : Board) (gs : GuestsNow) (all : Each (IsSeatedGuest b) gs) where
   functions_are_only : (fs : List BoardFunction) → Each (Facts b) fs → Each HasDeclaredShape fs → (ns : List BoardFunction) → AgreesAtEach (file_of gs) fs ns → ns ≡ map (agreed_function (file_of gs)) fs
   functions_are_only [] facts shapes n agrees = grind arith
   functions_are_only (f ∷ fs) facts shapes [] agrees = absurd agrees
-  functions_are_only (f ∷ fs) facts shapes (n ∷ ns) agrees =
-      ap₂ (λ (x : BoardFunction) (xs : List BoardFunction). x ∷ xs) (function_is_only f facts.0 shapes.0 (file_of gs f.path) refl n agrees.0) (functions_are_only fs facts.1 shapes.1 ns agrees.1)
+  functions_are_only (f ∷ fs) facts shapes (n ∷ ns) agrees = grind (arith, function_is_only, functions_are_only fs facts.1 shapes.1 ns agrees.1)
 
 pub state_agrees : StateAgrees
 state_agrees s handoff gs seated = grind (arith, functions_agree, facts)

@@ -3,7 +3,7 @@
 use Rattle.std.{proofs.{Common.{◌≡◌, ℕ, Bool, true, false, ◌&&◌, List, [], ◌∷◌, ◌++◌, Option, refl, sym, ap, ap₂, ◌∙◌, subst, arith, arith}, lemmas.Bool.Decides.nat_tests}, specs.{Prelude.{map, find}, Option.option_map}}
 use Rattle.lists.{specs.Elements.Each, proofs.{EachLemmas.{each_both, each_map, each_of_map}, Tests.and_false, Members.flat_map_map}}
 use Rattle.model_registers.specs.{Registers.{config, File, cell_at}, Declarations.Endpoint, CopiedFiles.agreed_file}
-use Rattle.model_board.{specs.{Paths.{Part, Path}, Board.{Decl, endpoint, bridge, Row, Board, is_bridge}, AtReset.board_at, BusNumbers.{secondary, subordinate}, Cycles.{secondary_register, subordinate_register, takes, is_route, BusAddress, reached}, Lawful.IsLawfulDecl, Routing.routing, RoutingLaws.{is_routing_register, HasSameRouting}, State.{BoardFunction, State, row_at}}, proofs.Routing.routing_of_change}
+use Rattle.model_board.{specs.{Paths.{Part, Path}, Board.{Decl, endpoint, bridge, Row, Board, is_bridge}, AtReset.board_at, BusNumbers.{secondary, subordinate}, Cycles.{secondary_register, subordinate_register, takes, is_route, BusAddress, reached}, Routing.routing, RoutingLaws.{is_routing_register, HasSameRouting}, State.{BoardFunction, State, row_at}}, proofs.Routing.routing_of_change}
 use Rattle.model_findings.{specs.{Found.{address_now, path_reached}, Problems.numbering_problems}, proofs.Witnesses.problems_decide}
 use Rattle.model_guests.{specs.{Guests.{GuestsNow, file_of}, AgreedBoard.{agreed_function, state_over}, Seated.IsSeatedGuest}, proofs.{AgreedChanges.agreed_by, AgreedFiles.agreed_kept}}
 use Rattle.model_handoff.{specs.AgreementLaws.{KeepsBoard, KeepsBridges, KeepsNumbers, KeepsRouting, KeepsReach, KeepsAddresses, KeepsProblems, StaysInOrder}, proofs.Functions.{Facts, facts, bridge_stays, path_stays, decl_stays, row_stays}}
@@ -38,8 +38,7 @@ module _ (b : Board) (gs : GuestsNow) (all : Each (IsSeatedGuest b) gs) where
       by_decl (bridge d) e n h = ap (λ (g : BoardFunction). (cell_at g.file (config n)).value) (sym (bridge_stays b gs all f facts (ap is_bridge e)))
 
   same_routing : (fs : List BoardFunction) → Each (Facts b) fs → routing (map now_of fs) ≡ routing fs
-  same_routing fs facts =
-      routing_of_change now_of fs (each_map (Facts b) (λ f. IsLawfulDecl f.decl) fs (λ f h. h.lawful) facts) (each_map (Facts b) (λ f. HasSameRouting f (now_of f)) fs function_routes facts)
+  same_routing fs facts = grind (arith, routing_of_change, each_map, function_routes)
 
 pub keeps_routing : KeepsRouting
 keeps_routing s board gs seated = same_routing (board_at s.functions) gs seated.guests s.functions (facts s.functions board)

@@ -1,7 +1,7 @@
 -- Functions of which nothing but what their cells hold is other than it is declared.
-use Rattle.std.{proofs.{Common.{◌≡◌, ℕ, zero, suc, ◌/◌, Bool, List, [], ◌∷◌, ◌++◌, false, Some, Option, refl, sym, ap, ◌∙◌, subst, arith}, lemmas.List.map-append}, specs.Prelude.{map, flat_map}}
+use Rattle.std.{proofs.{Common.{◌≡◌, ℕ, zero, suc, ◌/◌, Bool, List, [], ◌∷◌, ◌++◌, false, Some, Option, refl, sym, subst, arith}, lemmas.List.map-append}, specs.Prelude.{map, flat_map}}
 use Rattle.lists.specs.Elements.{Each, EachPair}
-use Rattle.model_registers.specs.{Cell.Cell, Registers.{Place, after, PlacedCell, File, cell_at, field}, Declarations.{IoDecode, PrefDecode, Region, Endpoint, Bridge}, EndpointTable.{region_cells, config_cells, endpoint_file, endpoint_reset}, BridgeTable.{Window, BridgeValues, no_window, io_cells, pref_cells, bridge_file, bridge_reset}, CopiedFiles.{shape_of, agreed_file}}
+use Rattle.model_registers.specs.{Cell.Cell, Registers.{Place, after, PlacedCell, File, cell_at, field}, Declarations.{IoDecode, PrefDecode, Region, Endpoint, Bridge}, EndpointTable.{region_cells, endpoint_file, endpoint_reset}, BridgeTable.{Window, BridgeValues, io_cells, pref_cells, bridge_file, bridge_reset}, CopiedFiles.{shape_of, agreed_file}}
 use Rattle.model_board.specs.{Paths.Path, Board.{Decl, endpoint, bridge, Board}, State.BoardFunction}
 use Rattle.model_guests.{specs.AgreedBoard.agreed_function, proofs.{AgreedChanges.agreed_by, DistinctPlaces.{Apart, HasDistinctPlaces}, FoundFiles.shape_places, SlotPlaces.IsFileOf, TablePlaces.found_entries}}
 use Rattle.model_handoff.{specs.Handoffs.HasDeclaredShape, proofs.{Agreement.distinct_left, Functions.Facts}}
@@ -20,10 +20,7 @@ regions_shape bases [] = refl
 regions_shape bases (r ∷ rs) = grind (arith, shape_append, field_shape, regions_shape bases rs)
 
 pub endpoint_shape : (d : Endpoint) (m : Bool) (command : ℕ) (bases : Region → ℕ) → shape_of (endpoint_file d m command bases) ≡ shape_of (endpoint_reset d false)
-endpoint_shape d m command bases =
-    shape_append (config_cells d m command) (flat_map (region_cells bases) d.regions)
-    ∙ ap (λ (f : File). shape_of (config_cells d m command) ++ f) (regions_shape bases d.regions)
-    ∙ sym (shape_append (config_cells d false 0) (flat_map (region_cells (λ r. 0)) d.regions))
+endpoint_shape d m command bases = grind (arith, shape_append, regions_shape)
 
 io_shape : (x : IoDecode) (s t : Window) → shape_of (io_cells x s) ≡ shape_of (io_cells x t)
 io_shape x s t = grind arith
@@ -32,8 +29,7 @@ pref_shape : (x : PrefDecode) (s t : Window) → shape_of (pref_cells x s) ≡ s
 pref_shape x s t = grind arith
 
 pub bridge_shape : (d : Bridge) (m : Bool) (r : BridgeValues) → shape_of (bridge_file d m r) ≡ shape_of (bridge_reset d false)
-bridge_shape d m r =
-    grind (arith, shape_append (io_cells d.io r.io) (pref_cells d.pref r.pref), io_shape d.io r.io no_window, pref_shape d.pref r.pref no_window, shape_append (io_cells d.io no_window) (pref_cells d.pref no_window))
+bridge_shape d m r = grind (arith, shape_append, io_shape, pref_shape)
 
 -- ---- files that are put in, beneath guests' copies
 

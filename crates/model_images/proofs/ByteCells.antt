@@ -1,7 +1,7 @@
 -- Cells that hold bytes, and of whose bits no write of a byte and no device makes more.
-use Rattle.std.{proofs.{Common.{◌≡◌, ℕ, zero, suc, ◌/◌, ◌%◌, ◌<◌, Bool, true, false, List, [], ◌∷◌, Some, None, Option, arith}, lemmas.Nat.{and_le_l, and_le_r, or_lt}}, specs.Prelude.{bit_and, flat_map, ⊤}}
+use Rattle.std.{proofs.{Common.{◌≡◌, ℕ, zero, suc, ◌/◌, ◌<◌, Bool, true, false, List, [], ◌∷◌, Some, None, Option, arith}, lemmas.Nat.{and_le_l, and_le_r, or_lt}}, specs.Prelude.{bit_and, flat_map, ⊤}}
 use Rattle.lists.{specs.Elements.Each, proofs.EachLemmas.{each_append, each_map}}
-use Rattle.model_registers.specs.{Cell.{Cell, IsCell, except, written, raised}, Registers.{Place, config, after, PlacedCell, File, changed, write, field, cells_from}, AccessLaws.HoldsBytes, CopiedFiles.shape_of, Declarations.{Region, ConfigBlock, Endpoint}, DeviceBytes.with_value, EndpointTable.{region_cells, block_cells, header_cells, endpoint_reset}, Decoding.Function}
+use Rattle.model_registers.specs.{Cell.{Cell, IsCell, except, written, raised}, Registers.{Place, after, PlacedCell, File, changed, write, field, cells_from}, AccessLaws.HoldsBytes, CopiedFiles.shape_of, Declarations.{Region, ConfigBlock, Endpoint}, DeviceBytes.with_value, EndpointTable.{region_cells, block_cells, header_cells, endpoint_reset}, Decoding.Function}
 use Rattle.model_images.{proofs.KeptFunctions.AreKept, specs.ByteLaws.HasCells}
 
 pub record IsByteCell (c : Cell) : Type 0 where
@@ -32,8 +32,7 @@ cells_bytes (c ∷ cs) p h = (record { value = h.0.value_fits; clearable = h.0.c
 
 blocks_bytes : (bs : List ConfigBlock) → Each (λ (b : ConfigBlock). Each IsCell b.cells) bs → AreByteCells (flat_map block_cells bs)
 blocks_bytes [] h = tt
-blocks_bytes (b ∷ bs) h =
-    each_append (λ (e : PlacedCell). IsByteCell e.cell) (block_cells b) (flat_map block_cells bs) (cells_bytes b.cells (config b.offset) h.0) (blocks_bytes bs h.1)
+blocks_bytes (b ∷ bs) h = grind (arith, each_append, cells_bytes, blocks_bytes bs h.1)
 
 regions_bytes : (rs : List Region) → Each (λ (r : Region). Each IsCell r.cells) rs → AreByteCells (flat_map (region_cells (λ r. 0)) rs)
 regions_bytes [] h = tt
@@ -75,8 +74,7 @@ changed_bytes f keeps p (e ∷ es) h = grind (arith, changed_bytes f keeps p es 
 
 write_bytes : (ons : List Bool) (v : ℕ) (p : Place) (file : File) → AreByteCells file → AreByteCells (write ons v p file)
 write_bytes [] v p file h = h
-write_bytes (true ∷ ons) v p file h =
-    write_bytes ons (v / 256) (after p) (changed (written (v % 256)) p file) (changed_bytes (written (v % 256)) (written_byte (v % 256) (omega arith)) p file h)
+write_bytes (true ∷ ons) v p file h = grind (arith, changed_bytes, written_byte, write_bytes ons (v / 256))
 write_bytes (false ∷ ons) v p file h = write_bytes ons (v / 256) (after p) file h
 
 -- ---- a function, if its declaration can be written

@@ -6,7 +6,7 @@ use Rattle.model_registers.specs.Declarations.{Endpoint}
 use Rattle.model_board.specs.{Board.Board, Paths.Path, AtReset.board_at, State.{BoardFunction, State}}
 use Rattle.model_guests.specs.{Slots.reset_function, Text.Text, Lone.LoneGuest, World.declared, WorldNow.{WorldNow, names_now}}
 use Rattle.model_handoff.specs.{Handoffs.{declared_cells, HasDeclaredShape}, ViewLaws.seated_files}
-use Rattle.model_images.{specs.{Images.{Fits, values_of}, MachineImages.{SavedGuest, MachineImage, FitsMachine, restored_guest, saved_handoff, shown_handoff, values_in}, MachineLaws.IsSavableWorld, Layouts.{Layout, Parsed, parsed, before, bytes_each, both, counted, fit_each, fit_times, le_bytes, number, optional}, ImageBytes.{image_bytes, image_layout}, ByteLaws.{AreBytes, IsDeclared}, LoadedBytes.{after_bytes, after_image_front}, TakenBytes.taken_image, MachineBytes.{machine_magic, machine_version, board_layout, cells_layout, guest_layout, machine_bytes, machine_of, name_layout, on_board, path_layout, paths_layout}, MachineByteLaws.{HasKnownBytes, HasMachineBytes, IsWritableName}, LoadedMachines.{and_then, guest_at, held_bytes, if_free, known_bytes, load_all_fault, or_refused, preceded, read_guest, read_guests, read_held, read_image, read_machine, read_slot, read_slots, under_guests, with_path, with_paths}, LoadedMachineLaws.{IsOfOtherMachine, MachinesDecided, NoMachineIsRefused}}, proofs.{Layouts.{both_is, fit_count}, LoadedBytes.{fitting_front, front_decided, own_beginning, own_bytes, prefix_decided}, MachineBytes.{board_is, held_in, machine_bytes_are_bytes, machine_read_are_bytes, name_is, parts_bytes, slot_path_is}, Machines.{handoff_stays, opens_alike}, Numbers.{number_is, one_each}, ReadMachines.slots_declared, Savable.as_long, SavableMachines.{board_fits, declared_written, name_fits}, TakenBytes.taken_again, TakenMachines.accepted_is_machine, FittingMachines.fitting_is_accepted}}
+use Rattle.model_images.{specs.{Images.{Fits, values_of}, MachineImages.{SavedGuest, MachineImage, FitsMachine, restored_guest, saved_handoff, shown_handoff}, MachineLaws.IsSavableWorld, Layouts.{Layout, Parsed, parsed, before, bytes_each, both, counted, fit_each, fit_times, le_bytes, number, optional}, ImageBytes.{image_bytes, image_layout}, ByteLaws.{AreBytes, IsDeclared}, LoadedBytes.{after_bytes, after_image_front}, TakenBytes.taken_image, MachineBytes.{board_layout, cells_layout, guest_layout, machine_bytes, machine_of, name_layout, on_board, path_layout, paths_layout}, MachineByteLaws.{HasKnownBytes, HasMachineBytes, IsWritableName}, LoadedMachines.{and_then, guest_at, held_bytes, known_bytes, load_all_fault, preceded, read_guest, read_guests, read_held, read_image, read_machine, read_slot, read_slots, under_guests, with_paths}, LoadedMachineLaws.{IsOfOtherMachine, MachinesDecided, NoMachineIsRefused}}, proofs.{Layouts.{both_is, fit_count}, LoadedBytes.{fitting_front, front_decided, own_beginning, own_bytes, prefix_decided}, MachineBytes.{board_is, held_in, machine_bytes_are_bytes, machine_read_are_bytes, name_is, parts_bytes, slot_path_is}, Machines.{handoff_stays, opens_alike}, Numbers.{number_is, one_each}, ReadMachines.slots_declared, Savable.as_long, SavableMachines.{board_fits, declared_written, name_fits}, TakenBytes.taken_again, TakenMachines.accepted_is_machine, FittingMachines.fitting_is_accepted}}
 
 -- just this is read, or it is another's
 abbrev Judged : {A : Type 0} → A → Result A ℕ → Type 0
@@ -19,21 +19,12 @@ judged_then next x y r h k = grind arith
 
 module _ (s : State) where
   slot_judged : (taken : List Path) (q : Option Path) → (optional path_layout).fits q ≡ true → (rest : List ℕ) → Judged (parsed q rest) (read_slot s taken ((optional path_layout).bytes q ++ rest))
-  slot_judged taken q fits rest =
-      let read : read_slot s taken ((optional path_layout).bytes q ++ rest) ≡ if_free s taken (parsed q rest) =
-      ap (λ o. and_then (if_free s taken) (or_refused 905 o)) (slot_path_is.again q rest fits) in grind arith
+  slot_judged taken q fits rest = grind (arith, slot_path_is)
 
   slots_judged : (n : ℕ) (qs : List (Option Path)) (taken : List Path) → fit_times (optional path_layout).fits n qs ≡ true → (rest : List ℕ)
       → Judged (parsed qs rest) (read_slots s n taken (flat_map (optional path_layout).bytes qs ++ rest))
   slots_judged zero [] taken fits rest = inl refl
-  slots_judged (suc n) (q ∷ qs) taken fits rest =
-      let first = (optional path_layout).bytes q in
-      let more = flat_map (optional path_layout).bytes qs in
-      subst (λ bs. Judged (parsed (q ∷ qs) rest) (read_slots s (suc n) taken bs)) (sym (append_assoc first more rest))
-      (judged_then (λ (x : Parsed (Option Path)). preceded x.value (read_slots s n (with_path x.value taken) x.rest)) (parsed q (more ++ rest)) (parsed (q ∷ qs) rest) (read_slot s taken (first ++ (more ++ rest)))
-      (slot_judged taken q (left_true ((optional path_layout).fits q) (fit_times (optional path_layout).fits n qs) fits) (more ++ rest))
-      (judged_then (λ (xs : Parsed (List (Option Path))). Ok (before q xs)) (parsed qs rest) (parsed (q ∷ qs) rest) (read_slots s n (with_path q taken) (more ++ rest))
-      (slots_judged n qs (with_path q taken) (right_true ((optional path_layout).fits q) (fit_times (optional path_layout).fits n qs) fits) rest) (inl refl)))
+  slots_judged (suc n) (q ∷ qs) taken fits rest = grind (arith, append_assoc, judged_then, slot_judged, left_true, right_true, slots_judged n qs)
   slots_judged n qs taken fits rest = cc
 
 -- ---- guests
@@ -81,9 +72,7 @@ module _ (s : State) (declares : (p : Path) (d : Endpoint) → declared (board_a
       by_name l = and_then (read_image b name) (and_then (read_slots s 32 taken) l)
 
       decides : read_guest s taken name (guest_layout.bytes g ++ rest) ≡ by_name (after_bytes 907 (name_layout.bytes name) (name_layout.bytes g.name ++ behind))
-      decides =
-          ap (λ bs. by_name (after_bytes 907 (name_layout.bytes name) bs))
-          (append_assoc (name_layout.bytes g.name) (paths_layout.bytes g.paths ++ image_bytes g.image) rest ∙ ap (λ (bs : List ℕ). name_layout.bytes g.name ++ bs) (append_assoc (paths_layout.bytes g.paths) (image_bytes g.image) rest))
+      decides = grind (arith, append_assoc)
 
       guest_judged : Judged (parsed g rest) (read_guest s taken name (guest_layout.bytes g ++ rest))
       guest_judged = of (prefix_decided name_layout name_is g.name name (left_true (name_layout.fits g.name) (paths_layout.fits g.paths && image_layout.fits g.image) fits) written 907 behind)
@@ -149,9 +138,7 @@ module _ (w : WorldNow) (h : IsSavableWorld w) (k : HasKnownBytes w) (i : Machin
   guests_fit = left_true ((counted 2 guest_layout).fits i.guests) (fit_each cells_layout i.handoff.board i.handoff.values && (number 4).fits i.handoff.latch) on
 
   cells_fit : fit_each cells_layout i.handoff.board i.handoff.values ≡ true
-  cells_fit =
-      left_true (fit_each cells_layout i.handoff.board i.handoff.values) ((number 4).fits i.handoff.latch)
-      (right_true ((counted 2 guest_layout).fits i.guests) (fit_each cells_layout i.handoff.board i.handoff.values && (number 4).fits i.handoff.latch) on)
+  cells_fit = grind (arith, left_true, right_true, on)
 
   -- ---- what bytes begin with
 
@@ -180,9 +167,7 @@ module _ (w : WorldNow) (h : IsSavableWorld w) (k : HasKnownBytes w) (i : Machin
   by_known l = and_then (read_held w) (and_then (read_guests w.handoff [] (names_now w)) l)
 
   machine_decides : read_machine w (machine_bytes i) ≡ by_known (after_bytes 907 (known_bytes w) (known_layout.bytes theirs ++ behind_known))
-  machine_decides =
-      ap (read_machine w) (parts_bytes i)
-      ∙ ap (λ l. by_known (and_then (after_bytes 907 (known_bytes w)) l)) (own_beginning machine_magic machine_version (known_layout.bytes theirs ++ behind_known))
+  machine_decides = grind (arith, parts_bytes, own_beginning)
 
   -- ---- what the handoff holds, over an equal board
 
@@ -194,12 +179,7 @@ module _ (w : WorldNow) (h : IsSavableWorld w) (k : HasKnownBytes w) (i : Machin
     shapes = (handoff_stays (shown_handoff w) (handoff_stays w.handoff h.lawful.handoff w.guests) (map restored_guest i.guests)).shapes
 
     as_long_held : length (held_bytes under) ≡ length (held_in i)
-    as_long_held =
-        let cells : length (bytes_each cells_layout (board_at under.functions) i.handoff.values) ≡ length (bytes_each cells_layout (board_at under.functions) (values_in under)) =
-        held_long under.functions i.handoff.values shapes (subst (λ c. fit_each cells_layout c i.handoff.values ≡ true) (sym there) cells_fit) in
-        length-append (bytes_each cells_layout (board_at under.functions) (values_in under)) (le_bytes 4 under.latch)
-        ∙ ap (λ n. n + 4) (sym cells ∙ ap (λ c. length (bytes_each cells_layout c i.handoff.values)) there)
-        ∙ sym (length-append (bytes_each cells_layout i.handoff.board i.handoff.values) (le_bytes 4 i.handoff.latch))
+    as_long_held = grind (arith, held_long, shapes, there, cells_fit, length-append)
 
     held_judged : Judged read (read_held w (parsed i.guests (held_in i)))
     held_judged = grind (arith, as_many_decide 907 (held_bytes under) (held_in i) as_long_held, held_in i, as_long_held)

@@ -3,7 +3,7 @@ use Rattle.std.{proofs.{Common.{◌≡◌, inl, inr, ◌+◌, ◌*◌, ◌≤◌
 use Rattle.lists.{specs.Elements.{Each, EachPair, IsIn}, proofs.{EachLemmas.{each_both, each_map, pairs_from_map, pairs_map}, Members.{front_or_back, in_back, in_front}}}
 use Rattle.model_registers.{specs.{AccessLaws.HoldsBytes, Registers.config}, proofs.ByteAccesses.number_fits}
 use Rattle.model_board.{specs.{Board.Row, Cycles.{BusAddress, reached, secondary_register}, Paths.path_before, State.{BoardFunction, row_at}}, proofs.PathEnds.not_before_itself}
-use Rattle.model_findings.{specs.Found.{address_at, scan_order, scanned}, proofs.Scan.scan_finds_all}
+use Rattle.model_findings.{specs.Found.{scan_order, scanned}, proofs.Scan.scan_finds_all}
 use Rattle.model_images.specs.MachineByteLaws.{FewFunctions}
 
 -- ---- elements of which no two are equal, and all are among others
@@ -43,9 +43,7 @@ of_each f h [] = refl
 of_each f h (n ∷ ns) = grind (arith, length-append (f n) (flat_map f ns), of_each f h ns)
 
 all_addresses : length scan_order ≡ 256 * (16 * 8)
-all_addresses =
-    of_each (λ bus. map (address_at bus) (range_with_len 0 128)) (λ bus. length-map (range_with_len 0 128) (address_at bus) ∙ length-range_with_len 0 128) (range_with_len 0 256)
-    ∙ ap (λ n. n * 128) (length-range_with_len 0 256)
+all_addresses = grind (arith, of_each, length-map, length-range_with_len)
 
 pub few_functions : FewFunctions
 few_functions fs state numbered bytes =

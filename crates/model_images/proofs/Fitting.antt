@@ -2,9 +2,9 @@
 use Rattle.std.{proofs.{Common.{◌≡◌, ℕ, ◌/◌, ◌%◌, Bool, true, false, ◌||◌, cond, eqb, List, [], ◌∷◌, Some, None, Option, refl, ap, arith}, lemmas.Bool.{eqb-true, and_from}}, specs.Prelude.{map, option_map}}
 use Rattle.lists.{specs.Elements.Each, proofs.{EachLemmas.each_map, Tests.{left_true, right_true, some_there}}}
 use Rattle.model_registers.{specs.{Cell.{Cell, written, raised}, Registers.{Place, place_eq, after, PlacedCell, File, changed, write, raise}, Declarations.Endpoint, EndpointTable.endpoint_reset, DeviceBytes.{is_device_byte, with_value, set_value}, CopiedFiles.shape_of, Decoding.Function}, proofs.RegisterFiles.{place_same, self}}
-use Rattle.model_guests.{specs.{Slots.{Slots, reset_function}, Lone.LoneGuest, Guests.{GuestNow, GuestsNow, guests_at_first, guest_named, lone_of}}, proofs.{Seats.changed_shape, GuestsByName.found, OneGuest.lone_found}}
+use Rattle.model_guests.{specs.{Slots.{Slots, reset_function}, Lone.LoneGuest, Guests.{GuestNow, GuestsNow, guests_at_first}}, proofs.{Seats.changed_shape, GuestsByName.found, OneGuest.lone_found}}
 use Rattle.model_handoff.specs.Actions.{after_action}
-use Rattle.model_images.{specs.{Images.{SavedFunction, Image, values_of, saved, with_values, restored, lone_of_image, after_load, after_restart, fixed_bits, can_hold, fit_cells, Fits, FitSlots}, Requests.{acts, loads, restarts, after_request}, FitLaws.{IsFittingFunction, HoldsFitting, IsFitting, AreFitting, FittingAtFirst, FittingAfter, FittingAlong, SavedFits}}, proofs.{Loading.shape_with, FixedBits.{written_fixed, raised_fixed}, KeptFunctions.{Keeps, AreKept, Has, action_holds, load_holds, restart_holds, holds_at_first}}}
+use Rattle.model_images.{specs.{Images.{SavedFunction, Image, values_of, saved, with_values, restored, lone_of_image, after_restart, fixed_bits, can_hold, fit_cells, Fits, FitSlots}, Requests.{acts, loads, restarts, after_request}, FitLaws.{IsFittingFunction, HoldsFitting, IsFitting, AreFitting, FittingAtFirst, FittingAfter, FittingAlong, SavedFits}}, proofs.{Loading.shape_with, FixedBits.{written_fixed, raised_fixed}, KeptFunctions.{Keeps, AreKept, Has, action_holds, load_holds, restart_holds, holds_at_first}}}
 
 -- ---- one cell
 
@@ -92,8 +92,7 @@ image_fits i g h = record { latch = h.latch; functions = image_slots i.slots g.s
 
 pub fitting_after : FittingAfter
 fitting_after w h (acts a) fits = are_fitting (after_action w a).guests (action_holds HoldsFitting fitting_kept w a (have_fitting w.guests h))
-fitting_after w h (loads n i) fits =
-    are_fitting (after_load n i w).guests (load_holds HoldsFitting fitting_kept w n i (image_fits i (lone_of w.guests n) fits) (have_fitting w.guests h))
+fitting_after w h (loads n i) fits = grind (arith, are_fitting, load_holds, fitting_kept, image_fits, have_fitting)
 fitting_after w h (restarts n) fits = are_fitting (after_restart n w).guests (restart_holds HoldsFitting fitting_kept w n (have_fitting w.guests h))
 
 pub fitting_along : FittingAlong
@@ -111,5 +110,4 @@ saved_slots (f ∷ fs) (g ∷ gs) all same = grind (arith, saved_slots fs gs)
 saved_slots fs gs all same = cc
 
 pub saved_fits : SavedFits
-saved_fits w v from to h there same =
-    grind (arith, some_there (guest_named w.guests from) there, lone_found w.guests from, found, saved_slots (lone_of w.guests from).slots (lone_of v.guests to).slots)
+saved_fits w v from to h there same = grind (arith, some_there, lone_found, found, saved_slots)

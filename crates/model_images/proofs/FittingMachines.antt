@@ -1,10 +1,10 @@
 -- The bytes of an image that fits a machine are read as it.
-use Rattle.std.{proofs.{Common.{◌≡◌, ℕ, zero, suc, Bool, true, false, not, ◌&&◌, ◌||◌, List, [], ◌∷◌, ◌++◌, length, Some, None, Option, Ok, refl, sym, ap, ap₂, ◌∙◌, subst, append_assoc, append-nil, arith}, lemmas.Bool.and_from}, specs.{Prelude.{map, flat_map, option_map}, Result.result_err, Str.bytes_eq}}
+use Rattle.std.{proofs.{Common.{◌≡◌, ℕ, zero, suc, Bool, true, false, not, ◌||◌, List, [], ◌∷◌, ◌++◌, length, Some, None, Option, Ok, refl, sym, ap, ap₂, ◌∙◌, subst, append_assoc, append-nil, arith}, lemmas.Bool.and_from}, specs.{Prelude.{map, flat_map, option_map}, Result.result_err, Str.bytes_eq}}
 use Rattle.lists.{specs.Elements.Each, proofs.Tests.{left_true, right_true}}
 use Rattle.model_board.{specs.{Paths.{Path, path_eq}, Board.Board, AtReset.board_at, State.State}, proofs.PathOrder.path_same}
 use Rattle.model_guests.{specs.{Text.Text, World.declared, Guests.{GuestNow, GuestsNow, function_in, path_in}, Seated.{AreSeated, AreSeats, IsSeatedGuest}, WorldNow.{WorldNow, names_now}}, proofs.{GuestsByName.{path_at, path_of}, Names.same_text, SeatedMoves.seat_in}}
 use Rattle.model_handoff.{specs.{Regions.AreServed, ViewLaws.seated_files}, proofs.GivenSeats.{declared_there, some_function}}
-use Rattle.model_images.{specs.{Images.{SavedFunction, restored, Fits, FitSlots}, MachineImages.{SavedGuest, MachineImage, shown_handoff, restored_guest, restored_guests, handoff_under, HoldsFittingValues, HoldsWhatFits, FitsMachine}, Layouts.{Parsed, parsed, le_bytes, fit_times, optional}, ImageBytes.{image_layout, image_bytes}, ByteLaws.HasBytes, LoadedBytes.{after_bytes, at_end}, TakenBytes.taken_image, MachineBytes.{machine_magic, machine_version, path_layout, board_layout, name_layout, paths_layout, guest_layout, machine_bytes}, MachineByteLaws.HasMachineBytes, LoadedMachines.{and_then, preceded, is_open_there, can_have, read_slot, with_path, with_paths, read_slots, guest_at, read_image, read_guest, read_guests, machine_header, known_bytes, held_bytes, read_held, read_machine, after_read}, LoadedMachineLaws.{FittingIsAccepted, FittingIsLoaded}}, proofs.{Filling.none_closed, Machines.opens_alike, MachineLoads.{ApartSaved, of_others, IsFound, each_found, saved_apart}, MachineBytes.{slot_path_is, told, told_bytes}, LoadedBytes.{own_beginning, own_bytes, fitting_front}, TakenBytes.taken_again, ReadMachines.AllFree, SeatedPaths.is_in}}
+use Rattle.model_images.{specs.{Images.{SavedFunction, restored, Fits, FitSlots}, MachineImages.{SavedGuest, MachineImage, shown_handoff, restored_guest, restored_guests, handoff_under, HoldsFittingValues, HoldsWhatFits, FitsMachine}, Layouts.{parsed, le_bytes, fit_times, optional}, ImageBytes.image_bytes, ByteLaws.HasBytes, LoadedBytes.{after_bytes, at_end}, TakenBytes.taken_image, MachineBytes.{machine_magic, machine_version, path_layout, board_layout, name_layout, paths_layout, guest_layout, machine_bytes}, MachineByteLaws.HasMachineBytes, LoadedMachines.{and_then, is_open_there, can_have, read_slot, with_paths, read_slots, guest_at, read_image, read_guest, read_guests, machine_header, known_bytes, held_bytes, read_held, read_machine, after_read}, LoadedMachineLaws.{FittingIsAccepted, FittingIsLoaded}}, proofs.{Filling.none_closed, Machines.opens_alike, MachineLoads.{ApartSaved, of_others, IsFound, each_found, saved_apart}, MachineBytes.{slot_path_is, told, told_bytes}, LoadedBytes.{own_beginning, own_bytes, fitting_front}, TakenBytes.taken_again, ReadMachines.AllFree, SeatedPaths.is_in}}
 
 abbrev Free : State → List Path → List SavedGuest → Type 0
 Free s taken [] = Unit {0}
@@ -18,12 +18,7 @@ pub record IsWritten (g : SavedGuest) : Type 0 where
 written_each : (n : ℕ) (gs : List SavedGuest) → fit_times guest_layout.fits n gs ≡ true → Each IsWritten gs
 written_each n [] fits = tt
 written_each zero (g ∷ gs) fits = cc
-written_each (suc n) (g ∷ gs) fits =
-    let own = left_true (guest_layout.fits g) (fit_times guest_layout.fits n gs) fits in
-    let others = right_true (name_layout.fits g.name) (paths_layout.fits g.paths && image_layout.fits g.image) own in (
-      record { paths = left_true (paths_layout.fits g.paths) (image_layout.fits g.image) others; image = right_true (paths_layout.fits g.paths) (image_layout.fits g.image) others },
-      written_each n gs (right_true (guest_layout.fits g) (fit_times guest_layout.fits n gs) fits),
-    )
+written_each (suc n) (g ∷ gs) fits = grind (arith, left_true, right_true, written_each n gs)
 
 -- ---- what is read again
 
@@ -34,12 +29,7 @@ module _ (s : State) where
   slots_again : (n : ℕ) (qs : List (Option Path)) (taken : List Path) → AllFree s taken qs → fit_times (optional path_layout).fits n qs ≡ true → (rest : List ℕ)
       → read_slots s n taken (flat_map (optional path_layout).bytes qs ++ rest) ≡ Ok (parsed qs rest)
   slots_again zero [] taken free fits rest = refl
-  slots_again (suc n) (q ∷ qs) taken free fits rest =
-      let more = flat_map (optional path_layout).bytes qs in
-      ap (read_slots s (suc n) taken) (append_assoc ((optional path_layout).bytes q) more rest)
-      ∙ ap (and_then (λ (x : Parsed (Option Path)). preceded x.value (read_slots s n (with_path x.value taken) x.rest)))
-      (slot_again taken q free.0 (left_true ((optional path_layout).fits q) (fit_times (optional path_layout).fits n qs) fits) (more ++ rest))
-      ∙ ap (preceded q) (slots_again n qs (with_path q taken) free.1 (right_true ((optional path_layout).fits q) (fit_times (optional path_layout).fits n qs) fits) rest)
+  slots_again (suc n) (q ∷ qs) taken free fits rest = grind (arith, append_assoc, slot_again, left_true, right_true, slots_again n qs)
   slots_again n qs taken free fits rest = cc
 
   abbrev b : Board

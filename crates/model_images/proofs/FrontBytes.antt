@@ -1,9 +1,9 @@
 -- Bytes that begin with an image.
 use Rattle.std.{proofs.{Common.{◌≡◌, ℕ, suc, ◌+◌, List, [], ◌∷◌, ◌++◌, length, Some, None, Option, Ok, refl, sym, ap, ap₂, ◌∙◌, arith, length-append}, Math.Seq.{drop-append_seam, take-append_seam}, lemmas.List.length-map}, specs.Prelude.{flat_map, option_map, map}}
 use Rattle.lists.specs.Elements.{Each}
-use Rattle.model_registers.specs.{Registers.PlacedCell, Decoding.Function}
+use Rattle.model_registers.specs.Decoding.{Function}
 use Rattle.model_guests.specs.{Slots.Slots, Lone.LoneGuest}
-use Rattle.model_images.{specs.{Images.{SavedFunction, saved, values_of}, Layouts.{le_bytes, number}, ImageBytes.declaration_bytes, LoadedBytes.{then_read, after_image_front, after_slots, header, fault_of, load_fault}, TakenBytes.{slot_size, taken_image}, FrontBytes.{slots_size, image_size, FrontIsTaken, HasEachCell, SizeIsTold}}, proofs.{LoadedBytes.{latch_taken, slot_bytes, slots_bytes}, TakenBytes.opened}}
+use Rattle.model_images.{specs.{Images.{SavedFunction, saved}, Layouts.{le_bytes, number}, LoadedBytes.{then_read, after_image_front, after_slots, header, fault_of, load_fault}, TakenBytes.{slot_size, taken_image}, FrontBytes.{slots_size, image_size, FrontIsTaken, HasEachCell, SizeIsTold}}, proofs.{LoadedBytes.{latch_taken, slot_bytes, slots_bytes}, TakenBytes.opened}}
 
 -- the bytes that the guest takes
 pub record IsRun (g : LoneGuest) (bytes rest : List ℕ) : Type 0 where
@@ -37,13 +37,7 @@ as_many (v ∷ vs) = ap suc (as_many vs)
 
 slot_told : (f : Option Function) → HasEachCell f → length (slot_bytes (option_map saved f)) ≡ slot_size f
 slot_told None h = refl
-slot_told (Some f) h =
-    let decl = declaration_bytes f.decl in
-    let values = flat_map (number 1).bytes (values_of f.file) in
-    let one = length-append (decl ++ values) [] in
-    let two = length-append decl values in
-    let three = as_many (values_of f.file) ∙ length-map f.file (λ (e : PlacedCell). e.cell.value) ∙ h in
-    omega (arith, one, two, three)
+slot_told (Some f) h = grind (arith, length-append, as_many, length-map)
 
 slots_told : (fs : Slots) → Each HasEachCell fs → length (slots_bytes (map (option_map saved) fs)) ≡ slots_size fs
 slots_told [] h = refl

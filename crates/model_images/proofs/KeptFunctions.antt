@@ -3,7 +3,7 @@ use Rattle.std.{proofs.{Common.{◌≡◌, ℕ, zero, suc, Bool, true, cond, Lis
 use Rattle.lists.specs.Elements.{Each}
 use Rattle.model_registers.specs.{Registers.{Place, File, write, raise, all_bytes}, Declarations.Endpoint, DeviceBytes.{is_device_byte, set_value}, Decoding.Function, ConfigAddress.latched}
 use Rattle.model_board.specs.Paths.{Path}
-use Rattle.model_guests.{specs.{Accesses.{Event, access, raises, Op, writes, Raise}, Slots.{Slots, slot_at, with_file, reset_function, Landing, effect, raise_landing, event_fault}, Text.Text, Lone.{LoneGuest, Destination, destination, after_access_at, after_event, changed_by, filled, emptied}, World.{Guest, World}, Guests.{GuestNow, GuestsNow, guest_at_first, guests_at_first, guest_after, lone_of, path_in, function_in, Move, move_fault, handed_over}, Lines.{nothing, guest_event, host_read, host_move, bad}, DeviceEvents.{DeviceEvent, resets, device_reads, device_writes, byte_landing, DeviceByte, device_fault, after_device_event, device_changed, device_after}, Calls.{asks, at_device, Call, after_call}, WorldNow.WorldNow}, proofs.Seats.guests_stay}
+use Rattle.model_guests.{specs.{Accesses.{Event, access, raises, Op, writes, Raise}, Slots.{Slots, slot_at, with_file, reset_function, Landing, effect, raise_landing, event_fault}, Text.Text, Lone.{LoneGuest, Destination, destination, after_access_at, after_event, changed_by, filled, emptied}, World.{Guest, World}, Guests.{GuestNow, GuestsNow, guest_at_first, guests_at_first, guest_after, lone_of, Move, handed_over}, Lines.{nothing, guest_event, host_read, host_move, bad}, DeviceEvents.{DeviceEvent, resets, device_reads, device_writes, byte_landing, DeviceByte, device_fault, after_device_event, device_changed, device_after}, Calls.{asks, at_device, Call, after_call}, WorldNow.WorldNow}, proofs.Seats.guests_stay}
 use Rattle.model_handoff.specs.{Actions.{Action, after_action}, Giving.{Gift, given, taken}}
 use Rattle.model_images.{specs.Images.{Image, image_of_lone, lone_of_image, loaded, function_at_reset, at_reset, after_load, after_restart}, proofs.Loading.lone_reset_back}
 
@@ -109,9 +109,7 @@ module _ (H : Option Function → Type 0) (kept : AreKept H) where
   call_holds w (asks nothing) h = h
   call_holds w (asks (guest_event n e)) h = guests_stay OfLone (guest_after e) (λ t k. event_holds t.lone e k) n w.guests h
   call_holds w (asks (host_read r)) h = h
-  call_holds w (asks (host_move m)) h =
-      either_have (is_some (move_fault w.guests m)) w.guests (handed_over m (path_in w.guests m.from m.slot) (function_in w.guests m.from m.slot) w.guests) h
-      (handed_holds m (path_in w.guests m.from m.slot) (function_in w.guests m.from m.slot) w.guests h)
+  call_holds w (asks (host_move m)) h = grind (arith, either_have, handed_holds)
   call_holds w (asks (bad who k)) h = h
   call_holds w (at_device n e) h = guests_stay OfLone (device_after e) (λ t k. device_holds t.lone e k) n w.guests h
 

@@ -1,5 +1,5 @@
 -- Each layout reads what it writes, and nothing else.
-use Rattle.std.{proofs.{Common.{◌≡◌, ◌<◌, ℕ, zero, suc, Bool, true, List, [], ◌∷◌, ◌++◌, length, Some, Option, refl, sym, ap, ◌∙◌, subst, append_assoc, append-nil, arith}, lemmas.{Bool.{and_from, eqb-true}, Option.same_Some}}, specs.Prelude.{flat_map, nat_le, option_map, option_and_then, IsTrue}}
+use Rattle.std.{proofs.{Common.{◌≡◌, ◌<◌, ℕ, zero, suc, Bool, true, List, [], ◌∷◌, ◌++◌, length, Some, Option, refl, sym, ap, ◌∙◌, subst, append_assoc, append-nil, arith}, lemmas.{Bool.{and_from, eqb-true}, Option.same_Some}}, specs.Prelude.{flat_map, nat_le, option_and_then, IsTrue}}
 use Rattle.lists.proofs.{EachLemmas.each_append, Tests.{left_true, right_true}}
 use Rattle.model_images.{specs.{Layouts.{Layout, Parsed, parsed, number, checked, through, paired, parse_next, followed, both, exactly, fit_times, before, parse_times, repeated, counted, fit_each, bytes_each, parse_each, for_each, first_of, at_most_one, optional, fits_either, bytes_either, parse_either, OneOf, either, if_no_rest, whole}, ByteLaws.{AreBytes, Spells, IsLayout}}, proofs.{Options.{from_next, from_map}, Numbers.number_is}}
 
@@ -17,10 +17,7 @@ module _ {A : Type 0} (L : Layout A) (l : IsLayout L) where
 
 module _ {A B : Type 0} (L : Layout A) (M : A → Layout B) (l : IsLayout L) (m : (x : A) → IsLayout (M x)) where
   pub followed_spells : (bs : List ℕ) (q : Parsed A) (r : Parsed B) → Spells L bs q → Spells (M q.value) q.rest r → Spells (followed L M) bs (paired q.value r)
-  followed_spells bs q r s t = record {
-    fits = and_from (L.fits q.value) ((M q.value).fits r.value) s.fits t.fits;
-    bytes = s.bytes ∙ ap (λ (xs : List ℕ). L.bytes q.value ++ xs) t.bytes ∙ sym (append_assoc (L.bytes q.value) ((M q.value).bytes r.value) r.rest);
-  }
+  followed_spells bs q r s t = grind (arith, and_from, append_assoc)
 
   pub followed_is : IsLayout (followed L M)
   followed_is = grind (arith, each_append, append_assoc, left_true, right_true, from_next (parse_next M), from_map, followed_spells)
@@ -40,17 +37,11 @@ module _ {A : Type 0} (L : Layout A) (l : IsLayout L) where
 
   times_again : (n : ℕ) (xs : List A) (rest : List ℕ) → fit_times L.fits n xs ≡ true → parse_times L.parse n (flat_map L.bytes xs ++ rest) ≡ Some (parsed xs rest)
   times_again zero [] rest h = refl
-  times_again (suc n) (x ∷ xs) rest h =
-      ap (parse_times L.parse (suc n)) (append_assoc (L.bytes x) (flat_map L.bytes xs) rest)
-      ∙ ap (option_and_then (λ (p : Parsed A). option_map (before p.value) (parse_times L.parse n p.rest))) (l.again x (flat_map L.bytes xs ++ rest) (left_true (L.fits x) (fit_times L.fits n xs) h))
-      ∙ ap (option_map (before x)) (times_again n xs rest (right_true (L.fits x) (fit_times L.fits n xs) h))
+  times_again (suc n) (x ∷ xs) rest h = grind (arith, append_assoc, left_true, right_true, times_again n xs rest)
   times_again n xs rest h = cc
 
   pub times_more : (n : ℕ) (bs : List ℕ) (q : Parsed A) (r : Parsed (List A)) → Spells L bs q → Spells (repeated n L) q.rest r → Spells (repeated (suc n) L) bs (before q.value r)
-  times_more n bs q r s t = record {
-    fits = and_from (L.fits q.value) (fit_times L.fits n r.value) s.fits t.fits;
-    bytes = s.bytes ∙ ap (λ (xs : List ℕ). L.bytes q.value ++ xs) t.bytes ∙ sym (append_assoc (L.bytes q.value) (flat_map L.bytes r.value) r.rest);
-  }
+  times_more n bs q r s t = grind (arith, and_from, append_assoc)
 
   times_spells : (n : ℕ) (bs : List ℕ) (p : Parsed (List A)) → parse_times L.parse n bs ≡ Some p → Spells (repeated n L) bs p
   times_spells zero bs p h = subst (Spells (repeated 0 L) bs) (same_Some (parsed [] bs) p h) (record { fits = refl; bytes = refl })
@@ -95,17 +86,11 @@ module _ {A B : Type 0} (L : A → Layout B) (l : (x : A) → IsLayout (L x)) wh
 
   each_again : (xs : List A) (ys : List B) (rest : List ℕ) → fit_each L xs ys ≡ true → parse_each L xs (bytes_each L xs ys ++ rest) ≡ Some (parsed ys rest)
   each_again [] [] rest h = refl
-  each_again (x ∷ xs) (y ∷ ys) rest h =
-      ap (parse_each L (x ∷ xs)) (append_assoc ((L x).bytes y) (bytes_each L xs ys) rest)
-      ∙ ap (option_and_then (λ (p : Parsed B). option_map (before p.value) (parse_each L xs p.rest))) ((l x).again y (bytes_each L xs ys ++ rest) (left_true ((L x).fits y) (fit_each L xs ys) h))
-      ∙ ap (option_map (before y)) (each_again xs ys rest (right_true ((L x).fits y) (fit_each L xs ys) h))
+  each_again (x ∷ xs) (y ∷ ys) rest h = grind (arith, append_assoc, left_true, right_true, each_again xs ys rest)
   each_again xs ys rest h = cc
 
   each_more : (x : A) (xs : List A) (bs : List ℕ) (q : Parsed B) (r : Parsed (List B)) → Spells (L x) bs q → Spells (for_each L xs) q.rest r → Spells (for_each L (x ∷ xs)) bs (before q.value r)
-  each_more x xs bs q r s t = record {
-    fits = and_from ((L x).fits q.value) (fit_each L xs r.value) s.fits t.fits;
-    bytes = s.bytes ∙ ap (λ (ys : List ℕ). (L x).bytes q.value ++ ys) t.bytes ∙ sym (append_assoc ((L x).bytes q.value) (bytes_each L xs r.value) r.rest);
-  }
+  each_more x xs bs q r s t = grind (arith, and_from, append_assoc)
 
   each_spells : (xs : List A) (bs : List ℕ) (p : Parsed (List B)) → parse_each L xs bs ≡ Some p → Spells (for_each L xs) bs p
   each_spells [] bs p h = subst (Spells (for_each L []) bs) (same_Some (parsed [] bs) p h) (record { fits = refl; bytes = refl })

@@ -46,10 +46,7 @@ own_bytes k (x ∷ xs) rest = grind (arith, own_bytes k xs rest)
 
 -- what is read begins so, and what begins so is read
 pub begun : (m v : ℕ) (bytes rest : List ℕ) → after_beginning m v bytes ≡ Ok rest → bytes ≡ (le_bytes 4 m ++ le_bytes 4 v) ++ rest
-begun m v bytes rest h =
-    let first = read_before (after_version v) (after_bytes 905 (le_bytes 4 m) bytes) rest h in
-    follows 905 (le_bytes 4 m) bytes first.0 first.1
-    ∙ ap (λ (xs : List ℕ). le_bytes 4 m ++ xs) (follows 908 (le_bytes 4 v) first.0 rest first.2)
+begun m v bytes rest h = grind (arith, read_before, follows)
 
 pub own_beginning : (m v : ℕ) (rest : List ℕ) → after_beginning m v ((le_bytes 4 m ++ le_bytes 4 v) ++ rest) ≡ Ok rest
 own_beginning m v rest = ap (then_read (after_version v)) (own_bytes 905 (le_bytes 4 m) (le_bytes 4 v ++ rest)) ∙ own_bytes 908 (le_bytes 4 v) rest
@@ -116,10 +113,7 @@ slots_decided n ss fs rest h count all = grind arith
 fitting_slots : (n : ℕ) (ss : List (Option SavedFunction)) (fs : Slots) (rest : List ℕ) → fit_times (optional function_layout).fits n ss ≡ true → FitSlots ss fs
     → after_slots_front fs (slots_bytes ss ++ rest) ≡ Ok rest
 fitting_slots n [] [] rest h k = refl
-fitting_slots (suc n) (s ∷ ss) (f ∷ fs) rest h k =
-    ap (after_slots_front (f ∷ fs)) (append_assoc (slot_bytes s) (slots_bytes ss) rest)
-    ∙ ap (then_read (after_slots_front fs)) (fitting_slot s f (slots_bytes ss ++ rest) (left_true ((optional function_layout).fits s) (fit_times (optional function_layout).fits n ss) h) k.0)
-    ∙ fitting_slots n ss fs rest (right_true ((optional function_layout).fits s) (fit_times (optional function_layout).fits n ss) h) k.1
+fitting_slots (suc n) (s ∷ ss) (f ∷ fs) rest h k = grind (arith, append_assoc, fitting_slot, left_true, right_true, fitting_slots n ss fs rest)
 fitting_slots n ss fs rest h k = grind arith
 
 -- ---- an image

@@ -1,5 +1,5 @@
 -- A machine that is loaded: its slots are emptied and filled, and each guest is loaded.
-use Rattle.std.{proofs.Common.{◌≡◌, ℕ, suc, Bool, true, false, ◌||◌, cond, List, [], ◌∷◌, ◌++◌, length, Some, None, Option, refl, sym, ap, ap₂, ◌∙◌, subst, arith}, specs.{Prelude.{map, option_map, is_some, IsFalse}, List.list_any, Str.bytes_eq}}
+use Rattle.std.{proofs.Common.{◌≡◌, ℕ, suc, Bool, true, false, ◌||◌, cond, List, [], ◌∷◌, length, Some, None, Option, refl, sym, ap, ap₂, ◌∙◌, subst, arith}, specs.{Prelude.{map, option_map, IsFalse}, List.list_any, Str.bytes_eq}}
 use Rattle.lists.{specs.Elements.{Each, EachPair}, proofs.EachLemmas.{each_both, each_map, pairs_from_map}}
 use Rattle.model_board.specs.{Paths.Path, Board.Board, AtReset.board_at, State.{BoardFunction, State}}
 use Rattle.model_guests.{specs.{Slots.Slots, Text.Text, World.declared, Guests.{GuestNow, GuestsNow, guest_named, lone_of, path_in, with_guest}, AgreedBoard.agreed_function, Seated.{AreSeated, AreSeats, IsSeatedGuest}, WorldNow.{WorldNow, names_of, names_now}}, proofs.{Changes.files_same, FoundFiles.others_stay, GuestFiles.other_name, GuestsByName.{path_at, path_of}, Names.same_text, OneGuest.{AreApart, lone_found}}}
@@ -202,9 +202,7 @@ module _ (i : MachineImage) (w : WorldNow) (h : IsLawfulOver w) (fits : FitsMach
   apart = saved_apart i.guests fits.seated.names_apart
 
   wanted : Each (IsWanted base target seated served) i.guests
-  wanted =
-      each_map (IsFound target) (IsWanted base target seated served) i.guests (λ s e. (ap is_some e, λ k. ap (λ (o : Option GuestNow). path_of o k) e))
-      (each_found i.guests apart)
+  wanted = grind (arith, each_map, seated, served, path_of, each_found, apart)
 
   -- the slots are filled
   abbrev y : WorldNow
@@ -223,10 +221,7 @@ module _ (i : MachineImage) (w : WorldNow) (h : IsLawfulOver w) (fits : FitsMach
       (each_both (IsWanted base target seated served) (HasAll base target seated served y) i.guests wanted given.has)
 
   matched_there : AreMatched i.guests y.guests
-  matched_there =
-      matched i.guests y.guests (sym (names_restored i.guests) ∙ sym filled.names) apart
-      (each_map (IsSeatedGuest (board_at y.handoff.functions)) Has32 y.guests (λ t k. k.count) filled.lawful.seated.guests)
-      (each_32 (board_at base.functions) i.guests seated.guests) has_just
+  matched_there = grind (arith, matched, names_restored, filled, apart, each_map, seated, each_32, has_just)
 
   handoff_is : y.handoff ≡ handoff_under i w
   handoff_is = sym filled.shown ∙ sits_alike y.handoff y.guests target (matched_sit i.guests y.guests matched_there) ∙ filled.beneath
@@ -235,20 +230,13 @@ module _ (i : MachineImage) (w : WorldNow) (h : IsLawfulOver w) (fits : FitsMach
   board_is = ap (λ (s : State). board_at s.functions) handoff_is ∙ (opens_alike (seated_files base target) base).board
 
   own_fit : Each (FitsOwn y.guests) i.guests
-  own_fit =
-      all_fit (board_at base.functions) i.guests y.guests matched_there apart (subst (λ (b : Board). Each (IsSeatedGuest b) y.guests) board_is filled.lawful.seated.guests)
-      seated.guests fits.held
+  own_fit = grind (arith, all_fit, matched_there, apart, board_is, filled, seated)
 
   loaded_there : after_requests y loading ≡ after_load_all i w
-  loaded_there =
-      loads_are i.guests y ∙ ap₂ (λ (s : State) (gs : GuestsNow). record { handoff = s; guests = gs }) handoff_is (all_loaded i.guests y.guests matched_there apart)
+  loaded_there = grind (arith, loads_are, handoff_is, all_loaded, matched_there, apart)
 
   pub is_reached : IsReached i w
-  is_reached = record {
-    fitting = both_fit taking (giving ++ loading) w (all_takings_fit (names_now w) w)
-        (both_fit giving loading x (all_gifts_fit base target seated served i.guests x) (loads_fit i.guests y apart own_fit));
-    world = after_both taking (giving ++ loading) w ∙ after_both giving loading x ∙ loaded_there;
-  }
+  is_reached = grind (arith, both_fit, all_takings_fit, all_gifts_fit, seated, served, loads_fit, apart, own_fit, after_both, loaded_there)
 
 pub loads_all_by_requests : LoadsAllByRequests
 loads_all_by_requests = is_reached

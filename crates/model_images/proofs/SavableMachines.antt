@@ -1,11 +1,11 @@
 -- The image of a machine whose functions hold bytes has bytes.
-use Rattle.std.{proofs.{Common.{◌≡◌, ℕ, ◌<◌, ◌^◌, Bool, true, false, ◌&&◌, cond, List, [], ◌∷◌, length, Some, None, Option, refl, sym, ap, subst, arith}, lemmas.{Bool.{and_from, lt-ltb}, List.length-map}}, specs.{Prelude.{map, option_map}, Option.option_map_or}}
+use Rattle.std.{proofs.{Common.{◌≡◌, ℕ, ◌<◌, ◌^◌, Bool, true, false, ◌&&◌, cond, List, [], ◌∷◌, length, Some, None, Option, refl, ap, subst, arith}, lemmas.{Bool.{and_from, lt-ltb}, List.length-map}}, specs.{Prelude.{map, option_map}, Option.option_map_or}}
 use Rattle.lists.{specs.Elements.Each, proofs.{EachLemmas.{each_map, each_of_map}, Members.each_in}}
 use Rattle.model_registers.{specs.{Registers.File, AccessLaws.HoldsBytes, CopiedFiles.agreed_file, Declarations.{IoDecode, PrefDecode, Endpoint, Bridge}, DeclarationRules.IsLawfulBridge, EndpointTable.endpoint_reset}, proofs.ByteAccesses.number_fits}
 use Rattle.model_board.specs.{Paths.{Part, Path, IsPart, IsPath}, Board.{Decl, endpoint, Row, Board}, Lawful.IsLawfulDecl, AtReset.board_at, State.{BoardFunction, State, row_at}}
 use Rattle.model_guests.{specs.{Slots.Slots, Text.Text, World.declared, Guests.{GuestNow, GuestsNow}, AgreedBoard.agreed_function, Seated.{AreSeats, IsSeatedGuest}, WorldNow.{WorldNow, names_of}}, proofs.DeclaredRows.declared_row}
 use Rattle.model_handoff.specs.{Handoffs.{declared_cells, file_at_reset, HasDeclaredShape, IsHandoff}, ViewLaws.{seated_files, sits, with_seated_reset}}
-use Rattle.model_images.{specs.{Images.{values_of, image_of_lone}, MachineImages.{SavedGuest, saved_handoff, saved_guest}, MachineLaws.IsSavableWorld, Layouts.{number, both, through, fit_times, counted, fit_each, optional}, ImageBytes.image_layout, ByteLaws.{IsDeclared, IsSavableGuest}, MachineBytes.{path_layout, io_number, pref_number, third, bridge_layout, decl_layout, row_layout, board_layout, name_layout, paths_layout, guest_layout, cells_layout}, MachineByteLaws.{AreWritable, HasMachineBytes, CanBeDeclared, IsWritableName, IsWritableMachine, MachinesHaveBytes}}, proofs.{Machines.handoff_stays, ByteCells.{hold_bytes, reset_bytes}, Savable.{times_fit, counted_fit, endpoint_fits, values_fit, as_long, guests_have_bytes}}}
+use Rattle.model_images.{specs.{Images.values_of, MachineImages.{SavedGuest, saved_handoff, saved_guest}, MachineLaws.IsSavableWorld, Layouts.{number, both, through, fit_times, counted, fit_each, optional}, ByteLaws.{IsDeclared, IsSavableGuest}, MachineBytes.{path_layout, io_number, pref_number, third, bridge_layout, decl_layout, row_layout, board_layout, name_layout, paths_layout, guest_layout, cells_layout}, MachineByteLaws.{AreWritable, HasMachineBytes, CanBeDeclared, IsWritableName, IsWritableMachine, MachinesHaveBytes}}, proofs.{Machines.handoff_stays, ByteCells.{hold_bytes, reset_bytes}, Savable.{times_fit, counted_fit, endpoint_fits, values_fit, as_long, guests_have_bytes}}}
 
 -- ---- the board
 
@@ -60,8 +60,7 @@ board_fits s h declared few =
     counted_fit 4 row_layout (board_at s.functions) many (rows_fit s.functions h.board.places.paths h.board.declarations declared)
 
 pub state_fits : (s : State) → IsWritableState s → (gs : List SavedGuest) → (counted 2 guest_layout).fits gs ≡ true → HasMachineBytes (record { handoff = saved_handoff s; guests = gs })
-state_fits s h gs guests =
-    grind (arith, board_fits s h.handoff h.functions.declared h.many, cells_fit s.functions h.handoff.shapes h.functions.bytes, lt-ltb, and_from ((counted 2 guest_layout).fits gs))
+state_fits s h gs guests = grind (arith, board_fits, cells_fit, lt-ltb, and_from)
 
 pub declared_written : (fs : List BoardFunction) → Each (λ (f : BoardFunction). CanBeDeclared f.decl) fs → (p : Path) (d : Endpoint) → declared (board_at fs) p ≡ Some d → IsDeclared d
 declared_written fs can p d h =
@@ -88,12 +87,7 @@ module _ (fs : List BoardFunction) (h : AreWritable fs) (picked : Path → Bool)
   written f k = grind (arith, agreed_bytes f.file, written_at_reset, declared_written fs h.declared f.path)
 
   pub writable_picked : AreWritable (map (agreed_function picked_files) fs)
-  writable_picked = record {
-    declared = each_of_map (λ (f : BoardFunction). CanBeDeclared f.decl) (agreed_function picked_files) fs
-        (each_map (λ (f : BoardFunction). CanBeDeclared f.decl) (λ (f : BoardFunction). CanBeDeclared (agreed_function picked_files f).decl) fs (λ f k. subst CanBeDeclared (sym (decl_stays (picked_files f.path) f)) k) h.declared);
-    bytes = each_of_map (λ (f : BoardFunction). HoldsBytes f.file) (agreed_function picked_files) fs
-        (each_map (λ (f : BoardFunction). HoldsBytes f.file) (λ (f : BoardFunction). HoldsBytes (agreed_function picked_files f).file) fs written h.bytes);
-  }
+  writable_picked = grind (arith, each_of_map, each_map, decl_stays, written)
 
 pub writable_under : (s : State) → IsWritableState s → (gs : GuestsNow) → IsWritableState (with_seated_reset s gs)
 writable_under s h gs =
@@ -118,8 +112,7 @@ module _ (b : Board) (paths : Each (λ (r : Row). IsPath r.path) b) where
       subst (λ n. fit_times (optional path_layout).fits n g.paths ≡ true) seated.count (times_fit (optional path_layout).fits g.paths (slots_fit g.paths g.lone.slots seated.seats))
 
   guest_fits : (g : GuestNow) → IsSeatedGuest b g → IsWritableName g.name → IsSavableGuest g.lone → guest_layout.fits (saved_guest g) ≡ true
-  guest_fits g seated name can =
-      grind (arith, paths_fit g seated, guests_have_bytes g.lone can, and_from (name_layout.fits g.name), name_fits g.name name, and_from (paths_layout.fits g.paths) (image_layout.fits (image_of_lone g.lone)))
+  guest_fits g seated name can = grind (arith, paths_fit, guests_have_bytes, and_from, name_fits)
 
   guests_fit : (gs : GuestsNow) → Each (IsSeatedGuest b) gs → Each IsWritableName (names_of gs) → Each (λ (g : GuestNow). IsSavableGuest g.lone) gs
       → Each (λ (s : SavedGuest). guest_layout.fits s ≡ true) (map saved_guest gs)

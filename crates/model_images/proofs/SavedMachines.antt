@@ -1,5 +1,5 @@
 -- A machine that was saved is loaded.
-use Rattle.std.{proofs.Common.{arith, ◌≡◌, List, [], ◌∷◌, ◌∙◌, refl, sym, ap, map}, specs.Result.result_err}
+use Rattle.std.{proofs.Common.{arith, ◌≡◌, List, [], ◌∷◌, ◌∙◌, refl, ap, map}, specs.Result.result_err}
 use Rattle.lists.specs.Elements.{Each}
 use Rattle.model_board.specs.{AtReset.board_at, Board.{Row, Board}, Paths.IsPath}
 use Rattle.model_guests.specs.{Guests.{GuestNow, GuestsNow}, Seated.IsSeatedGuest, WorldNow.{WorldNow, names_now}}
@@ -35,6 +35,4 @@ like_along w (r ∷ rs) keep =
     record { handoff = more.handoff ∙ handoff_kept w r keep.0; names = more.names ∙ names_stay w r }
 
 pub takes_its_own : TakesItsOwn
-takes_its_own w h can rs keep k =
-    let like = like_along w rs keep in
-    takes_saved_machine w (after_requests w rs) h can k (shown_alike w (after_requests w rs) h.lawful (k.shown ∙ like.handoff ∙ sym h.shown) (sym like.names))
+takes_its_own w h can rs keep k = grind (arith, like_along, takes_saved_machine, shown_alike)

@@ -3,16 +3,14 @@ use Rattle.std.{proofs.{Common.{◌≡◌, ℕ, zero, suc, ◌<◌, Bool, true, 
 use Rattle.lists.{specs.Elements.Each, proofs.{EachLemmas.{each_map, each_of_map}, Tests.{left_true, right_true, some_there}}}
 use Rattle.model_registers.specs.{Declarations.Endpoint, EndpointTable.endpoint_reset, Registers.File}
 use Rattle.model_board.specs.{Paths.Path, AtReset.board_at, State.{BoardFunction, State}}
-use Rattle.model_guests.{specs.{Text.Text, Slots.Slots, World.{World, declared}, AgreedBoard.agreed_function, Guests.{GuestNow, GuestsNow, guest_named, lone_of, guests_at_first}, Lone.LoneGuest, Seated.{AreSeats, IsSeatedGuest}, WorldNow.{WorldNow, world_over}}, proofs.{GuestsByName.found, OneGuest.{lone_found, still}, Seats.as_many}}
+use Rattle.model_guests.{specs.{Text.Text, Slots.Slots, World.{World, declared}, AgreedBoard.agreed_function, Guests.{GuestNow, GuestsNow, guest_named, lone_of}, Lone.LoneGuest, Seated.{AreSeats, IsSeatedGuest}, WorldNow.{WorldNow, world_over}}, proofs.{GuestsByName.found, OneGuest.{lone_found, still}, Seats.as_many}}
 use Rattle.model_handoff.specs.{Giving.{Gift, given, with_reset_at}, Handoffs.{reset_files, taken_over}, Kept.IsLawfulOver}
-use Rattle.model_images.{specs.{Images.{SavedFunction, Image, image_of_guest, image_of_lone, lone_of_image, with_values, restored, after_load, loaded}, FitLaws.{HoldsFitting, AreFitting, IsFittingRequest}, LoadLaws.{AnswersAlike, IsCopy}, Requests.{Request, acts, loads, restarts, after_request, request_inputs}, Layouts.{number, fit_times, optional}, ImageBytes.{function_layout, image_bytes, image_of}, ByteLaws.{HasBytes, HoldsSavable, IsSavableGuest}, MachineByteLaws.{CanBeDeclared, AreDeclared, CanBeSaved}, SavedLaws.{CanBeSavedAtFirst, IsWritableRequest, CanBeSavedAlong, TakesSavedGuest, SavesWhatWasTaken, NoImageIsRefused}}, proofs.{Counts.lawful_along_requests, Fitting.{fitting_at_first, fitting_after, saved_fits}, KeptFunctions.{Has, action_holds, load_holds, restart_holds, holds_at_first}, Loading.{loaded_holds, others_after_load}, Requests.{answers_as_saved, isolated_by_requests}, ByteCells.{AreByteCells, HoldsByteCells, byte_cells_kept, hold_bytes, of_shape, reset_bytes}, ImageBytes.{bytes_are_read, read_are_bytes, parts_of, function_parts, slot_fits, image_back}, LoadedBytes.{fitting_accepted, images_decided}, Savable.guests_have_bytes, SavableMachines.declared_written, SavedMachines.guests_fit, TakenBytes.taken_now}}
+use Rattle.model_images.{specs.{Images.{SavedFunction, Image, image_of_guest, image_of_lone, lone_of_image, with_values, restored, after_load, loaded}, FitLaws.{HoldsFitting, AreFitting, IsFittingRequest}, LoadLaws.{AnswersAlike, IsCopy}, Requests.{Request, acts, loads, restarts, after_request, request_inputs}, Layouts.{number, fit_times, optional}, ImageBytes.{function_layout, image_bytes, image_of}, ByteLaws.{HasBytes, HoldsSavable, IsSavableGuest}, MachineByteLaws.{AreDeclared, CanBeSaved}, SavedLaws.{CanBeSavedAtFirst, IsWritableRequest, CanBeSavedAlong, TakesSavedGuest, SavesWhatWasTaken, NoImageIsRefused}}, proofs.{Counts.lawful_along_requests, Fitting.{fitting_at_first, fitting_after, saved_fits}, KeptFunctions.{Has, action_holds, load_holds, restart_holds, holds_at_first}, Loading.{loaded_holds, others_after_load}, Requests.{answers_as_saved, isolated_by_requests}, ByteCells.{AreByteCells, HoldsByteCells, byte_cells_kept, hold_bytes, of_shape, reset_bytes}, ImageBytes.{bytes_are_read, read_are_bytes, parts_of, function_parts, slot_fits, image_back}, LoadedBytes.{fitting_accepted, images_decided}, Savable.guests_have_bytes, SavableMachines.declared_written, SavedMachines.guests_fit, TakenBytes.taken_now}}
 
 -- ---- declarations stay
 
 kept_declared : (change : BoardFunction → BoardFunction) → ((f : BoardFunction) → (change f).decl ≡ f.decl) → (fs : List BoardFunction) → AreDeclared fs → AreDeclared (map change fs)
-kept_declared change stays fs h =
-    each_of_map (λ (f : BoardFunction). CanBeDeclared f.decl) change fs
-    (each_map (λ (f : BoardFunction). CanBeDeclared f.decl) (λ (f : BoardFunction). CanBeDeclared (change f).decl) fs (λ f k. subst CanBeDeclared (sym (stays f)) k) h)
+kept_declared change stays fs h = grind (arith, each_of_map, each_map)
 
 agreed_declared : (files : Path → Option File) (fs : List BoardFunction) → AreDeclared fs → AreDeclared (map (agreed_function files) fs)
 agreed_declared files fs h = grind (arith, kept_declared (agreed_function files))
@@ -53,8 +51,7 @@ module _ (fs : List BoardFunction) (declared : AreDeclared fs) where
 
   pub all_savable : (gs : GuestsNow) → Each (IsSeatedGuest (board_at fs)) gs → AreFitting gs → HaveBytes gs → Each (λ (g : GuestNow). IsSavableGuest g.lone) gs
   all_savable [] seated fit bytes = tt
-  all_savable (g ∷ gs) seated fit bytes =
-      grind (arith, as_many (board_at fs) g.paths g.lone.slots seated.0.seats, slots_savable g.paths g.lone.slots seated.0.seats fit.0.functions bytes.0.functions, all_savable gs seated.1 fit.1 bytes.1)
+  all_savable (g ∷ gs) seated fit bytes = grind (arith, as_many, slots_savable, all_savable gs seated.1 fit.1 bytes.1)
 
 pub slots_have : (os : Slots) → Each HoldsSavable os → Each HoldsByteCells os
 slots_have [] h = tt
@@ -65,10 +62,7 @@ pub have_bytes : (gs : GuestsNow) → Each (λ (g : GuestNow). IsSavableGuest g.
 have_bytes gs h = each_map (λ (g : GuestNow). IsSavableGuest g.lone) (λ (t : GuestNow). Has HoldsByteCells t.lone) gs (λ t k. record { latch = k.latch; functions = slots_have t.lone.slots k.functions }) h
 
 saved_over : (w : World) (s : State) → AreDeclared s.functions → IsLawfulOver (world_over w s) → CanBeSaved (world_over w s)
-saved_over w s declared lawful = record {
-  declared = declared;
-  guests = all_savable s.functions declared (guests_at_first w) lawful.seated.guests (fitting_at_first w) (holds_at_first HoldsByteCells byte_cells_kept w);
-}
+saved_over w s declared lawful = grind (arith, all_savable, fitting_at_first, holds_at_first, byte_cells_kept)
 
 pub can_be_saved_at_first : CanBeSavedAtFirst
 can_be_saved_at_first w s declared = record {

@@ -78,8 +78,7 @@ module _ (w : WorldNow) (can : CanBeCompared w) (bytes : List ℕ) (all : AreByt
   fit = subst (λ n. fit_times guest_layout.fits n i.guests ≡ true) (sym many) spelled.fits
 
   are : bytes ≡ parts w i.guests
-  are =
-      one_after_another machine_header (known_bytes w) (flat_map guest_layout.bytes i.guests) (held_bytes (under_guests w i.guests)) bytes r.begin r.front r.rest begins board spelled.bytes r.held
+  are = grind (arith, one_after_another, begins, board, spelled)
 
   guests_there : (n : ℕ) (hs : List SavedGuest) (taken : List Path) → AreGoodGuests w.handoff taken hs → fit_times guest_layout.fits n hs ≡ true → Each (IsGuestThere (board_at w.handoff.functions)) hs
   guests_there n [] taken good fits = tt

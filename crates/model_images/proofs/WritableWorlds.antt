@@ -7,7 +7,7 @@ use Rattle.model_registers.specs.{AccessLaws.HoldsBytes, CopiedFiles.after_reset
 use Rattle.model_board.specs.{AtReset.board_at, Board.Board, Paths.{Path, path_eq}, State.{BoardFunction, State}}
 use Rattle.model_guests.{specs.{AgreedBoard.{agreed_function, with_change_at}, Guests.{GuestNow, GuestsNow, lone_of}, Text.Text, World.{declared, given_paths, is_letter, is_name, is_name_byte}, WorldNow.{WorldNow, names_now, world_over}}, proofs.Along.names_at_first}
 use Rattle.model_handoff.specs.{Actions.{Action, after_action}, Giving.with_reset_at, Handoffs.{files_given, is_given, taken_over}, Kept.IsLawfulOver}
-use Rattle.model_images.{specs.{Images.{Image, Fits, after_load, after_restart, lone_of_image}, FitLaws.{HoldsFitting, IsFitting}, Requests.{Request, acts, loads, restarts, after_request}, ByteLaws.{HasBytes, IsSavableGuest}, MachineByteLaws.{AreWritable, IsWritableName, IsWritableWorld}, SavedLaws.{IsWritableRequest, WritableAlong, WritableAtFirst}}, proofs.{ByteCells.{HoldsByteCells, byte_cells_kept}, Counts.{lawful_along_requests, names_stay}, FewFunctions.few_functions, Fitting.{fitting_kept, image_fits}, KeptFunctions.{AreKept, Has, action_holds, load_holds, restart_holds}, LoadedBytes.savable_fits, SavableMachines.{agreed_bytes, declared_written, writable_picked, written_at_reset}, SavedWorlds.{all_savable, can_be_saved_at_first, fits_after, handoff_after, image_has, reset_declared, slots_have}}}
+use Rattle.model_images.{specs.{Images.{Image, Fits, after_load, after_restart, lone_of_image}, FitLaws.HoldsFitting, Requests.{Request, acts, loads, restarts, after_request}, ByteLaws.{HasBytes, IsSavableGuest}, MachineByteLaws.{AreWritable, IsWritableName, IsWritableWorld}, SavedLaws.{IsWritableRequest, WritableAlong, WritableAtFirst}}, proofs.{ByteCells.{HoldsByteCells, byte_cells_kept}, Counts.{lawful_along_requests, names_stay}, FewFunctions.few_functions, Fitting.{fitting_kept, image_fits}, KeptFunctions.{AreKept, Has, action_holds, load_holds, restart_holds}, LoadedBytes.savable_fits, SavableMachines.{agreed_bytes, declared_written, writable_picked, written_at_reset}, SavedWorlds.{all_savable, can_be_saved_at_first, fits_after, handoff_after, image_has, reset_declared, slots_have}}}
 
 abbrev pub HoldsWritable : Option Function → Type 0
 HoldsWritable o = HoldsFitting o × HoldsByteCells o
@@ -41,10 +41,7 @@ written : (w : WorldNow) → IsLawfulOver w → Holds w → IsWritableWorld w
 written w lawful h = grind (arith, few_functions w.handoff.functions lawful.handoff.board lawful.order.numbers h.functions.bytes)
 
 savable : (w : WorldNow) → IsLawfulOver w → AreWritable w.handoff.functions → AllHold w.guests → Each (λ (g : GuestNow). IsSavableGuest g.lone) w.guests
-savable w lawful functions h =
-    all_savable w.handoff.functions functions.declared w.guests lawful.seated.guests
-    (each_map (λ (g : GuestNow). Has HoldsWritable g.lone) (λ (g : GuestNow). IsFitting g.lone) w.guests (λ g k. record { latch = k.latch; functions = each_map HoldsWritable HoldsFitting g.lone.slots (λ o t. t.0) k.functions }) h)
-    (each_map (λ (g : GuestNow). Has HoldsWritable g.lone) (λ (g : GuestNow). Has HoldsByteCells g.lone) w.guests (λ g k. record { latch = k.latch; functions = each_map HoldsWritable HoldsByteCells g.lone.slots (λ o t. t.1) k.functions }) h)
+savable w lawful functions h = grind (arith, all_savable, each_map)
 
 pub rewritten : (w v : WorldNow) → IsWritableWorld w → IsLawfulOver v → AreWritable v.handoff.functions → v.handoff.latch < 2 ^ 32 → names_now v ≡ names_now w → AllHold v.guests → IsWritableWorld v
 rewritten w v h lawful functions latch names guests = grind (arith, written v lawful, savable v lawful functions guests)

@@ -4,7 +4,7 @@ use Rattle.lists.{specs.Elements.{Each, IsIn}, proofs.{EachLemmas.{each_map, eac
 use Rattle.model_board.{specs.{Board.Row, Cycles.{secondary_register, covers, taker, takes, is_route, ends_in, reached_type1, BusAddress, reached}, Paths.{Part, Path, path_eq, parent, last_part, IsPath}, State.{BoardFunction, row_at}}, proofs.{PathEnds.{path_self, snoc, length_snoc}, PathOrder.path_same}}
 use Rattle.model_set_up.proofs.Routes.{ends_is_last, ends_last}
 use Rattle.model_findings.specs.Orderly.{IsStateOfBoard}
-use Rattle.model_lines.{specs.{Ways.{way_by, way, takers, takers_by, takers_down, WayEnd, on_bus, no_taker, end_by, way_end, bridges_on_way, takers_on_way, end_of, reached_at, Missing, missing_at, missing, not_found, why_number}, WhyLaws.{IsWay, bus_after, IsPassed, IsTaking, IsUnfound, IsMissing, NumbersExplained}}, proofs.Unfound.{unfound, all_unfound}}
+use Rattle.model_lines.{specs.{Ways.{way_by, way, takers, takers_by, takers_down, WayEnd, on_bus, no_taker, end_by, way_end, bridges_on_way, takers_on_way, end_of, reached_at, missing_at, missing}, WhyLaws.{IsWay, bus_after, IsPassed, IsTaking, IsMissing, NumbersExplained}}, proofs.Unfound.{unfound, all_unfound}}
 
 -- ---- what find finds
 
@@ -266,19 +266,4 @@ missing_by fs at (on_bus p) x none = (refl, x.end_is, not_at fs p at.part none)
 missing_by fs at (no_taker p) x none = (refl, x.end_is, x.none_takes p refl)
 
 pub numbers_explained : NumbersExplained
-numbers_explained fs state at = record {
-  way = x.way;
-  taking = x.taking;
-  all_taking = x.all_taking;
-  reached_is = x.reached_is;
-  missing_is = λ m h. by m (reached fs at) refl h;
-  unfound = each_of_map (IsUnfound fs at (why_number fs at)) (λ (f : BoardFunction). f.path) (not_found fs at (reached fs at))
-      (each_from (λ (f : BoardFunction). IsUnfound fs at (why_number fs at) f.path) (not_found fs at (reached fs at)) (unfound fs at));
-  all_unfound = all_unfound fs at;
-}
-  where
-    x : Explains fs at (bridges_on_way fs at) (takers_on_way fs at) (end_of fs at)
-    x = explains fs state at
-
-    by : (m : Missing) (o : Option BoardFunction) → reached fs at ≡ o → missing fs at o ≡ Some m → (reached fs at ≡ None) × IsMissing fs at m
-    by m o e h = grind (arith, missing_by, x)
+numbers_explained fs state at = grind (arith, unfound, each_of_map, each_from, all_unfound, explains, missing_by)

@@ -1,5 +1,5 @@
 -- What is told of an address is so, and each region that holds it is told.
-use Rattle.std.{proofs.{Common.{◌≡◌, ℕ, ◌-◌, ◌==◌, ◌⊎◌, inl, inr, Bool, true, false, ◌&&◌, not, cond, List, [], ◌∷◌, ◌++◌, Option, Some, None, refl, sym, ap, ◌∙◌, subst, arith}, lemmas.{List.{reverse-append, reverse-reverse}, Bool.{Decides.nat_tests, and_from, not-true, not_from_false, or_parts}}}, specs.{Prelude.{map, filter, flat_map, reverse, slice_get, IsFalse}, Option.option_to_list}}
+use Rattle.std.{proofs.{Common.{◌≡◌, ℕ, ◌-◌, ◌⊎◌, inl, inr, Bool, true, false, ◌&&◌, not, cond, List, [], ◌∷◌, ◌++◌, Option, Some, None, refl, sym, ap, ◌∙◌, subst, arith}, lemmas.{List.{reverse-append, reverse-reverse}, Bool.{Decides.nat_tests, and_from, not-true, not_from_false, or_parts}}}, specs.{Prelude.{map, filter, flat_map, reverse, slice_get}, Option.option_to_list}}
 use Rattle.lists.{specs.Elements.{Each, IsIn}, proofs.{Members.{each_from, in_front, in_back, front_or_back, in_map, from_map, in_filter, from_filter, in_flat_map, from_flat_map, all_from, from_option}, Indices.index_in}}
 use Rattle.model_registers.specs.{Declarations.Bridge, Decoding.{Space, io, memory, opens_space, is_open, command_word, Hit, hit_at}, EndpointTable.BaseAddress, Registers.File}
 use Rattle.model_board.{specs.{Board.{Decl, endpoint, bridge}, Paths.{Path, leads_to}, State.BoardFunction, Windows.{is_in, mem_window, pref_window, is_in_window, forwards}, Claims.{Claim, claim_at, is_forwarded, claims, first_claim}, Routing.{Ranges, regions, windows, RoutingRow, ranges_of, row_of, routing, row_forwards, is_routed, row_claims}}, proofs.Routing.{forwarded_by_routing, claims_by_routing, first_of_claims}}
@@ -106,19 +106,7 @@ module _ (fs : List BoardFunction) (space : Space) (n : ℕ) where
   -- ---- what is told
 
   pub told_true : (t : Told) → IsIn t (told fs space n) → IsTrueTold fs space n t
-  told_true t m = of_function (from_flat_map (told_of fs space n) t fs m)
-    where
-      at_reset : (f : BoardFunction) (q : PlacedRegion) → ((q.first == 0) ≡ true) × (is_closed (causes_of fs space n f) ≡ true) → (q.first ≡ 0) × IsFalse (is_open f.file space)
-      at_reset f q (zero_is, closed) = (let z : q.first ≡ 0 = grind (arith, nat_tests) in z, closed_here f (causes_of fs space n f) (causes_true f) closed)
-
-      of_region : (f : BoardFunction) → IsIn f fs → (q : PlacedRegion) × IsIn q (filter (λ x. not (is_answer (first_claim fs space n) x)) (holders space n f)) × (t ≡ record { region = q; causes = causes_of fs space n f }) → IsTrueTold fs space n t
-      of_region f k (q, l, e) =
-          let g = from_filter (λ (x : PlacedRegion). not (is_answer (first_claim fs space n) x)) q (holders space n f) l in
-          let i = from_filter (holds space n) q (regions_of (row_of f)) g.0 in
-          grind (arith, not-true, causes_true, command_told, bridge_told, has_claim, opened, all_pass, at_reset, and_parts)
-
-      of_function : (f : BoardFunction) × IsIn f fs × IsIn t (told_of fs space n f) → IsTrueTold fs space n t
-      of_function (f, k, l) = of_region f k (from_map (λ (q : PlacedRegion). record { region = q; causes = causes_of fs space n f }) t (filter (λ x. not (is_answer (first_claim fs space n) x)) (holders space n f)) l)
+  told_true t m = grind (arith, from_flat_map, nat_tests, closed_here, causes_true, from_filter, not-true, command_told, bridge_told, has_claim, opened, all_pass, and_parts, from_map)
 
   complete : (f : BoardFunction) → IsIn f fs → (q : PlacedRegion) → IsIn q (regions_of (row_of f)) → holds space n q ≡ true → (is_answer (first_claim fs space n) q ≡ true) ⊎ ((t : Told) × IsIn t (told fs space n) × (t.region ≡ q))
   complete f m q k h = by (is_answer (first_claim fs space n) q) refl

@@ -220,5 +220,4 @@ pub reads_of_bases : ReadsOfBases
 reads_of_bases bs enables reg = read_bases bs (is_enabled enables 0) (is_enabled enables 1) (is_enabled enables 2) (is_enabled enables 3) reg
 
 pub writes_of_bases : WritesOfBases
-writes_of_bases bs lawful enables x reg =
-    write_bases bs lawful.each (is_enabled enables 0) (is_enabled enables 1) (is_enabled enables 2) (is_enabled enables 3) x reg
+writes_of_bases bs lawful enables x reg = grind (arith, write_bases)

@@ -118,8 +118,7 @@ lanes_fit off w word within only =
     grind (arith, tables l w 0 within, enabled_lanes l w (4 - (l + w)) word, mul-div_cancel, one-le-pow)
 
 pub number_from_word : NumberFromWord
-number_from_word file p w word within is only =
-    lanes_fit (offset_of p) w word within only ∙ ap (λ n. n / 256 ^ (offset_of p % 4)) is ∙ sym (number_by_lanes file p w within)
+number_from_word file p w word within is only = grind (arith, lanes_fit, number_by_lanes)
 
 pub all_ones_by_lanes : AllOnesByLanes
 all_ones_by_lanes off w within = (tables (off % 4) w 0 within).1

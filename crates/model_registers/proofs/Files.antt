@@ -1,6 +1,6 @@
 -- Joined files, and the cells of a block as those of a region.
-use Rattle.std.proofs.{Common.{◌≡◌, ◌≢◌, ℕ, ◌+◌, ◌*◌, ◌/◌, ◌%◌, Bool, true, false, ◌||◌, ◌&&◌, cond, eqb, List, [], ◌∷◌, refl, sym, ap, ap₂, ◌∙◌, subst, arith}, lemmas.Bool.{ne_eqb, eq-eqb, or_parts}}
-use Rattle.model_registers.specs.{Cell.{Cell, no_cell, written}, Registers.{Place, config, block, place_eq, after, offset_of, PlacedCell, File, cell_at, changed, write, in_region}, FileLaws.{has_place, IsConfig, IsConfigFile, JoinedCell, JoinedChange, JoinedWrite, ReadNone, WriteNone, ReadSecond, ReadFirst, PlacesStay, RegionCells, RegionCell, RegionRead, RegionChange, RegionWrite, RegionHasNoConfig, RegionHasNoOther, ConfigHasNoBlock, ConfigStays}, CopiedFiles.places_of}
+use Rattle.std.proofs.{Common.{◌≡◌, ◌≢◌, ℕ, ◌+◌, ◌*◌, ◌/◌, ◌%◌, Bool, true, false, cond, eqb, List, [], ◌∷◌, refl, sym, ap, ap₂, ◌∙◌, subst, arith}, lemmas.Bool.{ne_eqb, eq-eqb, or_parts}}
+use Rattle.model_registers.specs.{Cell.{Cell, no_cell, written}, Registers.{Place, config, block, place_eq, after, PlacedCell, File, cell_at, changed, write, in_region}, FileLaws.{has_place, IsConfig, IsConfigFile, JoinedCell, JoinedChange, JoinedWrite, ReadNone, WriteNone, ReadSecond, ReadFirst, PlacesStay, RegionCells, RegionCell, RegionRead, RegionChange, RegionWrite, RegionHasNoConfig, RegionHasNoOther, ConfigHasNoBlock, ConfigStays}, CopiedFiles.places_of}
 
 -- ---- joined files
 
@@ -28,14 +28,12 @@ change_none f (e ∷ es) p h = grind (arith, or_parts, change_none f es p)
 
 pub read_none : ReadNone
 read_none [] p file h = refl
-read_none (true ∷ ons) p file h =
-    ap₂ (λ (c : Cell) n. c.value + 256 * n) (cell_none file p (h.0 refl)) (read_none ons (after p) file h.1)
+read_none (true ∷ ons) p file h = grind (arith, cell_none, read_none ons)
 read_none (false ∷ ons) p file h = ap (λ n. 0 + 256 * n) (read_none ons (after p) file h.1)
 
 pub write_none : WriteNone
 write_none [] v p file h = refl
-write_none (true ∷ ons) v p file h =
-    ap (write ons (v / 256) (after p)) (change_none (written (v % 256)) file p (h.0 refl)) ∙ write_none ons (v / 256) (after p) file h.1
+write_none (true ∷ ons) v p file h = grind (arith, change_none, write_none ons (v / 256))
 write_none (false ∷ ons) v p file h = write_none ons (v / 256) (after p) file h.1
 
 pub read_second : ReadSecond
@@ -53,8 +51,7 @@ same_place t e c = grind arith
 
 pub change_keeps_places : (f : Cell → Cell) (p q : Place) (file : File) → has_place (changed f p file) q ≡ has_place file q
 change_keeps_places f p q [] = refl
-change_keeps_places f p q (e ∷ es) =
-    ap₂ (λ (r : Place) (t : Bool). place_eq r q || t) (same_place (place_eq e.place p) e (f e.cell)) (change_keeps_places f p q es)
+change_keeps_places f p q (e ∷ es) = grind (arith, same_place, change_keeps_places f p q es)
 
 pub places_stay : PlacesStay
 places_stay [] v p q file = refl
@@ -92,8 +89,7 @@ region_has_no_config (on ∷ ons) n a file = (λ _. region_without_config file n
 
 region_without_other : (file : File) (n m a : ℕ) → n ≢ m → has_place (in_region n file) (block m a) ≡ false
 region_without_other [] n m a h = refl
-region_without_other (e ∷ es) n m a h =
-    ap₂ (λ (s t : Bool). (s && eqb (offset_of e.place) a) || t) (ne_eqb n m h) (region_without_other es n m a h)
+region_without_other (e ∷ es) n m a h = grind (arith, ne_eqb, region_without_other es n m a h)
 
 pub region_has_no_other : RegionHasNoOther
 region_has_no_other [] n m a file h = tt

@@ -87,8 +87,7 @@ numbers_test : (d : Endpoint) → IsLawfulEndpoint d → has_lawful_numbers d �
 numbers_test d h = grind (arith, and_from, lt-ltb, le-leb, eq-eqb, test_each, each_map)
 
 sizes_test : (rs : List Region) → Each IsLawfulRegion rs → list_all (λ r. leb (length r.cells) r.size) rs ≡ true
-sizes_test rs h =
-    test_each (λ r. leb (length r.cells) r.size) rs (each_map IsLawfulRegion (λ r. IsTrue (leb (length r.cells) r.size)) rs (λ r l. le-leb _ _ l.block_fits) h)
+sizes_test rs h = grind (arith, test_each, each_map, le-leb)
 
 pub lawful_breaks_none : (d : Endpoint) → IsLawfulEndpoint d → first_broken (endpoint_rules d) ≡ None
 lawful_breaks_none d h = grind (arith, numbers_test, lawful_have_own_registers, sizes_test, test_pairs)

@@ -1,7 +1,7 @@
 -- A function's file, parted into a guest's own copies and all other cells.
-use Rattle.std.{proofs.{Common.{◌≡◌, ℕ, zero, suc, ◌+◌, ◌*◌, ◌/◌, ◌%◌, ◌<◌, ◌≤◌, ◌⊎◌, inl, Bool, true, false, ◌&&◌, ◌||◌, cond, List, [], ◌∷◌, ◌++◌, length, map, refl, sym, ap, ap₂, ◌∙◌, subst, arith, eqb, leb, ltb, append_assoc, ◌-◌, ◌^◌}, lemmas.Bool.{cases_lt, cases_Bool, or_parts, and_cases, eqb-false, leb-false, ltb-false, or_right, and_from, le-leb, lt-ltb, or_cases, and_parts, eqb-true, leb-true, ltb-true, ne_eqb, and_right}}, specs.{Prelude.{bit_and, bit_or, flat_map}, Int.Bits.{or_zero_r, and_zero_r}}}
+use Rattle.std.{proofs.{Common.{◌≡◌, ℕ, zero, suc, ◌+◌, ◌*◌, ◌/◌, ◌%◌, ◌<◌, ◌≤◌, ◌⊎◌, Bool, true, false, ◌&&◌, ◌||◌, cond, List, [], ◌∷◌, ◌++◌, length, map, refl, sym, ap, ◌∙◌, subst, arith, eqb, leb, ltb, append_assoc, ◌-◌, ◌^◌}, lemmas.Bool.{cases_lt, cases_Bool, or_parts, and_cases, eqb-false, leb-false, ltb-false, or_right, and_from, le-leb, lt-ltb, or_cases, and_parts, eqb-true, leb-true, ltb-true, ne_eqb, and_right}}, specs.{Prelude.{bit_and, bit_or, flat_map}, Int.Bits.{or_zero_r, and_zero_r}}}
 use Rattle.lists.specs.Elements.{Each}
-use Rattle.model_registers.{specs.{Cell.{Cell, no_cell, written, raised}, Registers.{Place, config, block, place_eq, after, File, cell_at, changed, read, write, all_bytes, field, cells_from}, Declarations.{ConfigBlock, Kind, Region, registers_of, IsLawfulRegion}, EndpointTable.{BaseAddress, base_width, type_bits, base_file, command_cells, opened, closed, region_cells, block_cells}, Decoding.{base, base_address}, OwnCopies.{is_own, OwnCopies, own_file, HoldsOwn, handed_on, IsLawfulOwn, OwnReads, OwnWrites, OwnStay, bare, OwnHits, ResetHoldsOwn}, CopiedFiles.with_copies}, proofs.{RegisterFiles.{place_same, change_at_place, above}, Hits.hits_by_bases, Parts.{IsOutside, cell_outside}}}
+use Rattle.model_registers.{specs.{Cell.{Cell, no_cell, written, raised}, Registers.{Place, config, block, place_eq, after, File, cell_at, read, write, all_bytes, field, cells_from}, Declarations.{ConfigBlock, Kind, Region, registers_of, IsLawfulRegion}, EndpointTable.{BaseAddress, base_width, type_bits, base_file, command_cells, opened, closed, region_cells, block_cells}, Decoding.{base, base_address}, OwnCopies.{is_own, OwnCopies, own_file, HoldsOwn, handed_on, IsLawfulOwn, OwnReads, OwnWrites, OwnStay, bare, OwnHits, ResetHoldsOwn}, CopiedFiles.with_copies}, proofs.{RegisterFiles.{place_same, change_at_place, above}, Hits.hits_by_bases, Parts.{IsOutside, cell_outside}}}
 
 -- ---- the guest's copies put in
 
@@ -22,8 +22,7 @@ after_write (on ∷ ons) x p q c = after_write ons (x / 256) (after p) q (cond (
 cell_after : (ons : List Bool) (x : ℕ) (p q : Place) (file : File) → cell_at (write ons x p file) q ≡ after_write ons x p q (cell_at file q)
 unfolding after_write
 cell_after [] x p q file = refl
-cell_after (true ∷ ons) x p q file =
-    cell_after ons (x / 256) (after p) q (changed (written (x % 256)) p file) ∙ ap (after_write ons (x / 256) (after p) q) (change_at_place (written (x % 256)) (no_cell_stays (x % 256)) file p q)
+cell_after (true ∷ ons) x p q file = grind (arith, after_write, change_at_place, no_cell_stays, cell_after ons (x / 256))
 cell_after (false ∷ ons) x p q file = cell_after ons (x / 256) (after p) q file
 
 other_after : (ons : List Bool) (x : ℕ) (p q : Place) (c : Cell) → is_own q ≡ false → after_write ons x p q c ≡ after_write (handed_on p ons) x p q c
@@ -101,16 +100,14 @@ base_is_own q low high = or_right (eqb q 4 || eqb q 5 || eqb q 0x0e) (leb 0x10 q
 
 same_number : (own : OwnCopies) (file : File) → HoldsOwn file own → (ons : List Bool) (q : ℕ) → 0x10 ≤ q → q + length ons ≤ 0x28 → read file (config q) ons ≡ read (own_file own) (config q) ons
 same_number own file holds [] q low high = refl
-same_number own file holds (on ∷ ons) q low high =
-    ap₂ (λ (c : Cell) (n : ℕ). cond on c.value 0 + 256 * n) (holds (config q) (base_is_own q low (omega arith))) (same_number own file holds ons (q + 1) (omega arith) (omega arith))
+same_number own file holds (on ∷ ons) q low high = grind (arith, base_is_own, same_number own file holds ons (q + 1))
 
 same_base : (own : OwnCopies) (file : File) → HoldsOwn file own → (kind : Kind) (n : ℕ) → n + registers_of kind ≤ 6 → base file n kind ≡ base (own_file own) n kind
 same_base own file holds kind n h = grind (arith, same_number own file holds (all_bytes 4) (0x10 + 4 * n), same_number own file holds (all_bytes 8) (0x10 + 4 * n))
 
 same_standing : (own : OwnCopies) (file : File) → HoldsOwn file own → (bs : List BaseAddress) → Each IsLawfulRegion (map opened bs) → map (base_address file) (map opened bs) ≡ map (base_address (own_file own)) (map opened bs)
 same_standing own file holds [] lawful = refl
-same_standing own file holds (b ∷ bs) lawful =
-    ap₂ (λ n (more : List BaseAddress). record b { base = n } ∷ more) (same_base own file holds b.kind b.index lawful.0.registers) (same_standing own file holds bs lawful.1)
+same_standing own file holds (b ∷ bs) lawful = grind (arith, same_base, same_standing own file holds bs lawful.1)
 
 standing_bare : (file : File) (rs : List Region) → map (base_address file) rs ≡ map (base_address file) (map bare rs)
 standing_bare file [] = refl
@@ -166,8 +163,7 @@ command_outside command = refl
 
 low_base : (bs : List BaseAddress) (q : ℕ) → q < 0x10 → cell_at (base_file bs) (config q) ≡ no_cell
 low_base [] q h = refl
-low_base (b ∷ bs) q h =
-    cell_outside (4 * registers_of b.kind) (0x10 + 4 * b.index) q (b.base + type_bits b.kind) (2 ^ base_width b.kind - b.size) 0 (base_file bs) (inl (omega arith)) ∙ low_base bs q h
+low_base (b ∷ bs) q h = grind (arith, cell_outside, low_base bs q h)
 
 pub reset_holds_own : ResetHoldsOwn
 reset_holds_own d blocks (block n q) mine = cc

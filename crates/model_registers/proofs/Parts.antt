@@ -1,5 +1,5 @@
 -- Files that are put together of parts: what a change of one part leaves of the others.
-use Rattle.std.proofs.Common.{◌≡◌, ℕ, zero, suc, ◌+◌, ◌*◌, ◌/◌, ◌%◌, ◌<◌, ◌≤◌, ◌⊎◌, inr, Bool, true, false, cond, List, [], ◌∷◌, ◌++◌, length, refl, ap, ap₂, ◌∙◌, arith, append_assoc}
+use Rattle.std.proofs.Common.{◌≡◌, ℕ, zero, suc, ◌+◌, ◌*◌, ◌/◌, ◌%◌, ◌<◌, ◌≤◌, ◌⊎◌, inr, Bool, true, false, cond, List, [], ◌∷◌, ◌++◌, length, refl, ap, ◌∙◌, arith, append_assoc}
 use Rattle.model_registers.{specs.{Cell.{Cell, written}, Registers.{Place, config, place_eq, after, File, cell_at, changed, read, write, field}}, proofs.RegisterFiles.{above, below}}
 
 -- a change is made in each part
@@ -59,8 +59,7 @@ IsBelow file lo = (rest : File) (q : ℕ) → lo ≤ q → cell_at (file ++ rest
 
 pub read_above : (file : File) (lo : ℕ) → IsBelow file lo → (ons : List Bool) (rest : File) (q : ℕ) → lo ≤ q → read (file ++ rest) (config q) ons ≡ read rest (config q) ons
 read_above file lo below [] rest q h = refl
-read_above file lo below (on ∷ ons) rest q h =
-    ap₂ (λ (x : Cell) (n : ℕ). cond on x.value 0 + 256 * n) (below rest q h) (read_above file lo below ons rest (q + 1) (omega arith))
+read_above file lo below (on ∷ ons) rest q h = grind (arith, read_above file lo below ons rest (q + 1))
 
 pub field_below : (w a v m c lo : ℕ) → a + w ≤ lo → IsBelow (field (config a) w v m c) lo
 field_below w a v m c lo h rest q above = cell_outside w a q v m c rest (inr (omega arith))

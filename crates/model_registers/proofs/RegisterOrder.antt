@@ -31,11 +31,7 @@ splits k a others (r ∷ rs) up low high = grind (arith, splits k a others rs, n
 in_order_from : (k a : ℕ) (rs : List Region) → IsAscending rs → Each (λ (r : Region). a ≤ r.index) rs → Each (λ (r : Region). r.index < a + k) rs → rs ≡ from_register a k rs
 in_order_from zero a [] up low high = refl
 in_order_from zero a (r ∷ rs) up low high = let l : a ≤ r.index = low.0 in let h : r.index < a + 0 = high.0 in absurd (omega arith)
-in_order_from (suc k) a rs up low high =
-    splits k a
-    (λ ss u l h.
-    grind (arith, in_order_from k (a + 1) ss u, each_map))
-    rs up low high
+in_order_from (suc k) a rs up low high = grind (arith, splits, each_map, in_order_from k (a + 1))
 
 -- ---- a permutation keeps a filter that finds one region at most
 
