@@ -51,6 +51,4 @@ module _ (table : List Cell) (cs : List (ℕ × Cell)) (is : IsTable table cs) (
       }
 
       pub view_set : (was : CellFile) → before ≡ was → let left : CellFile = record { now = file_from (set table at x) cs; initial = file_of cs } in left ≡ record was { now = set_value v (config off) was.now }
-      view_set was shown =
-          view_changes (with_value v) table (set table at x) cs off was changes shown
-          ∙ ap (λ (n : ℕ). let left : CellFile = record was { now = changed (with_value n) (config off) was.now } in left) (sym low)
+      view_set was shown = grind (arith, view_changes, set, changes, low)

@@ -1,7 +1,7 @@
 -- What a guest's own copies hold: bytes, of which none rises. A file goes on holding them.
-use Rattle.std.{proofs.{Common.{◌≡◌, ℕ, zero, suc, ◌+◌, ◌/◌, ◌<◌, Bool, true, false, cond, List, [], ◌∷◌, refl, sym, ap, subst, ◌∙◌, arith}, Math.Nat.pow-suc}, specs.{Prelude.{bit_and, bit_or}, Int.Bits.{or_zero_r, and_zero_r}}}
+use Rattle.std.{proofs.{Common.{◌≡◌, ℕ, zero, suc, ◌+◌, ◌/◌, ◌<◌, Bool, cond, List, [], ◌∷◌, refl, sym, ap, subst, ◌∙◌, arith}, Math.Nat.pow-suc}, specs.{Prelude.{bit_and, bit_or}, Int.Bits.{or_zero_r, and_zero_r}}}
 use Rattle.lists.{specs.Elements.Each, proofs.EachLemmas.each_append}
-use Rattle.model_registers.{proofs.{BareRegions.bare_lawful, Files.{write_none, config_has_no_block}, RegisterFiles.change_at_place, Owned.{none_else, own_writes, raised_none}}, specs.{Cell.{Cell, raised}, Registers.{Place, config, block, place_eq, after, PlacedCell, File, cell_at, write, raise, field}, FileLaws.{IsConfig, IsConfigFile}, Declarations.HasLawfulRegions, EndpointTable.{BaseAddress, base_file, command_cells}, OwnCopies.{OwnCopies, own_file, handed_on}}}
+use Rattle.model_registers.{proofs.{BareRegions.bare_lawful, Files.{write_none, config_has_no_block}, RegisterFiles.change_at_place, Owned.{none_else, own_writes, raised_none}}, specs.{Cell.{Cell, raised}, Registers.{Place, config, block, after, PlacedCell, File, cell_at, write, raise, field}, FileLaws.{IsConfig, IsConfigFile}, Declarations.HasLawfulRegions, EndpointTable.{BaseAddress, base_file, command_cells}, OwnCopies.{OwnCopies, own_file, handed_on}}}
 use Rattle.guest_functions.{specs.CopyLaws.{CopiedRaise, HiddenRaise, CopiesStay, RaisedHeld, WrittenHeld, BlockWrittenHeld, LawfulCopies, SumOfBytes, EnabledBytesFit}, proofs.CopiedFiles.{own_change, other_change, hidden_change}}
 
 -- ---- what the copies are
@@ -62,17 +62,7 @@ enabled_bytes-fits (on ∷ ons) n = grind (arith, enabled_bytes-fits ons (n / 25
 
 -- a raise anywhere changes no cell of the copies
 pub raised_held : RaisedHeld
-raised_held own file holds m q p mine =
-    change_at_place (raised m) (raised_none m) file q p ∙ here (place_eq q p) ∙ held where
-      held : cell_at file p ≡ cell_at (own_file own) p
-      held = holds p mine
-
-      same : raised m (cell_at file p) ≡ cell_at file p
-      same = not_raised m (cell_at file p) (ap (λ (c : Cell). c.clearable) held ∙ (low_cell (own_file own) (low_own own) p).low)
-
-      here : (t : Bool) → cond t (raised m (cell_at file p)) (cell_at file p) ≡ cell_at file p
-      here true = same
-      here false = refl
+raised_held own file holds m q p mine = grind (arith, change_at_place, raised_none, not_raised, low_cell, low_own)
 
 pub written_held : WrittenHeld
 written_held own new file holds ons v q stored p mine =

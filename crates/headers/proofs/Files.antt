@@ -1,5 +1,5 @@
 -- Lists of cells with offsets, as files.
-use Rattle.std.proofs.Common.{◌≡◌, ℕ, suc, ◌+◌, ◌-◌, ◌/◌, ◌%◌, ◌<◌, List, [], ◌∷◌, ◌++◌, refl, sym, ap, ◌∙◌, append_assoc, arith}
+use Rattle.std.proofs.Common.{◌≡◌, ℕ, ◌+◌, ◌-◌, ◌/◌, ◌%◌, ◌<◌, List, [], ◌∷◌, ◌++◌, refl, ap, append_assoc, arith}
 use Rattle.model_registers.specs.{Cell.Cell, Registers.{config, File, field, cells_from}}
 use Rattle.config_bytes.specs.CellFile.{file_of}
 
@@ -11,18 +11,11 @@ file_of-append (x ∷ xs) ys = ap (λ (es : File). record { place = config x.0; 
 pub pushed_byte : (old new : List (ℕ × Cell)) (a w v rw w1c : ℕ) (cell : Cell) (all : File) → 0 < w
     → cell ≡ record { value = v % 256; writable = rw % 256; clearable = w1c % 256 } → new ≡ old ++ (a, cell) ∷ []
     → file_of old ++ field (config a) w v rw w1c ≡ all → file_of new ++ field (config (a + 1)) (w - 1) (v / 256) (rw / 256) (w1c / 256) ≡ all
-pushed_byte old new a w v rw w1c cell all some is grown before =
-    let left : w ≡ suc (w - 1) = omega arith in
-    grind (arith, file_of-append, append_assoc)
+pushed_byte old new a w v rw w1c cell all some is grown before = grind (arith, file_of-append, append_assoc)
 
 pub pushed_cell : (old new : List (ℕ × Cell)) (at : ℕ) (cell : Cell) (left rest : List Cell) (all : File) → left ≡ cell ∷ rest → new ≡ old ++ (at, cell) ∷ []
     → file_of old ++ cells_from (config at) left ≡ all → file_of new ++ cells_from (config (at + 1)) rest ≡ all
-pushed_cell old new at cell left rest all is grown before =
-    ap (λ (xs : List (ℕ × Cell)). file_of xs ++ cells_from (config (at + 1)) rest) grown
-    ∙ ap (λ (es : File). es ++ cells_from (config (at + 1)) rest) (file_of-append old ((at, cell) ∷ []))
-    ∙ append_assoc (file_of old) (record { place = config at; cell = cell } ∷ []) (cells_from (config (at + 1)) rest)
-    ∙ ap (λ (cs : List Cell). file_of old ++ cells_from (config at) cs) (sym is)
-    ∙ before
+pushed_cell old new at cell left rest all is grown before = grind (arith, file_of-append, append_assoc)
 
 -- a list to which three files were appended, one after the other
 pub appended : (none first second all : List (ℕ × Cell)) (h i p : File) → none ≡ []

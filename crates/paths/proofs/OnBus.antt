@@ -1,5 +1,5 @@
 -- Path order on one bus: one part tells it.
-use Rattle.std.proofs.{Common.{◌≡◌, ℕ, ◌+◌, ◌<◌, ◌≤◌, Bool, true, false, ◌&&◌, ◌||◌, [], ◌∷◌, ◌++◌, length, get_or, ap, sym, ◌∙◌, arith, inl, inr, ◌⊎◌, subst}, lemmas.Bool.Decides.nat_tests}
+use Rattle.std.proofs.{Common.{◌≡◌, ◌+◌, ◌<◌, ◌≤◌, Bool, true, false, ◌&&◌, ◌||◌, [], ◌∷◌, ◌++◌, length, get_or, ap, sym, ◌∙◌, arith, subst}, lemmas.Bool.Decides.nat_tests}
 use Rattle.lists.proofs.Tests.{left_true, right_true, and_true, and_false}
 use Rattle.model_board.{specs.Paths.{Part, Path, part_eq, part_before, path_eq, path_before, leads_to}, proofs.PlacesLaw.part_turn}
 
@@ -15,9 +15,7 @@ before_on [] [] t d h = absurd (cc)
 before_on [] (x ∷ []) t d h = or_false (part_before x t) (part_eq x t)
 before_on [] (x ∷ y ∷ p) t d h = or_false (part_before x t) (part_eq x t)
 before_on (a ∷ bus) [] t d h = absurd (cc)
-before_on (a ∷ bus) (x ∷ p) t d h =
-    let same : part_eq a x ≡ true = left_true (part_eq a x) (leads_to bus p) h in
-    rw (not_before a x same, part_turn a x same) (before_on bus p t d (right_true (part_eq a x) (leads_to bus p) h))
+before_on (a ∷ bus) (x ∷ p) t d h = grind (arith, left_true, not_before, part_turn, right_true, before_on bus p t d)
 
 -- a path that goes on behind the part is another
 pub other_on : (bus p : Path) (t : Part) → leads_to bus p ≡ true → length bus + 1 < length p → path_eq p (bus ++ t ∷ []) ≡ false
@@ -25,18 +23,14 @@ other_on [] [] t h l = absurd (cc)
 other_on [] (x ∷ []) t h l = absurd (omega arith)
 other_on [] (x ∷ y ∷ p) t h l = and_false (part_eq x t)
 other_on (a ∷ bus) [] t h l = absurd (cc)
-other_on (a ∷ bus) (x ∷ p) t h l =
-    let same : part_eq a x ≡ true = left_true (part_eq a x) (leads_to bus p) h in
-    rw (part_turn a x same) (other_on bus p t (right_true (part_eq a x) (leads_to bus p) h) (omega arith))
+other_on (a ∷ bus) (x ∷ p) t h l = grind (arith, left_true, part_turn, right_true, other_on bus p t)
 
 pub same_on : (bus p : Path) (t d : Part) → leads_to bus p ≡ true → length p ≤ length bus + 1 → path_eq p (bus ++ t ∷ []) ≡ part_eq (get_or p (length bus) d) t
 same_on [] [] t d h l = absurd (cc)
 same_on [] (x ∷ []) t d h l = and_true (part_eq x t)
 same_on [] (x ∷ y ∷ p) t d h l = absurd (omega arith)
 same_on (a ∷ bus) [] t d h l = absurd (cc)
-same_on (a ∷ bus) (x ∷ p) t d h l =
-    let same : part_eq a x ≡ true = left_true (part_eq a x) (leads_to bus p) h in
-    rw (part_turn a x same) (same_on bus p t d (right_true (part_eq a x) (leads_to bus p) h) (omega arith))
+same_on (a ∷ bus) (x ∷ p) t d h l = grind (arith, left_true, part_turn, right_true, same_on bus p t d)
 
 -- ---- the part that was read
 
@@ -54,11 +48,4 @@ module _ (bus p ps : Path) (t x : Part) (leads : leads_to bus p ≡ true) (whole
   longer_on l = other_on bus p t leads (subst (λ (q : Path). length bus + 1 < length q) whole l)
 
   pub differs_on : part_eq x t ≡ false → path_eq p (bus ++ t ∷ []) ≡ false
-  differs_on e = by_size (sides (length ps) (length bus + 1))
-    where
-      sides : (a b : ℕ) → (a ≤ b) ⊎ (b < a)
-      sides a b = grind arith
-
-      by_size : (length ps ≤ length bus + 1) ⊎ (length bus + 1 < length ps) → path_eq p (bus ++ t ∷ []) ≡ false
-      by_size (inl l) = equal_on l ∙ e
-      by_size (inr l) = longer_on l
+  differs_on e = grind (arith, equal_on, longer_on)

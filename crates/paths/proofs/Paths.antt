@@ -1,5 +1,5 @@
 -- The last part of a path, by its index.
-use Rattle.std.proofs.{Common.{◌≡◌, ℕ, ◌-◌, ◌<◌, suc, [], ◌∷◌, ◌++◌, length, take, get_or, refl, ap, ◌∙◌, sym, ◌≤◌, arith}, lemmas.Grind.common_steps}
+use Rattle.std.proofs.{Common.{◌≡◌, ℕ, ◌-◌, ◌<◌, suc, [], ◌∷◌, ◌++◌, length, take, get_or, refl, ap, ◌∙◌, ◌≤◌, arith}, lemmas.Grind.common_steps}
 use Rattle.model_board.specs.Paths.{Part, Path, last_part, parent, function_zero, IsPath}
 
 last_at : (ps : Path) (p : Part) (d : Part) → get_or (p ∷ ps) (length ps) d ≡ last_part (p ∷ ps)
@@ -40,6 +40,4 @@ take_past k xs h = grind (arith, common_steps)
 -- the front of a path that was copied whole, and function 0 at its end
 pub zero_copied : (ps zero : Path) (k : ℕ) (p : Part) → IsPath ps → zero ≡ take k (take (length ps - 1) ps) → length (take (length ps - 1) ps) ≤ k
     → p ≡ record { device = (last_part ps).device; function = 0 } → zero ++ p ∷ [] ≡ function_zero ps
-zero_copied ps zero k p path copied all last =
-    let front : zero ≡ parent ps = copied ∙ take_past k (take (length ps - 1) ps) all ∙ take-parent ps in
-    rw (front, last) (sym (parent-front ps path.some))
+zero_copied ps zero k p path copied all last = grind (arith, take_past, take-parent, parent-front)

@@ -1,4 +1,4 @@
-use Rattle.std.proofs.{Common.{◌≡◌, ◌<◌, ℕ, List, length, ◌∙◌, sym, subst, ap, ap₂, arith, rules}, lemmas.List.Elements.All-get_or}
+use Rattle.std.proofs.Common.{◌≡◌, ◌<◌, ℕ, List, length, ◌∙◌, sym, subst, ap, ap₂, arith, rules}
 use Rattle.lists.specs.Elements.{Each}
 use Rattle.model_registers.specs.Cell.{Cell}
 use Rattle.config_bytes.{specs.CellFile.{CellFile, HasDistinctOffsets, file_of, placed}, proofs.Tables.{HasGaps, HasGaps-empty, IsConfigFile-from, KeepsPlaces-from, each_from, IsTable-refilled, view_refilled}}
@@ -14,12 +14,7 @@ distinct : (c : goal.After-table-3-1) → HasDistinctOffsets c.in_ok-initial.ini
 distinct c = subst HasDistinctOffsets (stored c) c.requires
 
 room : (c : goal.After-table-3-1) → Each (λ e. e.0 < length c.in_ok-table.table.items) c.in_ok-initial.initial.items
-room c =
-    let below : Each (λ (e : ℕ × Cell). e.0 < c.table_length.result) c.args.cells.now = grind (arith, each_from, All-get_or) in
-    let size : c.table_length.result ≡ length c.in_ok-table.table.items = sym c.in_ok-table.ensures.len ∙ c.in_ok-table.table.ok.0 in
-    let P : ℕ → Type 0 = λ n. Each (λ (e : ℕ × Cell). e.0 < n) c.args.cells.now in
-    let Q : List (ℕ × Cell) → Type 0 = λ cs. Each (λ (e : ℕ × Cell). e.0 < length c.in_ok-table.table.items) cs in
-    subst Q (stored c) (subst P size below)
+room c = grind (arith, each_from, stored)
 
 gaps : (c : goal.After-table-3-1) → HasGaps c.in_ok-table.table.items c.in_ok-initial.initial.items
 gaps c = grind (arith, HasGaps-empty)

@@ -1,5 +1,5 @@
-use Rattle.std.proofs.Common.{◌≡◌, ◌∙◌, ap, ap₂, arith, rules}
-use Rattle.config_bytes.{specs.CellFile.{CellFile, placed}, proofs.Tables.{HasGaps-table, IsConfigFile-from, KeepsPlaces-from, IsTable-refilled, view_refilled}}
+use Rattle.std.proofs.Common.{◌≡◌, ◌∙◌, ap₂, arith, rules}
+use Rattle.config_bytes.{specs.CellFile.placed, proofs.Tables.{HasGaps-table, IsConfigFile-from, KeepsPlaces-from, IsTable-refilled, view_refilled}}
 use Rattle.config_bytes.proofs.cells.Cells.reset.Goals as goal
 
 put : (c : goal.After-self-1) → c.place.new.table ≡ placed c.self.inside.initial.items c.self.inside.table.items
@@ -9,10 +9,7 @@ pub invariant_of-self : goal.invariant_of-self
 invariant_of-self c = search (rules, IsTable-refilled, put, HasGaps-table)
 
 pub returns-clause-cells : goal.returns-clause-cells
-returns-clause-cells c =
-    view_refilled c.self.inside.table.len c.self.inside.table.items c.place.new.table c.self.inside.initial.items (put c) c.self.inside.table.ok.0
-    c.self.invariant.distinct c.self.invariant.room
-    ∙ ap (λ (v : CellFile). let w : CellFile = record v { now = v.initial } in w) c.self.view_is
+returns-clause-cells c = grind (arith, view_refilled, put)
 
 pub returns-clause-places : goal.returns-clause-places
 returns-clause-places c = grind (arith, IsConfigFile-from)

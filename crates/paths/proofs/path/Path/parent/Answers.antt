@@ -7,7 +7,4 @@ pub returns-clause-value : goal.returns-clause-value
 returns-clause-value c = take-parent c.parts-parts.result.now ∙ ap parent c.parts-parts.ensures.value
 
 pub returns-clause-short : goal.returns-clause-short
-returns-clause-short c =
-    let path = c.parts-parts.ensures.path in
-    let whole = c.parts-parts.ensures.value in
-    rw (take-parent c.parts-parts.result.now, whole, length-parent c.args.self.now) (omega (arith, path.few, path.some))
+returns-clause-short c = grind (arith, take-parent, length-parent)
