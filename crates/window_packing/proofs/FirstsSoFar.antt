@@ -1,5 +1,5 @@
 -- The first addresses of buses, one after the other.
-use Rattle.std.{proofs.{Common.{◌≡◌, ℕ, suc, ◌+◌, ◌≤◌, ◌<◌, ◌⊎◌, inl, inr, List, [], ◌∷◌, ◌++◌, map, length, Some, refl, sym, ap, ◌∙◌, subst, arith, length-append, get_or, add-one}, lemmas.{Option.{get_or_from_slice_get, slice_get_within}, List.same_lists, Bool.cases_lt}}, specs.{Prelude.IsTrue, List.slice_get}}
+use Rattle.std.{proofs.{Common.{◌≡◌, ℕ, suc, ◌+◌, ◌≤◌, ◌<◌, ◌⊎◌, inl, inr, List, [], ◌∷◌, ◌++◌, map, length, Some, sym, ap, ◌∙◌, subst, arith, length-append, get_or, add-one}, lemmas.{Option.{get_or_from_slice_get, slice_get_within}, List.same_lists, Bool.cases_lt}}, specs.{Prelude.IsTrue, List.slice_get}}
 use Rattle.model_registers.specs.Apertures.{Apertures, IsLawfulApertures}
 use Rattle.lists.{specs.Elements.{Each, IsIn}, proofs.Indices.{read_at, same_at, index_in}}
 use Rattle.model_board.specs.{Paths.{Part, parent, last_part}, Board.{Row, Board, IsBoard}, Lawful.HasLawfulDecls}
@@ -14,11 +14,7 @@ pub record AreFirsts (b : Board) (a : Apertures) (pool : Pool) (i : ℕ) (xs : L
 
 module _ (b : Board) (a : Apertures) (pool : Pool) where
   pub one_first : (n : ℕ) → n ≡ bus_first b a pool [] → AreFirsts b a pool 0 (n ∷ [])
-  one_first n e = record {
-    count = refl;
-    within = omega arith;
-    each = λ k l. let z : 0 ≡ k = omega arith in subst (λ m. slice_get (n ∷ []) m ≡ Some (bus_first b a pool (bus_path b m))) z (ap (λ m. Some m) e);
-  }
+  one_first n e = grind arith
 
   pub more_firsts : (i n : ℕ) (xs : List ℕ) → AreFirsts b a pool i xs → i < length b → n ≡ bus_first b a pool (bus_path b (suc i)) → AreFirsts b a pool (suc i) (xs ++ n ∷ [])
   more_firsts i n xs h l e = record {
@@ -69,9 +65,7 @@ module _ {b : Board} {a : Apertures} {pool : Pool} {i : ℕ} {r : Row} {x : Abov
   -- the packs of its bus and of the bus behind it, as they are read
   module _ (packs : List BusPack) (all : packs ≡ packs_of b a pool) where
     pub own_pack : (p : BusPack) → p ≡ get_or packs x.bus p → p ≡ pack_of b a pool (parent r.path)
-    own_pack p is =
-        let w = row.within in
-        pack_is b a pool packs all x.bus w p (read_at packs x.bus p (omega (arith, w, count_packs b a pool packs all)) is) ∙ ap (pack_of b a pool) row.bus
+    own_pack p is = grind (arith, row, pack_is, read_at, count_packs)
 
     pub behind_pack : (q : BusPack) → q ≡ get_or packs (i + 1) q → q ≡ pack_of b a pool r.path
     behind_pack q is =
@@ -81,9 +75,7 @@ module _ {b : Board} {a : Apertures} {pool : Pool} {i : ℕ} {r : Row} {x : Abov
 
   -- the first address of its bus, as it is read
   pub own_first : (xs : List ℕ) → AreFirsts b a pool i xs → (n : ℕ) → n ≡ get_or xs x.bus n → n ≡ bus_first b a pool (parent r.path)
-  own_first xs firsts n is =
-      same_at xs x.bus n (bus_first b a pool (bus_path b x.bus)) (read_at xs x.bus n (omega (arith, bus_low, firsts.count)) is) (firsts.each x.bus bus_low)
-      ∙ ap (bus_first b a pool) row.bus
+  own_first xs firsts n is = grind (arith, same_at, read_at, bus_low, row)
 
   module _ (p : BusPack) (own : p ≡ pack_of b a pool (parent r.path)) where
     pub own_strict : AreStrict p.spots

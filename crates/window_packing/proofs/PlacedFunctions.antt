@@ -1,5 +1,5 @@
 -- Where the regions and the windows of one function of a placed board stand.
-use Rattle.std.{proofs.{Common.{◌≡◌, ℕ, suc, ◌+◌, ◌*◌, ◌^◌, ◌≤◌, ◌<◌, List, [], ◌∷◌, length, map, Some, refl, sym, ap, ap₂, ◌∙◌, subst, arith, get_or, add-one}, lemmas.Option.slice_get_within}, specs.{Prelude.IsTrue, List.slice_get}}
+use Rattle.std.{proofs.{Common.{◌≡◌, ℕ, suc, ◌+◌, ◌*◌, ◌^◌, ◌≤◌, ◌<◌, List, [], ◌∷◌, length, map, Some, refl, sym, ap, ◌∙◌, subst, arith, get_or, add-one}, lemmas.Option.slice_get_within}, specs.{Prelude.IsTrue, List.slice_get}}
 use Rattle.lists.{specs.Elements.{Each, IsIn}, proofs.{Members.{each_in, each_from}, Indices.{read_at, same_at, index_in}}}
 use Rattle.model_registers.specs.{Declarations.Region, Apertures.Apertures}
 use Rattle.model_board.specs.{Paths.{Part, parent, last_part, IsPath}, Board.{endpoint, Row, Board, IsBoard}, Lawful.HasLawfulDecls}
@@ -89,10 +89,7 @@ module _ {b : Board} {a : Apertures} {pool : Pool} {pl : PlacedPool} (placed : I
 
           module _ {n : ℕ} (f : n ≡ get_or pl.firsts x.bus n) where
             sum_is : (w : Placed) → n + offset_in p.spots part w ≡ bus_first b a pool (parent r.path) + offset_on b a pool (parent r.path) (last_part r.path) w
-            sum_is w =
-                let l = row.within in
-                let first = first_is x.bus l n (read_at pl.firsts x.bus n (omega (arith, l, count_firsts)) f) ∙ ap (bus_first b a pool) row.bus in
-                ap₂ (λ (m j : ℕ). m + j) first (ap₂ (λ (q : BusPack) (y : Part). offset_in q.spots y w) own_pack_is last)
+            sum_is w = grind (arith, row, first_is, read_at, count_firsts, own_pack_is)
 
             pub region_room : (w : Placed) → n + offset_in p.spots part w < 2 ^ 64
             region_room w =

@@ -8,5 +8,4 @@ loop-i-preserved c =
     done_more c.loop-i.nodes c.args.nodes.now c.loop-i.i c.end_of-end.result _ c.loop-i.invariant (slice_get-get_or c.loop-i.nodes c.loop-i.i c.index-nodes-i.result l) c.end_of-end.ensures
 
 pub returns-clause-laid : goal.returns-clause-laid
-returns-clause-laid c =
-    all_done c.loop-i.nodes c.args.nodes.now c.loop-i.i c.requires c.loop-i.invariant (omega (arith, c.loop-i-test.false, c.loop-i.auto.nodes, c.loop-i.auto.i-end))
+returns-clause-laid c = grind (arith, all_done)

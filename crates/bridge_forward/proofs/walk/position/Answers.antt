@@ -1,4 +1,4 @@
-use Rattle.std.{proofs.Common.{◌≡◌, Ordering, Less, Equal, Greater, arith, ap, sym, ◌∙◌}, specs.Ordering.{is_eq, is_lt}}
+use Rattle.std.{proofs.Common.{◌≡◌, Ordering, Less, Equal, arith, ap, sym, ◌∙◌}, specs.Ordering.{is_eq, is_lt}}
 use Rattle.model_board.specs.Paths.{Path, path_eq, path_before}
 use Rattle.paths.specs.{PathOrders.path_cmp, PathLaws.{paths_tied, paths_before}}
 use Rattle.bridge_forward.proofs.Halving.{here, below_here, above_here, nowhere}
@@ -17,14 +17,10 @@ returns-in-Equal-clause-found c =
     (equal_by c.index-nodes-middle.result.path c.args.path.now Equal c.in-Equal.ensures)
 
 pub loop-low-preserved-in-Less : goal.loop-low-preserved-in-Less
-loop-low-preserved-in-Less c =
-    let p = c.index-nodes-middle.result.path in
-    grind (arith, below_here, equal_by p c.args.path.now Less c.in-Less.ensures, before_by p c.args.path.now Less c.in-Less.ensures)
+loop-low-preserved-in-Less c = grind (arith, below_here, equal_by, before_by)
 
 pub loop-low-preserved : goal.loop-low-preserved
-loop-low-preserved c =
-    let p = c.index-nodes-middle.result.path in
-    grind (arith, above_here, equal_by p c.args.path.now Greater c.in-Greater.ensures, before_by p c.args.path.now Greater c.in-Greater.ensures)
+loop-low-preserved c = grind (arith, above_here, equal_by, before_by)
 
 pub returns-clause-none : goal.returns-clause-none
 returns-clause-none c = grind (arith, nowhere)

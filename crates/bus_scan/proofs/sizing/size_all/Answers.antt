@@ -28,8 +28,7 @@ pub returns-clause-sized : goal.returns-clause-sized
 returns-clause-sized c = sized c
 
 pub returns-clause-board : goal.returns-clause-board
-returns-clause-board c =
-    table_left c.args.host.now c.loop-row.host c.loop-row.invariant.host c.requires.registers _ (sized c)
+returns-clause-board c = grind (arith, table_left, sized)
 
 pub returns-clause-found : goal.returns-clause-found
 returns-clause-found c = table_of_found (board_at c.args.host.now.state.functions) _ (table_of c.args.host.now.state c.requires.registers _ (sized c))

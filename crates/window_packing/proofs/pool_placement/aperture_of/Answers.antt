@@ -1,4 +1,4 @@
-use Rattle.std.{proofs.Common.{◌≤◌, ◌<◌, ◌^◌, Option, sym, subst, arith}, specs.Option.IfSome}
+use Rattle.std.{proofs.Common.{◌≤◌, ◌<◌, ◌^◌, Option, arith}, specs.Option.IfSome}
 use Rattle.model_registers.specs.Apertures.{Aperture, IsPrefOption}
 use Rattle.window_packing.proofs.pool_placement.aperture_of.Goals as goal
 
@@ -9,5 +9,4 @@ of_pref : (mem : Aperture) (o : Option Aperture) → IsPrefOption mem o → IfSo
 of_pref mem o h = grind arith
 
 pub returns-in-Pref-clause-range : goal.returns-in-Pref-clause-range
-returns-in-Pref-clause-range c =
-    subst (λ (o : Option Aperture). IfSome o (λ a. (a.first ≤ a.last) × (a.last < 2 ^ 63))) (sym c.pref.ensures) (of_pref c.args.apertures.now.mem c.args.apertures.now.pref c.io-io.ensures.lawful.pref)
+returns-in-Pref-clause-range c = grind (arith, of_pref)

@@ -21,18 +21,7 @@ module _ (c : After-index-packs-i) where
   pool = named_pool c.args.pool
 
   fitting : IsFittingRow b c.args.apertures.now pool c.loop-i.i (row_in c.index-rows-i.result) (get_or c.args.above.now c.loop-i.i none)
-  fitting = record {
-    board = c.requires.board;
-    lawful = c.requires.declarations;
-    apertures = c.requires.apertures;
-    fit = c.requires.fit;
-    at = map_at row_in c.args.rows.now c.loop-i.i _ (read_at c.args.rows.now c.loop-i.i c.index-rows-i.result c.loop-i-test.true c.index-rows-i.is);
-    above = record {
-      all = c.args.above.now;
-      told = c.requires.above;
-      there = slice_get-get_or _ c.loop-i.i none (omega (arith, above_count b c.args.above.now c.requires.above, length_board c.args.rows.now, c.loop-i-test.true));
-    };
-  }
+  fitting = grind (arith, map_at, row_in, read_at, slice_get-get_or, above_count, length_board)
 
   own : c.index-packs-bus.result ≡ pack_of b c.args.apertures.now pool (parent c.index-rows-i.result.path)
   own = own_pack fitting c.args.packs.now c.requires.packs c.index-packs-bus.result c.index-packs-bus.is
@@ -56,14 +45,10 @@ window_offset-offset-requires c = record {
 }
 
 pub overflow_add-first : goal.overflow_add-first
-overflow_add-first c =
-    let k = (goal.at.overflow_add-first c).After-index-packs-i in
-    omega (arith, next k c.index.result.now c.index.ensures, next_bound (fitting k), c.window_offset-offset.ensures)
+overflow_add-first c = grind (arith, next, next_bound, fitting)
 
 pub loop-i-preserved : goal.loop-i-preserved
-loop-i-preserved c =
-    let more = next (goal.at.loop-i-preserved c).After-index-packs-i c.index.result.now c.index.ensures in
-    grind (arith, more_firsts, length_board)
+loop-i-preserved c = grind (arith, next, more_firsts, length_board)
 
 pub returns : goal.returns
 returns c = grind (arith, length_board, all_firsts)

@@ -1,3 +1,4 @@
+use Rattle.std.proofs.Common.{arith}
 use Rattle.std.proofs.lemmas.Result.{err_from_is_err_and}
 use Rattle.window_packing.proofs.SetUps.{refused_left, kept_left, placeable_left, plan_left, host_left, board_left, ready_left, own_claims}
 use Rattle.window_packing.proofs.ready.set_up.Goals as goal
@@ -8,8 +9,7 @@ returns-in_err-plan-clause-refused c =
     rw (p.1, p.2) (refused_left c.in_ok-table.ensures.found c.apertures-apertures.ensures _ c.in_err-plan.ensures.refused)
 
 pub program-requires-clause-placeable : goal.program-requires-clause-placeable
-program-requires-clause-placeable c =
-    placeable_left c.in_ok-table.ensures.found c.apertures-apertures.ensures c.in_ok-plan.ensures.planned c.in_ok-plan.ensures.placeable
+program-requires-clause-placeable c = grind (arith, placeable_left)
 
 pub program-requires-clause-planned : goal.program-requires-clause-planned
 program-requires-clause-planned c = plan_left c.in_ok-table.ensures.found c.apertures-apertures.ensures c.in_ok-plan.ensures.planned c.in_ok-plan.ensures.placeable
@@ -19,8 +19,7 @@ invariant_of-result c =
     ready_left c.in_ok-table.ensures.found c.apertures-apertures.ensures c.in_ok-plan.ensures.planned c.in_ok-plan.ensures.placeable c.program.ensures
 
 pub returns-clause-ready : goal.returns-clause-ready
-returns-clause-ready c =
-    host_left c.in_ok-table.ensures.found c.apertures-apertures.ensures c.in_ok-plan.ensures.planned c.in_ok-plan.ensures.placeable c.program.ensures
+returns-clause-ready c = grind (arith, host_left)
 
 pub returns-clause-board : goal.returns-clause-board
 returns-clause-board c =

@@ -1,4 +1,4 @@
-use Rattle.std.{proofs.{Common.{◌≡◌, ◌<◌, List, length, true, false, sym, ap, ◌∙◌, subst, arith, Some}, lemmas.Option.slice_get_within}, specs.List.slice_get}
+use Rattle.std.{proofs.{Common.{◌≡◌, List, length, true, false, sym, ap, ◌∙◌, subst, arith, Some}, lemmas.Option.slice_get_within}, specs.List.slice_get}
 use Rattle.model_set_up.specs.Placement.{Spot, is_item}
 use Rattle.lists.proofs.Indices.{read_at, same_at}
 use Rattle.window_packing.{specs.Searching.IsFirstFrom, proofs.SpotSearch.{none_there, there}}
@@ -22,11 +22,7 @@ returns-then-at-len c =
 
 -- the spot there
 found : (c : After-is_same) → slice_get c.args.pack.now.spots c.first_from-at.result ≡ Some c.index-spot.result.now
-found c =
-    let own : c.pack.inside.spots.items ≡ c.args.pack.now.spots = cc in
-    let low : c.first_from-at.result < length c.pack.inside.spots.items =
-    omega (arith, c.first_from-at.ensures.within, c.deref.ensures.len, c.len.ensures, c.if-at-len.false) in
-    rw own at (read_at c.pack.inside.spots.items c.first_from-at.result c.index-spot.result.now low c.index-spot.ensures)
+found c = grind (arith, read_at)
 
 pub returns-then-is_same : goal.returns-then-is_same
 returns-then-is_same c =

@@ -1,4 +1,4 @@
-use Rattle.std.{proofs.Common.{◌≡◌, ℕ, List, [], ◌∷◌, get_or, map, Option, Some, ap, sym, ◌∙◌, subst}, specs.List.slice_get}
+use Rattle.std.{proofs.Common.{◌≡◌, ℕ, List, [], ◌∷◌, get_or, map, Option, Some, ap, sym, ◌∙◌, subst, arith}, specs.List.slice_get}
 use Rattle.lists.{specs.Elements.Each, proofs.Indices.{read_at, same_at, map_at}}
 use Rattle.model_registers.specs.{Declarations.{Bar, Region}, EndpointTable.BaseAddress}
 use Rattle.model_board.specs.{Paths.last_part, Board.Row}
@@ -14,9 +14,7 @@ module _ (c : After-last) where
   at = map_at row_in c.args.rows.now c.args.i _ (read_at c.args.rows.now c.args.i c.index-rows-i.result c.requires.there c.index-rows-i.is)
 
   pool_is : IsPlaced (board_in c.args.rows.now) c.args.apertures.now (named_pool c.pool_of.result) c.pool-placed.result.now
-  pool_is =
-      subst (IsPlaced (board_in c.args.rows.now) c.args.apertures.now (named_pool c.pool_of.result)) (sym c.pool-placed.ensures)
-      (placed_in (board_in c.args.rows.now) c.args.apertures.now c.args.placement.now c.requires.placed (named_pool c.pool_of.result))
+  pool_is = grind (arith, placed_in)
 
   first : c.index-first.result.now ≡ get_or c.pool-placed.result.now.firsts c.args.above.now.bus c.index-first.result.now
   first = c.index-first.ensures ∙ ap (λ (p : PlacedPool). get_or p.firsts c.args.above.now.bus c.index-first.result.now) c.placed.view_is

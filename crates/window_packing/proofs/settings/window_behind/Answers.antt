@@ -1,7 +1,7 @@
-use Rattle.std.proofs.Common.{rules, ◌≡◌, ◌+◌, ℕ, get_or, ap, ◌∙◌, arith}
-use Rattle.model_set_up.specs.{Pools.unit_of, Placement.items_on, SetUp.window_of, FunctionTable.board_in}
+use Rattle.std.proofs.Common.{rules, ◌≡◌, ◌+◌, get_or, ap, ◌∙◌, arith}
+use Rattle.model_set_up.specs.{SetUp.window_of, FunctionTable.board_in}
 use Rattle.lists.proofs.Indices.{at_below}
-use Rattle.window_packing.{specs.{Placed.PlacedPool, Plans.named_pool}, proofs.{AboveRows.length_board, PlacedFunctions.{behind_first_is, behind_pack, window_some, window_room}}}
+use Rattle.window_packing.{specs.Placed.PlacedPool, proofs.{AboveRows.length_board, PlacedFunctions.{behind_first_is, behind_pack, window_some, window_room}}}
 use Rattle.window_packing.proofs.settings.window_behind.Goals as goal
 use Rattle.window_packing.proofs.settings.window_behind.Goals.{After-index-2}
 
@@ -23,9 +23,4 @@ window_of-requires c =
     }
 
 pub returns : goal.returns
-returns c = λ r at.
-    let k = (goal.at.returns c).After-index-2 in
-    let pool = named_pool c.args.pool in
-    let is = items_on (board_in c.args.rows.now) c.args.apertures.now pool r.path in
-    c.window_of.ensures is (behind_pack c.requires.placed c.requires.board c.requires.declarations c.args.i at _ (pack k))
-    ∙ ap (λ (m : ℕ). window_of (unit_of pool) c.args.closed m is) (behind_first_is c.requires.placed c.requires.board c.requires.declarations c.args.i at _ (first k))
+returns c = grind (arith, behind_pack, pack, behind_first_is, first)

@@ -1,4 +1,4 @@
-use Rattle.std.proofs.{Common.{◌≡◌, ◌+◌, ◌^◌, ◌≤◌, ◌<◌, [], length, ap, ap₂, ◌∙◌, arith}, lemmas.{Bool.Decides.nat_tests, List.nil_from_length}}
+use Rattle.std.proofs.{Common.{◌≡◌, ◌+◌, ◌^◌, ◌≤◌, ◌<◌, [], ap, ap₂, ◌∙◌, arith}, lemmas.{Bool.Decides.nat_tests, List.nil_from_length}}
 use Rattle.model_set_up.{specs.{Pools.unit_of, Placement.round_up}, proofs.Packing.round_up_not_before}
 use Rattle.window_packing.{specs.{Packs.BusPack, Plans.named_pool}, proofs.{BusItems.alignment_bounds, PlacedFunctions.{holds_of_some, span_none}}}
 use Rattle.window_packing.proofs.settings.window_of.Goals as goal
@@ -10,9 +10,7 @@ returns-then-is_empty c = grind (arith, nat_tests, nil_from_length, span_none)
 -- the window of a bus with items has a size, and room
 module _ (c : Else-is_empty) where
   some : c.args.pack.now.spots ≡ [] → ⊥
-  some e =
-      let none : length c.pack.inside.spots.items ≡ 0 = ap (λ (p : BusPack). length p.spots) c.pack.view_is ∙ ap length e in
-      grind (arith, nat_tests, c.pack.inside.spots.ok, none)
+  some e = grind (arith, nat_tests)
 
   size : 0 < round_up (unit_of (named_pool c.args.pool)) c.args.pack.now.end
   size = holds_of_some _ c.args.pack.now.spots some c.requires.some

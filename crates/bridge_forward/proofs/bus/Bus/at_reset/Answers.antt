@@ -1,5 +1,5 @@
-use Rattle.std.proofs.Common.{◌≡◌, sym, ap, ◌∙◌, subst}
-use Rattle.model_board.{specs.{AtReset.{board_at, reset_file}, Board.IsBoard, Places.board_of}, proofs.StateRows.state_rows}
+use Rattle.std.proofs.Common.{◌≡◌, sym, ap, ◌∙◌, subst, arith}
+use Rattle.model_board.{specs.{AtReset.board_at, Board.IsBoard, Places.board_of}, proofs.StateRows.state_rows}
 use Rattle.bridge_forward.proofs.BoardOrder.{board_again}
 use Rattle.bridge_forward.proofs.bus.Bus.at_reset.Goals as goal
 use Rattle.bridge_forward.proofs.bus.Bus.at_reset.Goals.{In_ok-decls}
@@ -12,6 +12,4 @@ pub build-requires : goal.build-requires
 build-requires c = subst IsBoard (sym (again c)) c.requires
 
 pub returns-clause-board : goal.returns-clause-board
-returns-clause-board c =
-    let b = board_of c.in_ok-decls.decls.items in
-    ap board_at c.in_ok-bus.ensures.functions ∙ state_rows b (reset_file b) ∙ again (goal.at.returns-clause-board c).In_ok-decls
+returns-clause-board c = grind (arith, state_rows, again)

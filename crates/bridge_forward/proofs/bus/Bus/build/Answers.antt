@@ -1,11 +1,10 @@
-use Rattle.std.proofs.{Common.{◌≡◌, ap, ◌∙◌, ◌++◌, take, drop, length, arith}, lemmas.Grind.common_steps}
+use Rattle.std.proofs.{Common.{◌≡◌, ◌++◌, take, drop, length, arith}, lemmas.Grind.common_steps}
 use Rattle.model_board.{specs.{AtReset.reset_state, Places.board_of}, proofs.StateRows.at_reset}
 use Rattle.bridge_forward.{specs.Layout.functions_of, proofs.{KnownRoutes.routes_unknown, BoardOrder.nodes_in_order}}
 use Rattle.bridge_forward.proofs.bus.Bus.build.Goals as goal
 
 pub lay_out-requires : goal.lay_out-requires
-lay_out-requires c =
-    nodes_in_order (board_of c.args.decls.items) c.deref_mut.result.now c.requires (ap functions_of c.deref_mut.ensures.value ∙ c.in_ok-nodes.ensures.made)
+lay_out-requires c = grind (arith, nodes_in_order)
 
 pub returns-clause-at_reset : goal.returns-clause-at_reset
 returns-clause-at_reset c =

@@ -32,6 +32,4 @@ pub returns-clause-reply : goal.returns-clause-reply
 returns-clause-reply c = grind (arith, reached (goal.at.returns-clause-reply c).After-index_mut-node)
 
 pub returns-clause-after : goal.returns-clause-after
-returns-clause-after c =
-    let k = (goal.at.returns-clause-after c).After-index_mut-node in
-    grind (arith, cells_set, there k, reached k)
+returns-clause-after c = grind (arith, cells_set, there, reached)

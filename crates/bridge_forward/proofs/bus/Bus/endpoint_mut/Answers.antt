@@ -1,6 +1,6 @@
-use Rattle.std.{proofs.{Common.{refl, ◌≡◌, false, Some, get_or, ap, arith, inr, ◌∙◌, sym}, lemmas.Option.slice_get_within}, specs.{Prelude.find, List.slice_get}}
+use Rattle.std.{proofs.{Common.{refl, ◌≡◌, false, Some, get_or, ap, arith, ◌∙◌, sym}, lemmas.Option.slice_get_within}, specs.{Prelude.find, List.slice_get}}
 use Rattle.model_board.specs.{Paths.path_eq, Board.is_bridge}
-use Rattle.bridge_forward.{specs.{declared.{bus.Node.Node, function.Function.TheVariants.Endpoint}, Layout.{function_of, functions_of}, Lending.{endpoint_at, with_endpoint}, Functions.{decl_of, endpoint_in}}, proofs.{Nodes.functions_in_order, Changes.{endpoint_set, endpoint_there, found_there, kept, node_there, same_read, same_order}, KnownRoutes.{bus_same, bus_set, none_lent, same_read_at}}}
+use Rattle.bridge_forward.{specs.{declared.{bus.Node.Node, function.Function.TheVariants.Endpoint}, Layout.{function_of, functions_of}, Lending.endpoint_at, Functions.{decl_of, endpoint_in}}, proofs.{Nodes.functions_in_order, Changes.{endpoint_set, endpoint_there, found_there, kept, node_there, same_read, same_order}, KnownRoutes.{bus_same, bus_set, none_lent, same_read_at}}}
 use Rattle.bridge_forward.proofs.bus.Bus.endpoint_mut.Goals as goal
 use Rattle.bridge_forward.proofs.bus.Bus.endpoint_mut.Goals.{After-is_bridge}
 
@@ -31,25 +31,7 @@ invariant_of-self-lent c =
     λ _. (λ w. bus_set _ c.in_ok-at.at n (Endpoint w) e leaf refl c.self.inside.known c.self.invariant, bus_same _ c.in_ok-at.at n c.self.inside.known e c.self.invariant)
 
 pub returns : goal.returns
-returns c =
-    let k = (goal.at.returns c).After-is_bridge in
-    let is = c.index_mut-node.ensures.value in (
-      same_read _ _ _ _ _
-          (λ w. endpoint_set _ c.self.invariant.tree.laid c.in_ok-at.at _ (there k is) _ (found k is) w ∙ ap (with_endpoint c.args.path.now w) c.self.view_is)
-          (kept _ c.self.invariant.tree.laid c.in_ok-at.at _ (there k is) ∙ c.self.view_is),
-      record {
-        lends = tt;
-        value = c.endpoint_mut.ensures.value ∙ value k is;
-        in_order = same_order c.self.view_is (functions_in_order _ c.self.invariant.tree.laid);
-      },
-    )
+returns c = grind (arith, value, same_read, endpoint_set, there, found, kept, same_order, functions_in_order)
 
 pub returns-then-is_bridge : goal.returns-then-is_bridge
-returns-then-is_bridge c = (
-  ap (λ fs. inr fs) c.self.view_is,
-  record {
-    lends = tt;
-    value = none_lent _ (sym c.is_bridge.ensures ∙ c.if-is_bridge.true) ∙ value (goal.at.returns-then-is_bridge c).After-is_bridge c.index.ensures;
-    in_order = same_order c.self.view_is (functions_in_order _ c.self.invariant.tree.laid);
-  },
-)
+returns-then-is_bridge c = grind (arith, value, none_lent, same_order, functions_in_order)

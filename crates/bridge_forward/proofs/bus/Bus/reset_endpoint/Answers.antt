@@ -17,6 +17,4 @@ pub returns-in_default : goal.returns-in_default
 returns-in_default c = grind (arith, none_back)
 
 pub returns : goal.returns
-returns c =
-    let e = there (goal.at.returns c).After-index_mut-node in
-    grind (arith, found_there, endpoint_back)
+returns c = grind (arith, there, found_there, endpoint_back)

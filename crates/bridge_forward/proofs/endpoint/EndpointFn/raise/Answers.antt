@@ -1,13 +1,11 @@
 use Rattle.std.proofs.Common.{ap, sym, ◌∙◌, arith}
-use Rattle.model_registers.specs.{Cell.raised, Registers.{Place, config, block, raise}}
+use Rattle.model_registers.specs.{Cell.raised, Registers.{Place, block, raise}}
 use Rattle.headers.specs.Places.{place_of}
 use Rattle.bridge_forward.proofs.{EndpointAccess.{change_in_block, raise_config}, ResetKept.{header_changed, constant_raised, cell_invariant, short_there, block_invariant, block_shown, nothing_shown}}
 use Rattle.bridge_forward.proofs.endpoint.EndpointFn.raise.Goals as goal
 
 pub invariant_of-self : goal.invariant_of-self
-invariant_of-self c =
-    cell_invariant c.self.invariant (raised c.args.mask) c.args.off c.raise.new.cells _ c.raise.ensures c.command.ensures
-    (header_changed (raised c.args.mask) (constant_raised c.args.mask) c.self.inside.config.initial (config c.args.off) c.self.inside.config.now c.self.invariant.reset.header)
+invariant_of-self c = grind (arith, cell_invariant, header_changed, constant_raised)
 
 pub returns-in-Cfg : goal.returns-in-Cfg
 returns-in-Cfg c = grind (arith, raise_config)

@@ -1,4 +1,4 @@
-use Rattle.std.proofs.{Common.{◌≡◌, ap, ap₂, sym, ◌∙◌}, lemmas.Bool.{ltb-true, ltb-false}}
+use Rattle.std.proofs.{Common.{◌≡◌, ap, ap₂, sym, ◌∙◌, arith}, lemmas.Bool.{ltb-true, ltb-false}}
 use Rattle.model_registers.specs.{Registers.{File, config, block, read}, ByteEnables.lanes, Decoding.Function}
 use Rattle.bridge_forward.{specs.EndpointParts.block_at, proofs.EndpointAccess.{read_block, block_there, no_block}}
 use Rattle.bridge_forward.proofs.endpoint.EndpointFn.read.Goals as goal
@@ -14,9 +14,7 @@ shown c here =
     ∙ ap (λ (f : Function). read f.file (block c.args.reg c.args.off) ons) c.self.view_is
 
 pub returns-in-Some : goal.returns-in-Some
-returns-in-Some c =
-    c.read.ensures
-    ∙ shown (goal.at.returns-in-Some c).After-from (block_there _ _ c.in-Some.block.now (ltb-true _ _ (sym c.in-Some.ensures.lookup.0)) c.in-Some.ensures.lookup.1)
+returns-in-Some c = grind (arith, shown, block_there, ltb-true)
 
 pub returns-in-None : goal.returns-in-None
 returns-in-None c =

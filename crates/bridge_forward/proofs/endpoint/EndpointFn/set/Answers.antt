@@ -1,13 +1,11 @@
-use Rattle.std.proofs.Common.{◌≡◌, true, ◌%◌, ap, sym, ◌∙◌, subst, arith}
-use Rattle.model_registers.specs.{DeviceBytes.{is_device_byte, with_value, set_value}, Registers.{Place, block}}
+use Rattle.std.proofs.Common.{◌%◌, ap, sym, ◌∙◌, arith}
+use Rattle.model_registers.specs.{DeviceBytes.{with_value, set_value}, Registers.{Place, block}}
 use Rattle.headers.specs.Places.{place_of}
 use Rattle.bridge_forward.proofs.{EndpointAccess.{change_in_block, set_config, header_set}, ResetKept.{cell_invariant, short_there, block_invariant, block_shown, nothing_shown}}
 use Rattle.bridge_forward.proofs.endpoint.EndpointFn.set.Goals as goal
 
 pub invariant_of-self : goal.invariant_of-self
-invariant_of-self c =
-    cell_invariant c.self.invariant (with_value (c.args.value % 256)) c.args.off c.set.new.cells _ c.set.ensures c.command.ensures
-    (header_set (with_value (c.args.value % 256)) c.self.inside.config.initial c.args.off (subst (λ p. is_device_byte (place_of p c.args.off) ≡ true) c.in-Cfg.is c.requires) c.self.inside.config.now c.self.invariant.reset.header)
+invariant_of-self c = grind (arith, cell_invariant, header_set)
 
 pub returns-in-Cfg : goal.returns-in-Cfg
 returns-in-Cfg c = grind (arith, set_config)

@@ -13,8 +13,7 @@ begins : {b : Board} {p q : Path} (n : ℕ) {s : State} {rows : List TableRow} {
 begins {b} n {s} {rows} {last} is at = subst (λ (x : Path). IsAt b (on x n) s rows last) (sym is) at
 
 placed : {b : Board} {here : Path} {h k : HostState} {e f : Enumeration} → k ≡ h → f ≡ e → IsAt b here h.state e.rows.items e.last → IsAt b here k.state f.rows.items f.last
-placed {b} {here} {h} {f = f} same_host same at =
-    subst (λ (k : HostState). IsAt b here k.state f.rows.items f.last) (sym same_host) (subst (λ (f : Enumeration). IsAt b here h.state f.rows.items f.last) (sym same) at)
+placed {b} {here} {h} {f = f} same_host same at = grind arith
 
 pushed : {b : Board} {here : Path} {s : State} {xs ys : List TableRow} {m n : ℕ} → ys ≡ xs → n ≡ m → IsAt b here s xs m → IsAt b here s ys n
 pushed {b} {here} {s} {xs} {n = n} rows last at = subst (λ (ys : List TableRow). IsAt b here s ys n) (sym rows) (subst (λ n. IsAt b here s xs n) (sym last) at)
