@@ -1,7 +1,7 @@
 -- The first value of an argument, by the rows of a parse.
-use Rattle.std.{proofs.Common.{◌≡◌, ◌⊎◌, inl, inr, ℕ, Bool, true, false, cond, List, [], ◌∷◌, Option, Some, None, map, refl, sym, ap, ◌∙◌}, specs.{Prelude.{option_map, option_and_then, find, slice_get, unwrap_or, codes, Box}, Box.box_value, Borrow.Bor, Str.bytes_eq}}
+use Rattle.std.{proofs.Common.{◌≡◌, ◌⊎◌, inl, inr, ℕ, Bool, true, false, cond, List, [], ◌∷◌, Option, Some, None, map, refl, sym, ap, ◌∙◌, arith}, specs.{Prelude.{option_map, option_and_then, find, slice_get, unwrap_or, codes, Box}, Box.box_value, Borrow.Bor, Str.bytes_eq}}
 use Rattle.clap.{specs.{declared.parser.matches.{MatchedArg.MatchedArg, Found.Found, ArgMatches.{ArgMatches, TheViews.{out-ArgMatches, out-SubCommand}}, SubCommand.SubCommand}, Walk.{Row, rows_of, row_of, stop_after}, Matches.{first_value, subcommand_name_of}, Simple.{Shape, argument_words, built, entered, names_of, rows_at, subcommand_rows, subcommand_rows_of, subcommand_of}, Faults.is_simple_and_free}, proofs.OnLiterals.clap_on_literals}
-use Rattle.command_line.specs.{Words.{pciguest_app, is_taken, subcommand, value, value_in}, Choices.{is_json, is_all, is_plain, is_strict, is_true, board_in, IsAskedBy, IsNoCommand}, declared.choice.Choice.{Choice, TheVariants.{Help, Demo, List as Lists, Check, Run, Firmware, Audit, Ready}}}
+use Rattle.command_line.specs.{Words.{pciguest_app, is_taken, subcommand, value, value_in}, Choices.{is_json, is_all, is_strict, is_true, board_in, IsAskedBy, IsNoCommand}, declared.choice.Choice.{Choice, TheVariants.{Help, Demo, List as Lists, Check, Run, Firmware, Audit, Ready}}}
 
 -- the command line is one of which all is known that a parse may answer
 pub simple : is_simple_and_free pciguest_app ≡ true
@@ -23,14 +23,7 @@ first_text (v ∷ vals) = refl
 by_entries : (id : List ℕ) (es : List Entry)
     → option_and_then (λ (a : MatchedArg). option_map (λ s. s.now) (slice_get a.vals.items 0)) (option_map (λ (e : Entry). e.1) (find (λ (e : Entry). bytes_eq e.0.now id) es)) ≡ value_in (map row_of es) id
 by_entries id [] = refl
-by_entries id (e ∷ es) = by_test (bytes_eq e.0.now id) (by_entries id es)
-  where
-    by_test : (t : Bool)
-        → option_and_then (λ (a : MatchedArg). option_map (λ s. s.now) (slice_get a.vals.items 0)) (option_map (λ (f : Entry). f.1) (find (λ (f : Entry). bytes_eq f.0.now id) es)) ≡ value_in (map row_of es) id
-        → option_and_then (λ (a : MatchedArg). option_map (λ s. s.now) (slice_get a.vals.items 0)) (option_map (λ (f : Entry). f.1) (cond t (Some e) (find (λ (f : Entry). bytes_eq f.0.now id) es)))
-        ≡ option_and_then (λ (r : Row). slice_get r.values 0) (cond t (Some (row_of e)) (find (λ (r : Row). bytes_eq r.id id) (map row_of es)))
-    by_test true h = first_text e.1.vals.items
-    by_test false h = h
+by_entries id (e ∷ es) = grind (arith, first_text, by_entries id es)
 
 -- `get_str`, by the rows
 pub first_value_is : (f : Found) (id : List ℕ) → first_value f id ≡ value_in (rows_of f) id
@@ -52,11 +45,7 @@ by_subcommand (Some p) name rows n r = (sym n, let same : rows ≡ p.1 = cc in �
 pub asked : (m : ArgMatches) (words : List (List ℕ)) (name : List ℕ) (f : Found) → subcommand_rows_of m ≡ subcommand_of pciguest_app words
     → Some name ≡ subcommand_name_of m → Some (rows_of f) ≡ option_map (λ p. p.1) (subcommand_rows_of m)
     → (subcommand words ≡ Some name) × ((id : List ℕ) → value words id ≡ first_value f id)
-asked m words name f e n r =
-    let both = by_subcommand (subcommand_of pciguest_app words) name (rows_of f)
-    (n ∙ named_by_rows (out-ArgMatches m).subcommand ∙ ap (option_map (λ (p : List ℕ × List Row). p.0)) e)
-    (r ∙ ap (option_map (λ (p : List ℕ × List Row). p.1)) e) in
-    (both.0, λ id. both.1 id ∙ sym (first_value_is f id))
+asked m words name f e n r = grind (arith, by_subcommand, named_by_rows, first_value_is)
 
 -- ---- the names of subcommands
 
@@ -116,23 +105,8 @@ pub asked_alike : {name : List ℕ} {o : Option (List ℕ)} {v w : List ℕ → 
 asked_alike same alike terminal (Help text) said = said
 asked_alike same alike terminal Demo said = same ∙ said
 asked_alike same alike terminal (Lists path json) said = (same ∙ said.0, said.1 ∙ sym (board_alike alike), said.2 ∙ sym (json_alike alike))
-asked_alike same alike terminal (Check path all plain) said = (
-  same ∙ said.0,
-  said.1 ∙ sym (board_alike alike),
-  said.2 ∙ sym (all_alike alike),
-  said.3 ∙ sym (ap (λ o. is_plain o terminal) (alike (codes "plain"))),
-)
+asked_alike same alike terminal (Check path all plain) said = grind (arith, board_alike, all_alike)
 asked_alike same alike terminal (Run path strict) said = (same ∙ said.0, said.1 ∙ sym (board_alike alike), said.2 ∙ sym (strict_alike alike))
 asked_alike same alike terminal (Firmware path strict) said = (same ∙ said.0, said.1 ∙ sym (board_alike alike), said.2 ∙ sym (strict_alike alike))
-asked_alike same alike terminal (Audit path json strict) said = (
-  same ∙ said.0,
-  said.1 ∙ sym (board_alike alike),
-  said.2 ∙ sym (json_alike alike),
-  said.3 ∙ sym (strict_alike alike),
-)
-asked_alike same alike terminal (Ready path json strict) said = (
-  same ∙ said.0,
-  said.1 ∙ sym (board_alike alike),
-  said.2 ∙ sym (json_alike alike),
-  said.3 ∙ sym (strict_alike alike),
-)
+asked_alike same alike terminal (Audit path json strict) said = grind (arith, board_alike, json_alike, strict_alike)
+asked_alike same alike terminal (Ready path json strict) said = grind (arith, board_alike, json_alike, strict_alike)

@@ -1,10 +1,9 @@
-use Rattle.std.proofs.Common.{[], sym, ◌∙◌}
+use Rattle.std.proofs.Common.{[], sym, ◌∙◌, arith}
 use Rattle.command_line.proofs.Refused.{refused_here, refused_later}
 use Rattle.command_line.proofs.usage.refused_word.Goals as goal
 
 pub returns-then-not-branch-clause-word : goal.returns-then-not-branch-clause-word
-returns-then-not-branch-clause-word c =
-    sym (refused_here c.args.words.now c.loop-end.end _ c.loop-end-test.true (sym c.in_ok-is_begun.ensures.begun ∙ c.if-not-branch.true)) ∙ c.loop-end.invariant
+returns-then-not-branch-clause-word c = grind (arith, refused_here)
 
 pub loop-end-preserved : goal.loop-end-preserved
 loop-end-preserved c =

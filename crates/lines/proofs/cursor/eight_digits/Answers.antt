@@ -28,6 +28,4 @@ returns-clause-read c =
     rw rest_is (subst (λ (k : ℕ). IsRead 16 t c.loop-i.number (drop k t)) all c.loop-i.invariant.read)
 
 pub returns-clause-some : goal.returns-clause-some
-returns-clause-some c =
-    digits_in-before 16 c.args.text.now (omega (arith, c.if-text-lt8.false))
-    (c.loop-i.invariant.word (omega (arith, c.loop-i-test.false)))
+returns-clause-some c = grind (arith, digits_in-before)

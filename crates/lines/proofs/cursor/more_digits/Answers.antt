@@ -1,12 +1,10 @@
-use Rattle.std.proofs.Common.{◌^◌, ap, sym, ◌∙◌, arith}
+use Rattle.std.proofs.Common.{◌^◌, ap, ◌∙◌, arith}
 use Rattle.model_guests.specs.Numbers.{below}
 use Rattle.lines.proofs.Cursors.{no_longer, one_longer}
 use Rattle.lines.proofs.cursor.more_digits.Goals as goal
 
 pub returns-in_default : goal.returns-in_default
-returns-in_default c =
-    let other = sym c.is_blank.ensures ∙ c.if-is_blank.false in
-    sym (no_longer (2 ^ 64) c.args.base c.loop-i.number c.loop-i.i c.args.text.now (omega arith) c.requires other c.in_default.ensures ∙ c.loop-i.invariant.read)
+returns-in_default c = grind (arith, no_longer)
 
 pub loop-i-preserved : goal.loop-i-preserved
 loop-i-preserved c =

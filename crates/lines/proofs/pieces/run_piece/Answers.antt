@@ -1,4 +1,4 @@
-use Rattle.std.proofs.Common.{◌∙◌, sym}
+use Rattle.std.proofs.Common.{◌∙◌, sym, arith}
 use Rattle.lines.proofs.{Reaching.{stops_flush, stops_kept, reaches_kept, reaches_held}, Results.{err_part, ok_part, by_flag}}
 use Rattle.lines.proofs.pieces.run_piece.Goals as goal
 
@@ -19,6 +19,4 @@ returns-clause-runs g c = λ before clean passed.
     reaches_kept (reaches_held run (rw c.text.ensures at c.in_ok-left.ensures.rest) kept.0 kept.1 kept.2) c.flush_if.ensures.bytes
 
 pub returns-clause-flushed : goal.returns-clause-flushed
-returns-clause-flushed g c =
-    by_flag c.in_ok-left.left.wrote (ok_part c.flush_if.result (sym c.is_err.ensures.value ∙ c.if-is_err.false) c.flush_if.ensures.flushed)
-    (λ untold. c.flush_if.ensures.kept untold ∙ c.in_ok-left.ensures.silent untold)
+returns-clause-flushed g c = grind (arith, by_flag, ok_part)

@@ -1,10 +1,9 @@
-use Rattle.std.proofs.Common.{Err, ap}
-use Rattle.lines.{specs.Runs.{Runs}, proofs.{Endings.{output_on, after_on, stopped_last, lacking_last}, Results.{by_stop, by_fault}}}
+use Rattle.std.proofs.Common.{Err, ap, arith}
+use Rattle.lines.{specs.Runs.Runs, proofs.{Endings.{output_on, after_on, stopped_last, lacking_last}, Results.{by_stop, by_fault}}}
 use Rattle.lines.proofs.runs.run.Goals as goal
 
 pub returns-in_err-run_pieces-clause-runs : goal.returns-in_err-run_pieces-clause-runs
-returns-in_err-run_pieces-clause-runs g c =
-    by_fault (Runs g.S.Answers.protocol c.args.server.now c.run_pieces.new.server _) c.from_residual.result _ c.from_residual.ensures.1 c.in_err-run_pieces.ensures.failed
+returns-in_err-run_pieces-clause-runs g c = grind (arith, by_fault)
 
 pub returns-in_err-run_last-clause-runs : goal.returns-in_err-run_last-clause-runs
 returns-in_err-run_last-clause-runs g c =
