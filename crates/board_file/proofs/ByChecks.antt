@@ -2,7 +2,7 @@
 --     judged      where all hold but that of cell masks
 --     refused, accepted, refused_last      what a document means by them
 --     judged_file, refused_first, means_world, means_masks      the same by the first of them that fails, if one does
-use Rattle.std.{proofs.{Common.{◌≡◌, ℕ, Bool, true, false, List, [], ◌∷◌, ◌++◌, map, Option, None, Some, Ok, Err, refl, sym, ap, subst, ◌∙◌, arith}, lemmas.Bool.and_parts}, specs.{Prelude.option_map, List.list_all}}
+use Rattle.std.{proofs.{Common.{◌≡◌, ℕ, Bool, true, false, List, [], ◌∷◌, ◌++◌, map, Option, None, Some, Ok, Err, refl, sym, ap, ◌∙◌, arith}, lemmas.Bool.and_parts}, specs.{Prelude.option_map, List.list_all}}
 use Rattle.toml.specs.Data.{Members}
 use Rattle.lists.proofs.Tests.{right_true}
 use Rattle.model_registers.specs.DeclarationRules.{first_broken}
@@ -58,9 +58,7 @@ module _ (ms : Members) (f : File) (said : f ≡ file ms) (found : Option BoardF
   refused_first e some = refused ms (number_of e) (sym first ∙ ap (option_map number_of) some)
 
   pub means_world : found ≡ None → list_all masks_hold f.endpoints ≡ true → meaning ms ≡ Ok (world_of f)
-  means_world none masks =
-      subst (λ (g : File). list_all masks_hold g.endpoints ≡ true → meaning ms ≡ Ok (world_of g)) (sym said) (accepted ms (none_failed none)) masks
+  means_world none masks = grind (arith, accepted, none_failed)
 
   pub means_masks : found ≡ None → list_all masks_hold f.endpoints ≡ false → meaning ms ≡ Err 112
-  means_masks none masks =
-      subst (λ (g : File). list_all masks_hold g.endpoints ≡ false → meaning ms ≡ Err 112) (sym said) (refused_last ms (none_failed none)) masks
+  means_masks none masks = grind (arith, refused_last, none_failed)

@@ -1,8 +1,8 @@
 -- A judged endpoint breaks no rule of declarations but that of blocks that overlap.
-use Rattle.std.{proofs.{Common.{◌≡◌, inl, inr, ℕ, ◌+◌, ◌<◌, ◌≤◌, ◌^◌, ◌==◌, ℤ, nat_abs, Bool, true, false, ◌&&◌, ◌||◌, not, cond, List, map, length, nat_le, drop, bit_and, Option, Some, None, refl, ◌∙◌, sym, arith, leb-true, le-leb, lt-ltb}, lemmas.{Bool.and_parts, List.{FromFn.length-map-range_with_len, Folds.list_all-map}}}, specs.List.list_all}
+use Rattle.std.{proofs.{Common.{◌≡◌, inl, inr, ℕ, ◌+◌, ◌<◌, ◌≤◌, ◌^◌, ◌==◌, ℤ, nat_abs, Bool, true, false, ◌&&◌, cond, List, map, length, nat_le, drop, bit_and, Option, Some, None, refl, ◌∙◌, sym, arith, leb-true, le-leb, lt-ltb}, lemmas.{Bool.and_parts, List.{FromFn.length-map-range_with_len, Folds.list_all-map}}}, specs.List.list_all}
 use Rattle.lists.{specs.Elements.all_pairs, proofs.Tests.{left_true, right_true, asked_true}}
 use Rattle.model_registers.specs.DeclarationRules.{first_broken, endpoint_rules, blocks_apart}
-use Rattle.board_file.{specs.{Entries.{Bar, Config, Endpoint, Patterns, File}, Blocks.block_cells, Functions.{region, config_block, endpoint_values}, Rules.{is_between, has_only_bits, is_size}, EntryRules.{has_indices, endpoint_numbers, value_rules, bar_rules}, Judged.{kept, keeps, is_region, is_config_block, is_declarable, is_lawful_bridge, HasSmallNumbers, is_judged}, declared.rule.Rule.Rule}, proofs.{Asked.{unbroken, numbers, registers, sizes}, Tests.{first_three, imply_all, all-both}}}
+use Rattle.board_file.{specs.{Entries.{Bar, Config, Endpoint, Patterns, File}, Blocks.block_cells, Functions.{region, config_block, endpoint_values}, Rules.{is_between, has_only_bits, is_size}, EntryRules.{endpoint_numbers, value_rules, bar_rules}, Judged.{kept, keeps, is_region, is_config_block, is_declarable, is_lawful_bridge, HasSmallNumbers, is_judged}, declared.rule.Rule.Rule}, proofs.{Asked.{unbroken, numbers, registers, sizes}, Tests.{first_three, imply_all, all-both}}}
 use Rattle.model_registers.specs.DeclarationRules as rules
 use Rattle.board_file.specs.EntryRules as asked
 use Rattle.board_file.specs.declared.fault.BoardFault.TheVariants as fault
@@ -65,10 +65,7 @@ module _ (e : Endpoint) (h : is_declarable e ≡ true) where
   configs_of = numbers_of.2
 
   own_of : rules.has_own_registers (map region e.bars) ≡ true
-  own_of =
-      asked_true (has_indices e) (rules.has_own_registers (map region e.bars))
-      (imply_all (λ b. kept (bar_rules fault.Register b)) (λ b. is_between 0 5 b.index) (λ b k. left_true (is_between 0 5 b.index) true k) e.bars registers_of.1)
-      (left_true (not (has_indices e) || rules.has_own_registers (map region e.bars)) true registers_of.0)
+  own_of = grind (arith, asked_true, imply_all, left_true, registers_of)
 
 -- ---- regions and own registers
 
@@ -123,5 +120,4 @@ all_declarable f j =
     (sym (registers f) ∙ unbroken f j fault.Register (inr (inr (inr (inl refl))))) (sym (sizes f) ∙ unbroken f j fault.Size (inr (inr (inr (inr (inl refl))))))
 
 pub all_bridges : (f : File) → is_judged f ≡ true → list_all is_lawful_bridge f.bridges ≡ true
-all_bridges f j =
-    right_true (list_all (keeps fault.Number) f.endpoints) (list_all is_lawful_bridge f.bridges) (sym (numbers f) ∙ unbroken f j fault.Number (inl refl))
+all_bridges f j = grind (arith, right_true, numbers, unbroken)

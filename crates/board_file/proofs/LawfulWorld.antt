@@ -1,5 +1,5 @@
 -- The world of a judged file is lawful.
-use Rattle.std.{proofs.{Common.{◌≡◌, ◌⊎◌, inl, inr, ℕ, ◌+◌, ◌≤◌, Bool, true, false, ◌&&◌, ◌||◌, not, cond, List, [], ◌∷◌, map, length, nat_le, Option, Some, None, refl, sym, ap, ◌∙◌, subst, arith, leb-true, IsTrue, IsFalse, IsSome}, lemmas.{Bool.{and_parts, not-true, or_cases}, List.{length-map, map-append}, Simd.map-map}}, specs.{Prelude.{find, flat_map}, List.{list_all, list_any, enumerate_from}, Option.option_map_or, Str.bytes_eq}}
+use Rattle.std.{proofs.{Common.{◌≡◌, ◌⊎◌, inl, inr, ℕ, ◌+◌, ◌≤◌, Bool, true, false, ◌&&◌, ◌||◌, not, List, [], ◌∷◌, map, length, nat_le, refl, sym, ap, ◌∙◌, subst, arith, leb-true, IsTrue, IsFalse, IsSome}, lemmas.{Bool.{and_parts, not-true, or_cases}, List.{length-map, map-append}, Simd.map-map}}, specs.{Prelude.flat_map, List.{list_all, list_any, enumerate_from}, Str.bytes_eq}}
 use Rattle.lists.{specs.Elements.{IsIn, Each, EachPair, all_pairs}, proofs.{EachLemmas.{each_map, each_of_map, each_from_map, each_test, pairs_map, pairs_from_map, pairs_test}, Members.{all_in, each_from, pairs_of_map, pairs_weaker}, Tests.{left_true, right_true}}}
 use Rattle.model_board.{specs.{Paths.{Path, IsPath, path_eq, parent, function_zero}, Board.{Decl, Row, Board, IsBoard, is_bridge, stands_at, is_bridge_at}, Places.{Standing, standing, has_path, has_bridge, board_of, IsFounded, AreLawfulPlaces}, Lawful.{HasLawfulDecls, IsLawfulDecl}, State.{row_at, State}, AtReset.{reset_state, reset_file, board_at, IsAtReset}}, proofs.PlacesLaw.{any_board, apart_turn, each_to_board, lawful_places_are_boards}}
 use Rattle.model_guests.specs.World.{is_name, declared, HasLawfulGuests, IsLawfulWorld}
@@ -80,12 +80,7 @@ bridges rs p = any_map (λ s. s.is_bridge && path_eq s.path p) standing rs ∙ s
 -- where a function stands and no bridge does, an endpoint is declared
 finds : (b : Board) (p : Path) → stands_at b p ≡ true → is_bridge_at b p ≡ false → IsSome (declared b p)
 finds [] p h k = cc
-finds (r ∷ b) p h k = by_case r.decl (path_eq r.path p) h k (finds b p)
-  where
-    by_case : (d : Decl) (t : Bool) → (t || stands_at b p) ≡ true → ((is_bridge d && t) || is_bridge_at b p) ≡ false
-        → (stands_at b p ≡ true → is_bridge_at b p ≡ false → IsSome (declared b p))
-        → IsSome (option_map_or world.endpoint_of (cond {A = Option Row} t (Some (record { path = r.path; decl = d })) (find (λ r. path_eq r.path p) b)) None)
-    by_case d t h k more = grind arith
+finds (r ∷ b) p h k = grind (arith, finds b p)
 
 names_slot : (f : File) (t : List ℕ) → names_endpoint (standings f) t ≡ true → IsSome (declared (board_of (rows f)) (path_at t))
 names_slot f t h =
@@ -97,9 +92,7 @@ names_slot f t h =
     finds (board_of (rows f)) (path_at t) (sym (stands (rows f) (path_at t)) ∙ there') (sym (bridges (rows f) (path_at t)) ∙ bridge')
 
 slots_named : (f : File) → list_all (λ s. names_endpoint (standings f) s.1) (slot_texts f) ≡ true → Each (λ p. IsSome (declared (board_of (rows f)) p)) (map path_in (slot_texts f))
-slots_named f h =
-    each_of_map (λ p. IsSome (declared (board_of (rows f)) p)) path_in (slot_texts f)
-    (each_from (λ s. IsSome (declared (board_of (rows f)) (path_in s))) (slot_texts f) (λ s m. names_slot f s.1 (all_in (λ t. names_endpoint (standings f) t.1) s (slot_texts f) h m)))
+slots_named f h = grind (arith, each_of_map, each_from, names_slot, all_in)
 
 -- ---- guests
 
@@ -109,9 +102,7 @@ slot_paths n (g ∷ gs) = simp (map-append, map-map, unnumbered path_at 0 g.slot
 
 module _ (f : File) (j : is_judged f ≡ true) where
   counts_of : (length f.guests ≤ 32) × (list_all (λ g. nat_le (length g.slots) 32) f.guests ≡ true)
-  counts_of =
-      let (functions, guests, endpoints, more) = first_three _ _ _ _ (sym (counts f) ∙ unbroken f j fault.TooMany (inr (inl refl))) in
-      (leb-true (length f.guests) 32 guests, right_true _ _ more)
+  counts_of = grind (arith, first_three, counts, unbroken, leb-true, right_true)
 
   names_of : (list_all (λ g. is_name g.name) f.guests ≡ true) × (all_pairs (λ g h. not (bytes_eq g.name h.name)) f.guests ≡ true)
   names_of = and_parts _ _ (sym (names f) ∙ unbroken f j fault.GuestName (inr (inr (inr (inr (inr (inl refl)))))))

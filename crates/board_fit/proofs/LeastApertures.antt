@@ -1,7 +1,7 @@
 -- The least aperture in which a pool fits: what a pool takes of an aperture goes by the first address of the aperture alone.
 use Rattle.std.{proofs.{Common.{◌≡◌, ℕ, zero, suc, ◌+◌, ◌-◌, ◌%◌, ◌^◌, ◌<◌, ◌≤◌, Bool, true, false, List, [], ◌∷◌, Option, Some, None, option_map, refl, sym, ap, subst, ◌∙◌, arith}, lemmas.{Bool.{lt-ltb, le-ltb, leb-true, leb-false, le-leb}, List.Elements.filter_agree, Nat.div-add-mod'}, Math.Nat.{div-lt_iff_lt-mul, mul-le-mul_right, suc-mul}}, specs.Prelude.{nat_lt, nat_le, MatchOption, if◌then◌else◌}}
 use Rattle.model_registers.specs.{Declarations.{Kind, Bridge}, Apertures.{Aperture, Apertures, IsOfUnits, IsLawfulApertures}}
-use Rattle.model_board.specs.{Paths.Path, Board.{Decl, Board, rows_on}}
+use Rattle.model_board.specs.{Paths.Path, Board.{Decl, Board}}
 use Rattle.model_set_up.{specs.{Pools.{Pool, io_pool, mem_pool, pref_pool, unit_of, pool_of, aperture_of}, Placement.{Item, in_order, end_from, round_up, alignment, items_of, items_within, items_on, root_first, fits_items, fits}}, proofs.Packing.{unit_positive, round_up_not_before, round_up_is_multiple}}
 use Rattle.window_packing.specs.{declared.pool_uses.PoolUse.PoolUse, Uses.told_use}
 use Rattle.board_fit.{proofs.PoolsOfRegions.flat_map_alike, specs.LeastApertures.{with_aperture, Holds, IsLeast, HoldsNone, IsLeastAperture}}
@@ -49,9 +49,7 @@ module _ (b : Board) (a c : Apertures) (pool : Pool) (alike : (above : List Brid
 
   items_alike : (n : ℕ) (bus : Path) → items_within b a pool n bus ≡ items_within b c pool n bus
   items_alike zero bus = refl
-  items_alike (suc n) bus =
-      flat_map_alike (items_of b a pool (items_within b a pool n)) (items_of b c pool (items_within b c pool n)) (rows_on b bus)
-      (λ r. row_alike (items_within b a pool n) (items_within b c pool n) (items_alike n) r.path r.decl)
+  items_alike (suc n) bus = grind (arith, flat_map_alike, row_alike, items_alike n)
 
 -- ---- what fits
 

@@ -3,10 +3,10 @@ use Rattle.std.proofs.lemmas.Grind.{common_steps}
 use Rattle.std.{proofs.{Common.{◌≡◌, ◌≢◌, ◌⊎◌, inl, inr, ℕ, ◌+◌, Bool, true, false, ◌&&◌, ◌||◌, not, cond, List, [], ◌∷◌, ◌++◌, map, Option, Some, None, refl, sym, ap, ◌∙◌, arith}, lemmas.{Bool.{both_ways, leb-false, lt-ltb, false_from_ne_true}, List.Sums.sum_by-cons}}, specs.{Prelude.{filter, flat_map}, Option.option_map_or, List.{list_all, list_any, enumerate_from}}}
 use Rattle.lists.{specs.Elements.Each, proofs.{EachLemmas.each_append, Members.{each_in, any_in, from_any, all_from, from_flat_map, from_filter, from_map}}}
 use Rattle.model_registers.specs.Declarations.{IoDecode}
-use Rattle.model_board.{specs.{Paths.{Path, path_before, leads_to}, Board.{Row, Board, is_bridge}, BusNumbers.{bridge_count, numbers_suffice}, Places.{row_inserted, board_of}}, proofs.PlacesLaw.each_to_board}
+use Rattle.model_board.{specs.{Paths.Path, Board.{Row, Board, is_bridge}, BusNumbers.{bridge_count, numbers_suffice}, Places.{row_inserted, board_of}}, proofs.PlacesLaw.each_to_board}
 use Rattle.model_set_up.specs.Pools.{opens_io, has_io, bridges_above, has_io_paths}
 use Rattle.board_file.{specs.{Entries.{Bar, Bridge, Endpoint, File}, Functions.{endpoint_row, bridge_row, rows}, PathTexts.path_at}, proofs.{FirstBroken.{alone, broken_at}, Searches.{position_none, not_empty, both_empty}}}
-use Rattle.board_fit.{specs.{ReasonLaws.ReasonsAreTold, Reaches.all_above, Misfits.{is_io, is_closed, closes, first_closed, closed_region, closed_bars, closed_in, closed_regions, bridge_too_many}}, proofs.PoolsOfRegions.by_file}
+use Rattle.board_fit.{specs.{ReasonLaws.ReasonsAreTold, Reaches.all_above, Misfits.{is_io, is_closed, first_closed, closed_region, closed_bars, closed_in, closed_regions, bridge_too_many}}, proofs.PoolsOfRegions.by_file}
 use Rattle.model_registers.specs.Declarations as declared
 
 -- ---- bridges
@@ -16,10 +16,7 @@ one r = cond (is_bridge r.decl) 1 0
 
 count_inserted : (r : Row) (b : Board) → bridge_count (row_inserted r b) ≡ one r + bridge_count b
 count_inserted r [] = sum_by-cons one r []
-count_inserted r (s ∷ b) = in_place (path_before s.path r.path) (count_inserted r b)
-  where
-    in_place : (t : Bool) → bridge_count (row_inserted r b) ≡ one r + bridge_count b → bridge_count (cond t (s ∷ row_inserted r b) (r ∷ s ∷ b)) ≡ one r + bridge_count (s ∷ b)
-    in_place t more = grind (arith, common_steps, sum_by-cons)
+count_inserted r (s ∷ b) = grind (arith, common_steps, sum_by-cons, count_inserted r b)
 
 count_board : (rs : List Row) → bridge_count (board_of rs) ≡ bridge_count rs
 count_board [] = refl
@@ -39,9 +36,7 @@ passed : (t : Bool) (d : IoDecode) → (is_closed d && t) ≡ false → (not t |
 passed t d h = grind arith
 
 all_open : (bs : List Bridge) (p : Path) → first_closed bs p ≡ None → all_above (λ b. has_io b.io) bs p ≡ true
-all_open bs p h =
-    all_from (λ (b : Bridge). not (leads_to (path_at b.at) p) || has_io b.io) bs
-    (λ b m. passed (leads_to (path_at b.at) p) b.io (position_none (closes p) bs b m h))
+all_open bs p h = grind (arith, all_from, passed, position_none)
 
 -- an endpoint has no regions of I/O, where none is named behind a bridge
 no_io_bars : (i k n : ℕ) (bars : List Bar) → map (closed_region i k) (filter (λ p. is_io p.1.kind) (enumerate_from n bars)) ≡ [] → list_any (λ (b : Bar). is_io b.kind) bars ≡ false

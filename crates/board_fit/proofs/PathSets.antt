@@ -64,9 +64,7 @@ in_slot : (at s : List ℕ) (ps : List (List ℕ)) (t rest : Bool)
     → (is_path_text at && list_any (eq_by_cmp path_cmp (path_at at)) (map path_at ps)) ≡ rest
     → (is_path_text at && list_any (eq_by_cmp path_cmp (path_at at)) (map path_at (cond t (s ∷ ps) ps)))
     ≡ ((t && is_path_text at && path_eq (path_at s) (path_at at)) || rest)
-in_slot at s ps true rest h =
-    met (is_path_text at) (eq_by_cmp path_cmp (path_at at) (path_at s)) (list_any (eq_by_cmp path_cmp (path_at at)) (map path_at ps)) rest h
-    ∙ ap (λ (b : Bool). (is_path_text at && b) || rest) (same_is (path_at at) (path_at s))
+in_slot at s ps true rest h = grind (arith, met, same_is)
 in_slot at s ps false rest h = h
 
 in_slots : (at : List ℕ) (ss : List (List ℕ))
@@ -83,8 +81,7 @@ in_one P s ps qs false rest h = h
 in_both : (P : Path → Bool) (ss ts : List (List ℕ)) → list_any P (map path_at (filter is_path_text (ss ++ ts)))
     ≡ (list_any P (map path_at (filter is_path_text ss)) || list_any P (map path_at (filter is_path_text ts)))
 in_both P [] ts = refl
-in_both P (s ∷ ss) ts =
-    in_one P s (filter is_path_text ss) (filter is_path_text (ss ++ ts)) (is_path_text s) (list_any P (map path_at (filter is_path_text ts))) (in_both P ss ts)
+in_both P (s ∷ ss) ts = grind (arith, in_one, in_both P ss ts)
 
 in_guests : (at : List ℕ) (gs : List Guest)
     → (is_path_text at && list_any (eq_by_cmp path_cmp (path_at at)) (given_paths gs)) ≡ is_given gs at

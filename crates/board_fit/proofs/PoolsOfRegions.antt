@@ -1,11 +1,11 @@
 -- The regions of a pool by the bridges of a file, and by those of its board.
-use Rattle.std.{proofs.{Common.{◌≡◌, ℕ, Bool, true, false, ◌&&◌, ◌||◌, not, cond, List, [], ◌∷◌, ◌++◌, map, refl, sym, ap, ◌∙◌, arith}, Math.Bool.{and_assoc, and_comm}}, specs.{Prelude.flat_map, List.{list_all, enumerate_from}}}
+use Rattle.std.{proofs.{Common.{◌≡◌, ℕ, Bool, true, false, ◌&&◌, ◌||◌, not, List, [], ◌∷◌, ◌++◌, map, refl, ◌∙◌, arith}, Math.Bool.{and_assoc, and_comm}}, specs.{Prelude.flat_map, List.{list_all, enumerate_from}}}
 use Rattle.model_registers.specs.{Apertures.Apertures, Declarations.Kind}
-use Rattle.model_board.specs.{Paths.{Path, path_before, leads_to}, Board.{Decl, endpoint, bridge, Row, Board}, Places.{row_inserted, board_of}}
-use Rattle.model_set_up.specs.Pools.{same_pool, has_pref, has_pref64, bridges_above, pool_of}
+use Rattle.model_board.specs.{Paths.{Path, leads_to}, Board.{Decl, endpoint, bridge, Row, Board}, Places.{row_inserted, board_of}}
+use Rattle.model_set_up.specs.Pools.{has_pref, has_pref64, bridges_above, pool_of}
 use Rattle.board_file.specs.{Entries.{Bridge, Endpoint, File}, Functions.{endpoint_row, bridge_row, rows}, PathTexts.path_at}
 use Rattle.window_packing.specs.{declared.pool.Pool.Pool, Plans.named_pool}
-use Rattle.board_fit.specs.{PoolRegions.{region_at, region_in, regions_in, pool_regions}, Reaches.{has_pref_entry, has_pref64_entry, all_above, reaches_of, pool_by, region_by, endpoint_by}}
+use Rattle.board_fit.specs.{PoolRegions.{region_in, regions_in, pool_regions}, Reaches.{has_pref_entry, has_pref64_entry, all_above, reaches_of, pool_by, endpoint_by}}
 use Rattle.model_registers.specs.Declarations as declared
 
 -- ---- a test of all bridges above a path
@@ -25,11 +25,7 @@ module _ (q : declared.Bridge → Bool) (p : Path) where
   -- in whatever order the rows stand
   inserted_passes : (r : Row) (b : Board) → passes (row_inserted r b) ≡ passes (r ∷ b)
   inserted_passes r [] = refl
-  inserted_passes r (s ∷ b) = in_place (path_before s.path r.path) (inserted_passes r b)
-    where
-      in_place : (t : Bool) → passes (row_inserted r b) ≡ passes (r ∷ b) → passes (cond t (s ∷ row_inserted r b) (r ∷ s ∷ b)) ≡ passes (r ∷ s ∷ b)
-      in_place true again = grind (arith, more, and_assoc, and_comm)
-      in_place false again = refl
+  inserted_passes r (s ∷ b) = grind (arith, more, and_assoc, and_comm, inserted_passes r b)
 
   in_any_order : (rs : List Row) → passes (board_of rs) ≡ passes rs
   in_any_order [] = refl
@@ -69,9 +65,7 @@ flat_map_alike f g (x ∷ xs) h = grind (arith, flat_map_alike f g xs)
 -- those of an endpoint
 of_endpoint : (f : File) (a : Apertures) (pool : Pool) (x : ℕ × Endpoint) → endpoint_by f a (named_pool pool) x ≡ regions_in f a pool x
 unfolding endpoint_by regions_in region_in
-of_endpoint f a pool (i, e) =
-    sym (flat_map_alike (region_in f a pool i e) (region_by (named_pool pool) (reaches_of a.pref f.bridges (path_at e.at) false) (reaches_of a.pref f.bridges (path_at e.at) true) i) (enumerate_from 0 e.bars)
-    (λ x. ap (λ (t : Bool). cond t (region_at i x.0 x.1 ∷ []) []) (ap (λ q. same_pool q (named_pool pool)) (pool_of_file f (path_at e.at) a x.1.kind))))
+of_endpoint f a pool (i, e) = grind (arith, flat_map_alike, pool_of_file)
 
 pub all_regions : (f : File) (a : Apertures) (pool : Pool) → flat_map (endpoint_by f a (named_pool pool)) (enumerate_from 0 f.endpoints) ≡ pool_regions f a pool
 all_regions f a pool = flat_map_alike (endpoint_by f a (named_pool pool)) (regions_in f a pool) (enumerate_from 0 f.endpoints) (of_endpoint f a pool)

@@ -33,10 +33,7 @@ one_more n pre x true e none few = grind (arith, common_steps, count_none, posit
 counted : (n : ℕ) (all pre xs : List Bar) (from : ℕ) → all ≡ pre ++ xs → from ≡ length pre → first_some (taker_at all) (enumerate_from from xs) ≡ None
     → count_by (uses_it n) pre ≤ 1 → count_by (uses_it n) all ≤ 1
 counted n all pre [] from is at h few = grind (arith, append-nil)
-counted n all pre (x ∷ xs) from is at h few =
-    let before : take from all ≡ pre = grind (arith, take-append_seam) in
-    let still : count_by (uses_it n) (pre ++ x ∷ []) ≤ 1 = grind (arith, sum_by_push, one_more) in
-    counted n all (pre ++ x ∷ []) xs (from + 1) (grind (arith, append_assoc)) (omega (arith, length-append pre (x ∷ []))) (grind arith) still
+counted n all pre (x ∷ xs) from is at h few = grind (arith, take-append_seam, sum_by_push, one_more, append_assoc, length-append, counted n all (pre ++ x ∷ []) xs (from + 1))
 
 pub no_takers : (bs : List Bar) → first_taker bs ≡ None → has_own_registers (map region bs) ≡ true
 no_takers bs h =

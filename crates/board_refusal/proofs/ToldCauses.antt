@@ -1,9 +1,9 @@
 -- Of each problem of registers and of cell masks something is said beyond the words of its rule.
-use Rattle.std.{proofs.Common.{◌≡◌, ◌≢◌, inl, inr, ℕ, suc, ◌+◌, Bool, true, false, ◌||◌, not, List, [], ◌∷◌, ◌++◌, take, map, Option, Some, None, option_map, is_some, refl, sym, ap, subst, ◌∙◌, arith}, specs.{Prelude.{filter, slice_get, nat_abs}, List.{flat_map, list_all, enumerate_from}, Option.option_map_or}}
+use Rattle.std.{proofs.Common.{◌≡◌, ◌≢◌, inl, inr, ℕ, suc, ◌+◌, Bool, true, false, ◌||◌, not, List, [], ◌∷◌, ◌++◌, take, map, Option, Some, None, option_map, is_some, refl, sym, ap, subst, ◌∙◌, arith}, specs.{Prelude.{filter, slice_get}, List.{flat_map, list_all, enumerate_from}, Option.option_map_or}}
 use Rattle.lists.{specs.Elements.IsIn, proofs.Members.{front_or_back, from_flat_map, from_filter, all_in}}
 use Rattle.toml.specs.Data.{Members, get_member}
 use Rattle.model_registers.specs.DeclarationRules.{has_own_registers}
-use Rattle.board_file.{specs.{Entries.{Patterns, Bar, Config, Endpoint, Bridge, Guest, File, file}, Functions.{region, standings}, PathEntries.{path_texts, path_entries}, Blocks.is_block, RuleFaults.key_of, EntryRules.{file_rules, host_rules, path_rules, endpoint_rules, has_indices, bar_rules, config_rules, are_apart, bridge_rules, guest_rules}, Problems.{Found, unless_kept, broken, of_bar, of_config, of_endpoint, of_bridge, of_guest, of_values, of_path, problems_in}, KeyProblems.{tables_of, unless_kept_at, of_field, of_member, keys_in, of_table, of_entry, problems_of}, Schema.{Field, fields, form_at, has_form}, Tables.{level_of, table_at}, declared.{schema.Level.Level, fault.BoardFault.BoardFault, rule.Rule.Rule, entry.Entry.Entry}}, proofs.Searches.{no_position, not_empty, both_empty}}
+use Rattle.board_file.{specs.{Entries.{Patterns, Bar, Config, Endpoint, Bridge, Guest, File, file}, Functions.{region, standings}, PathEntries.{path_texts, path_entries}, RuleFaults.key_of, EntryRules.{file_rules, host_rules, path_rules, endpoint_rules, has_indices, bar_rules, config_rules, are_apart, bridge_rules, guest_rules}, Problems.{Found, unless_kept, broken, of_bar, of_config, of_endpoint, of_bridge, of_guest, of_values, of_path, problems_in}, KeyProblems.{tables_of, unless_kept_at, of_field, of_table, of_entry, problems_of}, Schema.{Field, fields, has_form}, Tables.{level_of, table_at}, declared.{schema.Level.Level, fault.BoardFault.BoardFault, rule.Rule.Rule, entry.Entry.Entry}}, proofs.Searches.{no_position, not_empty, both_empty}}
 use Rattle.diagnostics.specs.declared.entry_places.Other.{Other}
 use Rattle.board_refusal.{specs.{declared.placed_breach.PlacedBreach.PlacedBreach, Spoiling.is_clear, AllProblems.{with_check, all_from, later_checks}, PatternCauses.masks_text, RegisterCauses.taker_of, Others.other_of, Causes.{own_text, others_text, cause_text}, Telling.{found_in, IsTold}, CauseLaws.{needs_cause, CausesAreTold}}, proofs.Takers.no_takers}
 use Rattle.board_file.specs.declared.fault.BoardFault.TheVariants as fault
@@ -90,19 +90,11 @@ module _ (f : File) (i : ℕ) (e : Endpoint) (at : slice_get f.endpoints i ≡ S
   a_taker broken none = grind (arith, no_takers)
 
   endpoint_caused : (fault : BoardFault) → AllCaused f (broken (entry.Endpoint i) (endpoint_rules fault e))
-  endpoint_caused fault.Register =
-      each_rule f (entry.Endpoint i) (endpoint_rules fault.Register e)
-      (λ r there. let it = alone r rule.OwnRegisters (not (has_indices e) || has_own_registers (map region e.bars)) there in
-      subst (Reason f (entry.Endpoint i)) (sym it.0) (by_region (a_taker it.1)))
+  endpoint_caused fault.Register = grind (arith, each_rule, alone, a_taker)
   endpoint_caused fault = no_cause f (entry.Endpoint i) (endpoint_rules fault e) refl
 
   bar_masks_caused : (j : ℕ) (b : Bar) → slice_get e.bars j ≡ Some b → AllCaused f (broken (entry.Bar i j) (bar_rules fault.CellMasks b))
-  bar_masks_caused j b there =
-      each_rule f (entry.Bar i j) (bar_rules fault.CellMasks b)
-      (λ r m. subst (Reason f (entry.Bar i j)) (sym (alone r rule.BarMasks (is_block (nat_abs b.block) b.patterns) m).0) (by_itself patterns))
-    where
-      patterns : (k : List ℕ) → own_text f (entry.Bar i j) rule.BarMasks k ≢ []
-      patterns k h = grind (arith, masks_said)
+  bar_masks_caused j b there = grind (arith, each_rule, alone, masks_said)
 
   bar_caused : (fault : BoardFault) (j : ℕ) (b : Bar) → slice_get e.bars j ≡ Some b → AllCaused f (broken (entry.Bar i j) (bar_rules fault b))
   bar_caused fault.CellMasks j b there = bar_masks_caused j b there
@@ -196,8 +188,7 @@ module _ (f : File) (ms : Members) where
       of_all f (of_field e t) (fields l)
       (λ d m. both f (unless_kept_at e d.key rule.Needed (is_there t d)) (unless_kept_at e d.key rule.Form (is_formed t d))
       (kept_caused f e d.key rule.Needed (is_there t d) refl) (kept_caused f e d.key rule.Form (is_formed t d) refl))
-  table_caused fault.UnknownKey e l t =
-      of_all f (of_member e l) (keys_in t) (λ k m. kept_caused f e k rule.Known (is_some (form_at k (fields l))) refl)
+  table_caused fault.UnknownKey e l t = grind (arith, of_all, kept_caused, is_some)
   table_caused _ e l t = λ x m need. absurd m
 
   entry_caused : (fault : BoardFault) (e : Entry) (l : Option Level) (t : Option Members)
