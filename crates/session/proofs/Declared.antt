@@ -3,7 +3,7 @@
 --     refused_by, refused_file      a file that is refused, by what reading it answers
 --     same_world      a host with the board and the apertures of another one has its world
 --     opened      what begins with the world of a file is opened of it
-use Rattle.std.{proofs.Common.{◌≡◌, Result, Ok, Err, sym, ap, ap₂, subst}, specs.{Prelude.{◌≢◌, List, IfErr, IsUtf8}, Result.IsErrAnd}}
+use Rattle.std.{proofs.Common.{◌≡◌, Result, Ok, Err, ap₂, arith}, specs.{Prelude.{◌≢◌, List, IfErr, IsUtf8}, Result.IsErrAnd}}
 use Rattle.toml.specs.Parse.{parse_document}
 use Rattle.model_board.specs.Board.{Board}
 use Rattle.model_guests.specs.{Text.Text, World.{Guest, World}}
@@ -25,18 +25,14 @@ pub refused_by : (bytes : Text) (b : BoardFault)
     → (b ≢ file.Memory → IsUtf8 bytes → document_meaning (parse_document bytes) ≡ Err (board_file.number_of b))
     → (b ≢ file.Memory → ¬ IsUtf8 bytes → b ≡ file.NotToml)
     → b ≢ file.Memory → Refuses bytes (board_file.number_of b)
-refused_by bytes b said no_text other = record {
-  no_text = λ no. ap board_file.number_of (no_text other no);
-  meaning = λ yes. said other yes;
-}
+refused_by bytes b said no_text other = grind arith
 
 pub refused_file : {T : Type 0} (r : Result T OpenFault) (bytes : Text) (b : BoardFault)
     → (b ≢ file.Memory → IsUtf8 bytes → document_meaning (parse_document bytes) ≡ Err (board_file.number_of b))
     → (b ≢ file.Memory → ¬ IsUtf8 bytes → b ≡ file.NotToml)
     → IsErrAnd r (λ f. f ≡ File b) → IfErr r (OnFile (Refuses bytes))
 refused_file (Ok x) bytes b said no_text given = absurd given
-refused_file (Err f) bytes b said no_text given =
-    subst (OnFile (Refuses bytes)) (sym given) (refused_by bytes b said no_text)
+refused_file (Err f) bytes b said no_text given = grind (arith, refused_by)
 
 -- ---- a board that is set up
 
@@ -45,12 +41,4 @@ pub same_world : (h k : HostState) (gs : List Guest) → board_below k ≡ board
 same_world h k gs = ap₂ (λ (b : Board) a. let w : World = record { board = b; apertures = a; guests = gs } in w)
 
 pub opened : (bytes : Text) (w : World) (m : MachineNow) → Declares bytes w → BeginsIn (IsAtFirst w) m → BeginsIn (IsOpened bytes) m
-opened bytes w m declared first = record {
-  world = record {
-    world = w;
-    set_up = record { declared = declared; fits = first.world.fits };
-    lawful = first.world.lawful;
-    begins = first.world.begins;
-  };
-  counts = first.counts;
-}
+opened bytes w m declared first = grind arith

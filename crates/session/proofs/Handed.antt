@@ -1,10 +1,10 @@
 -- Whatever firmware does, the board stays the one that it was, in a state that may be handed over.
 --     at_first      a board at reset
 --     IsAsked, asked_at      the board after an access, by what the code keeps of it
-use Rattle.std.{proofs.{Common.{◌≡◌, ◌||◌, ℕ, Bool, true, false, List, Option, None, Some, refl, sym, ap, ap₂, ◌∙◌, subst}, lemmas.Bool.or_parts}, specs.Option.option_map_or}
-use Rattle.model_board.specs.{AtReset.{board_at, reset_state}, Board.Board, State.State}
-use Rattle.model_guests.specs.{Accesses.{Reply, reads, refused, answered}, Grammar.HostTarget, World.{Guest, World, IsLawfulWorld}}
-use Rattle.model_lines.{specs.{HostAccesses.{HostAccess, fault_of, answer, after_access}, Sessions.{DrivenNow, at_reset, is_done, after_board_access}}, proofs.{FirmwareLeaves.access_leaves, Written.accesses_tell_written}}
+use Rattle.std.{proofs.{Common.{◌≡◌, ◌||◌, ℕ, Bool, true, false, List, Option, None, Some, refl, sym, ap, ap₂, ◌∙◌, subst, arith}, lemmas.Bool.or_parts}, specs.Option.option_map_or}
+use Rattle.model_board.specs.{AtReset.{board_at, reset_state}, State.State}
+use Rattle.model_guests.specs.{Accesses.{reads, refused, answered}, Grammar.HostTarget, World.{Guest, World, IsLawfulWorld}}
+use Rattle.model_lines.{specs.{HostAccesses.{HostAccess, answer, after_access}, Sessions.{DrivenNow, at_reset, is_done, after_board_access}}, proofs.{FirmwareLeaves.access_leaves, Written.accesses_tell_written}}
 use Rattle.model_handoff.specs.Handoffs.{IsHandoff}
 use Rattle.host_bridge.specs.HostState.{HostState}
 use Rattle.monitor.specs.Beginnings.{world_on}
@@ -12,11 +12,7 @@ use Rattle.session.specs.{Boards.{board_now, IsBoardNow}, Hosts.after_asked}
 
 pub at_first : (h : HostState) (gs : List Guest) → IsLawfulWorld (world_on h gs)
     → IsHandoff h.state → h.state ≡ reset_state (board_at h.state.functions) → IsBoardNow (board_now h gs false)
-at_first h gs lawful handoff reset = record {
-  lawful = lawful;
-  handoff = handoff;
-  untouched = λ none. ap (λ (s : State). let b : DrivenNow = record { world = world_on h gs; state = s; written = false } in b) reset;
-}
+at_first h gs lawful handoff reset = grind arith
 
 -- ---- an access
 
@@ -33,8 +29,7 @@ asked_of b a was = record {
 }
 
 world_stays : (h : HostState) (gs : List Guest) (a : HostAccess) → IsHandoff h.state → world_on (after_asked h a) gs ≡ world_on h gs
-world_stays h gs a handoff =
-    ap (λ (b : Board). let w : World = record { board = b; apertures = h.apertures; guests = gs } in w) (access_leaves h.state handoff a).board
+world_stays h gs a handoff = grind (arith, access_leaves)
 
 now_asked : (h k : HostState) (gs : List Guest) (t u : Bool) (a : HostAccess) → IsHandoff h.state → k ≡ after_asked h a
     → u ≡ (t || is_done (answer h.state a)) → board_now k gs u ≡ after_board_access (board_now h gs t) a
@@ -54,11 +49,11 @@ asked_at h k gs t u a was after written =
 
 -- ---- what was written
 
-none_more : (t u : Bool) → u ≡ false → t ≡ (t || u)
+pub none_more : (t u : Bool) → u ≡ false → t ≡ (t || u)
 none_more true u none = refl
 none_more false u none = sym none
 
-one_more : (t u : Bool) → u ≡ true → true ≡ (t || u)
+pub one_more : (t u : Bool) → u ≡ true → true ≡ (t || u)
 one_more true u one = refl
 one_more false u one = sym one
 
@@ -67,13 +62,4 @@ answers_no_write None v w = refl
 answers_no_write (Some n) v w = refl
 
 pub read_writes_none : (t : Bool) (s : State) (w : ℕ) (at : HostTarget) → let a : HostAccess = record { target = at; width = w; op = reads } in t ≡ (t || is_done (answer s a))
-read_writes_none t s w at =
-    let a : HostAccess = record { target = at; width = w; op = reads } in
-    none_more t (is_done (answer s a)) (answers_no_write (fault_of a) _ w)
-
--- by the reply to a write
-pub written_by : (t : Bool) (s : State) (a : HostAccess) (r : Reply) → r ≡ answer s a → is_done r ≡ true → true ≡ (t || is_done (answer s a))
-written_by t s a r reply one = one_more t (is_done (answer s a)) (ap is_done (sym reply) ∙ one)
-
-pub unwritten_by : (t : Bool) (s : State) (a : HostAccess) (r : Reply) → r ≡ answer s a → is_done r ≡ false → t ≡ (t || is_done (answer s a))
-unwritten_by t s a r reply none = none_more t (is_done (answer s a)) (ap is_done (sym reply) ∙ none)
+read_writes_none t s w at = grind (arith, none_more, answers_no_write)

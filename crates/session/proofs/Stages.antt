@@ -2,26 +2,19 @@
 --     handed_over_as      the session that a machine makes, which guests have
 --     IsAnswered, answered      what the line of a handover that is done writes and leaves
 --     told_refusal      the number by which one is refused
-use Rattle.std.{proofs.Common.{◌≡◌, ℕ, false, true, None, List, refl, sym, ap, ap₂, ◌∙◌, map}, specs.{Prelude.{IfSome, IsSome, Some}, Option.option_map_or}}
+use Rattle.std.{proofs.Common.{◌≡◌, false, true, None, sym, ap, ◌∙◌, map, arith}, specs.{Prelude.{IfSome, IsSome, Some}, Option.option_map_or}}
 use Rattle.model_guests.specs.{Text.Text, Guests.GuestNow, WorldNow.WorldNow}
 use Rattle.model_handoff.{specs.{Changes.{MachineNow, BeginsIn}, Regions.first_fault}, proofs.Served.fault_decides}
-use Rattle.model_lines.{specs.{GivenLaws.IsGiven, Requests.{for_guests, request}, Sessions.{DrivenNow, SessionNow, driven, given, handed_over, after_handover, handover_output, told_output, after_session_line, session_output}, FirmwareLines.{line_output, meaning}}, proofs.SessionLines.handover_leaves}
+use Rattle.model_lines.{specs.{GivenLaws.IsGiven, Requests.{for_guests, request}, Sessions.{DrivenNow, SessionNow, driven, given, handover_output, told_output, after_session_line, session_output}, FirmwareLines.{line_output, meaning}}, proofs.SessionLines.handover_leaves}
 use Rattle.monitor.specs.{declared.handover.HandoverFault.{HandoverFault, TheVariants.{NotInOrder, Closed, Memory}}, Handovers.{number_of, handoff_fault}}
 use Rattle.session.specs.{Boards.{IsHandedOverAs, IsRefusalOf}, Refusals.{handover_refusal, refusal_by, refusal_in, request_refusal}, Stages.{board_in, IsDriven}}
 
 machine_is : (m : MachineNow) (w : WorldNow) → m.world ≡ w → m.counts ≡ map (λ (g : GuestNow). 0) m.world.guests
     → m ≡ record { world = w; counts = map (λ (g : GuestNow). 0) w.guests }
-machine_is m w is counts =
-    ap₂ (λ (v : WorldNow) (ns : List ℕ). let n : MachineNow = record { world = v; counts = ns } in n) is
-    (counts ∙ ap (λ (v : WorldNow). map (λ (g : GuestNow). 0) v.guests) is)
+machine_is m w is counts = grind arith
 
 pub handed_over_as : (b : DrivenNow) (m : MachineNow) → BeginsIn (IsGiven b.world b.state) m → IsHandedOverAs b (given m)
-handed_over_as b m begins =
-    let is = begins.world in
-    record {
-      lawful = record { lawful = is.lawful; board = is.board; handoff = is.handoff; can = is.can; begins = refl };
-      now = ap given (machine_is m (handed_over b).world is.begins begins.counts);
-    }
+handed_over_as b m begins = grind (arith, machine_is)
 
 -- ---- the line
 
@@ -37,13 +30,7 @@ handover_refuses : (b : DrivenNow) (line : Text) → request line ≡ Some for_g
 handover_refuses b line same = ap (λ o. option_map_or (request_refusal b) o (refusal_by b.state (meaning line))) same
 
 pub answered : (x new : SessionNow) → IsDriven x → IfSome (board_in x) (λ b. IsHandedOverAs b new) → (line : Text) → request line ≡ Some for_guests → IsAnswered x new line
-answered (driven b) new is handed line asks =
-    let none : first_fault b.world b.state ≡ None = (fault_decides b.world b.state).1 handed.lawful.can in
-    record {
-      writes = sym (handover_writes b line asks ∙ ap handover_output none);
-      leaves = handed.now ∙ sym (handover_leaves b line asks ∙ ap (after_handover b) none);
-      refused = sym (handover_refuses b line asks ∙ ap handover_refusal none);
-    }
+answered (driven b) new is handed line asks = grind (arith, fault_decides, handover_writes, handover_leaves, handover_refuses)
 answered (given m) new is handed line asks = absurd (let wrong : false ≡ true = is in cc)
 
 pub told_refusal : (x : SessionNow) (f : HandoverFault) → IsDriven x → IsSome (handoff_fault f) → IfSome (board_in x) (λ b. IsRefusalOf b f) → (line : Text) → request line ≡ Some for_guests

@@ -1,4 +1,4 @@
-use Rattle.std.proofs.Common.{◌∙◌}
+use Rattle.std.proofs.Common.{◌∙◌, arith}
 use Rattle.session.{specs.Stages.session_now, proofs.Stages.{answered, told_refusal}}
 use Rattle.session.proofs.stage.answer_handover.Goals as goal
 
@@ -16,5 +16,4 @@ returns-in-Ok-clause-refused c = λ line asks.
     rw c.short.ensures (answered (session_now c.args.stage.now) (session_now c.hand_over.new.stage) c.requires.driven c.in-Ok.ensures.given line asks).refused
 
 pub returns-in_ok-told-in-Err-clause-refused : goal.returns-in_ok-told-in-Err-clause-refused
-returns-in_ok-told-in-Err-clause-refused c = λ line asks.
-    rw c.number.ensures (told_refusal (session_now c.args.stage.now) c.in-Err.fault c.requires.driven c.in_ok-told-in-Err.ensures.told c.in-Err.ensures.refused line asks)
+returns-in_ok-told-in-Err-clause-refused c = grind (arith, told_refusal)
