@@ -2,8 +2,8 @@
 -- bytes that holds the image of each guest is cut out.
 use Rattle.std.{proofs.{Common.{◌≡◌, ◌+◌, ◌*◌, ◌<◌, ◌≤◌, ℕ, zero, suc, List, [], ◌∷◌, ◌++◌, Option, None, Ok, Err, length, take, drop, ◌-◌, refl, sym, ap, ap₂, ◌∙◌, subst, arith, append_assoc, length-append}, Math.Seq.take-append_seam, lemmas.List.{append-nil, drop_at, map-append, take_rest, Concat.flat_map-append}}, specs.Prelude.{flat_map, map}}
 use Rattle.arrayvec.specs.ArrayString.{ArrayString}
-use Rattle.model_board.specs.{Paths.Path, Board.Board, AtReset.board_at, State.BoardFunction}
-use Rattle.model_guests.specs.{Text.Text, Lone.LoneGuest, WorldNow.{WorldNow, names_now}}
+use Rattle.model_board.specs.{Paths.Path, Board.Board, AtReset.board_at, State.{BoardFunction, State}}
+use Rattle.model_guests.specs.{Text.Text, Lone.LoneGuest, WorldNow.{WorldNow, board_state, names_now}}
 use Rattle.model_handoff.proofs.Keeping.{keeps_board}
 use Rattle.model_images.{specs.{MachineImages.SavedGuest, Layouts.{Parsed, parsed}, LoadedBytes.{Left, after_bytes, after_image_front, load_fault}, MachineBytes.name_layout, TakenBytes.taken_image, LoadedMachines.{Read, and_then, with_path, with_paths, read_slot, read_slots, guest_at, read_image, read_guest, read_guests}}, proofs.{FrontBytes.run_there, TakenBytes.front_fits}}
 use Rattle.machine_images.{specs.Judging.{AreRuns, AreSlotsRead, IsGuestRead, IsRunOf, functions_now, guest_seated, path_seated, paths_seated, taken_by}, proofs.JudgedReads.{behind, read_ends, reads_on, taken_both}}
@@ -116,7 +116,7 @@ module _ (w : WorldNow) where
     by_name l = and_then (read_image b name) (and_then (read_slots w.handoff 32 (taken_by fs before)) l)
 
     module _ (next : List ℕ) (named : after_bytes 907 (name_layout.bytes name) bytes ≡ Ok next) where
-      module _ (after : List (Option ℕ)) (behind_paths : List ℕ) (slots : AreSlotsRead w before next after behind_paths) where
+      module _ (after : List (Option ℕ)) (behind_paths : List ℕ) (slots : AreSlotsRead w before next after behind_paths) {s : State} (state : s ≡ board_state w) {os : List (Option ℕ)} (same : os ≡ slots.own) where
         abbrev qs : List (Option Path)
         qs = paths_seated fs slots.own
 
@@ -126,17 +126,21 @@ module _ (w : WorldNow) where
         abbrev found : SavedGuest
         found = record { name = name; paths = qs; image = taken_image lone behind_paths }
 
-        shown : after_image_front lone behind_paths ≡ after_image_front (guest_seated fs slots.own) behind_paths
-        shown = ap (λ (x : Board). after_image_front (guest_at x qs) behind_paths) (sym (keeps_board w.handoff w.guests))
+        abbrev front : Left
+        front = after_image_front (guest_seated s.functions os) behind_paths
 
-        image_decides : (l : Left) → after_image_front (guest_seated fs slots.own) behind_paths ≡ l
-            → read_guest w.handoff (taken_by fs before) name bytes ≡ and_then (λ rest. Ok (parsed found rest)) l
+        shown : after_image_front lone behind_paths ≡ front
+        shown =
+            ap (λ (x : Board). after_image_front (guest_at x qs) behind_paths) (sym (keeps_board w.handoff w.guests))
+            ∙ ap₂ (λ (x : State) (xs : List (Option ℕ)). after_image_front (guest_seated x.functions xs) behind_paths) (sym state) (sym same)
+
+        image_decides : (l : Left) → front ≡ l → read_guest w.handoff (taken_by fs before) name bytes ≡ and_then (λ rest. Ok (parsed found rest)) l
         image_decides l h = ap by_name named ∙ ap (and_then (read_image b name)) slots.read ∙ ap (and_then (λ rest. Ok (parsed found rest))) (shown ∙ h)
 
-        pub image_refused : (k : ℕ) → after_image_front (guest_seated fs slots.own) behind_paths ≡ Err k → read_guest w.handoff (taken_by fs before) name bytes ≡ Err k
+        pub image_refused : (k : ℕ) → front ≡ Err k → read_guest w.handoff (taken_by fs before) name bytes ≡ Err k
         image_refused k h = image_decides (Err k) h
 
-        pub guest_read : (rest run : List ℕ) → after_image_front (guest_seated fs slots.own) behind_paths ≡ Ok rest → run ≡ take (length behind_paths - length rest) behind_paths → IsGuestRead w name before bytes after run rest
+        pub guest_read : (rest run : List ℕ) → front ≡ Ok rest → run ≡ take (length behind_paths - length rest) behind_paths → IsGuestRead w name before bytes after run rest
         guest_read rest run h cut =
             let o = run_there lone behind_paths rest (shown ∙ h) in
             let own : run ≡ o.own = cut ∙ ap (λ (xs : List ℕ). take (length xs - length rest) xs) o.are ∙ own_part o.own rest in

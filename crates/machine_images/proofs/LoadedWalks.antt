@@ -1,5 +1,5 @@
 -- Walks over the guests of a machine: one is emptied, filled or loaded after the other.
-use Rattle.std.{proofs.{Common.{◌≡◌, ◌<◌, ◌+◌, ℕ, zero, suc, List, [], ◌∷◌, ◌++◌, length, drop, Some, None, Option, refl, sym, ap, ap₂, ◌∙◌, subst, arith}, lemmas.{List.{length-map, length-append, map-append}, Option.slice_get-map}}, specs.Prelude.{flat_map, map, option_map, slice_get, unwrap_or}}
+use Rattle.std.{proofs.{Common.{◌≡◌, ◌<◌, ◌≤◌, ◌+◌, Bor, ℕ, zero, suc, List, [], ◌∷◌, ◌++◌, length, drop, Some, None, Option, refl, sym, ap, ap₂, ◌∙◌, subst, arith}, lemmas.{List.{length-map, length-append, map-append}, Option.slice_get-map}}, specs.Prelude.{flat_map, map, option_map, slice_get, unwrap_or}}
 use Rattle.lists.proofs.Indices.{at_below, map_at, same_at}
 use Rattle.model_board.specs.{Paths.Path, Board.{Row, Board}, AtReset.board_at, State.BoardFunction}
 use Rattle.model_guests.specs.{Text.Text, Lone.{LoneGuest, reset_guest}, Guests.{GuestNow, lone_of}, WorldNow.{WorldNow, names_now}}
@@ -141,52 +141,57 @@ one_loaded b g run is m new own same fits loaded =
     (subst (λ (t : Text). IsFittingImage (lone_of m.world.guests t) run loaded.image) same loaded.is_image) in
     loaded.machine ∙ ap₂ (λ (t : Text) i. after_request_on_machine m (loads t i)) same (sym (is.image ∙ image))
 
-pub loaded_many : (m new : MachineNow) (name : Text) (run : List ℕ) → IsLoaded m name run new → length new.world.guests ≡ length m.world.guests
-loaded_many m new name run h = same_many new.world m.world (same_along (loads name h.image ∷ []) m new h.machine).names
+abbrev bytes_of : List (Bor (List ℕ)) → List (List ℕ)
+bytes_of rs = map (λ (r : Bor (List ℕ)). r.now) rs
 
 -- the guest of the first of these runs
-module _ (m : MachineNow) (i : ℕ) (run : List ℕ) (left rest : List (List ℕ)) (at : left ≡ run ∷ rest) (inside : i < length m.world.guests) where
+module _ (m : MachineNow) (i : ℕ) (run : Bor (List ℕ)) (left rest : List (Bor (List ℕ))) (at : left ≡ run ∷ rest) (within : i + length left ≤ length m.world.guests) where
+  inside : i < length m.world.guests
+  inside = let some = ap (λ (rs : List (Bor (List ℕ))). length rs) at in omega arith
+
   record IsFirst (gs : List SavedGuest) : Type 0 where
     g : SavedGuest
     others : List SavedGuest
     all : gs ≡ g ∷ others
     own : name_nth m.world i ≡ g.name
     names : map (λ (h : SavedGuest). h.name) others ≡ drop (i + 1) (names_now m.world)
-    holds : IsRunOf (board_of m.world) g run
-    runs : AreRuns (board_of m.world) others rest
+    holds : IsRunOf (board_of m.world) g run.now
+    runs : AreRuns (board_of m.world) others (bytes_of rest)
     fits : AreFittingRequests m.world (load_of g ∷ map load_of others)
 
-  first_by : (gs : List SavedGuest) → map (λ (g : SavedGuest). g.name) gs ≡ drop i (names_now m.world) → AreRuns (board_of m.world) gs (run ∷ rest) → AreFittingRequests m.world (map load_of gs) → IsFirst gs
+  first_by : (gs : List SavedGuest) → map (λ (g : SavedGuest). g.name) gs ≡ drop i (names_now m.world) → AreRuns (board_of m.world) gs (bytes_of (run ∷ rest)) → AreFittingRequests m.world (map load_of gs) → IsFirst gs
   first_by [] names runs fits = absurd runs
   first_by (g ∷ gs) names runs fits = grind (arith, at_drop, same_at, name_at)
 
-  first : (gs : List SavedGuest) → LoadsRuns m i left gs → IsFirst gs
-  first gs h = first_by gs h.names (subst (AreRuns (board_of m.world) gs) at h.are) h.fits
+  first : (gs : List SavedGuest) → LoadsRuns m i (bytes_of left) gs → IsFirst gs
+  first gs h = first_by gs h.names (subst (λ (rs : List (Bor (List ℕ))). AreRuns (board_of m.world) gs (bytes_of rs)) at h.are) h.fits
 
-  pub accepted : (gs : List SavedGuest) → LoadsRuns m i left gs → load_fault (lone_of m.world.guests (name_nth m.world i)) run ≡ None
+  pub accepted : (gs : List SavedGuest) → LoadsRuns m i (bytes_of left) gs → load_fault (lone_of m.world.guests (name_nth m.world i)) run.now ≡ None
   accepted gs h =
       let f = first gs h in
-      ap (λ (t : Text). load_fault (lone_of m.world.guests t) run) f.own ∙ one_accepted (board_of m.world) f.g run f.holds (lone_of m.world.guests f.g.name) f.fits.0
+      ap (λ (t : Text). load_fault (lone_of m.world.guests t) run.now) f.own ∙ one_accepted (board_of m.world) f.g run.now f.holds (lone_of m.world.guests f.g.name) f.fits.0
 
   -- and the machine once it was loaded
-  module _ (new : MachineNow) (loaded : IsLoaded m (name_nth m.world i) run new) where
+  module _ (new : MachineNow) (loaded : IsLoaded m (name_nth m.world i) run.now new) where
     pub record GoesOn (gs : List SavedGuest) : Type 0 where
       pub others : List SavedGuest
-      pub later : LoadsRuns new (i + 1) rest others
+      pub later : LoadsRuns new (i + 1) (bytes_of rest) others
+      pub many : length new.world.guests ≡ length m.world.guests
       pub same : after_all_requests new (map load_of others) ≡ after_all_requests m (map load_of gs)
 
-    pub goes_on : (gs : List SavedGuest) → LoadsRuns m i left gs → GoesOn gs
+    pub goes_on : (gs : List SavedGuest) → LoadsRuns m i (bytes_of left) gs → GoesOn gs
     goes_on gs h =
         let f = first gs h in
-        let now = one_loaded (board_of m.world) f.g run f.holds m new (name_nth m.world i) f.own f.fits.0 loaded in
+        let now = one_loaded (board_of m.world) f.g run.now f.holds m new (name_nth m.world i) f.own f.fits.0 loaded in
         let same = same_along (load_of f.g ∷ []) m new now in
         record {
           others = f.others;
           later = record {
             names = f.names ∙ ap (drop (i + 1)) (sym same.names);
-            are = subst (λ (b : Board). AreRuns b f.others rest) (sym same.board) f.runs;
+            are = subst (λ (b : Board). AreRuns b f.others (bytes_of rest)) (sym same.board) f.runs;
             fits = subst (λ (x : MachineNow). AreFittingRequests x.world (map load_of f.others)) (sym now) f.fits.1;
           };
+          many = same_many new.world m.world same.names;
           same = ap (λ (x : MachineNow). after_all_requests x (map load_of f.others)) now ∙ ap (λ (hs : List SavedGuest). after_all_requests m (map load_of hs)) (sym f.all);
         }
 

@@ -1,6 +1,4 @@
-use Rattle.std.proofs.Common.{◌≡◌, ◌∙◌, ◌-◌, List, Option, ℕ, Ok, Err, length, take, drop, sym, ap, ap₂, arith}
-use Rattle.model_board.specs.State.{BoardFunction, State}
-use Rattle.model_images.specs.{LoadedBytes.{after_bytes, after_image_front}, MachineBytes.name_layout}
+use Rattle.std.proofs.Common.{◌∙◌, ◌-◌, Err, length, take, drop, sym, ap, arith}
 use Rattle.machine_images.{specs.Judging.guest_seated, proofs.JudgedGuests.{guest_read, image_refused, own_slots, shorter}}
 use Rattle.images.specs.Faults as image
 use Rattle.machine_images.proofs.judging.read_guest.Goals as goal
@@ -9,10 +7,8 @@ pub returns-in-Ok-clause-read : goal.returns-in-Ok-clause-read
 returns-in-Ok-clause-read c =
     let slots = c.in_ok-image.ensures.read in
     let own = own_slots c.args.seats.now.items slots.own c.len-before.result c.as_slice.result.now (c.as_slice.ensures.value ∙ slots.seats) c.len-before.ensures.value in
-    let named : after_bytes 907 (name_layout.bytes c.args.name.now.bytes) c.args.bytes.now ≡ Ok c.in_ok-bytes.bytes.now = grind arith in
-    guest_read c.args.monitor.now.world c.args.name.now.bytes c.args.seats.now.items c.args.bytes.now c.in_ok-bytes.bytes.now named c.read_slots.new.seats.items c.in_ok-image.image.now slots c.in-Ok.rest.now c.front.result.now
-    (ap₂ (λ (gs : List BoardFunction) (os : List (Option ℕ)). after_image_front (guest_seated gs os) c.in_ok-image.image.now) (sym (ap (λ (s : State). s.functions) c.host.ensures.state)) (sym own) ∙ c.in-Ok.ensures.left)
-    c.front.ensures
+    guest_read c.args.monitor.now.world c.args.name.now.bytes c.args.seats.now.items c.args.bytes.now c.in_ok-bytes.bytes.now (grind arith)
+    c.read_slots.new.seats.items c.in_ok-image.image.now slots c.host.ensures.state own c.in-Ok.rest.now c.front.result.now c.in-Ok.ensures.left c.front.ensures
 
 pub overflow_sub-image : goal.overflow_sub-image
 overflow_sub-image c =
@@ -24,7 +20,5 @@ pub returns-in-Err-clause-refused : goal.returns-in-Err-clause-refused
 returns-in-Err-clause-refused c =
     let slots = c.in_ok-image.ensures.read in
     let own = own_slots c.args.seats.now.items slots.own c.len-before.result c.as_slice.result.now (c.as_slice.ensures.value ∙ slots.seats) c.len-before.ensures.value in
-    let named : after_bytes 907 (name_layout.bytes c.args.name.now.bytes) c.args.bytes.now ≡ Ok c.in_ok-bytes.bytes.now = grind arith in
-    image_refused c.args.monitor.now.world c.args.name.now.bytes c.args.seats.now.items c.args.bytes.now c.in_ok-bytes.bytes.now named c.read_slots.new.seats.items c.in_ok-image.image.now slots (image.number_of c.in-Err.fault)
-    (ap₂ (λ (gs : List BoardFunction) (os : List (Option ℕ)). after_image_front (guest_seated gs os) c.in_ok-image.image.now) (sym (ap (λ (s : State). s.functions) c.host.ensures.state)) (sym own) ∙ c.in-Err.ensures.refused)
-    ∙ ap Err (sym c.of_image.ensures)
+    image_refused c.args.monitor.now.world c.args.name.now.bytes c.args.seats.now.items c.args.bytes.now c.in_ok-bytes.bytes.now (grind arith)
+    c.read_slots.new.seats.items c.in_ok-image.image.now slots c.host.ensures.state own (image.number_of c.in-Err.fault) c.in-Err.ensures.refused ∙ ap Err (sym c.of_image.ensures)

@@ -1,22 +1,12 @@
 use Rattle.std.proofs.{Common.{◌≡◌, ◌<◌, ◌≤◌, ◌++◌, ◌∙◌, length, sym, ap₂, arith}, lemmas.List.take-append-drop}
-use Rattle.model_images.specs.MachineLaws.{gifts}
-use Rattle.monitor.specs.ByIndex.{name_nth}
-use Rattle.machine_images.{specs.Judging.{functions_now, paths_seated}, proofs.LoadedWalks.{gives_on, none_given, same_along, same_many}}
+use Rattle.machine_images.proofs.LoadedWalks.{gives_on, none_given, same_along, same_many}
 use Rattle.machine_images.proofs.loading.+give_all.Goals as goal
 
 pub returns-then-seats-lt32 : goal.returns-then-seats-lt32
 returns-then-seats-lt32 t c = λ gs h. let few : length c.args.seats.now < 32 = grind arith in none_given c.args.monitor.now c.args.guest c.args.seats.now gs few h
 
 pub give_all-requires : goal.give_all-requires
-give_all-requires t c =
-    let m = c.args.monitor.now in
-    let same = same_along (gifts (name_nth m.world c.args.guest) 0 (paths_seated (functions_now m.world) c.split_at.result.0.now)) m c.give_slots.new.monitor c.give_slots.ensures in
-    let many = same_many c.give_slots.new.monitor.world m.world same.names in
-    let long : 32 ≤ length c.args.seats.now = grind arith in
-    let all = c.requires.within in
-    let few = c.requires.few in
-    let back = c.split_at.ensures.back_len in
-    (grind arith, (omega arith, omega arith))
+give_all-requires t c = grind (arith, same_along, same_many)
 
 pub returns : goal.returns
 returns t c = λ gs h.

@@ -1,4 +1,4 @@
-use Rattle.std.proofs.Common.{◌≤◌, ◌∙◌, List, ℕ, length, ap, subst, sym}
+use Rattle.std.proofs.Common.{◌≤◌, ◌∙◌, List, ℕ, length, ap, subst, sym, arith}
 use Rattle.model_board.specs.State.{State}
 use Rattle.machine_images.{specs.SavedParts.saved_bytes, proofs.SavedBytes.saved_is}
 use Rattle.machine_images.proofs.saving.save_machine.Goals as goal
@@ -10,7 +10,4 @@ put_machine-requires-clause-room c =
     subst (λ (xs : List ℕ). length xs ≤ length c.args.out.now) is c.requires.room
 
 pub returns-clause-taken : goal.returns-clause-taken
-returns-clause-taken c = λ other savable alike.
-    let can = c.host.ensures.writable in
-    c.machine_bytes_are_taken.ensures.saved c.args.monitor.now.world other c.host.ensures.savable
-    (record { declared = can.machine.known.compared.declared; guests = can.guests }) savable alike
+returns-clause-taken c = grind arith
