@@ -1,5 +1,5 @@
 -- What is said of a file that is accepted.
-use Rattle.std.{proofs.Common.{◌≡◌, Option, Some, None, sym, subst, option_map}, specs.Prelude.◌≢◌}
+use Rattle.std.{proofs.Common.{◌≡◌, Option, Some, None, option_map, arith}, specs.Prelude.◌≢◌}
 use Rattle.model_guests.specs.{Text.Text, World.World}
 use Rattle.bus_scan.specs.declared.fault.Fault.{Fault as SetUpFault}
 use Rattle.diagnostics.specs.declared.style.Style.{Style}
@@ -12,9 +12,5 @@ use Rattle.bus_scan.specs.declared.fault.Fault.TheVariants as set_up
 pub said_of : (style : Style) (warned : Warned) (name bytes : Text) (w : World) (fault : Option SetUpFault) (told : Option OpenFault) (text : Text)
     → fault ≢ Some set_up.Memory → Declares bytes w → IsVerdict style warned name bytes w.board w.apertures fault text
     → told ≡ option_map SetUp fault → IsCheckText style warned name bytes told text
-said_of style warned name bytes w None told text known declared verdict same =
-    subst (λ (f : Option OpenFault). IsCheckText style warned name bytes f text) (sym same)
-    (record { known = known; world = w; declared = declared; verdict = verdict })
-said_of style warned name bytes w (Some s) told text known declared verdict same =
-    subst (λ (f : Option OpenFault). IsCheckText style warned name bytes f text) (sym same)
-    (record { known = known; world = w; declared = declared; verdict = verdict })
+said_of style warned name bytes w None told text known declared verdict same = grind arith
+said_of style warned name bytes w (Some s) told text known declared verdict same = grind arith

@@ -3,8 +3,8 @@
 --     slot_told      those of a slot, by the registers that are told of it
 --     slot_holds      the same where Command doesn't open the space
 --     step      one slot more
-use Rattle.std.{proofs.Common.{◌≡◌, ℕ, zero, suc, ◌+◌, ◌-◌, ◌<◌, Bool, true, false, cond, List, [], ◌∷◌, ◌++◌, length, drop, Some, None, Option, refl, sym, ap, ◌∙◌, append_assoc, arith}, specs.{Prelude.{map, filter, option_map, is_some, if◌then◌else◌}, Option.option_map_or}}
-use Rattle.model_registers.specs.{Declarations.Region, OwnCopies.OwnCopies, Decoding.{Space, Function, opens_space, is_open, command_word, base_address}}
+use Rattle.std.{proofs.Common.{◌≡◌, ℕ, zero, suc, ◌+◌, ◌-◌, ◌<◌, Bool, false, List, [], ◌∷◌, ◌++◌, length, drop, Some, None, Option, refl, sym, ap, ◌∙◌, append_assoc, arith}, specs.{Prelude.{map, filter, option_map, is_some, if◌then◌else◌}, Option.option_map_or}}
+use Rattle.model_registers.specs.{Declarations.Region, OwnCopies.OwnCopies, Decoding.{Space, Function, opens_space, command_word, base_address}}
 use Rattle.model_guests.specs.Slots.{Slots, slot_at}
 use Rattle.model_lines.specs.WhyGuests.{closed_region, region_holds, closed_from, ClosedRegion}
 use Rattle.bars.specs.{declared.region.BasedRegion.BasedRegion, Slots.placed, Hits.offset_in}
@@ -12,31 +12,18 @@ use Rattle.monitor.specs.OwnTold.{own_now}
 use Rattle.board_told.specs.GuestFindings.{base_holds, closed_base, closed_at, closed_by, closed_in}
 
 pub holds_by_offset : (space : Space) (n : ℕ) (r : BasedRegion) → is_some (offset_in space n r) ≡ base_holds space n (placed 0 r)
-holds_by_offset space n r = by (base_holds space n (placed 0 r))
-  where
-    by : (t : Bool) → is_some (if t then Some (n - r.base) else None) ≡ t
-    by true = refl
-    by false = refl
+holds_by_offset space n r = grind arith
 
 module _ (space : Space) (n : ℕ) where
   -- by the registers as they stand, as by what is declared
   rows : (slot : ℕ) (f : Function) (rs : List Region)
       → map (closed_base slot (command_word f.file)) (filter (base_holds space n) (map (base_address f.file) rs)) ≡ map (closed_region slot f.file) (filter (region_holds space n f.file) rs)
   rows slot f [] = refl
-  rows slot f (r ∷ rs) = by (region_holds space n f.file r) (rows slot f rs)
-    where
-      by : (t : Bool)
-          → map (closed_base slot (command_word f.file)) (filter (base_holds space n) (map (base_address f.file) rs)) ≡ map (closed_region slot f.file) (filter (region_holds space n f.file) rs)
-          → map (closed_base slot (command_word f.file)) (cond t (base_address f.file r ∷ filter (base_holds space n) (map (base_address f.file) rs)) (filter (base_holds space n) (map (base_address f.file) rs)))
-          ≡ map (closed_region slot f.file) (cond t (r ∷ filter (region_holds space n f.file) rs) (filter (region_holds space n f.file) rs))
-      by true more = ap (λ cs. closed_region slot f.file r ∷ cs) more
-      by false more = more
+  rows slot f (r ∷ rs) = grind (arith, rows slot f rs)
 
   pub slot_told : (slot : ℕ) (o : Option OwnCopies) (p : Option Function) → o ≡ option_map own_now p → option_map_or (closed_by space n slot) o [] ≡ closed_in space n slot p
   slot_told slot o None e = ap (λ (q : Option OwnCopies). option_map_or (closed_by space n slot) q []) e
-  slot_told slot o (Some f) e =
-      ap (λ (q : Option OwnCopies). option_map_or (closed_by space n slot) q []) e
-      ∙ ap (λ (cs : List ClosedRegion). if is_open f.file space then [] else cs) (rows slot f f.decl.regions)
+  slot_told slot o (Some f) e = grind (arith, rows)
 
   pub slot_holds : (slot : ℕ) (o : OwnCopies) (p : Option Function) → Some o ≡ option_map own_now p → opens_space o.command space ≡ false → closed_at space n slot o.command o.bases ≡ closed_in space n slot p
   slot_holds slot o p e shut = ap (λ (t : Bool). if t then [] else closed_at space n slot o.command o.bases) (sym shut) ∙ slot_told slot (Some o) p e
@@ -48,6 +35,4 @@ module _ (space : Space) (n : ℕ) where
 
   pub step : (fs : Slots) (j : ℕ) → j < length fs → (before more all : List ClosedRegion) → before ++ closed_from space n j (drop j fs) ≡ all → more ≡ before ++ closed_in space n j (slot_at fs j)
       → more ++ closed_from space n (j + 1) (drop (j + 1) fs) ≡ all
-  step fs j h before more all so_far e =
-      ap (λ (cs : List ClosedRegion). cs ++ closed_from space n (j + 1) (drop (j + 1) fs)) e ∙ append_assoc before (closed_in space n j (slot_at fs j)) (closed_from space n (j + 1) (drop (j + 1) fs))
-      ∙ ap (λ (cs : List ClosedRegion). before ++ cs) (sym (next fs j j h)) ∙ so_far
+  step fs j h before more all so_far e = grind (arith, append_assoc, next)

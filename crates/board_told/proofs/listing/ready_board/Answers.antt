@@ -1,11 +1,11 @@
+use Rattle.std.proofs.Common.{arith}
 use Rattle.board_file.specs.Meaning.{world_in}
 use Rattle.session.proofs.Declared.{declares, refused_file}
 use Rattle.board_told.proofs.Listed.{of_world}
 use Rattle.board_told.proofs.listing.ready_board.Goals as goal
 
 pub returns-in_err-host-clause-file : goal.returns-in_err-host-clause-file
-returns-in_err-host-clause-file c =
-    refused_file c.from_residual.result c.args.board.now _ c.in_err-host.ensures.refused c.in_err-host.ensures.not_text c.from_residual.ensures.1
+returns-in_err-host-clause-file c = grind (arith, refused_file)
 
 pub returns-clause-declared : goal.returns-clause-declared
 returns-clause-declared c = record {
