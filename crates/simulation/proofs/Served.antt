@@ -100,11 +100,7 @@ unanswered q strict seen board a Write script unread old mid mid_flushed new flu
       begins = λ s known. subst (λ (t : Text). StartsWith t last.0) (after_lines_told (λ b z. told q b (session_functions z)) l s known) last.1;
       written = λ s known. Appends-trans old mid new (session_text o.world (lines s)) last.0 (o.runs.output s known) last.2;
     })
-unanswered q strict seen board a (SetUp s) script unread old mid mid_flushed new flushed y l of asked stops lacks =
-    let same = lacks (ap SetUp of) in
-    let ended : HasEnded board (ends script unread old new flushed) =
-    subst (λ z. HasEnded board (ends script unread old z flushed)) (sym same.0) (subst (λ z. HasEnded board (ends script unread old mid z)) (sym same.1) l.session) in
-    subst (λ z. Serves {T = Unit {0}} q strict seen board (ends script unread old new flushed) (Err (SetUp z))) (sym of) (inr (asked, ended))
+unanswered q strict seen board a (SetUp s) script unread old mid mid_flushed new flushed y l of asked stops lacks = grind arith
 unanswered q strict seen board a _ script unread old mid mid_flushed new flushed y l of asked stops lacks = absurd of
 
 -- ---- the fault that is told last
@@ -117,13 +113,7 @@ told_last (Some (Ready form)) strict refused n f is = grind arith
 
 pub served_fault : (q : Option Question) (strict refused : Bool) (n : ℕ) (seen : Seen) (board : Text) (at : Ends) (f : Fault) → last_fault q strict refused n ≡ Some f
     → IsServed q strict (last_fault q strict refused n) seen board at → Serves {T = Unit {0}} q strict seen board at (Err f)
-served_fault q strict refused n seen board at f is served = by_fault f (told_last q strict refused n f is) (subst (λ z. IsServed q strict z seen board at) is served)
-  where
-    by_fault : (f : Fault) → IsToldLast f → IsServed q strict (Some f) seen board at → Serves {T = Unit {0}} q strict seen board at (Err f)
-    by_fault RefusedLine last s = s
-    by_fault NotInOrder last s = s
-    by_fault NotReady last s = s
-    by_fault _ last s = absurd last
+served_fault q strict refused n seen board at f is served = grind (arith, told_last)
 
 pub no_file : (P : ℕ → Type 0) (f : Fault) → IsToldLast f → OnFile P f × (IsOfFile f → ⊥)
 no_file P RefusedLine last = (tt, λ of. of)
