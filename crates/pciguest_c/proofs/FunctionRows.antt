@@ -15,8 +15,7 @@ none_from : (slots : List (Option BasedRegion)) (k j : ℕ) → j < k
     → find (λ (b : BaseAddress). b.index == j) (bases_from k slots) ≡ None
 none_from [] k j before = refl
 none_from (None ∷ slots) k j before = none_from slots (k + 1) j (omega arith)
-none_from (Some r ∷ slots) k j before =
-    rw (ne_eqb k j (λ e. omega arith)) (none_from slots (k + 1) j (omega arith))
+none_from (Some r ∷ slots) k j before = grind (arith, ne_eqb, none_from slots (k + 1) j)
 
 -- k is the index of the first register of the list
 row_from : (slots : List (Option BasedRegion)) (k j n : ℕ) (d : Option BasedRegion) → j ≡ k + n → n < length slots
@@ -25,8 +24,7 @@ row_from [] k j n d is within = absurd (omega arith)
 row_from (None ∷ slots) k j zero d is within = rw (none_from slots (k + 1) j (omega arith)) refl
 row_from (None ∷ slots) k j (suc n) d is within = row_from slots (k + 1) j n d (omega arith) (omega arith)
 row_from (Some r ∷ slots) k j zero d is within = rw (eq-eqb k j (omega arith)) refl
-row_from (Some r ∷ slots) k j (suc n) d is within =
-    rw (ne_eqb k j (λ e. omega arith)) (row_from slots (k + 1) j n d (omega arith) (omega arith))
+row_from (Some r ∷ slots) k j (suc n) d is within = grind (arith, ne_eqb, row_from slots (k + 1) j n d)
 
 pub row_told : (slots : List (Option BasedRegion)) → length slots ≡ 6 → (j : ℕ) → j < 6 → (d : Option BasedRegion) (row : RegionRow)
     → row ≡ slot_row (get_or slots j d) → row ≡ region_row_at (bases_from 0 slots) j

@@ -1,7 +1,7 @@
 -- A line of a session whose text is longer than a reply may be.
 --     otherwise      what is not false
 --     longer_told      the answer, where such a text was told
-use Rattle.std.{proofs.{Common.{◌≡◌, ◌+◌, ◌-◌, ℕ, ◌≤◌, ◌<◌, Bool, true, false, length, drop, ap, ◌∙◌, refl, arith, inl, inr, Some, length-append, length-drop}, lemmas.Bool.Decides.nat_tests}, specs.Prelude.{nat_lt, nat_le, if◌then◌else◌}}
+use Rattle.std.{proofs.{Common.{◌≡◌, ◌-◌, ℕ, ◌≤◌, ◌<◌, Bool, true, false, length, drop, ap, ◌∙◌, refl, arith, inl, inr, Some, length-append, length-drop}, lemmas.Bool.Decides.nat_tests}, specs.Prelude.{nat_lt, nat_le, if◌then◌else◌}}
 use Rattle.model_guests.specs.Text.{Text}
 use Rattle.model_lines.specs.Sessions.{SessionNow}
 use Rattle.pciguest_c.specs.{TextsTold.{IsTold, at_front}, Calls.{IsAnswer, settled, refusal, tells, text, reply, buffer, unless_out}}
@@ -21,10 +21,7 @@ not_below a b is = grind (arith, nat_tests)
 
 -- what stands in a buffer of the same length had room there
 had_room : (t before after : Text) → after ≡ at_front t before → length after ≡ length before → length t ≤ length before
-had_room t before after is keeps =
-    let long : length after ≡ length t + (length before - length t) =
-    ap length is ∙ length-append t (drop (length t) before) ∙ ap (λ n. length t + n) (length-drop (length t) before) in
-    omega arith
+had_room t before after is keeps = grind (arith, length-append, length-drop)
 
 pub longer_told : (s y ran : SessionNow) (asks : Bool) (o t before after : Text) (old n new : ℕ) → asks ≡ true → 48 ≤ length before
     → o ≡ t → IsTold t before after n → length after ≡ length before → new ≡ length t → y ≡ s → y ≡ ran

@@ -16,6 +16,4 @@ overflow_add-result t c =
     omega (arith, eight n c.requires.few)
 
 pub returns-clause-small : goal.returns-clause-small
-returns-clause-small t c =
-    let n = c.args.count in
-    one_more n (n - 1) c.from.result c.in_ok-above.above (omega arith) (search rules) c.in_ok-above.ensures.small
+returns-clause-small t c = grind (arith, one_more)
