@@ -1,20 +1,24 @@
 #!/usr/bin/env python3
 """Tries edits: wrong bodies, each of which the check of its crate must refuse.
 
-    tests/edits.py [--gate] [CRATE..]
+    tests/edits.py [--gate [--behind]] [--anew] [CRATE..]
 
 They are those beside the gate, tests/edits/CRATE/*.edit, or with --gate those of the gate, crates/CRATE/must-fail/*.edit, of
-all crates or of these. What they stand on is proved first, where no earlier run has kept that. A file NAME.twin beside
-NAME.edit is its neutral twin, which has the edit's shape and changes nothing: the check must prove it. Where tests/named.txt
-has a line for an edit, the clause that stands there has to be among those that refuse it.
+all crates or of these. What they stand on is proved first, where no earlier run has kept that. With --behind something else
+proves it meanwhile: edits of a crate are tried as soon as that is proved, with the processors that the proofs leave idle. A
+file NAME.twin beside NAME.edit is its neutral twin, which has the edit's shape and changes nothing: the check must prove it.
+Where tests/named.txt has a line for an edit, the clause that stands there has to be among those that refuse it.
 
 An edit of one function is put into a copy of that function, of another name, with its contract and its proofs; so one check
 of a crate tries many, also of one function, and of functions that call each other. It checks these copies alone, with what
 they call, and one copy more of each function as it stands. An edit is refused where the check names its copy, for a goal or
 an answer of that function itself, and proves the copy as it stands. Other edits, as of a struct, are put into the function
 where it stands, each in a check of its own of the functions that it changes. What gets no verdict so is tried alone in a
-check of the whole crate. Each verdict is told once it is there; the last line is 'N passed, M failed'."""
-import copy
+check of the whole crate, by the compiler, or by `rt check` in a copy of the repository where that can't be called so.
+
+Each verdict is told once it is there; the last line is 'N passed, M failed'. One that is as it must be is kept, by the sum
+of all that it rests on: a later run tells it again, and tries it only with --anew."""
+import fcntl
 import functools
 import itertools
 import os
@@ -32,14 +36,17 @@ sys.dont_write_bytecode = True
 sys.path.insert(0, f"{TOP}/tools")
 import kit
 
-# the memory that a check takes at most, of most crates
-FOR_CHECK = 3_000_000_000
+# the memory that is free before a check begins: a check of most crates takes less than half of it, and proofs may run beside
+FOR_CHECK = 7_000_000_000
 # how many edits are tried in one check at most; each check proves anew what the edited functions call
 IN_ONE = 16
+# the seconds after which proofs have begun, if they ever do
+BEGUN = 60
 # the goals that a check tells to be open
 GOALS = re.compile(r"(?<=did not prove ).*|(?<= error: )`[\w-]+`")
-# what a proof file says where the edit took away a name: that says little of the contract
+# what is said where an edit took away a name, which says little of the contract, or where a text can't be read
 NAMES = re.compile(r"has no field|is not in scope|has no `|was not admitted|which was rejected")
+UNREAD = re.compile(r"(?:\./)?(?:src|specs)/\S+:\d+:\d+: error: (?:(?!`)|.*(?:is not in scope|has no field))")
 HEAD = re.compile(r'^( *)(?:pub(?:\([a-z]+\))? )?(?:const )?(?:unsafe )?(?:extern "C" )?fn (\w+)')
 TYPE = re.compile(r"^(?:pub(?:\([a-z]+\))? )?(?:struct|enum|union) (\w+)", re.M)
 IMPL = re.compile(r"^impl(?:<([^{]*?)>)? (?:(\w+)(?:<([^{]*?)>)? for )?(\w+)")
@@ -128,14 +135,36 @@ class Source:
 
 # ---- edits
 
+def read_edit(file, folder):
+    """The texts that an edit makes of a crate's files, by their paths, or why it can't be made: below a line 'file: PATH' each
+    line 'old: TEXT' has a line 'new: TEXT' for what takes its place; the old text is there once."""
+    texts, path, old = {}, None, None
+    for line in file.read_text(encoding="utf-8").splitlines():
+        word, _, text = line.partition(": ") if ": " in line else line.partition(":")
+        if word == "file":
+            path = text.strip()
+            if not re.match(r"(src|specs|proofs)/", path) or not (folder / path).is_file():
+                return {}, f"there is no file {path} in src/, specs/ or proofs/"
+            texts.setdefault(path, (folder / path).read_text(encoding="utf-8"))
+        elif word == "old":
+            old = text
+        elif word == "new":
+            if not path or not old or texts[path].count(old) != 1:
+                return {}, f"its old text is in {path} {texts[path].count(old) if path and old else 0} times"
+            texts[path], old = texts[path].replace(old, text), None
+    changed = {path: text for path, text in texts.items() if text != (folder / path).read_text(encoding="utf-8")}
+    return changed, None if changed else "it changes nothing"
+
+
 class Edit:
     """An edit, or a twin of one: the texts that it makes, or why it can't be made; the functions that it changes, as they then
     stand, or of what stands in none the file's; and the one that it changes alone, if that can be copied."""
 
-    def __init__(self, rt, file, source, clauses):
+    def __init__(self, file, source, sum, clauses):
         self.file, self.source, self.verdict = file, source, None
         self.is_twin, self.clause = file.suffix == ".twin", clauses.get(str(file.relative_to(TOP)))
-        self.texts, self.why = rt.read_edit(str(file), source.folder)
+        self.kept = kit.kept("edits", kit.sum_of(sum, pathlib.Path(__file__).read_bytes(), file.name, file.read_bytes(), self.clause or ""))
+        self.texts, self.why = read_edit(file, source.folder)
         self.changed, self.function = [], None
         for path in {*(self.texts or ())} & {*source.texts}:
             functions, known = [*source.functions_of(path, self.texts[path])], source.functions[path]
@@ -146,7 +175,14 @@ class Edit:
 
     def tell(self, verdict, how):
         self.verdict = verdict
-        print(f"rt: must-fail {self.source.crate}/{self.file.name}: {how}", flush=True)
+        print(f"{self.source.crate}/{self.file.name}: {how}", flush=True)
+
+    def is_known(self):
+        """Whether an earlier run tried the same, and what came was as it must be; it is told again."""
+        if self.kept.is_file():
+            self.tell(True, self.kept.read_text(encoding="utf-8"))
+            self.kept.touch()
+        return self.verdict
 
     def judge(self, is_refused, why):
         """Tells its verdict, where a check refused it for a reason, or proved it."""
@@ -156,6 +192,9 @@ class Edit:
         wrong = f"REFUSED, but not for `{self.clause}`" if is_elsewhere else "NOT PROVED" if is_refused else "NOT REFUSED"
         how = f"{'refused' if is_refused else 'proved'}, as it must be" if verdict else wrong
         self.tell(verdict, f"{how}: {why[:160]} ({' '.join(goals)})")
+        if verdict:
+            self.kept.parent.mkdir(parents=True, exist_ok=True)
+            self.kept.write_text(f"{how}: {why[:160]} (kept)", encoding="utf-8")
 
 
 def with_copies(source, batch):
@@ -192,28 +231,45 @@ def own_refusal(path, said):
     return "; ".join(errors) if status == "not proved" else None
 
 
+def copied(crates, names, to, texts, name):
+    """Copies what these crates are proved from, and one of them with these texts."""
+    for it in names:
+        for part in kit.PARTS:
+            if (crates.folder(it) / part).is_dir():
+                shutil.copytree(crates.folder(it) / part, f"{to(it)}/{part}")
+    for path, text in texts.items():
+        os.makedirs(os.path.dirname(f"{to(name)}/{path}"), exist_ok=True)
+        pathlib.Path(to(name), path).write_text(text, encoding="utf-8")
+
+
 class Tries:
     """The edits of one crate, and the checks that try them."""
 
-    def __init__(self, rt, crate, folder, clauses):
-        self.rt, self.crate, self.source = rt, crate, Source(crate.name, crate.folder)
+    def __init__(self, crates, name, folder, clauses):
+        self.crates, self.name, self.source = crates, name, Source(name, crates.folder(name))
         files = [it for form in ("*.edit", "*.twin") for it in sorted(folder.glob(form))]
-        self.edits = [Edit(rt, it, self.source, clauses) for it in files]
+        self.edits = [Edit(it, self.source, crates.sum(name), clauses) for it in files]
+
+    def is_proved(self):
+        return all(map(self.crates.has, [*self.crates.below(self.name), self.name]))
 
     def check(self, texts, *words):
-        """How a check of a copy of the crate with these texts ended, what it said, and whether it could read them."""
+        """How a check of a copy of the crate with these texts ended, and what it said."""
+        wait_for_memory()
         with tempfile.TemporaryDirectory(prefix="edits-") as room:
-            there = copy.copy(self.crate)
-            there.folder = room
-            for part in self.rt.rtlib.PARTS:
-                if (self.source.folder / part).is_dir():
-                    shutil.copytree(self.source.folder / part, f"{room}/{part}")
-            for path, text in texts.items():
-                os.makedirs(os.path.dirname(f"{room}/{path}"), exist_ok=True)
-                pathlib.Path(room, path).write_text(text, encoding="utf-8")
-            ran = self.rt.checked(there, {}, ["--jobs", "1", *words], None)
-        said, sources = ran.stdout.rstrip("\n").split("\n"), [it for it in texts if it.startswith("src/")]
-        return ran.returncode, said, not any(self.rt.unread(it, sources) for it in said)
+            copied(self.crates, [self.name], lambda _: room, texts, self.name)
+            called = [kit.rattle(), "check", *self.crates.words(self.name, TOP / "crates"), *kit.proves(), "--jobs", "1", *words]
+            return run(called, room)
+
+    def check_by_rt(self, texts):
+        """The same of the whole crate by `rt check`, which makes the libraries below anew."""
+        names = [*self.crates.below(self.name), self.name]
+        wait_for_memory()
+        with tempfile.TemporaryDirectory(prefix="edits-") as room:
+            copied(self.crates, names, lambda it: f"{room}/crates/{it}", texts, self.name)
+            pathlib.Path(room, "crates.txt").write_text("".join(map(self.crates.rows.get, names)))
+            os.mkdir(f"{room}/.git")
+            return run(["rt", "check"], f"{room}/crates/{self.name}")
 
     def try_batch(self, batch):
         """Tries a batch in one check, and alone what that doesn't decide."""
@@ -227,8 +283,8 @@ class Tries:
         in_place = batch[0].texts, {it.path: batch[0] for it in batch[0].changed}
         texts, looked_at = with_copies(self.source, batch) if batch[0].function else in_place
         only = [word for path in looked_at for word in ("--only", path.partition("::")[2])]
-        status, said, is_read = self.check(texts, *only) if only else (2, [], False)
-        if status not in (0, 1) or not said[-1].startswith("only=") or not is_read:
+        status, said = self.check(texts, *only) if only else (2, [""])
+        if status not in (0, 1) or not said[-1].startswith("only=") or any(map(UNREAD.match, said)):
             return
         # (of a function whose copy is not proved as it stands nothing is known)
         original = lambda path: re.sub(r"_copy_\d+$", "", path)
@@ -243,44 +299,92 @@ class Tries:
 
     def try_alone(self, edit):
         """One check of the whole crate."""
-        status, said, is_read = self.check(edit.texts) if edit.texts else (2, [f"{edit.file}:0:0: error: {edit.why}"], False)
+        status, said = self.check(edit.texts) if edit.texts else (1, [f"{edit.file}:0:0: error: {edit.why}"])
+        if status not in (0, 1, 3):
+            status, said = self.check_by_rt(edit.texts)
         errors = [it for it in said if re.match(r"\S+:\d+:\d+: error|fn \S+: no proof: ", it)]
-        if is_read and (status == 0 or status == 1 and said[-1].startswith("logic=not-proved")):
+        is_judged = status == 0 or status == 1 and any(it.startswith("logic=not-proved") for it in said)
+        if edit.texts and is_judged and not any(map(UNREAD.match, said)):
             edit.judge(status == 1, "; ".join([it for it in errors if not NAMES.search(it)] or errors))
         else:
             edit.tell(False, f"BAD EDIT: {'; '.join(errors or said[-1:])[:400]}")
 
 
-def try_all(tries):
-    """Tries the edits of all crates in batches, side by side; those of large crates first."""
-    tries = sorted(tries, key=lambda it: -sum(map(len, it.source.texts.values())))
-    free = next(int(it.split()[1]) * 1024 for it in open("/proc/meminfo") if it.startswith("MemAvailable:"))
-    with ThreadPoolExecutor(max(1, min(len(os.sched_getaffinity(0)), free // FOR_CHECK))) as pool:
-        list(pool.map(lambda it: it[0].try_batch(it[1]), [(it, batch) for it in tries for batch in batches_of(it.edits)]))
+# ---- what is tried when
+
+def run(words, folder):
+    """How a command ended, and the lines that it wrote; 127 where there is no such command."""
+    try:
+        ran = subprocess.run(words, cwd=folder, stdin=subprocess.DEVNULL, stdout=subprocess.PIPE, stderr=subprocess.STDOUT, errors="replace")
+    except OSError as error:
+        return 127, [str(error)]
+    return ran.returncode, ran.stdout.rstrip("\n").split("\n")
+
+
+def wait_for_memory():
+    """Waits, for ten minutes at most, until a check has memory, and proofs that run beside it too."""
+    for _ in range(600):
+        if next(int(it.split()[1]) * 1024 for it in open("/proc/meminfo") if it.startswith("MemAvailable:")) > FOR_CHECK:
+            break
+        time.sleep(1)
+
+
+def are_proving():
+    """Whether tools/prove is at work in this checkout."""
+    with open(TOP / "crates.txt") as file:
+        try:
+            fcntl.flock(file, fcntl.LOCK_SH | fcntl.LOCK_NB)
+        except BlockingIOError:
+            return True
+    return False
+
+
+def proved(tries, is_behind):
+    """The tries of each crate once that is proved, those of large crates first; of one that isn't, they fail."""
+    left, began = sorted(tries, key=lambda it: -sum(map(len, it.source.texts.values()))), time.monotonic()
+    while left:
+        is_last = not is_behind or time.monotonic() - began > BEGUN and not are_proving()
+        ready = [it for it in left if it.is_proved()]
+        yield from ready
+        left = [it for it in left if it not in ready]
+        if is_last:
+            break
+        time.sleep(2)
+    for it in left:
+        for edit in it.edits:
+            edit.tell(False, "NOT TRIED: its crate is not proved")
+
+
+def try_all(tries, is_behind):
+    """Tries the edits of all crates in batches, side by side, each crate's as soon as it is proved."""
+    with ThreadPoolExecutor(len(os.sched_getaffinity(0))) as pool:
+        asked = [pool.submit(it.try_batch, batch) for it in proved(tries, is_behind)
+                 for batch in batches_of([edit for edit in it.edits if edit.verdict is None])]
+        for it in asked:
+            it.result()
 
 
 def main(words):
-    is_gate = words[:1] == ["--gate"]
-    form, began = "crates/*/must-fail" if is_gate else "tests/edits/*", time.monotonic()
+    flags, names = {it for it in words if it.startswith("-")}, [it for it in words if not it.startswith("-")]
+    is_gate, is_behind, began = "--gate" in flags, "--behind" in flags, time.monotonic()
+    form = "crates/*/must-fail" if is_gate else "tests/edits/*"
     folders = {it.parent.name if is_gate else it.name: it for it in sorted(TOP.glob(form))}
-    names = words[is_gate:] or [*folders]
-    if not {*names} <= {*folders}:
-        sys.exit(f"no edits of {' '.join({*names} - {*folders})} in {form}")
-    if subprocess.run([TOP / "tools/prove", *names]).returncode:
+    names = names or [*folders]
+    if flags - {"--gate", "--behind", "--anew"} or not {*names} <= {*folders}:
+        sys.exit(f"no edits of {' '.join({*names} - {*folders})} in {form}, or a flag that is none: {' '.join(flags)}")
+    if not is_behind and subprocess.run([TOP / "tools/prove", *names]).returncode:
         print("0 passed, 1 failed")
         return 1
-    rt = kit.load()
-    os.chdir(TOP)
-    os.environ.pop(rt.rtlib.ALLOW_C, None)
-    rt.rtlib.guarded()
+    if is_behind:
+        os.nice(19)
     rows = [it.split(" | ") for it in (TOP / "tests/named.txt").read_text(encoding="utf-8").split("\n")]
-    clauses = {row[0]: row[1] for row in rows if row[0].endswith(".edit")}
-    tries = [Tries(rt, it, folders[it.name], clauses) for it in rt.rtlib.crates_below(str(TOP)) if it.name in names]
-    rt.rtlib.lock([below for it in tries for below in [*it.crate.below(), it.crate]])
-    try_all(tries)
+    clauses, crates = {row[0]: row[1] for row in rows if row[0].endswith(".edit")}, kit.Crates(TOP)
+    tries = [Tries(crates, it, folders[it], clauses) for it in names]
     edits = [edit for it in tries for edit in it.edits]
+    known = 0 if "--anew" in flags else sum(bool(it.is_known()) for it in edits)
+    try_all([it for it in tries if any(edit.verdict is None for edit in it.edits)], is_behind)
     failed = [f"{edit.source.crate}/{edit.file.name}" for edit in edits if not edit.verdict]
-    print(f"{len(edits)} edits, in {(time.monotonic() - began) / 60:.1f} minutes")
+    print(f"{len(edits)} edits, in {(time.monotonic() - began) / 60:.1f} minutes; {known} of them an earlier run had tried")
     if failed:
         print(f"FAILED: {' '.join(failed)}")
     print(f"{len(edits) - len(failed)} passed, {len(failed)} failed")
