@@ -1,9 +1,9 @@
 """Each growth of memory refused in turn: to the one growth alone, and to it and all after it. Each has a number of its own
 that it answers, by what the program is doing then.
 
-    growths.py PROGRAM [--quick] [--arrays STREAMS]
+    growths.py PROGRAM [--quick] [--arrays ARRAYS]
 
-With --quick the largest board is left out. STREAMS is the program of the crate test_streams, which runs a script from an
+With --quick the largest board is left out. ARRAYS is the program of the crate test_arrays, which runs a script from an
 array into an array."""
 import collections
 import os

@@ -1,6 +1,6 @@
-use crate::fakes::FakeWriter;
 use std::test::Fail;
 use streams::{BufferedWriter, Writer, write_all};
+use test_fakes::FakeWriter;
 
 /// Behind a buffer of 10 bytes a writer that takes 4 bytes a call fails once, at each of its calls in
 /// turn, and would go on: it is asked for nothing more.

@@ -1,8 +1,8 @@
-use crate::fakes::FakeWriter;
 use crate::scripts::{Board, Example, LONG, SHORT, Streams, run};
 use simulation::{Fault, ReportForm, list};
 use std::process::Abort;
 use std::test::Fail;
+use test_fakes::FakeWriter;
 
 /// The demo board.
 const BOARD: &str =

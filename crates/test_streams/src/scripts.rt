@@ -1,8 +1,8 @@
 //! Scripts with their output, and runs of them over readers and writers in fixed arrays.
 use crate::board::MAIN;
-use crate::fakes::{FakeReader, FakeWriter};
 use simulation::{Fault, demo, whole};
 use std::process::Abort;
+use test_fakes::{FakeReader, FakeWriter};
 
 /// The board that a script runs over.
 #[derive(Clone, Copy)]

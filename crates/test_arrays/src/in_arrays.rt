@@ -1,9 +1,9 @@
 //! A run whose reader and writer are arrays: what takes memory is the board alone.
-use crate::fakes::{FakeReader, FakeWriter};
 use simulation::{Fault, board_bytes, whole};
 use std::io::{Read, Write};
 use std::rt::Files;
 use std::{fs, io};
+use test_fakes::{FakeReader, FakeWriter};
 
 /// How many bytes of a file were read into an array. What does not fit is left out.
 fn read_into(rt: &impl Files, path: &str, bytes: &mut [u8]) -> Option<usize> {

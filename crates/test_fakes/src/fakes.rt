@@ -37,7 +37,7 @@ impl Faults {
 
 /// A script in memory.
 #[derive(Drop)]
-pub(crate) struct FakeReader<'a> {
+pub struct FakeReader<'a> {
     script: &'a [u8],
     step: usize,
     faults: Faults,
@@ -46,7 +46,7 @@ pub(crate) struct FakeReader<'a> {
 
 impl<'a> FakeReader<'a> {
     /// Gives at most `step` bytes a call. The call `failing`, counted from 0, fails.
-    pub(crate) fn new(script: &'a [u8], step: usize, failing: Option<u32>) -> Self
+    pub fn new(script: &'a [u8], step: usize, failing: Option<u32>) -> Self
         requires { 0 < step }
         ensures script { ⟦<FakeReader<'a> as Reader>⟧.rest result ≡ Some script.now }
         ensures failures { ⟦<FakeReader<'a> as Reader>⟧.failures result ≡ 0 }
@@ -83,7 +83,7 @@ impl Reader for FakeReader<'_> {
 /// A writer into an array, which takes no byte once the array is full, and keeps what it took back
 /// until a flush.
 #[derive(Drop)]
-pub(crate) struct FakeWriter<const N: usize> {
+pub struct FakeWriter<const N: usize> {
     bytes: ArrayVec<u8, N>,
     /// So many of the bytes were flushed.
     flushed: usize,
@@ -95,7 +95,7 @@ pub(crate) struct FakeWriter<const N: usize> {
 impl<const N: usize> FakeWriter<N> {
     /// Takes at most `step` bytes a call. The call `failing`, a write or a flush, counted from 0,
     /// fails.
-    pub(crate) fn new(step: usize, failing: Option<u32>) -> Self
+    pub fn new(step: usize, failing: Option<u32>) -> Self
         ensures written { ⟦<FakeWriter<N> as Writer>⟧.written result ≡ Some [] }
         ensures flushed { ⟦<FakeWriter<N> as Writer>⟧.flushed result ≡ Some [] }
         ensures failures { ⟦<FakeWriter<N> as Writer>⟧.failures result ≡ 0 }
@@ -113,14 +113,14 @@ impl<const N: usize> FakeWriter<N> {
     }
 
     /// What was written.
-    pub(crate) fn bytes(&self) -> &[u8]
+    pub fn bytes(&self) -> &[u8]
         ensures { ⟦<FakeWriter<N> as Writer>⟧.written self.now ≡ Some result.now }
     {
         self.bytes.as_slice()
     }
 
     /// What was flushed.
-    pub(crate) fn flushed(&self) -> &[u8]
+    pub fn flushed(&self) -> &[u8]
         ensures { ⟦<FakeWriter<N> as Writer>⟧.flushed self.now ≡ Some result.now }
     {
         &self.bytes.as_slice()[..self.flushed]
