@@ -34,21 +34,22 @@ has-lspci:
 pciguest:
 	@$(MAKE) --no-print-directory build
 
-# The gate: what the documents say of files and what runs tests and proofs, which takes a moment; the proofs of all that users
-# get, from nothing, and their tests; then the edits, and beside them the proved program as its user runs it, the commands that
-# the documents print, and each growth of memory refused in turn on the main board. Parts between brackets run side by side.
-# At the end stands how long each took.
+# The gate: what the documents say of files and what runs tests and proofs, which takes a moment; then the proofs of all that
+# users get, from nothing, and after them the tests that no contract has, the proved program as its user runs it, the commands
+# that the documents print, and each growth of memory refused in turn on the main board; and beside all these the edits, each
+# crate's once it is proved. Parts between brackets run side by side. At the end stands how long each took.
 FIRST := [ tests/documents.sh tests/kit.sh tests/tools.sh tests/bindings.sh tests/bench.sh ]
-PROGRAM := 'tests/edits.py --gate' tests/program.sh tests/commands.sh \
-  'python3 tests/hostile/growths.py crates/pciguest/out/pciguest --quick --arrays crates/test_streams/out/test_streams'
+PROGRAM := 'tests/try.sh test_streams' tests/program.sh tests/commands.sh \
+  'python3 tests/hostile/growths.py crates/pciguest/out/pciguest --quick --arrays crates/test_arrays/out/test_arrays'
+EDITS := 'tests/edits.py --gate --behind'
 gate:
-	@tests/parts.py $(FIRST) '$(PROVE) --gate' [ $(PROGRAM) ]
+	@tests/parts.py $(FIRST) [ "tests/parts.py '$(PROVE) --gate' [ $(PROGRAM) ]" $(EDITS) ]
 
 # The gate with the library for C as its user links it, and what is installed and packed.
 PLACE := cp -f crates/pciguest/out/pciguest pciguest
 USERS := tests/library.sh tests/install.sh 'tests/schema.py ./pciguest'
 test:
-	@tests/parts.py $(FIRST) '$(PROVE) --gate --library' '$(PLACE)' [ $(PROGRAM) $(USERS) ]
+	@tests/parts.py $(FIRST) [ "tests/parts.py '$(PROVE) --gate --library' '$(PLACE)' [ $(PROGRAM) $(USERS) ]" $(EDITS) ]
 
 # All that stands outside the gate, whole. A part whose packages are missing here is skipped, and they are named.
 outside: pciguest library/libpciguest.a
@@ -124,8 +125,8 @@ bench-peers: pciguest
 # The proved program as it is used by one who means harm: memory refused, streams that fail, by its calls and as it runs, odd
 # files and great sizes; and the library given images that were changed. It takes cc and Python 3, and some minutes.
 hostile: pciguest library/libpciguest.a
-	@$(PROVE) test_streams
-	@python3 tests/hostile/growths.py ./pciguest --arrays crates/test_streams/out/test_streams
+	@$(PROVE) test_arrays
+	@python3 tests/hostile/growths.py ./pciguest --arrays crates/test_arrays/out/test_arrays
 	@for part in streams surroundings sizes; do python3 tests/hostile/$$part.py ./pciguest; done
 	@python3 tests/hostile/images.py
 

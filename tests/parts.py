@@ -5,8 +5,8 @@
     tests/parts.py --outside TARGET..
 
 Each COMMAND is a line for bash, and after the first that fails none begins. Those between brackets run side by side, and
-what each writes is shown once it has ended. A command's last line 'N passed, M failed' is counted, or else that it ended
-well. With --outside each part is a target of make: all are made, whether or not others fail, but for those of which
+what each writes is shown once it has ended, or as it comes where it is parts itself. A command's last line 'N passed, M
+failed' is counted, or else that it ended well. With --outside each part is a target of make: all are made, whether or not others fail, but for those of which
 tests/needs says what is missing here. The last line is 'N passed, M failed'."""
 import re
 import subprocess
@@ -17,6 +17,8 @@ from concurrent.futures import ThreadPoolExecutor
 
 COUNTS = re.compile(r"(?:.*: )?(\d+) passed, (\d+) failed")
 SHOWING = threading.Lock()
+# the letters of a command by which it is named at the end
+LONG = 60
 
 
 def in_words(seconds):
@@ -40,6 +42,7 @@ def run(name, command, is_beside=False):
     counts = COUNTS.fullmatch(last)
     passed, failed = map(int, counts.groups()) if counts else (int(not ran.returncode), 0)
     failed = failed or int(ran.returncode != 0)
+    name = name if len(name) <= LONG else f"{name[:LONG]} .."
     return f"{in_words(time.monotonic() - began)}  {name}: {passed} passed, {failed} failed", passed, failed
 
 
@@ -50,7 +53,7 @@ def run_in_turn(words):
         end = words.index("]") if words[0] == "[" else 0
         group, words = words[1:end] or words[:1], words[end + 1:]
         with ThreadPoolExecutor(len(group)) as pool:
-            rows += pool.map(lambda it: run(it, it, len(group) > 1), group)
+            rows += pool.map(lambda it: run(it, it, len(group) > 1 and not it.startswith("tests/parts.py ")), group)
     return rows
 
 
