@@ -190,12 +190,13 @@ lacking_calls() {
 holds 'numbers that the manual lacks' lacking_numbers
 holds 'calls that the manual lacks' lacking_calls
 
-# ---- the kit: the README names the logic of the one that is here, where there is one, and this kit among those of that logic
+# ---- the kit: README names those with which the gate has passed, and, if the one that is here is among them, its logic
 other_kit() {
   local kit logic; read -r kit _ logic <<< "$(rt version)"
-  grep -qE "^Proved with kits of the logic \`$logic\`: (.*, )?\`$kit\`(,.*)?\.\$" README.md || echo "README.md: not proved with $(rt version)"
+  grep -qE '^Proved with kits of the logic `[0-9a-f]{16}`: (`rattle-kit-[0-9a-z]+`(, )?)+\.$' README.md || echo 'README.md: names no kit'
+  ! grep -q "^Proved with kits.*\`$kit\`" README.md || grep -q "^Proved with kits of the logic \`$logic\`" README.md || echo "README.md: $(rt version)"
 }
-! command -v rt > /dev/null || holds 'the kit that the README names' other_kit
+! command -v rt > /dev/null || holds 'the kits that the README names' other_kit
 
 # ---- the crates of the kit that README names as trusted are those on which crates.txt has something stand
 other_kit_crates() {
