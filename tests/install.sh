@@ -21,7 +21,7 @@ at=$room/package/usr
 for file in bin/pciguest include/pciguest.h lib/x86_64-linux-gnu/libpciguest.a lib/x86_64-linux-gnu/libpciguest.so.0 \
   lib/x86_64-linux-gnu/libpciguest.so lib/x86_64-linux-gnu/pkgconfig/pciguest.pc share/man/man1/pciguest.1 \
   share/man/man1/pciguest-firmware-test.1 share/man/man3/libpciguest.3 share/bash-completion/completions/pciguest share/zsh/site-functions/_pciguest \
-  share/fish/vendor_completions.d/pciguest.fish share/doc/pciguest/docs/FORMATS.md share/doc/pciguest/docs/RESULTS.md share/pciguest/board.schema.json \
+  share/fish/vendor_completions.d/pciguest.fish share/doc/pciguest/docs/errors.md share/doc/pciguest/docs/RESULTS.md share/pciguest/board.schema.json \
   share/pciguest/rust/Cargo.toml share/pciguest/rust/src/lib.rs share/pciguest/rust/sys/Cargo.toml share/pciguest/rust/sys/src/raw.rs share/pciguest/python/pyproject.toml \
   share/pciguest/python/pciguest/py.typed share/doc/pciguest/examples/session/session.stdout share/doc/pciguest/boards/main.toml \
   include/pciguest_ops.h bin/pciguest-firmware-test share/pciguest/python/pciguest/{firmware,rom}_test.py share/pciguest/own.toml \

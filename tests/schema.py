@@ -149,11 +149,11 @@ class Tests:
             self.holds(f"what {path.name} names", lost and named[1])
 
     def formats(self):
-        """The keys of docs/FORMATS.md are those of the schema, and needed where they are there."""
+        """The keys of docs/board-file.md are those of the schema, and needed where they are there."""
         part, found = self.schema.whole, set()
         for name, table in {"top": part, **part["definitions"]}.items():
             found |= {(name, key, key in table["required"]) for key in table.get("properties", {})}
-        self.holds("the keys of docs/FORMATS.md", found ^ set(keys_in_formats()))
+        self.holds("the keys of docs/board-file.md", found ^ set(keys_in_document()))
 
 
 def files_of(*folders):
@@ -162,8 +162,8 @@ def files_of(*folders):
     return [it for it in found if "out" not in it.relative_to(TOP).parts]
 
 
-def keys_in_formats():
-    section = (TOP / "docs" / "FORMATS.md").read_text().split("| Table | Key |")[1].split("\n\n")[0]
+def keys_in_document():
+    section = (TOP / "docs" / "board-file.md").read_text().split("| Table | Key |")[1].split("\n\n")[0]
     for row in section.splitlines()[2:]:
         tables, keys, _, left_out = (cell.strip() for cell in row.strip("|").split(" | "))
         for table in tables.split(", "):

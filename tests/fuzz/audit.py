@@ -5,7 +5,7 @@
 Firmware writes bases, windows, bus numbers and Command of a random board: half of the states begin from what set-up
 leaves, where the board fits. Each answer of a line is compared too. The first state that differs is printed with its
 seed, and its files are kept. The second hand is this folder: registers, cycles and the audit as docs/PROFILE.md and
-docs/FORMATS.md have them, without a line of the program's code."""
+docs/script-language.md have them, without a line of the program's code."""
 import argparse
 import random
 import subprocess

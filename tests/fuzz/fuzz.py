@@ -4,8 +4,8 @@
 
 The first that differs is printed with its seed, and its files are kept. The same seed makes the same
 boards and lines. The second hand is this folder: board files, set-up, reports, lines, guests and reads
-by the host, as docs/PROFILE.md and docs/FORMATS.md have them, without a line of the program's code. With
---lone a third answers: the crate test_lone_guest, which answers the lines of guests and the moves alone."""
+by the host, as docs/PROFILE.md, docs/board-file.md and docs/script-language.md have them, without a line of
+the program's code. With --lone a third answers: the crate test_lone_guest, which answers the lines of guests and the moves alone."""
 import argparse
 import random
 import subprocess

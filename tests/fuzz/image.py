@@ -1,4 +1,4 @@
-"""Images of guests as docs/FORMATS.md has them, section 8, by a second hand: written, judged and read, over the second hand's
+"""Images of guests as docs/image-format.md has them, by a second hand: written, judged and read, over the second hand's
 own guests."""
 from functools import lru_cache
 

@@ -1,4 +1,4 @@
-"""What a check with --all says of a board file that is accepted, by docs/FORMATS.md: how much of each aperture the board
+"""What a check with --all says of a board file that is accepted, by docs/board-file.md: how much of each aperture the board
 takes, what may be a mistake, and why its board can't be set up."""
 from board import Bar, Board, Bridge, Endpoint
 from placement import REFUSALS, UNITS, Layout, up

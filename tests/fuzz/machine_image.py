@@ -1,4 +1,4 @@
-"""Images of whole machines as docs/FORMATS.md has them, section 8, by a second hand: written, judged and read, over the second
+"""Images of whole machines as docs/image-format.md has them, by a second hand: written, judged and read, over the second
 hand's own worlds."""
 import image as second_hand
 from board import Endpoint

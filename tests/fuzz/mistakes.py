@@ -4,7 +4,7 @@ that is how much of each aperture its board takes, and what may be a mistake.
     mistakes.py PROGRAM [--files N] [--seed S]
 
 Each file is that of a random board, with its tables in some order and a few mistakes, and sometimes so long that these stand
-past its first 65,536 bytes. The rules are those of docs/FORMATS.md, without a line of the program's code. The same seed makes
+past its first 65,536 bytes. The rules are those of docs/board-file.md, without a line of the program's code. The same seed makes
 the same files."""
 import argparse
 import random

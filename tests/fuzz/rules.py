@@ -1,4 +1,4 @@
-"""The rules of a board file, by docs/FORMATS.md: the first check that a file fails, all that breaks it, and what breaks
+"""The rules of a board file, by docs/board-file.md: the first check that a file fails, all that breaks it, and what breaks
 a later one and needn't wait."""
 import re
 import tomllib

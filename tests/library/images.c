@@ -1,4 +1,4 @@
-/* Random events of two guests, over two machines of one board. After each, what a guest's image tells by docs/FORMATS.md is
+/* Random events of two guests, over two machines of one board. After each, what a guest's image tells by docs/image-format.md is
  * compared with what the guest and its devices read. Guests are put to reset, and images are loaded: into a guest of the
  * other machine, which then answers alike, and after a byte was changed, when they are refused or saved again as they are.
  *
