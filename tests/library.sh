@@ -209,9 +209,9 @@ else
   holds 'Python: the example prints what the one in C does' cmp device.python.out "$top/tests/library/device.stdout"
 fi
 
-# ---- the lines that docs/LIBRARY.md prints, in a program: its firmware reads what the region on the board begins with,
-# and an empty file is refused
-awk '/^```/ { on = $0 == "```c"; next } on' "$top/docs/LIBRARY.md" > lines.c
+# ---- the lines that docs/library-c.md and docs/vmm-integration.md print, in a program: its firmware reads what the region on
+# the board begins with, and an empty file is refused
+awk '/^```/ { on = $0 == "```c"; next } on' "$top"/docs/{library-c,vmm-integration}.md > lines.c
 {
   echo '#include <stdio.h>'
   grep '^#include' lines.c
@@ -219,9 +219,9 @@ awk '/^```/ { on = $0 == "```c"; next } on' "$top/docs/LIBRARY.md" > lines.c
   grep -v '^#include' lines.c
   echo 'printf("%u %x\n", fault, value); return 0; }'
 } > printed.c
-holds 'the lines of LIBRARY.md are built' build printed printed.c
-holds 'the lines of LIBRARY.md' test "$(./printed < "$board")" = '0 a5a5a5a5'
-holds 'the lines of LIBRARY.md over an empty file' test "$(./printed < /dev/null)" = '102 0'
+holds 'the lines of library-c.md and vmm-integration.md are built' build printed printed.c
+holds 'the lines of library-c.md and vmm-integration.md' test "$(./printed < "$board")" = '0 a5a5a5a5'
+holds 'the lines of both over an empty file' test "$(./printed < /dev/null)" = '102 0'
 
 # ---- the example that saves a guest, restores it, and lets it go on over another board
 holds 'the example that migrates a guest is built' build migrate "$top/examples/c/migrate.c"
@@ -239,21 +239,21 @@ holds 'the example that saves a machine is built' build whole "$top/examples/c/w
 holds 'it has twenty lines' test "$(grep -vc '^/\*' "$top/examples/c/whole_machine.c")" -le 20
 holds 'the example that saves a machine' test "$(./whole < "$board")" = 0x0b
 
-# ---- the rows of functions that LIBRARY.md prints
+# ---- the rows of functions that library-c.md prints
 {
   printf '#include <stdio.h>\n#include "pciguest.h"\nstatic char board[65536]; int main(void) {\n'
   echo 'struct pciguest machine = PCIGUEST_INIT; pciguest_new(&machine, board, fread(board, 1, sizeof board, stdin));'
-  sed -n '/^struct pciguest_function row /,/^```/p' "$top/docs/LIBRARY.md" | grep -v '^```'
+  sed -n '/^struct pciguest_function row /,/^```/p' "$top/docs/library-c.md" | grep -v '^```'
   echo 'pciguest_free(&machine); return 0; }'
 } > rows.c
-holds 'the rows of LIBRARY.md are built' build rows rows.c
-holds 'the rows of LIBRARY.md' test "$(./rows < "$board" | tail -n 1)" = '01:01.0 2.0/1.0 1234:0004'
+holds 'the rows of library-c.md are built' build rows rows.c
+holds 'the rows of library-c.md' test "$(./rows < "$board" | tail -n 1)" = '01:01.0 2.0/1.0 1234:0004'
 
-# ---- its ECAM: identity, a register that is written, and all ones from 100h on, in an empty slot and off function 0 of bus 0
+# ---- the ECAM of vmm-integration.md: identity, a register that is written, and all ones from 100h on, in an empty slot and off function 0 of bus 0
 {
   echo '#include <stdio.h>'
   echo '#include "pciguest.h"'
-  sed -n '/^static uint32_t ecam_read/,/^```/p' "$top/docs/LIBRARY.md" | grep -v '^```'
+  sed -n '/^static uint32_t ecam_read/,/^```/p' "$top/docs/vmm-integration.md" | grep -v '^```'
   cat << 'END'
 static char board[65536];
 int main(void)
@@ -273,8 +273,8 @@ int main(void)
 }
 END
 } > ecam.c
-holds 'the ECAM of LIBRARY.md is built' build ecam ecam.c
-holds 'the ECAM of LIBRARY.md' test "$(./ecam < "$top/examples/device.toml")" = 'd0b1234 10b ffffffff ffffffff ffffffff ffffffff '
+holds 'the ECAM of vmm-integration.md is built' build ecam ecam.c
+holds 'the ECAM of vmm-integration.md' test "$(./ecam < "$top/examples/device.toml")" = 'd0b1234 10b ffffffff ffffffff ffffffff ffffffff '
 
 # ---- what the library takes from outside, and what it gives
 needs() { nm -u "$top/library/libpciguest.a" | awk 'NF == 2 && $2 !~ /^pciguest_raw_/ { print $2 }' | sort -u | tr '\n' ' '; }
