@@ -30,7 +30,7 @@ done_by() {
 # ---- nothing of the kit is there
 holds 'no kit' outside sh -c '! command -v rt'
 
-# ---- all: what the README, FORMATS and the lessons that were packed print is what their commands write there
+# ---- all: what the README, the formats and the lessons that were packed print is what their commands write there
 holds 'the commands of the documents' outside bash "$top/tests/commands.sh" ./pciguest "$PWD"
 done_by 'who reads the documents'
 
@@ -42,8 +42,8 @@ holds 'a session' same examples/session/session.stdout \
 holds 'why lines of it have no form' same session.told \
   printf 'pciguest: line %s: word 1: %s is none of cr, ir, mr and move\n' 21 audit 22 ready 23 why
 
-# ---- firmware: an enumerator on many boards, and with each of its mistakes, by the words of TESTING_YOURS.md
-testing=docs/TESTING_YOURS.md
+# ---- firmware: an enumerator on many boards, and with each of its mistakes, by the words of firmware-testing.md
+testing=docs/firmware-testing.md
 tested() { outside env -u PYTHONPATH "$@"; }
 # typed PATTERN: the command that the page gives for the tarball
 typed() { grep -oE '`[^`]*`' "$testing" | tr -d '`' | grep -m1 -E "$1"; }

@@ -5,7 +5,7 @@
 
 An edit has words of what is told of the mistake first, as a pattern, with the most functions of the board on which it is
 found; or why it is none by the profile, and then nothing may be found. The boards are those of the library, or of the
-program where one is named, or of the second hand, which needs neither. What docs/TESTING_YOURS.md prints of a mistake has to
+program where one is named, or of the second hand, which needs neither. What docs/firmware-testing.md prints of a mistake has to
 be what is told. Status 1 says that one of these isn't so."""
 import argparse
 import contextlib
@@ -35,7 +35,7 @@ def tested(command, maker, *words):
 
 def is_documented(told):
     """Whether the document prints what is told of a Subordinate that is too low."""
-    text = (places.TOP / "docs/TESTING_YOURS.md").read_text()
+    text = (places.TOP / "docs/firmware-testing.md").read_text()
     printed = text.partition("/subordinate_low\n")[2].partition("...\n")[0]
     return bool(printed) and told.startswith(printed)
 
@@ -68,7 +68,7 @@ def examine(room, options, name):
     said = said_by(edit)
     wrong = wrong_with(said, status, told)
     if name == "subordinate_low" and not wrong and not is_documented(told):
-        wrong = "docs/TESTING_YOURS.md prints something else"
+        wrong = "docs/firmware-testing.md prints something else"
     line = next((line for line in told.splitlines() if FIRST.match(line)), "")
     count = re.search(r"on this board \((\d+ functions?)\)", told)
     shown = f"{count[1]}: {line}" if count else f"no mistake: {said.get('harmless')}"
