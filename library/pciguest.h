@@ -1,6 +1,6 @@
 /* pciguest: a PCI board, its firmware and the monitor that gives its functions to guests.
  *
- * docs/LIBRARY.md says how to build and use the library, and what is proved of it. Every call answers 0, or the number of
+ * docs/library-c.md says how to build and use the library, and what is proved of it. Every call answers 0, or the number of
  * a refusal (enum pciguest_status), but for pciguest_version and pciguest_strerror, and pciguest_piece and
  * pciguest_ends_within, which only compute. A call that answers a number other than 0 changed nothing and stored nothing,
  * but for a length that tells how much room a text or an image needs, or how many rows there are, and for the text of
@@ -199,7 +199,7 @@ struct pciguest_limits {
  * pciguest_guest_name need. */
 enum { PCIGUEST_REPLY = 48, PCIGUEST_WORDS = 20, PCIGUEST_GUEST_NAME = 16 };
 
-/* What a call answers, each with its words; docs/FORMATS.md says what each means. 101 to 112: the board file is refused.
+/* What a call answers, each with its words; docs/errors.md says what each means. 101 to 112: the board file is refused.
  * 201 to 205: the board can't be set up. 206, 207: a board or a function can't be given to guests. 301 to 303: an access or
  * a path is refused. 601, 602: a slot is empty that must not be, or is taken. 905 to 908: bytes are no image for a guest or
  * for a machine. 909: another call runs on the struct. */
@@ -371,7 +371,7 @@ uint32_t pciguest_image_size(struct pciguest *machine, size_t guest, size_t *siz
 
 /* Saves a guest: writes its image, and tells its length. The image is all that the guest holds: its CONFIG_ADDRESS, and of
  * each of its 32 slots what is declared of the function and what the guest's registers hold; nothing of the board, of other
- * guests or of where its functions stand. docs/FORMATS.md has the bytes. What stands behind them in the room stays. It
+ * guests or of where its functions stand. docs/image-format.md has the bytes. What stands behind them in the room stays. It
  * takes no memory, and the machine stays as it is. 902: there is less room than the image needs, and nothing was written;
  * or there is no such guest, and nothing was told. Since 0.4.0. */
 uint32_t pciguest_save(struct pciguest *machine, size_t guest, void *image, size_t room, size_t *needed);
@@ -387,7 +387,7 @@ uint32_t pciguest_load(struct pciguest *machine, size_t guest, const void *image
 /* Writes what differs in bytes that pciguest_load refuses for this guest by 906, and tells the text's length, which has no 0 at
  * its end: as `slot 0: bar0 size 0x1000, here 0x2000`. It is the first slot of which the bytes have another function, and the
  * first field that is declared otherwise there: its key in a board file, behind `barN` for a region and `config 0xNN` for a block
- * of configuration space; what it is in the bytes, and what here. A kind is told by its number in docs/FORMATS.md; `filled` is 1
+ * of configuration space; what it is in the bytes, and what here. A kind is told by its number in docs/image-format.md; `filled` is 1
  * in a slot that has a function; `bar` and `config` alone are how many there are. Of bytes that are not refused so there is no
  * text, and the length is 0. It tells of the guest's own functions alone. Nothing changes. 902: there is less room than the text
  * needs, whose length alone is told, or no such guest. 299: out of memory. Since 0.4.0. */
@@ -400,7 +400,7 @@ uint32_t pciguest_image_size_all(struct pciguest *machine, size_t *size);
 
 /* Saves the whole machine: writes its image, and tells its length. The image is who has which function of the board in
  * which slot, what each guest holds, and the board as the host reads it, but for what guests made of functions in slots.
- * docs/FORMATS.md has the bytes. What stands behind them in the room stays. It takes no memory, and the machine stays as it
+ * docs/image-format.md has the bytes. What stands behind them in the room stays. It takes no memory, and the machine stays as it
  * is. 902: there is less room than the image needs, and nothing was written. Since 0.4.0. */
 uint32_t pciguest_save_all(struct pciguest *machine, void *image, size_t room, size_t *needed);
 

@@ -38,8 +38,9 @@ board.toml` is a prompt over a machine.
 301 misaligned
 
 It stands over the shared library libpciguest.so.0, by ctypes: that of the folder PCIGUEST_LIBRARY_DIR, or the one that
-`make library` leaves two folders above this one, or that of the tarball, or else the one that is installed. docs/FORMATS.md explains board
-files, lines and numbers, and docs/LIBRARY.md what is proved of the library. This module itself is tested.
+`make library` leaves two folders above this one, or that of the tarball, or else the one that is installed. Board files,
+lines and numbers are explained in docs/board-file.md, docs/script-language.md and docs/errors.md, and docs/library-c.md says
+what is proved of the library. This module itself is tested.
 """
 
 from ._board import Audit, Board, Readiness

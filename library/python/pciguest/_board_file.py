@@ -1,4 +1,4 @@
-"""Board files as documents: what `tomllib` makes of one, and the text of one. docs/FORMATS.md explains their keys."""
+"""Board files as documents: what `tomllib` makes of one, and the text of one. docs/board-file.md explains their keys."""
 
 from __future__ import annotations
 

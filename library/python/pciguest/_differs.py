@@ -80,7 +80,7 @@ def _patterns(register: Register, found: Found) -> Iterator[Difference]:
 
 
 class _Bytes:
-    """An image, which is read from front to back (docs/FORMATS.md, section 8)."""
+    """An image, which is read from front to back (docs/image-format.md)."""
 
     def __init__(self, image: bytes) -> None:
         self.image, self.at = image, 0

@@ -39,7 +39,7 @@ class Saved:
     def save(self) -> bytes:
         """Saves the guest: its image, which is all that the guest holds. That is its CONFIG_ADDRESS, and of each of its 32
         slots what is declared of the function and what the guest's registers hold; nothing of the board, of other guests
-        or of where its functions stand. docs/FORMATS.md, section 8, has the bytes. `save_state` has what a `Device` keeps beside
+        or of where its functions stand. docs/image-format.md has the bytes. `save_state` has what a `Device` keeps beside
         its registers. The machine stays as it is.
 
         >>> with Machine(BOARD) as machine:
@@ -136,8 +136,8 @@ class SavedMachine(Held):
 
     def save_all(self) -> bytes:
         """Saves the whole machine: its image, which is who has which function of the board in which slot, what each guest
-        holds, and the board as the host reads it, but for what guests made of functions in slots. docs/FORMATS.md, section
-        8, has the bytes. `Guest.save_state` has what a `Device` keeps beside its
+        holds, and the board as the host reads it, but for what guests made of functions in slots. docs/image-format.md has
+        the bytes. `Guest.save_state` has what a `Device` keeps beside its
         registers. The machine stays as it is.
 
         >>> with Machine(BOARD) as machine:

@@ -11,7 +11,7 @@ from ._library import CALLS, number, told
 class Refusal(Exception):
     """Why a call is refused. A call that is refused changed nothing.
 
-    `number` is the number, as docs/FORMATS.md and docs/LIBRARY.md explain it, and `words` are its words.
+    `number` is the number, as docs/errors.md explains it, and `words` are its words.
     """
 
     number: int

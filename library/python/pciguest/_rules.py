@@ -26,7 +26,7 @@ REGISTERS, ACCESSES = table()
 
 def told(row: Row) -> str:
     """A rule in a line."""
-    section = f"PROFILE.md, section {row['section']}" if row["section"] else "FORMATS.md"
+    section = f"PROFILE.md, section {row['section']}" if row["section"] else "script-language.md"
     asked = "the standards ask for it" if row["by"] == "standards" else "own: the standards leave it open"
     return f"{row['name']}: {row['says']} ({section}; {asked})"
 

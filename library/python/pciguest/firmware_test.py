@@ -4,7 +4,7 @@
 
 The command is firmware in any language: it writes each access as a line to standard output, as `host cr 00:02.0 0 4`,
 and reads the reply from standard input. Each board is at reset when it begins, and it ends with status 0 when it has set
-the board up. docs/TESTING_YOURS.md tells more."""
+the board up. docs/firmware-testing.md tells more."""
 
 from __future__ import annotations
 

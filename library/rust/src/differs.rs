@@ -154,7 +154,7 @@ impl<'a> Bytes<'a> {
         )
     }
 
-    /// The declaration of a function, and how many bytes of values come after it (`docs/FORMATS.md`, section 8).
+    /// The declaration of a function, and how many bytes of values come after it (`docs/image-format.md`).
     fn declared(&mut self) -> Option<(Declared, usize)> {
         let mut identity = [0; 7];
         for (field, width) in identity.iter_mut().zip([2, 2, 1, 3, 2, 2, 1]) {

@@ -31,7 +31,7 @@ impl Machine {
 
     /// Saves a guest: its image, which is all that the guest holds. That is its CONFIG_ADDRESS, and of each of its 32 slots
     /// what is declared of the function and what the guest's registers hold; nothing of the board, of other guests or of
-    /// where its functions stand. `docs/FORMATS.md`, section 8, has the bytes, and [`Machine::save_state`] what a device keeps
+    /// where its functions stand. `docs/image-format.md` has the bytes, and [`Machine::save_state`] what a device keeps
     /// beside its registers. The machine stays as it is. 902: there is no such guest.
     ///
     /// ```
@@ -158,7 +158,7 @@ impl Machine {
     }
 
     /// Saves the whole machine: its image, which is who has which function of the board in which slot, what each guest holds,
-    /// and the board as the host reads it, but for what guests made of functions in slots. `docs/FORMATS.md`, section 8, has
+    /// and the board as the host reads it, but for what guests made of functions in slots. `docs/image-format.md` has
     /// the bytes, and [`Machine::save_state`] what a device keeps beside its registers. The machine stays as it is.
     ///
     /// ```

@@ -4,8 +4,9 @@
 //! A [`Machine`] is a board that is set up from a board file, with its guests. Each access, raise, move or line of a
 //! script is a call on it. A [`Board`] is one that firmware of one's own drives, from reset on. A [`DeviceModel`] acts when
 //! the driver of its function touches its registers, and a [`GuestBus`] has the form of what hypervisors in Rust call for
-//! an access that they trapped. `docs/FORMATS.md` explains board files, lines and numbers, and `docs/LIBRARY.md` what is
-//! proved of the calls; this crate itself is tested.
+//! an access that they trapped. Board files, lines and numbers are explained in `docs/board-file.md`,
+//! `docs/script-language.md` and `docs/errors.md`, and `docs/library-c.md` says what is proved of the calls; this crate
+//! itself is tested.
 //!
 //! ```
 //! use pciguest::{At, HostAt, Machine};

@@ -545,9 +545,9 @@ extern "C" {
     pub fn pciguest_image_size(machine: *mut Handle, guest: usize, size: *mut usize) -> u32;
     /// Saves a guest: writes its image, and tells its length. The image is all that the guest holds: its
     /// CONFIG_ADDRESS, and of each of its 32 slots what is declared of the function and what the guest's registers
-    /// hold; nothing of the board, of other guests or of where its functions stand. docs/FORMATS.md has the bytes. What
-    /// stands behind them in the room stays. It takes no memory, and the machine stays as it is. 902: there is less
-    /// room than the image needs, and nothing was written; or there is no such guest, and nothing was told. Since
+    /// hold; nothing of the board, of other guests or of where its functions stand. docs/image-format.md has the bytes.
+    /// What stands behind them in the room stays. It takes no memory, and the machine stays as it is. 902: there is
+    /// less room than the image needs, and nothing was written; or there is no such guest, and nothing was told. Since
     /// 0.4.0.
     pub fn pciguest_save(
         machine: *mut Handle,
@@ -572,10 +572,10 @@ extern "C" {
     /// which has no 0 at its end: as `slot 0: bar0 size 0x1000, here 0x2000`. It is the first slot of which the bytes
     /// have another function, and the first field that is declared otherwise there: its key in a board file, behind
     /// `barN` for a region and `config 0xNN` for a block of configuration space; what it is in the bytes, and what
-    /// here. A kind is told by its number in docs/FORMATS.md; `filled` is 1 in a slot that has a function; `bar` and
-    /// `config` alone are how many there are. Of bytes that are not refused so there is no text, and the length is 0.
-    /// It tells of the guest's own functions alone. Nothing changes. 902: there is less room than the text needs, whose
-    /// length alone is told, or no such guest. 299: out of memory. Since 0.4.0.
+    /// here. A kind is told by its number in docs/image-format.md; `filled` is 1 in a slot that has a function; `bar`
+    /// and `config` alone are how many there are. Of bytes that are not refused so there is no text, and the length is
+    /// 0. It tells of the guest's own functions alone. Nothing changes. 902: there is less room than the text needs,
+    /// whose length alone is told, or no such guest. 299: out of memory. Since 0.4.0.
     pub fn pciguest_image_fault(
         machine: *mut Handle,
         guest: usize,
@@ -590,7 +590,7 @@ extern "C" {
     pub fn pciguest_image_size_all(machine: *mut Handle, size: *mut usize) -> u32;
     /// Saves the whole machine: writes its image, and tells its length. The image is who has which function of the
     /// board in which slot, what each guest holds, and the board as the host reads it, but for what guests made of
-    /// functions in slots. docs/FORMATS.md has the bytes. What stands behind them in the room stays. It takes no
+    /// functions in slots. docs/image-format.md has the bytes. What stands behind them in the room stays. It takes no
     /// memory, and the machine stays as it is. 902: there is less room than the image needs, and nothing was written.
     /// Since 0.4.0.
     pub fn pciguest_save_all(
