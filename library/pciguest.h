@@ -125,7 +125,7 @@ struct pciguest_function {
     uint8_t path[PCIGUEST_PATH]; /* as board files write it, as "2.0/1.0"; all bytes after it are 0 */
     size_t path_length;          /* in bytes, without a 0 */
     uint32_t bus;                /* 0 on bus 0, else the Secondary Bus Number of the bridge above */
-    uint32_t device;             /* 0 to 31 */
+    uint32_t device;             /* 0 to 15 */
     uint32_t function;           /* 0 to 7 */
     uint32_t vendor_id;
     uint32_t device_id;

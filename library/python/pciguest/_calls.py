@@ -206,7 +206,7 @@ class FunctionTold(ctypes.Structure):
         ("path_length", c_size_t),
         # 0 on bus 0, else the Secondary Bus Number of the bridge above
         ("bus", c_uint32),
-        # 0 to 31
+        # 0 to 15
         ("device", c_uint32),
         # 0 to 7
         ("function", c_uint32),

@@ -232,7 +232,7 @@ pub struct Function {
     pub path_length: usize,
     /// 0 on bus 0, else the Secondary Bus Number of the bridge above
     pub bus: u32,
-    /// 0 to 31
+    /// 0 to 15
     pub device: u32,
     /// 0 to 7
     pub function: u32,
