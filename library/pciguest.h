@@ -1,15 +1,26 @@
-/* pciguest: a PCI board, its firmware and the monitor that gives its functions to guests.
+/* pciguest: a PCI board, the firmware that drives it, and the guests that its functions are
+ * assigned to.
  *
- * docs/library-c.md says how to build and use the library, and what is proved of it. Every call answers 0, or the number of
- * a refusal (enum pciguest_status), but for pciguest_version and pciguest_strerror, and pciguest_piece and
- * pciguest_ends_within, which only compute. A call that answers a number other than 0 changed nothing and stored nothing,
- * but for a length that tells how much room a text or an image needs, or how many rows there are, and for the text of
- * pciguest_check. A null pointer is answered by 902, but that bytes and room may be null where their length is 0; a call of a
- * struct that holds nothing by 901, but for those that make or free what it holds.
+ * docs/library-c.md says how to build and use the library; docs/PROOFS.md says what is proved
+ * about it.
  *
- * This is the one file of calls. tools/bindings reads its declarations and comments, and writes from them the calls
- * themselves over those of the proved library (library/calls.c, raw.h, words.c), what the modules for Rust and Python
- * declare, and the calls of the manual. A call is of version 0.2.0, unless its comment says since when it is there.
+ * Return values. A call returns 0 or an error number (enum pciguest_status). The exceptions are
+ * pciguest_version and pciguest_strerror; pciguest_piece and pciguest_ends_within, which only
+ * compute; and pciguest_free and pciguest_board_free, which return nothing.
+ *
+ * Errors. A call that returns an error changed nothing and stored nothing, with two exceptions: if
+ * the room for a text, an image or rows is too small, the length or the number of rows that is
+ * needed is stored where the comment says so; and pciguest_check writes its text. The following
+ * errors can be returned by any call and are listed only where their order matters: 901, the
+ * struct is empty (except for calls that fill or free it); 902, a null pointer (a pointer to bytes
+ * or to room may be null if its length is 0); 909, another call is running on the struct.
+ *
+ * Memory. Only calls that list 199 or 299 allocate memory.
+ *
+ * This is the only file that declares calls. From its declarations and comments tools/bindings
+ * generates the calls themselves, on top of the proved library (library/calls.c, raw.h, words.c),
+ * the declarations of the Rust and Python modules, and the sections on calls of the manual. A call
+ * dates from version 0.2.0 unless its comment names a later one.
  */
 #ifndef PCIGUEST_H
 #define PCIGUEST_H
@@ -18,7 +29,8 @@
 #include <stddef.h>
 #include <stdint.h>
 
-/* The version of this header and of the library beside it, as a text and as a number that grows. */
+/* The version of this header and of the library that comes with it, as a text and as a number that
+ * grows. */
 #define PCIGUEST_VERSION "0.4.0"
 #define PCIGUEST_VERSION_NUMBER 400 /* 10000 * major + 100 * minor + patch */
 
@@ -26,11 +38,12 @@
 extern "C" {
 #endif
 
-/* What a program holds of a machine: a board that is set up, with its guests. It begins as
- * `struct pciguest machine = PCIGUEST_INIT;`, or with all bytes 0, and then holds none. Only the library looks at
- * its fields. Two copies of one struct are never both used; it may be moved, and the place that it left forgotten.
- * Any thread may make a call, and one call runs at a time on one struct: a second one, whatever it asks, is answered by
- * PCIGUEST_BUSY (909) and changes nothing, and pciguest_free then frees nothing. */
+/* Holds a machine: a board that is set up, with its guests. Initialize it as
+ * `struct pciguest machine = PCIGUEST_INIT;` or with all bytes 0; it is then empty. Only the
+ * library reads and writes its fields. It may be moved if its old location is never used again;
+ * never use two copies of it. Any thread may make a call, but only one call runs on a struct at a
+ * time: a second one, whatever it is, returns PCIGUEST_BUSY (909) and changes nothing, and
+ * pciguest_free then frees nothing. */
 struct pciguest {
     bool live;
     void *at;
@@ -38,9 +51,11 @@ struct pciguest {
 
 #define PCIGUEST_INIT {false, NULL}
 
-/* What a program holds of a board that its own firmware drives, from reset on, and, once a line handed it to its guests,
- * of the machine that they are over it. It begins as `struct pciguest_board board = PCIGUEST_BOARD_INIT;`, or with all
- * bytes 0, and then holds none. What is said of the struct above holds for it too. */
+/* Holds a board that your firmware drives from reset and, once a line has handed the board over to
+ * its guests, the machine that they form. Initialize it as
+ * `struct pciguest_board board = PCIGUEST_BOARD_INIT;` or with all bytes 0; it is then empty. The
+ * rules of struct pciguest apply: only the library uses the fields, only one copy is used, and
+ * only one call runs on it at a time. */
 struct pciguest_board {
     bool live;
     void *at;
@@ -48,52 +63,54 @@ struct pciguest_board {
 
 #define PCIGUEST_BOARD_INIT {false, NULL}
 
-/* Where an access goes: a byte offset of the configuration space of the function in a slot, an I/O port, or
- * a memory address. */
+/* The space of an access. It decides what the `place` of the access is: a byte offset in the
+ * configuration space of the function in a slot, an I/O port, or a memory address. */
 enum pciguest_space { PCIGUEST_CONFIG = 0, PCIGUEST_IO = 1, PCIGUEST_MEMORY = 2 };
 
-/* The part of a function where a raise goes, or a device's own access, that is not in a region: regions are told by base
- * address register, 0 to 5. */
+/* The part of a function that a raise or a device's own access addresses: configuration space, or
+ * a region by its base address register, 0 to 5. */
 enum pciguest_part { PCIGUEST_RAISE_CONFIG = 6 };
 
-/* Where a region of a guest's function stands now, by the guest's own registers. It takes `size` addresses of its space
- * from `first` on, and answers there where `is_open` is 1. */
+/* Describes where a region of a guest's function is now, by the guest's own registers. It spans
+ * `size` addresses of its space, starting at `first`, and responds there while `is_open` is 1. */
 struct pciguest_region {
     uint64_t first;
     uint64_t size;
     uint32_t space;        /* PCIGUEST_IO or PCIGUEST_MEMORY */
     uint32_t prefetchable; /* 1 or 0 */
-    uint32_t is_open;      /* 1 or 0: whether the guest's Command opens the space */
+    uint32_t is_open;      /* 1 or 0: whether the guest's Command enables the space */
 };
 
-/* Where a region of a guest stands now, and where it stood when that was told before; all of either is 0 where there is no
- * region. */
+/* Describes where a region of a guest is now, and where it was when this row was last filled in.
+ * Either is all 0 if there is no region. */
 struct pciguest_place {
     struct pciguest_region now;
     struct pciguest_region before;
-    uint32_t has_moved; /* 1 or 0: whether these differ */
+    uint32_t has_moved; /* 1 or 0: whether `now` and `before` differ */
     uint32_t reserved;  /* 0 */
 };
 
-/* How many regions a guest can have: six for each of its slots. */
+/* The most regions that a guest can have: six for each of its slots. */
 enum { PCIGUEST_PLACES = 192 };
 
-/* The byte that an access hits. The part is as for pciguest_raise: a region by its base address register, 0 to 5, or
- * PCIGUEST_RAISE_CONFIG. Where nothing is hit, all of it is 0. */
+/* Describes the byte that an access reaches. The part is a base address register, 0 to 5, for the
+ * region that begins there, or PCIGUEST_RAISE_CONFIG for configuration space. All fields are 0 if
+ * the access reaches nothing. */
 struct pciguest_hit {
     uint64_t slot;
     uint64_t offset; /* in the region, or in configuration space */
     uint32_t part;
-    uint32_t found; /* 1 or 0 */
+    uint32_t found; /* 1 or 0: whether the access reaches anything */
 };
 
-/* The room that the text of a path has, of which a path takes 79 bytes at most, and the base address registers of a
- * function, and the windows of a bridge. Structs that may tell more in a later version keep PCIGUEST_ROOM numbers for it,
- * which are 0 until then: so they stay as large as they are. */
+/* Sizes of arrays: the text of a path, of which a path uses at most 79 bytes; the base address
+ * registers of a function; the windows of a bridge; and the reserved fields, which are 0 until a
+ * later version uses them, so that structs keep their sizes. */
 enum { PCIGUEST_PATH = 80, PCIGUEST_BARS = 6, PCIGUEST_WINDOWS = 3, PCIGUEST_ROOM = 4 };
 
-/* The region that begins at a base address register, as the register on the board has it: `size` addresses of its space
- * from `first` on. Where none begins there, all of it is 0. */
+/* Describes the region that begins at a base address register, as the register on the board places
+ * it: `size` addresses of its space, starting at `first`. All fields are 0 if no region begins
+ * there. */
 struct pciguest_bar {
     uint64_t first;
     uint64_t size;
@@ -102,59 +119,69 @@ struct pciguest_bar {
     uint32_t is_64_bit;    /* 1 or 0: whether the next register has the high half of the address */
 };
 
-/* A window of a bridge, as its registers on the board have it: the addresses from `first` to `last`, both included.
- * Where the bridge has no such window, or its base is above its limit, all of it is 0. */
+/* Describes a window of a bridge, as its registers on the board set it: the addresses from `first`
+ * to `last`, both included. All fields are 0 if the bridge has no such window, or if its base is
+ * above its limit. */
 struct pciguest_window {
     uint64_t first;
     uint64_t last;
     uint32_t is_there; /* 1 or 0 */
 };
 
-/* The interrupt pin of a function, from 1 for INTA# to 4 for INTD#, and the device of bus 0 and its pin that it reaches: the
- * pin moves on by the device number on each bus but bus 0 (PCI-to-PCI Bridge Architecture 1.2, chapter 9.1). These three are
- * 0 where the function has no pin. No interrupt is delivered. */
+/* Describes the interrupt pin of a function, from 1 for INTA# to 4 for INTD#, and the device on
+ * bus 0 and its pin that it reaches. On each bus except bus 0, the device number is added to the
+ * pin: PCI-to-PCI Bridge Architecture 1.2, chapter 9.1, has this rule for add-in cards, and here
+ * it holds for every bridge. These three fields are 0 if the function has no pin. No interrupt is
+ * delivered. */
 struct pciguest_interrupt {
-    uint32_t pin;         /* what Interrupt Pin holds */
+    uint32_t pin;         /* the value of Interrupt Pin */
     uint32_t root_device; /* the device on bus 0 */
-    uint32_t root_pin;    /* its pin */
-    uint32_t is_disabled; /* 1 or 0: Interrupt Disable, as the guest that has the function wrote it, else as on the board */
+    uint32_t root_pin;    /* that device's pin */
+    uint32_t is_disabled; /* 1 or 0: Interrupt Disable, the guest's copy or else the board's */
 };
 
-/* A function of the board as it is now. */
+/* Describes a function of the board as it is now. Its windows are in the order I/O, memory,
+ * prefetchable memory. */
 struct pciguest_function {
-    uint8_t path[PCIGUEST_PATH]; /* as board files write it, as "2.0/1.0"; all bytes after it are 0 */
-    size_t path_length;          /* in bytes, without a 0 */
+    uint8_t path[PCIGUEST_PATH]; /* as in board files ("2.0/1.0"); the bytes after it are 0 */
+    size_t path_length;          /* in bytes, without a terminating 0 */
     uint32_t bus;                /* 0 on bus 0, else the Secondary Bus Number of the bridge above */
     uint32_t device;             /* 0 to 15 */
     uint32_t function;           /* 0 to 7 */
     uint32_t vendor_id;
     uint32_t device_id;
     uint32_t revision_id;
-    uint32_t class_code;          /* 24 bits: base class, sub-class, programming interface */
-    uint32_t subsystem_vendor_id; /* 0 in a bridge, as is the next */
-    uint32_t subsystem_id;
-    uint32_t is_bridge;                             /* 1 or 0 */
-    struct pciguest_bar regions[PCIGUEST_BARS];       /* by register; all 0 in a bridge */
-    struct pciguest_window windows[PCIGUEST_WINDOWS]; /* I/O, memory, prefetchable memory; all 0 in an endpoint */
-    size_t guest;                                   /* where is_given is 1, the guest that has it; else 0 */
-    uint64_t slot;                                  /* where is_given is 1, its slot there; else 0 */
-    uint32_t is_given;                              /* 1 or 0: whether a guest has it */
-    struct pciguest_interrupt interrupt;            /* all 0 in struct pciguest_board_function: firmware reads it */
-    uint64_t reserved[PCIGUEST_ROOM];               /* 0 */
+    uint32_t class_code;                        /* 24 bits: base class, subclass, interface */
+    uint32_t subsystem_vendor_id;               /* 0 in a bridge */
+    uint32_t subsystem_id;                      /* 0 in a bridge */
+    uint32_t is_bridge;                         /* 1 or 0 */
+    struct pciguest_bar regions[PCIGUEST_BARS]; /* by register; all 0 in a bridge */
+    struct pciguest_window windows[PCIGUEST_WINDOWS]; /* by kind; all 0 in an endpoint */
+    size_t guest;                        /* the guest that has it if `is_given` is 1, else 0 */
+    uint64_t slot;                       /* its slot in that guest if `is_given` is 1, else 0 */
+    uint32_t is_given;                   /* 1 or 0: whether a guest has it */
+    struct pciguest_interrupt interrupt; /* all 0 in struct pciguest_board_function */
+    uint64_t reserved[PCIGUEST_ROOM];    /* 0 */
 };
 
-/* A function of a board that firmware drives, as the registers stand: no guest has it. */
+/* Describes a function of a board that firmware drives, by its registers now. No guest has it. The
+ * fields of `interrupt` are 0: firmware reads the pin itself. */
 struct pciguest_board_function {
-    struct pciguest_function function; /* its number as it is looked for: by the bridge above */
-    uint32_t is_found;                 /* 1 or 0: whether a configuration access by this number reaches it */
-    uint32_t opens_io;                 /* 1 or 0: whether its Command opens I/O space */
-    uint32_t opens_memory;             /* 1 or 0: the same of memory */
+    struct pciguest_function function; /* its bus as the bridge above numbers it */
+    uint32_t is_found;                 /* 1 or 0: whether a configuration access there reaches it */
+    uint32_t opens_io;                 /* 1 or 0: whether its Command enables I/O space */
+    uint32_t opens_memory;             /* 1 or 0: whether its Command enables memory space */
     uint64_t reserved[PCIGUEST_ROOM];  /* 0 */
 };
 
-/* The kinds of problems in the registers of a board: a region of which a bridge doesn't forward a byte, two that answer an
- * address on one bus, and a function that no cycle finds. Then those of what is lacking there: a region that is closed,
- * outside the apertures or prefetched where it mustn't be, and a bridge with another Primary than its bus. */
+/* The kinds of problems in the registers of a board, then the kinds of lacks there.
+ * NOT_FORWARDED: a bridge doesn't forward some byte of an open region.
+ * CONTENDED: two regions or bridges answer one address on one bus.
+ * NOT_FOUND: no configuration cycle finds the function.
+ * CLOSED: Command doesn't enable the region's space.
+ * OUTSIDE: an open region has an address outside the apertures.
+ * PREFETCHED: a bridge prefetches an open region that isn't prefetchable.
+ * OTHER_PRIMARY: a bridge's Primary Bus Number isn't the number of its bus. */
 enum pciguest_problem_kind {
     PCIGUEST_NOT_FORWARDED = 1,
     PCIGUEST_CONTENDED = 2,
@@ -165,44 +192,50 @@ enum pciguest_problem_kind {
     PCIGUEST_OTHER_PRIMARY = 7
 };
 
-/* A problem in the registers of a board, as a line of its audit tells it, or a lack, as one of its readiness. */
+/* Describes a problem in the registers of a board, as a line of its audit does, or a lack, as a
+ * line of `host ready` does. `address` is the lowest address that isn't forwarded, that both
+ * answer, that is outside the apertures, or that is prefetched. `bus`, `device` and `function` are
+ * the numbers at which no cycle finds a function; for a bridge with another Primary, `bus` is the
+ * number of its bus. */
 struct pciguest_problem {
     uint32_t kind;                /* of enum pciguest_problem_kind */
-    uint32_t space;               /* PCIGUEST_IO or PCIGUEST_MEMORY; 0 where neither a region nor an address is told */
-    uint64_t address;             /* the first that is not forwarded, that both answer, that is outside or prefetched; else 0 */
+    uint32_t space;               /* PCIGUEST_IO or PCIGUEST_MEMORY; 0 without region and address */
+    uint64_t address;             /* as above; 0 for other kinds */
     uint8_t path[PCIGUEST_PATH];  /* of the function, as in struct pciguest_function */
-    size_t path_length;           /* in bytes, without a 0 */
-    uint32_t bar;                 /* the register of its region, 0 to 5, or 6 where none is told */
-    uint8_t other[PCIGUEST_PATH]; /* of the bridge, of who answers too, or of what is found in its place */
-    size_t other_length;          /* 0 where there is none */
-    uint32_t other_bar;           /* the register of the region there, or 6 */
-    uint32_t bus;                 /* its number, by which no cycle finds it, or the bus of a bridge with another Primary; else 0 */
-    uint32_t device;              /* of that number; else 0, as is the next */
-    uint32_t function;
-    uint32_t primary;             /* what a bridge holds as its Primary in place of its bus; else 0 */
+    size_t path_length;           /* in bytes, without a terminating 0 */
+    uint32_t bar;                 /* the register of its region, 0 to 5, or 6 if none is named */
+    uint8_t other[PCIGUEST_PATH]; /* path: the bridge, what answers too, or what is found instead */
+    size_t other_length;          /* 0 if there is none */
+    uint32_t other_bar;           /* the register of the region there, 0 to 5, or 6 */
+    uint32_t bus;                 /* as above; 0 for other kinds */
+    uint32_t device;              /* as above; 0 for other kinds */
+    uint32_t function;            /* as above; 0 for other kinds */
+    uint32_t primary;             /* OTHER_PRIMARY: the bridge's Primary Bus Number; else 0 */
     uint64_t reserved[PCIGUEST_ROOM]; /* 0 */
 };
 
-/* How large things can be, of any board. */
+/* Gives the upper limits that hold for every board and machine. */
 struct pciguest_limits {
-    uint64_t guest_image; /* bytes: no image of a guest has more */
-    uint32_t functions;   /* of a board, endpoints and bridges */
+    uint64_t guest_image; /* in bytes: no image of a guest is larger */
+    uint32_t functions;   /* on a board, endpoints and bridges */
     uint32_t guests;      /* of a machine */
     uint32_t slots;       /* of a guest */
     uint32_t bars;        /* base address registers of an endpoint */
-    uint32_t block;       /* cells of a region, each a byte */
-    uint32_t own_cells;   /* cells of a function's own configuration space, 40h to FFh */
+    uint32_t block;       /* register bytes of a region */
+    uint32_t own_cells;   /* bytes of a function's own configuration registers, 40h to FFh */
     uint64_t reserved[PCIGUEST_ROOM]; /* 0 */
 };
 
-/* The room that pciguest_run_line and pciguest_board_run_line need for a reply, and the most that pciguest_words and
- * pciguest_guest_name need. */
+/* The room in bytes that pciguest_run_line and pciguest_board_run_line need for a reply, and the
+ * most that pciguest_words and pciguest_guest_name need. */
 enum { PCIGUEST_REPLY = 48, PCIGUEST_WORDS = 20, PCIGUEST_GUEST_NAME = 16 };
 
-/* What a call answers, each with its words; docs/errors.md says what each means. 101 to 112: the board file is refused.
- * 201 to 205: the board can't be set up. 206, 207: a board or a function can't be given to guests. 301 to 303: an access or
- * a path is refused. 601, 602: a slot is empty that must not be, or is taken. 905 to 908: bytes are no image for a guest or
- * for a machine. 909: another call runs on the struct. */
+/* The error numbers that calls return, each with its text; docs/errors.md explains them. 101 to
+ * 112: the board file is refused. 199, 299: out of memory. 201 to 205: the board can't be set up.
+ * 206, 207: functions can't be assigned to guests. 301 to 303: an access or a path is refused.
+ * 601, 602: a slot is empty or taken, and must not be. 901 to 904: the struct or an argument
+ * doesn't fit the call. 905 to 908: bytes can't be loaded as an image of a guest or of a machine.
+ * 909: another call is running on the struct. */
 enum pciguest_status {
     PCIGUEST_OK = 0,
     PCIGUEST_NOT_TOML = 101,          /* not TOML */
@@ -242,7 +275,8 @@ enum pciguest_status {
     PCIGUEST_BUSY = 909               /* busy */
 };
 
-/* Numbers that no call answers: 401 to 403 stand in replies to lines, and the others in the program's last line. */
+/* Error numbers that no call returns: 401 to 403 appear in replies to lines, and the others in the
+ * last line that the program writes. */
 enum pciguest_told {
     PCIGUEST_NOT_READY = 208,     /* not ready */
     PCIGUEST_REFUSED_LINE = 209,  /* refused line */
@@ -256,391 +290,543 @@ enum pciguest_told {
     PCIGUEST_WORD_MEMORY = 799    /* memory */
 };
 
-/* The version of the library that is linked or loaded, as PCIGUEST_VERSION_NUMBER has that of the header. Since 0.4.0. */
+/* Returns the version of the library that is linked or loaded, in the form of
+ * PCIGUEST_VERSION_NUMBER, which is the header's. Since 0.4.0. */
 uint32_t pciguest_version(void);
 
-/* The words of a number, as pciguest_words has them, as a text that ends with a 0 and stays as long as the library is
- * loaded. A number that stands for nothing, as 0, has the empty text. Since 0.4.0. */
+/* Returns the text of an error number, as pciguest_words writes it, terminated by a 0. The text is
+ * valid as long as the library is loaded, and empty for a number without a meaning, such as 0.
+ * Since 0.4.0. */
 const char *pciguest_strerror(uint32_t number);
 
-/* Tells how large things can be. No machine is needed. Since 0.4.0. */
+/* Stores the upper limits that hold for every board and machine. Needs no machine. Since 0.4.0. */
 uint32_t pciguest_limits(struct pciguest_limits *limits);
 
-/* Sets up the board of a board file, given as its bytes, and gives its functions to the guests of the file.
- * 0: the machine holds the world that the file declares, before any access. Otherwise the number of the first
- * check that the file or its board fails, 199 or 299 out of memory, or 903. */
+/* Sets up the board of a board file, given as its bytes, and assigns its functions to the guests
+ * of the file. The machine then holds what the file declares, before any access.
+ * Returns 0; 101 to 112 or 201 to 205, the first check that the file or its board fails; 199 or
+ * 299 out of memory; 903 the struct already holds a machine. */
 uint32_t pciguest_new(struct pciguest *machine, const void *board, size_t length);
 
-/* Frees the machine. The struct then holds none, and may be used for a new one. Where it held none, nothing
- * happens. */
+/* Frees the machine. The struct is then empty and may be used for a new one. Does nothing if the
+ * struct is already empty. */
 void pciguest_free(struct pciguest *machine);
 
-/* The index of the guest of a name, as the calls below take it: guests stand in the order of the board file,
- * from 0 on. 902: no guest has this name. */
+/* Finds a guest by its name and stores its index, which other calls take as `guest`. Guests are in
+ * the order of the board file, from 0 on.
+ * Returns 0; 902 no guest has this name. */
 uint32_t pciguest_guest(struct pciguest *machine, const char *name, size_t length, size_t *guest);
 
-/* How many guests the machine has. Since 0.4.0. */
+/* Stores the number of guests that the machine has. Since 0.4.0. */
 uint32_t pciguest_guest_count(struct pciguest *machine, size_t *count);
 
-/* Writes the name of a guest by its index, from 0 to one less than pciguest_guest_count tells, and tells its length; it
- * has no 0 at its end. 902: there is less room than that, and nothing was written; or there is no such guest, and nothing
- * was told. PCIGUEST_GUEST_NAME is always enough room. Since 0.4.0. */
-uint32_t pciguest_guest_name(struct pciguest *machine, size_t guest, char *text, size_t room, size_t *needed);
+/* Writes the name of the guest at an index, from 0 to one less than the number that
+ * pciguest_guest_count stores, and stores its length in `needed`; the name isn't terminated by a
+ * 0. PCIGUEST_GUEST_NAME is always enough room.
+ * Returns 0; 902 too little room (nothing is written, only the length is stored), or no such guest
+ * (nothing is stored). Since 0.4.0. */
+uint32_t pciguest_guest_name(struct pciguest *machine, size_t guest, char *text, size_t room,
+                             size_t *needed);
 
-/* Reads as a guest, by the guest's own view: slot and offset, port, or address. What is read is what the guest's
- * own functions answer, each a register file by itself; all ones where nothing of the guest's answers. A read
- * changes nothing. The slot is looked at for configuration space alone.
- * 302: the width is not 1, 2 or 4. 301: the place is no multiple of it. 303: the slot, offset or port is out of
- * range. 902: there is no such guest or space. */
-uint32_t pciguest_read(struct pciguest *machine, size_t guest, uint32_t space, uint64_t slot, uint64_t place,
-                       uint32_t width, uint32_t *value);
+/* Reads as a guest, at a slot and offset, a port, or an address, in the guest's own view. The
+ * value is what the guest's own functions return, each of which is a register file of its own; it
+ * is all ones if none of them responds. A read changes nothing. The slot matters only in
+ * configuration space.
+ * Returns 0; 302 the width isn't 1, 2 or 4; 301 `place` isn't a multiple of the width; 303 the
+ * slot, offset or port is out of range; 902 no such guest or space. */
+uint32_t pciguest_read(struct pciguest *machine, size_t guest, uint32_t space, uint64_t slot,
+                       uint64_t place, uint32_t width, uint32_t *value);
 
-/* Writes the low bytes of a value as a guest, as many as it is wide. No other guest can tell. Numbers as above. */
-uint32_t pciguest_write(struct pciguest *machine, size_t guest, uint32_t space, uint64_t slot, uint64_t place,
-                        uint32_t width, uint32_t value);
+/* Writes the low `width` bytes of a value as a guest, at a slot and offset, a port, or an address,
+ * in the guest's own view. No other guest can observe it. The slot matters only in configuration
+ * space.
+ * Returns 0; 302 the width isn't 1, 2 or 4; 301 `place` isn't a multiple of the width; 303 the
+ * slot, offset or port is out of range; 902 no such guest or space. */
+uint32_t pciguest_write(struct pciguest *machine, size_t guest, uint32_t space, uint64_t slot,
+                        uint64_t place, uint32_t width, uint32_t value);
 
-/* How many bytes the first lawful piece of an access has, with that many bytes left of it from a place on: 4, 2 or 1,
- * the most that stand at a multiple of their number. Since 0.3.0. */
+/* Returns the size in bytes, 4, 2 or 1, of the first lawful piece of an access of which `left`
+ * bytes remain, starting at `place`: the largest that isn't more than `left` and that `place` is a
+ * multiple of. Since 0.3.0. */
 static inline uint32_t pciguest_piece(uint64_t place, uint32_t left)
 {
     return place % 4 == 0 && left >= 4 ? 4 : place % 2 == 0 && left >= 2 ? 2 : 1;
 }
 
-/* Whether an access of 1 to 8 bytes ends where its space does, or before. Since 0.3.0. */
+/* Returns whether an access of 1 to 8 bytes ends at or before the end of its space. Since 0.3.0. */
 static inline bool pciguest_ends_within(uint32_t space, uint64_t place, uint32_t width)
 {
-    uint64_t last = space == PCIGUEST_CONFIG ? 0xff : space == PCIGUEST_IO ? 0xffffffff : UINT64_MAX;
+    uint64_t last = space == PCIGUEST_CONFIG ? 0xff
+                    : space == PCIGUEST_IO   ? 0xffffffff
+                                             : UINT64_MAX;
 
     return place <= last && width - 1 <= last - place;
 }
 
-/* Reads as a guest what a processor may ask at once and a cycle of the bus can't: 1 to 8 bytes, at any place. It is
- * split as a bridge does, into the lawful pieces that pciguest_piece tells, in the order of addresses, and the byte at
- * the lowest address is the lowest of the value. 302: the width is not 1 to 8. 303: the slot is out of range, or the
- * access ends past its space. Other numbers as above. Since 0.3.0. */
-uint32_t pciguest_read_wide(struct pciguest *machine, size_t guest, uint32_t space, uint64_t slot, uint64_t place,
-                            uint32_t width, uint64_t *value);
+/* Reads 1 to 8 bytes as a guest, at any alignment, at a slot and offset, a port, or an address, in
+ * the guest's own view: an access that a processor can make at once and a bus cycle can't. It is
+ * split as a bridge splits it, into the lawful pieces that pciguest_piece returns, in ascending
+ * order of addresses. The byte at the lowest address is the lowest byte of the value.
+ * Returns 0; 302 the width isn't 1 to 8; 303 the slot is out of range, or the access ends past its
+ * space; 902 no such guest or space. Since 0.3.0. */
+uint32_t pciguest_read_wide(struct pciguest *machine, size_t guest, uint32_t space, uint64_t slot,
+                            uint64_t place, uint32_t width, uint64_t *value);
 
-/* Writes so the low bytes of a value, as many as it is wide. Since 0.3.0. */
-uint32_t pciguest_write_wide(struct pciguest *machine, size_t guest, uint32_t space, uint64_t slot, uint64_t place,
-                             uint32_t width, uint64_t value);
+/* Writes the low `width` bytes, 1 to 8, of a value as a guest, at any alignment, at a slot and
+ * offset, a port, or an address, in the guest's own view: an access that a processor can make at
+ * once and a bus cycle can't. It is split as a bridge splits it, into the lawful pieces that
+ * pciguest_piece returns, in ascending order of addresses. The byte at the lowest address is the
+ * lowest byte of the value.
+ * Returns 0; 302 the width isn't 1 to 8; 303 the slot is out of range, or the access ends past its
+ * space; 902 no such guest or space. Since 0.3.0. */
+uint32_t pciguest_write_wide(struct pciguest *machine, size_t guest, uint32_t space, uint64_t slot,
+                             uint64_t place, uint32_t width, uint64_t value);
 
-/* Reads as a guest 1 to 8 bytes of a region that a function of its has, told by slot, register and offset and not by the
- * address: as whoever mapped the region hands an access on. While the guest's Command closes the region a read gives all
- * ones and a write is dropped; where two regions of the guest stand at one address, each is reached. The byte at the lowest
- * offset is the lowest of the value. 302: the width is not 1 to 8. 303: the slot is above 31, no region begins at this
- * register, or one of the bytes is past the region. 601: the slot is empty. 902: there is no such guest, or the part is
- * above 6. Since 0.4.0. */
-uint32_t pciguest_region_read(struct pciguest *machine, size_t guest, uint64_t slot, uint32_t part, uint64_t offset,
-                              uint32_t width, uint64_t *value);
+/* Reads 1 to 8 bytes of a region of a guest's function, which is identified by slot, base address
+ * register and offset, not by address. This suits a hypervisor that maps each region itself. While
+ * the guest's Command closes the region, the value is all ones. If two regions of the guest are at
+ * one address, either can be read. The byte at the lowest offset is the lowest byte of the value.
+ * Returns 0; 302 the width isn't 1 to 8; 303 the slot is above 31, no region begins at this
+ * register, or a byte is past the end of the region; 601 the slot is empty; 902 no such guest, or
+ * the part is above 6. Since 0.4.0. */
+uint32_t pciguest_region_read(struct pciguest *machine, size_t guest, uint64_t slot, uint32_t part,
+                              uint64_t offset, uint32_t width, uint64_t *value);
 
-/* Writes so the low bytes of a value, or, where one of them is refused, none. Since 0.4.0. */
-uint32_t pciguest_region_write(struct pciguest *machine, size_t guest, uint64_t slot, uint32_t part, uint64_t offset,
-                               uint32_t width, uint64_t value);
+/* Writes the low `width` bytes, 1 to 8, of a value to a region of a guest's function, which is
+ * identified by slot, base address register and offset, not by address. This suits a hypervisor
+ * that maps each region itself. While the guest's Command closes the region, the write is dropped.
+ * If two regions of the guest are at one address, either can be written. The byte at the lowest
+ * offset is the lowest byte of the value. If a byte is refused, none is written.
+ * Returns 0; 302 the width isn't 1 to 8; 303 the slot is above 31, no region begins at this
+ * register, or a byte is past the end of the region; 601 the slot is empty; 902 no such guest, or
+ * the part is above 6. Since 0.4.0. */
+uint32_t pciguest_region_write(struct pciguest *machine, size_t guest, uint64_t slot, uint32_t part,
+                               uint64_t offset, uint32_t width, uint64_t value);
 
-/* Sets bits of one byte of the function in a guest's slot, as its device does. 303: the slot is above 31, or the
- * function has no such byte. 601: the slot is empty. 902: there is no such guest, or the part is above 6. A raise that
- * is refused changes nothing. */
-uint32_t pciguest_raise(struct pciguest *machine, size_t guest, uint64_t slot, uint32_t part, uint64_t offset,
-                        uint8_t mask);
+/* Sets bits of one byte of the function in a guest's slot, as its device does.
+ * Returns 0; 303 the slot is above 31, or the function has no such byte; 601 the slot is empty;
+ * 902 no such guest, or the part is above 6. */
+uint32_t pciguest_raise(struct pciguest *machine, size_t guest, uint64_t slot, uint32_t part,
+                        uint64_t offset, uint8_t mask);
 
-/* Reads as the host: what the board shows at a physical number, port or address. It changes nothing. Numbers as for
- * pciguest_read; 902 for a device above 31 or a function above 7 too. */
-uint32_t pciguest_host_read(struct pciguest *machine, uint32_t space, uint8_t bus, uint8_t device, uint8_t function,
-                            uint64_t place, uint32_t width, uint32_t *value);
+/* Reads the board as the host: what it shows at a physical bus, device, function and offset, at a
+ * port, or at an address. A read changes nothing.
+ * Returns 0; 302 the width isn't 1, 2 or 4; 301 `place` isn't a multiple of the width; 303 the
+ * offset or port is out of range; 902 no such space, the device is above 31, or the function is
+ * above 7. */
+uint32_t pciguest_host_read(struct pciguest *machine, uint32_t space, uint8_t bus, uint8_t device,
+                            uint8_t function, uint64_t place, uint32_t width, uint32_t *value);
 
-/* Moves the function in a slot of a guest to a slot of another, or of the same. Nothing is carried over: the function
- * is then at reset. 303: a slot is above 31. 601: the slot that it leaves is empty. 602: the slot that it comes to
- * is taken. 902: there is no such guest. */
-uint32_t pciguest_move(struct pciguest *machine, size_t from, uint64_t slot, size_t to, uint64_t target);
+/* Moves the function in a slot of one guest to a slot of another guest, or of the same one. The
+ * function is then at reset: nothing is carried over.
+ * Returns 0; 303 a slot is above 31; 601 the source slot is empty; 602 the target slot is taken;
+ * 902 no such guest. */
+uint32_t pciguest_move(struct pciguest *machine, size_t from, uint64_t slot, size_t to,
+                       uint64_t target);
 
-/* Resets the function in a guest's slot, where it is: nothing is carried over, as in a move. It has no line of a script;
- * two moves do the same, to an empty slot and back. 303: the slot is above 31. 601: the slot is empty. 902: there is no
- * such guest. Since 0.3.0. */
+/* Resets the function in a guest's slot, where it is: nothing is carried over, as in a move. No
+ * line of a script does this; two moves, to an empty slot and back, have the same effect.
+ * Returns 0; 303 the slot is above 31; 601 the slot is empty; 902 no such guest. Since 0.3.0. */
 uint32_t pciguest_reset(struct pciguest *machine, size_t guest, uint64_t slot);
 
-/* Resets every function of a guest, each where it is, and the guest's own CONFIG_ADDRESS: nothing is carried over. The
- * count of pciguest_changed grows by one. It takes no memory. 902: there is no such guest. No line of a script says it.
- * Since 0.4.0. */
+/* Resets every function of a guest, each where it is, and the guest's own CONFIG_ADDRESS: nothing
+ * is carried over. The count of pciguest_changed grows by one. Allocates no memory. No line of a
+ * script does this.
+ * Returns 0; 902 no such guest. Since 0.4.0. */
 uint32_t pciguest_reset_guest(struct pciguest *machine, size_t guest);
 
-/* How many bytes the image of a guest has now, which pciguest_save writes. It stays as long as the guest has the same
- * functions in the same slots: its accesses, its devices, resets and loads don't change it. It takes no memory and changes
- * nothing. 902: there is no such guest. Since 0.4.0. */
+/* Stores the size in bytes of the image that pciguest_save would write for a guest now. It stays
+ * the same as long as the guest has the same functions in the same slots: the guest's accesses,
+ * its devices, resets and loads don't change it. Allocates no memory and changes nothing.
+ * Returns 0; 902 no such guest. Since 0.4.0. */
 uint32_t pciguest_image_size(struct pciguest *machine, size_t guest, size_t *size);
 
-/* Saves a guest: writes its image, and tells its length. The image is all that the guest holds: its CONFIG_ADDRESS, and of
- * each of its 32 slots what is declared of the function and what the guest's registers hold; nothing of the board, of other
- * guests or of where its functions stand. docs/image-format.md has the bytes. What stands behind them in the room stays. It
- * takes no memory, and the machine stays as it is. 902: there is less room than the image needs, and nothing was written;
- * or there is no such guest, and nothing was told. Since 0.4.0. */
-uint32_t pciguest_save(struct pciguest *machine, size_t guest, void *image, size_t room, size_t *needed);
+/* Saves a guest: writes its image and stores the image's length in `needed`. The image is all that
+ * the guest holds: its CONFIG_ADDRESS and, for each of its 32 slots, the declaration of the
+ * function and the contents of the guest's registers. It contains nothing about the board, about
+ * other guests, or about where the guest's functions are. docs/image-format.md describes the
+ * bytes. Room after the image is left as it is. Allocates no memory and leaves the machine as it
+ * is.
+ * Returns 0; 902 too little room (nothing is written, only the length is stored), or no such guest
+ * (nothing is stored). Since 0.4.0. */
+uint32_t pciguest_save(struct pciguest *machine, size_t guest, void *image, size_t room,
+                       size_t *needed);
 
-/* Loads an image into a guest, which then holds what the image says: what the guest that was saved held. Its functions are
- * declared as those of the image, slot by slot; they may stand elsewhere, on another board. Other guests can't tell, and
- * the count of pciguest_changed grows by one. It takes no memory. 906: another slot is filled, or a function is declared
- * otherwise. 908: the image is of another version of the format. 905: the bytes are no image, as with a value that its
- * register can't hold. Of these, what the first byte that fails tells. 902: there is no such guest. No line of a script
- * says it. Since 0.4.0. */
+/* Loads an image into a guest, which then holds what the saved guest held. The guest's functions
+ * must be declared as those of the image are, slot by slot; they may be elsewhere, on another
+ * board. Other guests can't observe the load. The count of pciguest_changed grows by one.
+ * Allocates no memory. No line of a script does this.
+ * Returns 0; 906 other slots are filled, or a function is declared differently; 908 the image has
+ * another version of the format; 905 the bytes are not an image, for example because a register
+ * can't hold its value; 902 no such guest. Among 905, 906 and 908, the first byte that fails
+ * decides. Since 0.4.0. */
 uint32_t pciguest_load(struct pciguest *machine, size_t guest, const void *image, size_t length);
 
-/* Writes what differs in bytes that pciguest_load refuses for this guest by 906, and tells the text's length, which has no 0 at
- * its end: as `slot 0: bar0 size 0x1000, here 0x2000`. It is the first slot of which the bytes have another function, and the
- * first field that is declared otherwise there: its key in a board file, behind `barN` for a region and `config 0xNN` for a block
- * of configuration space; what it is in the bytes, and what here. A kind is told by its number in docs/image-format.md; `filled` is 1
- * in a slot that has a function; `bar` and `config` alone are how many there are. Of bytes that are not refused so there is no
- * text, and the length is 0. It tells of the guest's own functions alone. Nothing changes. 902: there is less room than the text
- * needs, whose length alone is told, or no such guest. 299: out of memory. Since 0.4.0. */
-uint32_t pciguest_image_fault(struct pciguest *machine, size_t guest, const void *image, size_t length, char *text,
-                              size_t room, size_t *needed);
+/* Writes what differs in an image that pciguest_load refuses with 906 for this guest, such as
+ * `slot 0: bar0 size 0x1000, here 0x2000`, and stores the text's length in `needed`; the text
+ * isn't terminated by a 0. It names the first slot whose function differs, and in it the first
+ * field that is declared differently: the field's key in a board file, after `barN` for a region
+ * or `config 0xNN` for a block of configuration space; its value in the image; and its value here.
+ * A kind is given by its number in docs/image-format.md; `filled` is 1 if the slot has a function;
+ * `bar` and `config` alone are how many there are. If pciguest_load would not return 906, there is
+ * no text and the length is 0. The text is about the guest's own functions only. Changes nothing.
+ * Returns 0; 902 too little room (only the length is stored), or no such guest; 299 out of memory.
+ * Since 0.4.0. */
+uint32_t pciguest_image_fault(struct pciguest *machine, size_t guest, const void *image,
+                              size_t length, char *text, size_t room, size_t *needed);
 
-/* How many bytes the image of the whole machine has now, which pciguest_save_all writes. It stays as long as guests have the
- * same functions in the same slots. It takes no memory and changes nothing. Since 0.4.0. */
+/* Stores the size in bytes of the image that pciguest_save_all would write for the whole machine
+ * now. It stays the same as long as the guests have the same functions in the same slots.
+ * Allocates no memory and changes nothing. Since 0.4.0. */
 uint32_t pciguest_image_size_all(struct pciguest *machine, size_t *size);
 
-/* Saves the whole machine: writes its image, and tells its length. The image is who has which function of the board in
- * which slot, what each guest holds, and the board as the host reads it, but for what guests made of functions in slots.
- * docs/image-format.md has the bytes. What stands behind them in the room stays. It takes no memory, and the machine stays as it
- * is. 902: there is less room than the image needs, and nothing was written. Since 0.4.0. */
+/* Saves the whole machine: writes its image and stores the image's length in `needed`. The image
+ * says which guest has which function of the board in which slot, what each guest holds, and what
+ * the board is as the host reads it, except for what guests changed in functions in slots.
+ * docs/image-format.md describes the bytes. Room after the image is left as it is. Allocates no
+ * memory and leaves the machine as it is.
+ * Returns 0; 902 too little room (nothing is written, only the length is stored). Since 0.4.0. */
 uint32_t pciguest_save_all(struct pciguest *machine, void *image, size_t room, size_t *needed);
 
-/* Loads an image into the whole machine: each slot then has the function that it had in the machine that was saved, and each
- * guest holds what that guest held. The board is an equal one that is set up alike, and the guests have the same names in the
- * same order; where their functions sit now, and what they hold, doesn't matter. The count of pciguest_changed grows for each
- * guest. It takes no memory. 907: the board, its guests or how it is set up are others. 906: a slot is to get what no guest
- * can be given there, or a function is declared otherwise. 908: the image, or one of a guest in it, is of another version of
- * the format. 905: the bytes are no image of a machine. Of these, what the first byte that fails tells. No line of a script
- * says it. Since 0.4.0. */
+/* Loads an image into the whole machine. Each slot then has the function that it had in the saved
+ * machine, and each guest holds what it held there. The board must be an equal one that is set up
+ * alike, and the guests must have the same names in the same order; where their functions are now,
+ * and what they hold, doesn't matter. The count of pciguest_changed grows for each guest.
+ * Allocates no memory. No line of a script does this.
+ * Returns 0; 907 the board, its guests or how it is set up differ; 906 a slot would get something
+ * that no guest can have there, or a function is declared differently; 908 the image, or an image
+ * of a guest in it, has another version of the format; 905 the bytes are not an image of a
+ * machine. Among these, the first byte that fails decides. Since 0.4.0. */
 uint32_t pciguest_load_all(struct pciguest *machine, const void *image, size_t length);
 
-/* Gives a function of the board that no guest has to a guest, into an empty slot: there and on the board it is then at
- * reset, on the board but for what guests have copies of. Its path is a text, as board files and pciguest_function have
- * it. 303: the slot is above 31, or no endpoint stands at the path. 602: a guest has the function, or the slot is taken.
- * 206: one of its regions is closed. 902: there is no such guest. No line of a script says it. Since 0.4.0. */
-uint32_t pciguest_give(struct pciguest *machine, const char *path, size_t length, size_t guest, uint64_t slot);
+/* Assigns a function of the board that no guest has to a guest, in an empty slot. The function is
+ * then at reset, in the slot and on the board, except that the registers that guests have copies
+ * of keep their values there. The path is a text, as in board files and in struct
+ * pciguest_function. No line of a script does this.
+ * Returns 0; 303 the slot is above 31, or there is no endpoint at the path; 602 a guest has the
+ * function, or the slot is taken; 206 one of the function's regions is closed; 902 no such guest.
+ * Since 0.4.0. */
+uint32_t pciguest_give(struct pciguest *machine, const char *path, size_t length, size_t guest,
+                       uint64_t slot);
 
-/* Takes the function in a guest's slot from this guest: the slot is then empty, and no guest has the function, which is
- * at reset on the board, but for what guests have copies of. Numbers as for pciguest_reset. No line of a
- * script says it. Since 0.4.0. */
+/* Takes the function in a guest's slot away from the guest. The slot is then empty, no guest has
+ * the function, and it is at reset on the board, except that the registers that guests have copies
+ * of keep their values there. No line of a script does this.
+ * Returns 0; 303 the slot is above 31; 601 the slot is empty; 902 no such guest. Since 0.4.0. */
 uint32_t pciguest_take(struct pciguest *machine, size_t guest, uint64_t slot);
 
-/* Reads one byte of the function in a guest's slot, as its device does: of a region, or of configuration space the two
- * bytes of Status (06h, 07h) and the device's own registers (40h to FFh). A byte that has no register reads 0. It
- * changes nothing. 303: the slot is above 31, or the device has no such byte. 601: the slot is empty. 902: there is no
- * such guest, or the part is above 6. Since 0.3.0. */
-uint32_t pciguest_device_read(struct pciguest *machine, size_t guest, uint64_t slot, uint32_t part, uint64_t offset,
-                              uint32_t *value);
+/* Reads one byte of the function in a guest's slot, as its device does: in a region or, in
+ * configuration space, the two bytes of Status (06h, 07h) and the device's own registers (40h to
+ * FFh). A byte without a register reads 0. Changes nothing.
+ * Returns 0; 303 the slot is above 31, or the device has no such byte; 601 the slot is empty; 902
+ * no such guest, or the part is above 6. Since 0.3.0. */
+uint32_t pciguest_device_read(struct pciguest *machine, size_t guest, uint64_t slot, uint32_t part,
+                              uint64_t offset, uint32_t *value);
 
-/* Writes such a byte as its device does: it takes the value, whatever a guest's writes may change of it, and what they
- * may change of it stays. Where no register is, nothing changes. Numbers as above. It has no line of a script.
- * Since 0.3.0. */
-uint32_t pciguest_device_write(struct pciguest *machine, size_t guest, uint64_t slot, uint32_t part, uint64_t offset,
-                               uint8_t value);
+/* Writes one byte of the function in a guest's slot, as its device does: in a region or, in
+ * configuration space, the two bytes of Status (06h, 07h) and the device's own registers (40h to
+ * FFh). The byte takes the value whichever bits the guest can change, and the guest can change the
+ * same bits afterwards. Where there is no register, nothing changes. No line of a script does
+ * this.
+ * Returns 0; 303 the slot is above 31, or the device has no such byte; 601 the slot is empty; 902
+ * no such guest, or the part is above 6. Since 0.3.0. */
+uint32_t pciguest_device_write(struct pciguest *machine, size_t guest, uint64_t slot, uint32_t part,
+                               uint64_t offset, uint8_t value);
 
-/* Reads so 1 to 8 bytes at any offset, all of one part; the byte at the lowest offset is the lowest of the value.
- * 302: the width is not 1 to 8. 303: one of the bytes is past the part, or none that the device has. Where one of them is
- * refused, the call is. Other numbers as above. Since 0.4.0. */
-uint32_t pciguest_device_read_wide(struct pciguest *machine, size_t guest, uint64_t slot, uint32_t part,
-                                   uint64_t offset, uint32_t width, uint64_t *value);
+/* Reads 1 to 8 bytes of the function in a guest's slot, as its device does, at any offset of one
+ * part: in a region or, in configuration space, the two bytes of Status (06h, 07h) and the
+ * device's own registers (40h to FFh). A byte without a register reads 0. The byte at the lowest
+ * offset is the lowest byte of the value. If a byte is refused, the call is. Changes nothing.
+ * Returns 0; 302 the width isn't 1 to 8; 303 the slot is above 31, or a byte is past the part or
+ * is not one that the device has; 601 the slot is empty; 902 no such guest, or the part is above
+ * 6. Since 0.4.0. */
+uint32_t pciguest_device_read_wide(struct pciguest *machine, size_t guest, uint64_t slot,
+                                   uint32_t part, uint64_t offset, uint32_t width, uint64_t *value);
 
-/* Writes so the low bytes of a value, as many as it is wide. Where one of the bytes is refused, none is written.
- * Since 0.4.0. */
-uint32_t pciguest_device_write_wide(struct pciguest *machine, size_t guest, uint64_t slot, uint32_t part,
-                                    uint64_t offset, uint32_t width, uint64_t value);
+/* Writes the low `width` bytes, 1 to 8, of a value to the function in a guest's slot, as its
+ * device does, at any offset of one part: in a region or, in configuration space, the two bytes of
+ * Status (06h, 07h) and the device's own registers (40h to FFh). The bytes take the value
+ * whichever bits the guest can change. The byte at the lowest offset is the lowest byte of the
+ * value. If a byte is refused, none is written.
+ * Returns 0; 302 the width isn't 1 to 8; 303 the slot is above 31, or a byte is past the part or
+ * is not one that the device has; 601 the slot is empty; 902 no such guest, or the part is above
+ * 6. Since 0.4.0. */
+uint32_t pciguest_device_write_wide(struct pciguest *machine, size_t guest, uint64_t slot,
+                                    uint32_t part, uint64_t offset, uint32_t width, uint64_t value);
 
-/* Where the region that begins at a base address register, 0 to 5, stands now, in the guest's own view. It takes no
- * memory and changes nothing. The answer stays until the guest writes Command or a base address register of this
- * function, or it is moved, reset, loaded or taken: while pciguest_changed tells the same, no answer for this guest changes.
- * 303: the slot is above 31, or no region begins at this register. 601: the slot is empty. 902: there is no such
- * guest. Since 0.3.0. */
+/* Stores where the region that begins at a base address register, 0 to 5, is now in the guest's
+ * own view. The result stays valid until the guest writes Command or a base address register of
+ * this function, or until the function is moved, reset, loaded or taken; while pciguest_changed
+ * stores the same count, no result for this guest changes. Allocates no memory and changes
+ * nothing.
+ * Returns 0; 303 the slot is above 31, or no region begins at this register; 601 the slot is
+ * empty; 902 no such guest. Since 0.3.0. */
 uint32_t pciguest_region(struct pciguest *machine, size_t guest, uint64_t slot, uint32_t bar,
                          struct pciguest_region *region);
 
-/* A count of the guest, which grows by one with each access of the guest, move, reset, gift or taking that touches one
- * of its slots so that an answer of pciguest_region for it may be another one, and with each pciguest_reset_guest and
- * pciguest_load of it, and by one or more with pciguest_load_all: while the count stays, each of these answers stays, for
- * all slots and registers. Nothing else makes it grow. It is 0 in a machine that was made just now, and goes on from 0
- * after 2^64 - 1. It takes no memory and changes nothing. 902: there is no such guest. Since 0.4.0. */
+/* Stores a count that shows whether a region of the guest may have moved: while the count stays
+ * the same, so does every result of pciguest_region for this guest, for all slots and registers.
+ * It grows by one with each access of the guest, move, reset, pciguest_give or pciguest_take that
+ * touches one of the guest's slots in such a way that one of these results may change; by one with
+ * each pciguest_reset_guest and pciguest_load of the guest; and by one or more with
+ * pciguest_load_all. Nothing else makes it grow. It is 0 in a new machine, and 0 again after
+ * `2^64 - 1`. Allocates no memory and changes nothing.
+ * Returns 0; 902 no such guest. Since 0.4.0. */
 uint32_t pciguest_changed(struct pciguest *machine, size_t guest, uint64_t *count);
 
-/* Tells which regions of a guest stand elsewhere, or are open or closed otherwise, than the caller was told before. Of the
- * rows, which the caller keeps from call to call, that of slot S and base address register B is `places[6 * S + B]`; they
- * begin with all bytes 0, and PCIGUEST_PLACES are all. Each row is told anew: where its region stands now, where it stood when
- * this row was told before, and whether these differ; and `count` tells of how many they do. A region that is written to
- * where it stood, as at the end of sizing, has not moved. So a hypervisor unmaps `before` and maps `now` of rows that moved,
- * where `is_open` says so, and asks again once pciguest_changed tells another count. It takes no memory. 902: there is no
- * such guest. Since 0.4.0. */
-uint32_t pciguest_moved(struct pciguest *machine, size_t guest, struct pciguest_place *places, size_t room,
-                        size_t *count);
+/* Updates the caller's rows with where a guest's regions are now, and stores in `count` how many
+ * rows differ from before: regions that are elsewhere, or that were opened or closed. The caller
+ * keeps the rows from call to call. The row of slot S and base address register B is
+ * `places[6 * S + B]`; rows begin with all bytes 0, and PCIGUEST_PLACES is the number of all. In
+ * each row that fits in the room, `now` is where the region is, `before` where it was when the row
+ * was last updated, and `has_moved` whether these differ. A region that is written back to where
+ * it was, as at the end of sizing, has not moved. So a hypervisor unmaps `before` and maps `now`
+ * in rows that moved, each if its `is_open` is 1, and calls again once pciguest_changed stores
+ * another count. Allocates no memory.
+ * Returns 0; 902 no such guest. Since 0.4.0. */
+uint32_t pciguest_moved(struct pciguest *machine, size_t guest, struct pciguest_place *places,
+                        size_t room, size_t *count);
 
-/* What an access of the guest at a place hits, as pciguest_read and pciguest_write take the place: a byte of a function
- * in one of its slots, or nothing. It takes no memory and changes nothing. Every access there begins at this byte, but
- * for four bytes at port CF8h, which are the guest's own CONFIG_ADDRESS. Numbers as for a read of one byte there.
- * Since 0.3.0. */
-uint32_t pciguest_locate(struct pciguest *machine, size_t guest, uint32_t space, uint64_t slot, uint64_t place,
-                         struct pciguest_hit *hit);
+/* Finds the byte that an access of a guest reaches at a slot and offset, a port, or an address: a
+ * byte of a function in one of the guest's slots, or nothing. Every access there begins at this
+ * byte, except one of 4 bytes at port CF8h, which reaches the guest's own CONFIG_ADDRESS.
+ * Allocates no memory and changes nothing.
+ * Returns 0; 303 the slot, offset or port is out of range; 902 no such guest or space. Since
+ * 0.3.0. */
+uint32_t pciguest_locate(struct pciguest *machine, size_t guest, uint32_t space, uint64_t slot,
+                         uint64_t place, struct pciguest_hit *hit);
 
-/* Writes why an access of the guest at a place, as pciguest_locate takes it, finds what it finds, a line for each thing: at
- * port CF8h, and at CFCh to CFFh, what the guest's CONFIG_ADDRESS makes of it (PCI Local Bus 3.0, 3.2.2.3.2); then the slot,
- * the region or configuration space and the offset there that answers, or that nobody does, that the slot is empty, or that
- * CONFIG_ADDRESS selects no slot; and where nobody answers, each region of the guest's functions that holds the address and
- * whose space Command doesn't open (6.2.5), by slot, then by register. It tells the text's length, which has no 0 at its
- * end. It tells of the guest's own functions and CONFIG_ADDRESS alone: two guests that hold the same are told the same.
- * Nothing changes.
- * Numbers as for a read of one byte there. 902 too: there is less room than the text needs, whose length alone is told.
- * 299: out of memory. Since 0.4.0. */
-uint32_t pciguest_why(struct pciguest *machine, size_t guest, uint32_t space, uint64_t slot, uint64_t place, char *text,
-                      size_t room, size_t *needed);
+/* Writes why an access of a guest at a slot and offset, a port, or an address reaches what it
+ * reaches, with one line for each fact, and stores the text's length in `needed`; the text isn't
+ * terminated by a 0. At port CF8h, and at CFCh to CFFh, a line says what the guest's
+ * CONFIG_ADDRESS makes of the port (PCI Local Bus 3.0, 3.2.2.3.2). Then a line names what answers
+ * (the slot, the region or configuration space, and the offset there), or says that nobody
+ * answers, that the slot is empty, or that CONFIG_ADDRESS selects no slot. If nobody answers, a
+ * line follows for each region of the guest's functions that holds the address but whose space
+ * Command doesn't enable (6.2.5), by slot and then by register. The text depends only on the
+ * guest's own functions and CONFIG_ADDRESS: two guests that hold the same get the same text.
+ * Changes nothing.
+ * Returns 0; 303 the slot, offset or port is out of range; 902 no such guest or space, or too
+ * little room (only the length is stored); 299 out of memory. Since 0.4.0. */
+uint32_t pciguest_why(struct pciguest *machine, size_t guest, uint32_t space, uint64_t slot,
+                      uint64_t place, char *text, size_t room, size_t *needed);
 
-/* Writes so a JSON object on one line, with all that these lines tell. Since 0.4.0. */
-uint32_t pciguest_why_json(struct pciguest *machine, size_t guest, uint32_t space, uint64_t slot, uint64_t place,
-                           char *text, size_t room, size_t *needed);
+/* Writes, as a JSON object on one line, why an access of a guest at a slot and offset, a port, or
+ * an address reaches what it reaches, and stores the text's length in `needed`; the text isn't
+ * terminated by a 0. The object has all that the lines of pciguest_why say, except the value of
+ * CONFIG_ADDRESS. Changes nothing.
+ * Returns 0; 303 the slot, offset or port is out of range; 902 no such guest or space, or too
+ * little room (only the length is stored); 299 out of memory. Since 0.4.0. */
+uint32_t pciguest_why_json(struct pciguest *machine, size_t guest, uint32_t space, uint64_t slot,
+                           uint64_t place, char *text, size_t room, size_t *needed);
 
-/* How many functions the board has, endpoints and bridges. Since 0.4.0. */
+/* Stores how many functions the machine's board has, endpoints and bridges together. Since
+ * 0.4.0. */
 uint32_t pciguest_count(struct pciguest *machine, size_t *count);
 
-/* The function at an index, from 0 to one less than pciguest_count tells, in the order of paths: a bridge stands before
- * what is behind it. Where regions and windows stand, and by which number it is reached, is told as the board's own
- * registers have it, which no guest writes; who has it, as it is after the last move. It takes no memory and changes
- * nothing. 902: there is no such function. Since 0.4.0. */
-uint32_t pciguest_function(struct pciguest *machine, size_t index, struct pciguest_function *function);
+/* Stores a row for the function at an index, from 0 to one less than the number that
+ * pciguest_count stores. Functions are in path order: a bridge comes before what is behind it. Its
+ * bus, device and function numbers, regions and windows are those of the board's own registers,
+ * which no guest writes; the guest and slot that have it are those after the last move. Allocates
+ * no memory and changes nothing.
+ * Returns 0; 902 no such function. Since 0.4.0. */
+uint32_t pciguest_function(struct pciguest *machine, size_t index,
+                           struct pciguest_function *function);
 
-/* The same of the function in a slot of a guest. 303: the slot is above 31. 601: the slot is empty. 902: there is no
- * such guest. Since 0.4.0. */
-uint32_t pciguest_slot(struct pciguest *machine, size_t guest, uint64_t slot, struct pciguest_function *function);
+/* Stores a row for the function in a slot of a guest, the same row that pciguest_function stores
+ * for it: its bus, device and function numbers and regions are those of the board's own registers,
+ * which no guest writes. Allocates no memory and changes nothing.
+ * Returns 0; 303 the slot is above 31; 601 the slot is empty; 902 no such guest. Since 0.4.0. */
+uint32_t pciguest_slot(struct pciguest *machine, size_t guest, uint64_t slot,
+                       struct pciguest_function *function);
 
-/* Runs one line of a script, with its line feed or without; a line feed elsewhere makes it a bad line. The reply is one
- * line with its line feed, or nothing for a blank line or a comment; it has no 0 at its end, and `written` tells its
- * length. A line that is refused is answered by its reply, and the call by 0. 902: there is less room than
- * PCIGUEST_REPLY. */
-uint32_t pciguest_run_line(struct pciguest *machine, const char *line, size_t length, char *reply, size_t room,
-                           size_t *written);
+/* Runs one line of a script, with or without its line feed; a line feed elsewhere makes it a bad
+ * line. Writes the reply and stores its length in `written`. The reply is one line with its line
+ * feed, or nothing for a blank line or a comment; it isn't terminated by a 0. For a line that is
+ * refused, the reply says so and the call returns 0.
+ * Returns 0; 902 less room than PCIGUEST_REPLY. */
+uint32_t pciguest_run_line(struct pciguest *machine, const char *line, size_t length, char *reply,
+                           size_t room, size_t *written);
 
-/* Writes the report of a board file, as `pciguest list` does, and tells its length; it has no 0 at its end. 902: there
- * is less room than that, and nothing was written; other numbers as for pciguest_new. No machine is needed. */
+/* Writes the report of a board file, as `pciguest list` does, and stores its length in `needed`;
+ * the text isn't terminated by a 0. Needs no machine.
+ * Returns 0; 101 to 112 or 201 to 205, the first check that the file or its board fails; 199 or
+ * 299 out of memory; 902 too little room (nothing is written, only the length is stored). */
 uint32_t pciguest_report(const void *board, size_t length, char *text, size_t room, size_t *needed);
 
-/* Writes it so as a JSON object on one line, as `pciguest list --json` does. Since 0.4.0. */
-uint32_t pciguest_report_json(const void *board, size_t length, char *text, size_t room, size_t *needed);
+/* Writes the report of a board file as a JSON object on one line, as `pciguest list --json` does,
+ * and stores its length in `needed`; the text isn't terminated by a 0. Needs no machine.
+ * Returns 0; 101 to 112 or 201 to 205, the first check that the file or its board fails; 199 or
+ * 299 out of memory; 902 too little room (nothing is written, only the length is stored). Since
+ * 0.4.0. */
+uint32_t pciguest_report_json(const void *board, size_t length, char *text, size_t room,
+                              size_t *needed);
 
-/* Writes what is wrong with a board file, or that its board fits, as `pciguest check board.toml` does, without the
- * warnings that `--all` adds, and tells the text's length; it has no 0 at its end. 0: the board fits. 101 to 112 or 201
- * to 205: the file or its board is refused, and the text says why. 199 or 299: out of memory, and nothing was written or
- * told. 902: there is less room than the text needs, and nothing was written. No machine is needed. */
+/* Writes what is wrong with a board file, or that its board fits, as `pciguest check board.toml`
+ * does, without the warnings that `--all` adds, and stores the text's length in `needed`; the text
+ * isn't terminated by a 0. Needs no machine.
+ * Returns 0, the board fits; 101 to 112 or 201 to 205, the file or its board is refused, and the
+ * text says why; 199 or 299 out of memory (nothing is written or stored); 902 too little room
+ * (nothing is written, only the length is stored). */
 uint32_t pciguest_check(const void *board, size_t length, char *text, size_t room, size_t *needed);
 
-/* Writes the words of a number that a call answers, or that the program or a reply tells, and tells their length; they
- * have no 0 at their end. A number that stands for nothing, as 0, has no words, and length 0. 902: there is less room
- * than the words need, and nothing was written; PCIGUEST_WORDS is always enough. No machine is needed. */
+/* Writes the text of an error number that a call returns, or that the program or a reply names,
+ * and stores its length in `needed`; the text isn't terminated by a 0. A number without a meaning,
+ * such as 0, has no text, and the length is 0. PCIGUEST_WORDS is always enough room. Needs no
+ * machine.
+ * Returns 0; 902 too little room (nothing is written, only the length is stored). */
 uint32_t pciguest_words(uint32_t number, char *text, size_t room, size_t *needed);
 
-/* Makes the board of a board file, given as its bytes, at reset, for firmware of one's own to drive: no number and no
- * address is given out, and every function is off. The guests of the file are checked, and no function is given to them.
- * 0: the struct holds the board. 101 to 112: the number of the first check that the file fails. 199: out of memory. 903:
- * the struct holds a board already. Since 0.3.0. */
+/* Makes the board of a board file, given as its bytes, at reset, for your own firmware to drive:
+ * no bus number and no address is assigned, and every function is off. The guests of the file are
+ * checked, but no function is assigned to them.
+ * Returns 0; 101 to 112, the first check that the file fails; 199 out of memory; 903 the struct
+ * already holds a board. Since 0.3.0. */
 uint32_t pciguest_board_new(struct pciguest_board *board, const void *file, size_t length);
 
-/* Frees the board, or the machine that a line made of it. The struct then holds none, and may be used for a new one. Where
- * it held none, nothing happens. Since 0.3.0. */
+/* Frees the board, or the machine that a line made of it. The struct is then empty and may be used
+ * for a new one. Does nothing if the struct is already empty. Since 0.3.0. */
 void pciguest_board_free(struct pciguest_board *board);
 
-/* Reads as firmware does, in whatever state the registers are: configuration space by bus, device, function and byte
- * offset, I/O by port, or memory by address; all ones where nothing answers. Bus, device and function are looked at for
- * configuration space alone; by ports it is reached at CF8h and CFCh. A read there by number leaves 0 in CONFIG_ADDRESS
- * (CF8h); else a read changes nothing.
- * 302: the width is not 1, 2 or 4 bytes. 301: the place is no multiple of it. 303: the offset is above 255, or the port
- * above FFFFFFFFh. 902: there is no such space, the device is above 31, or the function above 7. Since 0.3.0. */
-uint32_t pciguest_board_read(struct pciguest_board *board, uint32_t space, uint8_t bus, uint8_t device,
-                             uint8_t function, uint64_t place, uint32_t width, uint32_t *value);
+/* Reads as firmware does, in whatever state the registers are: configuration space by bus, device,
+ * function and byte offset, I/O by port, or memory by address. The value is all ones if nothing
+ * responds. Bus, device and function matter only in configuration space, which can also be reached
+ * through the ports CF8h and CFCh. A read of configuration space by bus, device and function
+ * leaves 0 in CONFIG_ADDRESS (CF8h); every other read changes nothing.
+ * Returns 0; 302 the width isn't 1, 2 or 4; 301 `place` isn't a multiple of the width; 303 the
+ * offset is above 255, or the port is above FFFFFFFFh; 902 no such space, the device is above 31,
+ * or the function is above 7. Since 0.3.0. */
+uint32_t pciguest_board_read(struct pciguest_board *board, uint32_t space, uint8_t bus,
+                             uint8_t device, uint8_t function, uint64_t place, uint32_t width,
+                             uint32_t *value);
 
-/* Writes the low bytes of a value as firmware does, as many as it is wide; what nothing takes is dropped. A write of
- * configuration space by number leaves 0 in CONFIG_ADDRESS. Numbers as above. Since 0.3.0. */
-uint32_t pciguest_board_write(struct pciguest_board *board, uint32_t space, uint8_t bus, uint8_t device,
-                              uint8_t function, uint64_t place, uint32_t width, uint32_t value);
+/* Writes the low `width` bytes of a value as firmware does, in whatever state the registers are:
+ * configuration space by bus, device, function and byte offset, I/O by port, or memory by address.
+ * What nothing takes is dropped. Bus, device and function matter only in configuration space,
+ * which can also be reached through the ports CF8h and CFCh. A write of configuration space by
+ * bus, device and function leaves 0 in CONFIG_ADDRESS (CF8h).
+ * Returns 0; 302 the width isn't 1, 2 or 4; 301 `place` isn't a multiple of the width; 303 the
+ * offset is above 255, or the port is above FFFFFFFFh; 902 no such space, the device is above 31,
+ * or the function is above 7. Since 0.3.0. */
+uint32_t pciguest_board_write(struct pciguest_board *board, uint32_t space, uint8_t bus,
+                              uint8_t device, uint8_t function, uint64_t place, uint32_t width,
+                              uint32_t value);
 
-/* Runs one line of a session, as `pciguest firmware` does, with its line feed or without: a line of firmware; `host audit`,
- * whose reply is the text of pciguest_board_audit; `host ready`, whose reply tells also what the board lacks that is to be
- * driven; `host why ..`, whose reply tells why an address, a port or a number of a function finds what it finds;
- * `host guests`, which gives the board to the guests of its file or says why it doesn't, as pciguest_board_guests does;
- * and once it is given, a line of a script. The struct then holds the machine: pciguest_board_guests moves it to a struct
- * of its own, and the other calls of a board answer 901. A line that is refused is answered by its reply, and the call
- * by 0.
- * The reply is one line with its line feed, or nothing, but for an audit, for `host ready`, for `host why ..` and for a
- * board that isn't given: these may have more lines. It has no 0 at its end, and `written` tells its length.
- * 902: there is less room than PCIGUEST_REPLY, or than a reply of more lines needs, whose length alone is told; nothing
- * happened. 299: out of memory for one of these four lines, and nothing happened; no other line takes memory.
+/* Runs one line of a session, as `pciguest firmware` does, with or without its line feed; writes
+ * the reply and stores its length in `written`. While firmware drives the board, the line can be a
+ * line of firmware; `host audit`, whose reply is the text of pciguest_board_audit; `host ready`,
+ * whose reply also lists what the board lacks, as pciguest_board_ready does; `host why ..`, whose
+ * reply says why an address, a port or a function's bus, device and function numbers reach what
+ * they reach; or `host guests`, which hands the board over to the guests of its file or says why
+ * it can't, as pciguest_board_guests does. Once the board is handed over, the line is a line of a
+ * script. The struct then holds the machine: pciguest_board_guests moves it to a struct of its
+ * own, and the other calls on a board return 901. For a line that is refused, the reply says so
+ * and the call returns 0. The reply is one line with its line feed, or nothing; only the replies
+ * to `host audit`, `host ready`, `host why ..` and a refused `host guests` can have more lines. It
+ * isn't terminated by a 0.
+ * Returns 0; 902 less room than PCIGUEST_REPLY, or than a reply of more lines needs (nothing
+ * happens, and only the length of the latter is stored); 299 out of memory for `host audit`,
+ * `host ready`, `host why ..` or `host guests` (nothing happens). No other line allocates memory.
  * Since 0.3.0. */
-uint32_t pciguest_board_run_line(struct pciguest_board *board, const char *line, size_t length, char *reply,
-                                 size_t room, size_t *written);
+uint32_t pciguest_board_run_line(struct pciguest_board *board, const char *line, size_t length,
+                                 char *reply, size_t room, size_t *written);
 
-/* How many functions the board has, endpoints and bridges. Since 0.4.0. */
+/* Stores how many functions the board that firmware drives has, endpoints and bridges together.
+ * Since 0.4.0. */
 uint32_t pciguest_board_count(struct pciguest_board *board, size_t *count);
 
-/* The function at an index, from 0 to one less than pciguest_board_count tells, in the order of paths, as the registers
- * stand: by which number it is looked for and whether that reaches it, where its base address registers or windows are,
- * whatever firmware did of them so far, and whether its Command opens their spaces. It takes no memory and changes nothing,
- * CONFIG_ADDRESS neither. 902: there is no such function. Since 0.4.0. */
-uint32_t pciguest_board_function(struct pciguest_board *board, size_t index, struct pciguest_board_function *function);
+/* Stores a row for the function at an index, from 0 to one less than the number that
+ * pciguest_board_count stores, in path order, as the registers are now, whatever firmware did to
+ * them: the bus, device and function numbers at which the function is looked for and whether an
+ * access there reaches it, its base address registers or windows, and whether its Command enables
+ * their spaces. Allocates no memory and changes nothing, not even CONFIG_ADDRESS.
+ * Returns 0; 902 no such function. Since 0.4.0. */
+uint32_t pciguest_board_function(struct pciguest_board *board, size_t index,
+                                 struct pciguest_board_function *function);
 
-/* Writes what is wrong in the registers of a board as they stand, whoever wrote them: a line for each problem, and a last
- * line `audit: ok` or `audit: N problems`. A problem is a byte of an open region that a bridge above doesn't forward, an
- * address that two answer on one bus, or a function that no cycle finds. It tells the text's length, which has no 0 at its
- * end, and how many problems there are. The board stays as it is.
- * 902: there is less room than the text needs, whose length alone is told. 299: out of memory. Since 0.3.0. */
-uint32_t pciguest_board_audit(struct pciguest_board *board, char *text, size_t room, size_t *needed, size_t *count);
-
-/* Writes so a JSON object on one line, as `pciguest audit --json` does: each problem with all that its line tells, in the
- * same order. Since 0.4.0. */
-uint32_t pciguest_board_audit_json(struct pciguest_board *board, char *text, size_t room, size_t *needed,
-                                   size_t *count);
-
-/* Writes what is wrong in the registers of a board as they stand, as pciguest_board_audit does but for its last line, then
- * a line for each thing that they lack, and a last line `ready: ok`, or as `ready: 1 problem, 2 lacks` what there is. What is
- * lacking is a region that is closed, outside the apertures or prefetched where it mustn't be, and a bridge with another Primary than
- * its bus. It tells the text's length, and how many problems and lacks there are: the board is ready where that is 0. The
- * board stays as it is.
- * 902: there is less room than the text needs, whose length alone is told. 299: out of memory. Since 0.4.0. */
-uint32_t pciguest_board_ready(struct pciguest_board *board, char *text, size_t room, size_t *needed, size_t *count);
-
-/* Writes so a JSON object on one line, as `pciguest ready --json` does: each problem and each lack with all that its line
- * tells, in the same order. Since 0.4.0. */
-uint32_t pciguest_board_ready_json(struct pciguest_board *board, char *text, size_t room, size_t *needed,
-                                   size_t *count);
-
-/* Writes why an address, a port or a function's number finds what it finds as the registers stand, or nothing, as a JSON
- * object on one line, with all that the lines of `host why ..` tell. The place is as for pciguest_board_read, but that no
- * offset is looked at where a number is asked, and that nobody answers at a port above FFFFFFFFh. It tells the text's length,
- * which has no 0 at its end. The board stays as it is, CONFIG_ADDRESS too.
- * 902: there is no such space, device or function; or there is less room than the text needs, whose length alone is told.
- * 299: out of memory. Since 0.4.0. */
-uint32_t pciguest_board_why_json(struct pciguest_board *board, uint32_t space, uint8_t bus, uint8_t device,
-                                 uint8_t function, uint64_t place, char *text, size_t room, size_t *needed);
-
-/* Writes a row for each problem that pciguest_board_audit has a line of, in the same order, and tells how many there are.
- * The board stays as it is. 902: there is room for fewer rows than that, whose number alone is told. 299: out of memory.
- * Since 0.4.0. */
-uint32_t pciguest_board_problems(struct pciguest_board *board, struct pciguest_problem *problems, size_t room,
-                                 size_t *count);
-
-/* Writes so a row for each lack that pciguest_board_ready has a line of, in the same order. Since 0.4.0. */
-uint32_t pciguest_board_lacks(struct pciguest_board *board, struct pciguest_problem *lacks, size_t room,
+/* Writes what is wrong in the registers of a board as they are now, whoever wrote them: a line for
+ * each problem, and a last line `audit: ok` or `audit: N problems`. A problem is a byte of an open
+ * region that a bridge above it doesn't forward, an address that two regions or bridges answer on
+ * one bus, or a function that no configuration cycle finds. Stores the text's length in `needed`
+ * and the number of problems in `count`; the text isn't terminated by a 0. The board stays as it
+ * is.
+ * Returns 0; 902 too little room (only the length is stored); 299 out of memory. Since 0.3.0. */
+uint32_t pciguest_board_audit(struct pciguest_board *board, char *text, size_t room, size_t *needed,
                               size_t *count);
 
-/* Sets up a board that is at reset as pciguest_new does, in place of firmware of one's own, and gives its functions to
- * the guests of its file: the machine is then the one that pciguest_new makes of the file. The board stays as it is.
- * 901: there is no board. 903: the struct of the machine holds one already. 904: a write was done on the board since
- * reset. 201 to 205: the board can't be set up. 299: out of memory. The first of these that holds is answered.
- * Since 0.3.0. */
+/* Writes what is wrong in the registers of a board as a JSON object on one line, as
+ * `pciguest audit --json` does: each problem that pciguest_board_audit has a line for, with all
+ * that the line says, in the same order. Stores the text's length in `needed` and the number of
+ * problems in `count`; the text isn't terminated by a 0. The board stays as it is.
+ * Returns 0; 902 too little room (only the length is stored); 299 out of memory. Since 0.4.0. */
+uint32_t pciguest_board_audit_json(struct pciguest_board *board, char *text, size_t room,
+                                   size_t *needed, size_t *count);
+
+/* Writes what is wrong in the registers of a board as they are now, and what they lack: the lines
+ * of pciguest_board_audit except the last, then a line for each lack, and a last line `ready: ok`
+ * or a count such as `ready: 1 problem, 2 lacks`. A lack is a region that is closed, outside the
+ * apertures, or prefetched although it isn't prefetchable, or a bridge whose Primary Bus Number
+ * isn't the number of its bus. Stores the text's length in `needed` and the number of problems and
+ * lacks in `count`, which is 0 if the board is ready; the text isn't terminated by a 0. The board
+ * stays as it is.
+ * Returns 0; 902 too little room (only the length is stored); 299 out of memory. Since 0.4.0. */
+uint32_t pciguest_board_ready(struct pciguest_board *board, char *text, size_t room, size_t *needed,
+                              size_t *count);
+
+/* Writes what is wrong in the registers of a board and what they lack as a JSON object on one
+ * line, as `pciguest ready --json` does: each problem and each lack that pciguest_board_ready has
+ * a line for, with all that the line says, in the same order. Stores the text's length in `needed`
+ * and the number of problems and lacks in `count`, which is 0 if the board is ready; the text
+ * isn't terminated by a 0. The board stays as it is.
+ * Returns 0; 902 too little room (only the length is stored); 299 out of memory. Since 0.4.0. */
+uint32_t pciguest_board_ready_json(struct pciguest_board *board, char *text, size_t room,
+                                   size_t *needed, size_t *count);
+
+/* Writes, as a JSON object on one line, why an address, a port, or the bus, device and function
+ * numbers of a function reach what they reach, or nothing, as the registers are now. The object
+ * has all that the lines of `host why ..` say, except the value of CONFIG_ADDRESS. The arguments
+ * are those of pciguest_board_read, except that in configuration space `place` is ignored, and
+ * that nobody answers at a port above FFFFFFFFh. Stores the text's length in `needed`; the text
+ * isn't terminated by a 0. The board stays as it is, CONFIG_ADDRESS too.
+ * Returns 0; 902 no such space, device or function, or too little room (only the length is
+ * stored); 299 out of memory. Since 0.4.0. */
+uint32_t pciguest_board_why_json(struct pciguest_board *board, uint32_t space, uint8_t bus,
+                                 uint8_t device, uint8_t function, uint64_t place, char *text,
+                                 size_t room, size_t *needed);
+
+/* Writes a row for each problem that pciguest_board_audit has a line for, in the same order, and
+ * stores the number of problems in `count`. The room is a number of rows. The board stays as it
+ * is.
+ * Returns 0; 902 room for fewer rows than that (only their number is stored); 299 out of memory.
+ * Since 0.4.0. */
+uint32_t pciguest_board_problems(struct pciguest_board *board, struct pciguest_problem *problems,
+                                 size_t room, size_t *count);
+
+/* Writes a row for each lack that pciguest_board_ready has a line for, in the same order, and
+ * stores the number of lacks in `count`. The room is a number of rows. The board stays as it is.
+ * Returns 0; 902 room for fewer rows than that (only their number is stored); 299 out of memory.
+ * Since 0.4.0. */
+uint32_t pciguest_board_lacks(struct pciguest_board *board, struct pciguest_problem *lacks,
+                              size_t room, size_t *count);
+
+/* Sets up a board that is at reset, as pciguest_new does, in place of your own firmware, and
+ * assigns its functions to the guests of its file. The machine is then the one that pciguest_new
+ * makes from the file. The board stays as it is.
+ * Returns 0, or the first of these that applies: 901 there is no board; 903 the machine's struct
+ * already holds one; 904 the board was written since reset; 201 to 205 the board can't be set up;
+ * 299 out of memory. Since 0.3.0. */
 uint32_t pciguest_set_up(struct pciguest_board *board, struct pciguest *machine);
 
-/* Gives the functions of a board to the guests of its file as the board stands, whoever set it up: where its audit tells
- * no problem and each region of their functions is open, the machine is then over this board. Each function that is given
- * is reset first, but for what guests have copies of, and the board's CONFIG_ADDRESS is cleared. Where a line gave the
- * board to its guests before, the machine is the one that they are, as it is now. The struct of the board then holds none.
- * Where it is refused, both structs are as they were.
- * 901: there is no board. 903: the struct of the machine holds one already. 207: the audit tells a problem. 206: a region
- * of a function that is to be given is closed. 299: out of memory. 901, 903 and 207 come in this order before 206;
- * pciguest_board_audit tells the problems of 207. Since 0.4.0. */
+/* Assigns the functions of a board to the guests of its file, with the board as it is, whoever set
+ * it up. This requires that the audit of the board finds no problem and that each region of these
+ * functions is open. The machine then has this board, and the board's struct is empty. Each
+ * assigned function is reset first, except for the registers that guests have copies of, and the
+ * board's CONFIG_ADDRESS is cleared. If a line already handed the board over, the machine is the
+ * one that this made, as it is now. On an error both structs stay as they were.
+ * Returns 0; 901 there is no board; 903 the machine's struct already holds one; 207 the audit
+ * finds a problem, which pciguest_board_audit reports; 206 a region of a function to be assigned
+ * is closed; 299 out of memory. 901, 903 and 207 are checked in this order, before 206. Since
+ * 0.4.0. */
 uint32_t pciguest_board_guests(struct pciguest_board *board, struct pciguest *machine);
 
 #ifdef __cplusplus

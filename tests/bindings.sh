@@ -27,7 +27,7 @@ notices() {
 notices 'another word of a number' 's|PCIGUEST_BAD_WIDTH = 302,         /\* width|PCIGUEST_BAD_WIDTH = 302,         /* breadth|' library/words.c
 notices 'another type of a parameter' 's/^\(uint32_t pciguest_take(.*\)uint64_t slot)/\1uint32_t slot)/' \
   library/rust/sys/src/raw.rs library/calls.c man/libpciguest.3
-notices 'another word of a comment' 's/^\/\* How many guests the machine has\./\/* How many guests a machine has./' man/libpciguest.3
+notices 'another word of a comment' 's/^\/\* Stores the number of guests that the machine has\./\/* Stores how many guests the machine has./' man/libpciguest.3
 
 # ---- the page reads fields of two structs by where they stand
 other_places() {
