@@ -1,23 +1,23 @@
-/* What the calls of library/calls.c stand on, beside those of the proved library: a struct is taken for the time of a call,
- * and accesses of processors are split. */
+/* What library/calls.c uses besides the calls of the proved library: it takes a struct for the duration of a call, and
+ * splits processor accesses into bus accesses. */
 #ifndef CALLS_H
 #define CALLS_H
 
 #include "raw.h"
 
-/* What stands in the place of what a struct holds while a call runs on it. */
+/* The value of a struct's pointer while a call is running on the struct. */
 #define RUNNING ((void *)1)
 
-/* Takes what a struct holds into one that no other thread sees, and tells whether no call ran on it. One exchange does both,
- * so of two calls at once one finds RUNNING, and puts back what it found. The proved call is given the other struct: of
- * the first, only this place is looked at by two threads, and only by what stands here. */
+/* Moves what a struct holds into another struct that no other thread sees, and returns whether no call was running. One
+ * atomic exchange does both, so of two concurrent calls one finds RUNNING, and has written the same value back. The proved call
+ * gets the other struct: only the pointer of the first one is accessed by two threads, and only by these macros. */
 #define TAKE(whole, held)                                                    \
     ((held).at = __atomic_exchange_n(&(whole)->at, RUNNING, __ATOMIC_ACQUIRE), \
      (held).live = (held).at != NULL, (held).at != RUNNING)
 
 #define PUT_BACK(whole, held) ((whole)->live = (held).live, __atomic_store_n(&(whole)->at, (held).at, __ATOMIC_RELEASE))
 
-/* 0 where an access of a processor may be split, or the number of its refusal. */
+/* Returns 0 if a processor access may be split, or the error number with which it is refused. */
 static uint32_t not_split(uint32_t space, uint64_t place, uint32_t width)
 {
     if (width < 1 || width > 8)

@@ -1,10 +1,10 @@
-/* The accesses of firmware that is to be tested, and its questions: each is a line on standard output, and its reply a line
- * on standard input, or more for a question. `pciguest firmware BOARD` answers such lines, and
- * `python3 -m pciguest.firmware_test -- ./my_firmware` tests the firmware on many boards. There is no library behind this
- * header. Firmware writes nothing else to standard output; messages go to standard error. An access or a question that is
- * refused, or that has no reply, ends the firmware with status 3.
+/* Accesses and questions for firmware under test. Each is one line on standard output; the reply is one line on standard
+ * input, or several for a question. `pciguest firmware BOARD` answers such lines, and
+ * `python3 -m pciguest.firmware_test -- ./my_firmware` tests the firmware on many boards. No library is needed besides this
+ * header. Firmware must write nothing else to standard output; its messages go to standard error. If an access or a question
+ * is refused or gets no reply, the firmware ends with status 3.
  *
- * A width is 1, 2 or 4 bytes, and an offset, a port or an address is a multiple of it. */
+ * A width is 1, 2 or 4 bytes; an offset, port or address must be a multiple of it. */
 #ifndef PCIGUEST_OPS_H
 #define PCIGUEST_OPS_H
 
@@ -15,10 +15,10 @@
 #include <stdlib.h>
 #include <string.h>
 
-/* a function's number: its bus, its device and its function */
+/* makes a BDF from bus, device and function numbers */
 #define PG_BDF(bus, device, function) ((uint32_t)(bus) << 8 | (uint32_t)(device) << 3 | (uint32_t)(function))
 
-/* writes a line, and gives the number that is replied: 0 for `ok` */
+/* writes a line and returns the value in the reply, or 0 for `ok` */
 static inline uint32_t pg_ask(const char *line)
 {
     char reply[64];
@@ -89,8 +89,8 @@ static inline void pg_store(uint64_t address, int width, uint32_t value)
 
 /* ---- questions */
 
-/* A reply's last line counts what is told in the lines above it. Whether this one does: as `audit: ok`, `ready: 1
- * problem, 2 lacks`, or `why: 3 lines`. */
+/* Returns whether a line is the last of a reply, which counts the lines above it, such as `audit: ok`,
+ * `ready: 1 problem, 2 lacks` or `why: 3 lines`, and stores the count. */
 static inline int pg_is_count(const char *line, unsigned long *count)
 {
     int audit = 0, both = 0, ready = 0, why = 0;
@@ -112,8 +112,8 @@ static inline int pg_is_count(const char *line, unsigned long *count)
     return strcmp(line, "audit: ok\n") == 0 || strcmp(line, "ready: ok\n") == 0;
 }
 
-/* Asks `host audit`, `host ready` or `host why ..`, and writes the lines of the reply to a stream, as stderr, or nowhere for
- * NULL. It gives how many problems and lacks are counted, and of `host why ..` how many lines tell why. */
+/* Asks `host audit`, `host ready` or `host why ..` and writes the lines of the reply to a stream such as stderr, or nowhere
+ * for NULL. Returns the number of problems and lacks, or of the lines that answer `host why ..`. */
 static inline unsigned long pg_question(const char *question, FILE *out)
 {
     unsigned long count = 0;
@@ -133,7 +133,8 @@ static inline unsigned long pg_question(const char *question, FILE *out)
     exit(3);
 }
 
-/* The addresses that firmware may give out, which the test tells it: "io", "mem" or "pref". 0 where the board has none. */
+/* Stores the first and last address that firmware may assign in an aperture, "io", "mem" or "pref", which the test passes
+ * in the environment. Returns 1, or 0 if the board has no such aperture. */
 static inline int pg_aperture(const char *name, uint64_t *first, uint64_t *last)
 {
     const char *variable = name[0] == 'i' ? "PCIGUEST_IO" : name[0] == 'm' ? "PCIGUEST_MEM" : "PCIGUEST_PREF";
@@ -142,7 +143,7 @@ static inline int pg_aperture(const char *name, uint64_t *first, uint64_t *last)
     return range != NULL && sscanf(range, "%" SCNi64 " %" SCNi64, (int64_t *)first, (int64_t *)last) == 2;
 }
 
-/* ---- configuration by the ports CF8h and CFCh */
+/* ---- configuration accesses through the ports CF8h and CFCh */
 
 static inline uint32_t pg_port_config_read(uint32_t bdf, uint32_t offset, int width)
 {
@@ -156,7 +157,7 @@ static inline void pg_port_config_write(uint32_t bdf, uint32_t offset, int width
     pg_out(0xCFC + (offset & 3), width, value);
 }
 
-/* ---- the same in the form of U-Boot's dm_pci_ops: a pci_dev_t has the bus from bit 16 on, and a size is 0, 1 or 2 */
+/* ---- the same as U-Boot's dm_pci_ops: a pci_dev_t has the bus from bit 16 on, and a size is 0, 1 or 2 */
 
 static inline int pg_uboot_read_config(const void *bus, int bdf, unsigned offset, unsigned long *value, int size)
 {
@@ -172,7 +173,7 @@ static inline int pg_uboot_write_config(const void *bus, int bdf, unsigned offse
     return 0;
 }
 
-/* ---- in the form of libpayload's pci_read_config8 and its like: a pcidev_t has the bus from bit 16 on, and bit 31 */
+/* ---- the same as libpayload's pci_read_config8 and the like: a pcidev_t has the bus from bit 16 on, and bit 31 */
 
 #define PG_LIBPAYLOAD(bits)                                                                                            \
     static inline uint##bits##_t pg_read_config##bits(uint32_t device, uint16_t reg)                                   \
@@ -187,12 +188,12 @@ PG_LIBPAYLOAD(8)
 PG_LIBPAYLOAD(16)
 PG_LIBPAYLOAD(32)
 
-/* ---- in the forms of EDK2, Pci.Read and Pci.Write: a width is 0, 1 or 2, and 0 is EFI_SUCCESS. In an address of
- * EFI_PCI_ROOT_BRIDGE_IO_PROTOCOL, which has all functions, the bus stands from bit 24 on, then device, function and
- * register with 8 bits each; EFI_PCI_IO_PROTOCOL is of one function. */
+/* ---- the same as EDK2's Pci.Read and Pci.Write: a width is 0, 1 or 2, and 0 is EFI_SUCCESS. An address of
+ * EFI_PCI_ROOT_BRIDGE_IO_PROTOCOL, which reaches all functions, has the bus from bit 24 on, then device, function and
+ * register in 8 bits each. EFI_PCI_IO_PROTOCOL reaches one function. */
 
 struct pg_root_bridge_io {
-    void *data; /* the firmware's own */
+    void *data; /* for the firmware's use */
 };
 
 struct pg_pci_io {
