@@ -174,7 +174,8 @@ struct pciguest_board_function {
     uint64_t reserved[PCIGUEST_ROOM];  /* 0 */
 };
 
-/* The kinds of problems in the registers of a board, then the kinds of lacks there.
+/* The kinds of problems in the registers of a board, and from CLOSED on the kinds of lacks: what an
+ * operating system would still have to do.
  * NOT_FORWARDED: a bridge doesn't forward some byte of an open region.
  * CONTENDED: two regions or bridges answer one address on one bus.
  * NOT_FOUND: no configuration cycle finds the function.

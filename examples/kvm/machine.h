@@ -1,4 +1,4 @@
-/* A machine of KVM with one processor, whose PCI is a guest of the board; and the board, over which all machines stand. */
+/* A KVM virtual machine with one processor, whose PCI is a guest of the board; and the board, which all machines share. */
 #ifndef MACHINE_H
 #define MACHINE_H
 
@@ -11,7 +11,7 @@
 
 enum { MEMORY = 128 << 20, SLOTS = 32, CONSOLE_PORT = 0x3f8, CONSOLE_LINE = 4 };
 
-/* The library's struct is used under this lock alone, and so is all of a machine that both its own thread and another use. */
+/* This lock protects the library's struct, and everything in a machine that both its own thread and another one use. */
 struct board {
     struct pciguest guests;
     pthread_mutex_t lock;
@@ -30,52 +30,52 @@ enum device { NO_DEVICE, SERIAL_PORT, BELL };
 
 struct machine {
     struct board *board;
-    const char *name; /* of its guest, and that guest's index */
+    const char *name; /* the guest's name, and below its index */
     size_t guest;
-    enum device devices[SLOTS]; /* what stands behind the function in each slot */
-    struct uart ports[SLOTS];   /* of those that are serial ports */
+    enum device devices[SLOTS]; /* the device behind the function in each slot */
+    struct uart ports[SLOTS];   /* for devices that are serial ports */
     struct uart console;
-    char line[256]; /* what the console has of a line that isn't at its end */
+    char line[256]; /* the beginning of an unfinished line of the console */
     size_t length;
 
-    struct pciguest_place places[PCIGUEST_PLACES]; /* where the guest's regions stand, six for each slot */
-    uint32_t asking;      /* a bit for each slot whose device asks for an interrupt */
-    uint32_t driving[16]; /* and for each line, of those that drive it */
+    struct pciguest_place places[PCIGUEST_PLACES]; /* where the guest's regions are, six for each slot */
+    uint32_t asking;      /* a bit for each slot whose device requests an interrupt */
+    uint32_t driving[16]; /* for each line, a bit for each slot that drives it */
 
-    int system, file, processor; /* of KVM, this machine and its processor */
+    int system, file, processor; /* descriptors of KVM, this machine and its processor */
     uint8_t *memory;
     struct kvm_run *run;
     pthread_t thread;
-    const char *volatile save_path; /* where it is to be saved, once it is to stop for that */
+    const char *volatile save_path; /* where to save it, once it is stopped for that */
     volatile bool has_ended;
     uint64_t exits, board_exits, board_nanoseconds, counted_from;
 };
 
-/* machine.c: makes a machine, and runs it until it ends or is stopped. What fails ends the program. */
+/* machine.c: makes a machine, and runs it until it ends or is stopped. A failure ends the program. */
 void machine_new(struct machine *machine, struct board *board, const char *name);
 void machine_start(struct machine *machine);
 void machine_stop(struct machine *machine, const char *save_path);
 void machine_line(struct machine *machine, unsigned line, bool is_high);
 void machine_print(struct machine *machine, uint8_t byte);
 
-/* boot.c: Linux and its initial file system, and the processor where they begin. */
+/* boot.c: loads Linux and its initial file system, and sets the processor to their entry point. */
 void machine_boot(struct machine *machine, const char *kernel, const char *initial, const char *words);
 
 /* guest.c: the machine's PCI. */
 void machine_find_guest(struct machine *machine);
-void machine_wire(struct machine *machine); /* what its firmware does */
+void machine_wire(struct machine *machine); /* acts as the machine's firmware */
 bool machine_board_access(struct machine *machine, struct access *access);
-void machine_settle(struct machine *machine); /* lines and regions as they are after a load */
+void machine_settle(struct machine *machine); /* updates lines and regions after a load */
 uint64_t now(void); /* nanoseconds */
 void machine_interrupt(struct machine *machine, uint64_t slot, bool is_asking);
 uint8_t board_cell(struct machine *machine, uint64_t slot, uint32_t part, uint64_t offset);
 void board_set_cell(struct machine *machine, uint64_t slot, uint32_t part, uint64_t offset, uint8_t value);
 
-/* saved.c: a machine that is stopped, as a file. */
+/* saved.c: saves a stopped machine to a file, and loads one. */
 void machine_save(struct machine *machine, const char *path);
 void machine_load(struct machine *machine, const char *path);
 
-/* kvm.c: ends the program where a result is negative, and says what failed. */
+/* kvm.c: ends the program if a result is negative, and says what failed. */
 int needed(int result, const char *what);
 void *bytes_of(const char *path, size_t *length);
 

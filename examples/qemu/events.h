@@ -1,6 +1,6 @@
 /* What happens to the machine: each message of a peer and each line of the host is one event, or a few. Each event is
- * logged as a line of a script, and the reply to it as a comment below, so that the log can be run again. A reply begins
- * with `# `; what else the log tells begins with `#` and a letter. */
+ * logged as a line of a script, with its reply as a comment below, so that the log can be run again. A reply begins with
+ * `# `; other comments begin with `#` and a letter. */
 #ifndef EVENTS_H
 #define EVENTS_H
 
@@ -11,29 +11,30 @@
 
 /* A slot of a guest. */
 struct seat {
-    const char *guest; /* its name, and its index */
+    const char *guest; /* the guest's name, and below its index */
     size_t index;
     uint64_t slot;
-    struct pciguest_place places[PCIGUEST_PLACES]; /* where the guest's regions stand, as the log has them */
+    struct pciguest_place places[PCIGUEST_PLACES]; /* where the guest's regions are, according to the log */
 };
 
 struct board {
     struct pciguest machine;
-    FILE *log;          /* null: none is kept */
-    struct seat *seats; /* all that are given away */
+    FILE *log;          /* null if there is no log */
+    struct seat *seats; /* all slots that have a socket */
     size_t count;
 };
 
-/* What a message asks of the function in a slot; whether the machine that sent it awaits an answer, and which. */
+/* Does what a message asks of the function in a slot. Returns whether the machine that sent it awaits an answer, and stores
+ * that answer. */
 bool message_event(struct board *board, struct seat *seat, const struct message *message, uint64_t *answer);
 
-/* Logs where the regions of a seat's function stand, but for those of which the log says so already. */
+/* Logs where the regions of a seat's function are, except where the log already says so. */
 void log_regions(struct board *board, struct seat *seat);
 
-/* A line of the host, without its line feed. The reply is written to a file. */
+/* Runs a line of the host, without its line feed, and writes the reply to a file. */
 void line_event(struct board *board, const char *line, size_t length, FILE *replies);
 
-/* The number of a refusal with its words, as `301 misaligned`. */
+/* Writes the error number of a refusal with its text, such as `301 misaligned`. */
 void write_refusal(FILE *file, uint32_t number);
 
 #endif

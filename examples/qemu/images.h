@@ -1,4 +1,4 @@
-/* Images of guests in files, by two lines of the host that no script has:
+/* Images of guests in files, through two lines of the host that scripts don't have:
  *
  *     host save GUEST FILE
  *     host load GUEST FILE
@@ -8,7 +8,7 @@
 
 #include "events.h"
 
-/* Does what such a line asks for, and writes its reply; false of any other line, which is still to be run. */
+/* Carries out such a line and writes its reply. Returns false for any other line, which must still be run. */
 bool image_event(struct board *board, const char *line, size_t length, FILE *replies);
 
 #endif

@@ -1,18 +1,18 @@
-/* What QEMU 7.2 says to a function that another process serves (`-device x-pci-proxy-dev`): messages of a head and a
- * body, laid out as C on x86-64 does. Some carry descriptors besides. */
+/* What QEMU 7.2 sends to a function that another process serves (`-device x-pci-proxy-dev`): messages with a head and a
+ * body, in the layout of C on x86-64. Some also carry descriptors. */
 #ifndef PROTOCOL_H
 #define PROTOCOL_H
 
 #include <stdint.h>
 
 enum command {
-    SYNC_MEMORY,  /* where the machine's memory lies, with its descriptors: for DMA */
-    REPLY,        /* what is answered; a machine never sends it */
+    SYNC_MEMORY,  /* where the machine's memory is, with its descriptors, for DMA */
+    REPLY,        /* an answer; a machine never sends it */
     CONFIG_WRITE,
     CONFIG_READ,
     REGION_WRITE,
     REGION_READ,
-    SET_INTERRUPT, /* two descriptors by which an interrupt is signalled */
+    SET_INTERRUPT, /* two descriptors that signal an interrupt */
     RESET,
     COMMANDS
 };
