@@ -174,8 +174,8 @@ struct pciguest_board_function {
     uint64_t reserved[PCIGUEST_ROOM];  /* 0 */
 };
 
-/* The kinds of problems in the registers of a board, and from CLOSED on the kinds of lacks: what an
- * operating system would still have to do.
+/* The kinds of problems in the registers of a board, and from CLOSED on the kinds of lacks: what
+ * an operating system would still have to do.
  * NOT_FORWARDED: a bridge doesn't forward some byte of an open region.
  * CONTENDED: two regions or bridges answer one address on one bus.
  * NOT_FOUND: no configuration cycle finds the function.
@@ -469,8 +469,8 @@ uint32_t pciguest_load(struct pciguest *machine, size_t guest, const void *image
  * field that is declared differently: the field's key in a board file, after `barN` for a region
  * or `config 0xNN` for a block of configuration space; its value in the image; and its value here.
  * A kind is given by its number in docs/image-format.md; `filled` is 1 if the slot has a function;
- * `bar` and `config` alone are how many there are. If pciguest_load would not return 906, there is
- * no text and the length is 0. The text is about the guest's own functions only. Changes nothing.
+ * `bar` and `config` by themselves are counts. If pciguest_load would not return 906, there is no
+ * text and the length is 0. The text is about the guest's own functions only. Changes nothing.
  * Returns 0; 902 too little room (only the length is stored), or no such guest; 299 out of memory.
  * Since 0.4.0. */
 uint32_t pciguest_image_fault(struct pciguest *machine, size_t guest, const void *image,

@@ -605,8 +605,8 @@ extern "C" {
     /// first slot whose function differs, and in it the first field that is declared differently: the field's key in a
     /// board file, after `barN` for a region or `config 0xNN` for a block of configuration space; its value in the
     /// image; and its value here. A kind is given by its number in docs/image-format.md; `filled` is 1 if the slot has
-    /// a function; `bar` and `config` alone are how many there are. If pciguest_load would not return 906, there is no
-    /// text and the length is 0. The text is about the guest's own functions only. Changes nothing.
+    /// a function; `bar` and `config` by themselves are counts. If pciguest_load would not return 906, there is no text
+    /// and the length is 0. The text is about the guest's own functions only. Changes nothing.
     /// Returns 0; 902 too little room (only the length is stored), or no such guest; 299 out of memory. Since 0.4.0.
     pub fn pciguest_image_fault(
         machine: *mut Handle,
