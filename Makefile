@@ -46,7 +46,7 @@ gate:
 	@tests/parts.py $(FIRST) [ "tests/parts.py '$(PROVE) --gate' [ $(PROGRAM) ]" $(EDITS) ]
 
 # The gate with the library for C as its user links it, and what is installed and packed.
-PLACE := cp -f crates/pciguest/out/pciguest pciguest
+PLACE := install -m 755 crates/pciguest/out/pciguest pciguest
 USERS := tests/library.sh tests/install.sh 'tests/schema.py ./pciguest'
 test:
 	@tests/parts.py $(FIRST) [ "tests/parts.py '$(PROVE) --gate --library' '$(PLACE)' [ $(PROGRAM) $(USERS) ]" $(EDITS) ]
@@ -64,7 +64,7 @@ edits:
 # Leaves the proved program as ./pciguest. Proved is what it stands on, and nothing else.
 build:
 	@$(PROVE) pciguest
-	@cp -f crates/pciguest/out/pciguest pciguest
+	@install -m 755 crates/pciguest/out/pciguest pciguest
 	@echo 'pciguest: proved and built'
 
 # Leaves the proved library for C as library/libpciguest.a and library/libpciguest.so.0, beside library/pciguest.h.
