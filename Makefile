@@ -235,7 +235,8 @@ page/out/pciguest.wasm: crates/pciguest_c/out/libpciguest_c.a page/build/wasm pa
 try-page:
 	@echo 'This run proves nothing: it only compiles the library for the page. `make page` proves it first.'
 	@mkdir -p page/out
-	@page/build/unproved page/out/unproved.wasm $(EXPORTS)
+	@tools/unproved page/out/unproved.ll $(EXPORTS)
+	@page/build/wasm page/out/unproved.ll page/out/unproved.wasm $(EXPORTS)
 	@page/build/assemble page/out/unproved.wasm page/out/unproved.html 'Nothing here is proved: this page was built by make try-page.'
 	@echo 'page/out/unproved.html: open it in a browser'
 
@@ -252,12 +253,18 @@ ONLY :=
 quick:
 	@tests/quick.py $(ONLY)
 
-# The demo in about a minute: nothing is proved.
+# The program and the library for C in about two minutes, unproved, and the demo: ./pciguest-unproved and library/unproved.
 try:
-	@echo 'This run proves nothing: it only compiles the program and runs it. `make demo` proves it first.'
-	@cd crates/pciguest && rt try -- demo < ../../boards/demo.script
+	@echo 'This proves nothing: it only compiles the program and the library. `make build` and `make library` prove them first.'
+	@if tools/unproved; then ./pciguest-unproved demo < boards/demo.script; \
+	  echo; echo 'Not proved: ./pciguest-unproved, and the library in library/unproved, which these programs use:'; \
+	  echo '  cc -Ilibrary -o device examples/c/device.c library/unproved/libpciguest.a && ./device examples/device.toml'; \
+	  echo "  PCIGUEST_LIBRARY_DIR=\$$PWD/library/unproved make -C examples/rust"; \
+	  echo '  PCIGUEST_LIBRARY_DIR=library/unproved PYTHONPATH=library/python python3 examples/python/device.py examples/device.toml'; \
+	else echo 'This kit works otherwise, so that only the demo can be compiled without proofs:'; \
+	  cd crates/pciguest && rt try -- demo < ../../boards/demo.script; fi
 
 clean:
 	rm -rf crates/*/out page/out library/rust/target corpus pciguest pciguest.html library/libpciguest.a library/libpciguest.so.0
-	rm -rf packages pciguest-*-x86_64-linux.tar.gz
+	rm -rf packages pciguest-*-x86_64-linux.tar.gz pciguest-unproved library/unproved
 	@for example in qemu kvm; do $(MAKE) --no-print-directory -C examples/$$example clean; done
