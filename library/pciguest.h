@@ -1,26 +1,27 @@
-/* pciguest: a PCI board, the firmware that drives it, and the guests that its functions are
- * assigned to.
+/* pciguest: a PCI board, the firmware that drives it, and the guests to which its functions are
+ * assigned.
  *
- * docs/library-c.md says how to build and use the library; docs/PROOFS.md says what is proved
+ * docs/library-c.md explains how to build and use the library; docs/PROOFS.md says what is proved
  * about it.
  *
- * Return values. A call returns 0 or an error number (enum pciguest_status). The exceptions are
+ * Return values. Most calls return 0 or an error number (enum pciguest_status). The exceptions are
  * pciguest_version and pciguest_strerror; pciguest_piece and pciguest_ends_within, which only
- * compute; and pciguest_free and pciguest_board_free, which return nothing.
+ * compute a result; and pciguest_free and pciguest_board_free, which return nothing.
  *
- * Errors. A call that returns an error changed nothing and stored nothing, with two exceptions: if
- * the room for a text, an image or rows is too small, the length or the number of rows that is
- * needed is stored where the comment says so; and pciguest_check writes its text. The following
- * errors can be returned by any call and are listed only where their order matters: 901, the
- * struct is empty (except for calls that fill or free it); 902, a null pointer (a pointer to bytes
- * or to room may be null if its length is 0); 909, another call is running on the struct.
+ * Errors. A call that returns an error has changed nothing and stored nothing, with two exceptions.
+ * If the buffer for a text, an image or rows is too small, the call stores the length or the number
+ * of rows that it needs, where its comment says so. And pciguest_check writes its text. A comment
+ * lists the following errors only where their order matters, because any call can return them:
+ * 901, the struct is empty (not returned by calls that fill or free it); 902, a pointer is null (a
+ * pointer to bytes or to a buffer may be null if its length is 0); 909, another call is running on
+ * the struct.
  *
- * Memory. Only calls that list 199 or 299 allocate memory.
+ * Memory. Only calls whose comments list 199 or 299 allocate memory.
  *
- * This is the only file that declares calls. From its declarations and comments tools/bindings
- * generates the calls themselves, on top of the proved library (library/calls.c, raw.h, words.c),
- * the declarations of the Rust and Python modules, and the sections on calls of the manual. A call
- * dates from version 0.2.0 unless its comment names a later one.
+ * This is the only file in which calls are declared. From its declarations and comments,
+ * tools/bindings generates the calls themselves, on top of the proved library (library/calls.c,
+ * raw.h, words.c), the declarations in the Rust and Python modules, and the manual's sections on
+ * calls. A call has existed since version 0.2.0 unless its comment names a later version.
  */
 #ifndef PCIGUEST_H
 #define PCIGUEST_H
@@ -30,7 +31,7 @@
 #include <stdint.h>
 
 /* The version of this header and of the library that comes with it, as a text and as a number that
- * grows. */
+ * increases from version to version. */
 #define PCIGUEST_VERSION "0.4.0"
 #define PCIGUEST_VERSION_NUMBER 400 /* 10000 * major + 100 * minor + patch */
 
@@ -38,12 +39,12 @@
 extern "C" {
 #endif
 
-/* Holds a machine: a board that is set up, with its guests. Initialize it as
- * `struct pciguest machine = PCIGUEST_INIT;` or with all bytes 0; it is then empty. Only the
- * library reads and writes its fields. It may be moved if its old location is never used again;
- * never use two copies of it. Any thread may make a call, but only one call runs on a struct at a
- * time: a second one, whatever it is, returns PCIGUEST_BUSY (909) and changes nothing, and
- * pciguest_free then frees nothing. */
+/* Holds a machine: a board that has been set up, and its guests. Initialize it with
+ * `struct pciguest machine = PCIGUEST_INIT;` or set all its bytes to 0; it is then empty. Only the
+ * library may read or write its fields. You may move the struct to another location if you never
+ * use the old one again; never use two copies of it. Any thread may make a call, but only one call
+ * can run on a struct at a time. A second call, whichever it is, returns PCIGUEST_BUSY (909) and
+ * changes nothing; pciguest_free then frees nothing. */
 struct pciguest {
     bool live;
     void *at;
@@ -51,11 +52,11 @@ struct pciguest {
 
 #define PCIGUEST_INIT {false, NULL}
 
-/* Holds a board that your firmware drives from reset and, once a line has handed the board over to
- * its guests, the machine that they form. Initialize it as
- * `struct pciguest_board board = PCIGUEST_BOARD_INIT;` or with all bytes 0; it is then empty. The
- * rules of struct pciguest apply: only the library uses the fields, only one copy is used, and
- * only one call runs on it at a time. */
+/* Holds a board that your firmware drives from reset. Once a line has handed the board over to its
+ * guests, the struct holds the resulting machine. Initialize it with
+ * `struct pciguest_board board = PCIGUEST_BOARD_INIT;` or set all its bytes to 0; it is then empty.
+ * The rules for struct pciguest apply: only the library uses the fields, only one copy is ever
+ * used, and only one call can run on the struct at a time. */
 struct pciguest_board {
     bool live;
     void *at;
@@ -63,16 +64,17 @@ struct pciguest_board {
 
 #define PCIGUEST_BOARD_INIT {false, NULL}
 
-/* The space of an access. It decides what the `place` of the access is: a byte offset in the
- * configuration space of the function in a slot, an I/O port, or a memory address. */
+/* The address space of an access. It determines what the `place` of the access means: a byte offset
+ * in the configuration space of the function in a slot, an I/O port, or a memory address. */
 enum pciguest_space { PCIGUEST_CONFIG = 0, PCIGUEST_IO = 1, PCIGUEST_MEMORY = 2 };
 
-/* The part of a function that a raise or a device's own access addresses: configuration space, or
- * a region by its base address register, 0 to 5. */
+/* The part of a function that a raise or a device's own access addresses: configuration space, or a
+ * region, identified by its base address register, 0 to 5. */
 enum pciguest_part { PCIGUEST_RAISE_CONFIG = 6 };
 
-/* Describes where a region of a guest's function is now, by the guest's own registers. It spans
- * `size` addresses of its space, starting at `first`, and responds there while `is_open` is 1. */
+/* Describes where a region of a guest's function is now, according to the guest's own registers.
+ * The region occupies `size` addresses of its space, starting at `first`, and responds to them
+ * while `is_open` is 1. */
 struct pciguest_region {
     uint64_t first;
     uint64_t size;
@@ -81,8 +83,8 @@ struct pciguest_region {
     uint32_t is_open;      /* 1 or 0: whether the guest's Command enables the space */
 };
 
-/* Describes where a region of a guest is now, and where it was when this row was last filled in.
- * Either is all 0 if there is no region. */
+/* Describes where a region of a guest is now, and where it was when this row was last updated.
+ * `now` and `before` are each all 0 if there was no region at that time. */
 struct pciguest_place {
     struct pciguest_region now;
     struct pciguest_region before;
@@ -90,10 +92,10 @@ struct pciguest_place {
     uint32_t reserved;  /* 0 */
 };
 
-/* The most regions that a guest can have: six for each of its slots. */
+/* The largest number of regions that a guest can have: six for each of its slots. */
 enum { PCIGUEST_PLACES = 192 };
 
-/* Describes the byte that an access reaches. The part is a base address register, 0 to 5, for the
+/* Describes the byte that an access reaches. `part` is a base address register, 0 to 5, for the
  * region that begins there, or PCIGUEST_RAISE_CONFIG for configuration space. All fields are 0 if
  * the access reaches nothing. */
 struct pciguest_hit {
@@ -103,47 +105,48 @@ struct pciguest_hit {
     uint32_t found; /* 1 or 0: whether the access reaches anything */
 };
 
-/* Sizes of arrays: the text of a path, of which a path uses at most 79 bytes; the base address
- * registers of a function; the windows of a bridge; and the reserved fields, which are 0 until a
- * later version uses them, so that structs keep their sizes. */
+/* Array sizes. PCIGUEST_PATH: bytes for the text of a path, which uses at most 79 of them.
+ * PCIGUEST_BARS: base address registers of a function. PCIGUEST_WINDOWS: windows of a bridge.
+ * PCIGUEST_ROOM: reserved fields, which are 0 until a later version uses them, so that structs keep
+ * their sizes. */
 enum { PCIGUEST_PATH = 80, PCIGUEST_BARS = 6, PCIGUEST_WINDOWS = 3, PCIGUEST_ROOM = 4 };
 
-/* Describes the region that begins at a base address register, as the register on the board places
- * it: `size` addresses of its space, starting at `first`. All fields are 0 if no region begins
- * there. */
+/* Describes the region that begins at a base address register, at the address that the register on
+ * the board holds. The region occupies `size` addresses of its space, starting at `first`. All
+ * fields are 0 if no region begins at the register. */
 struct pciguest_bar {
     uint64_t first;
     uint64_t size;
     uint32_t space;        /* PCIGUEST_IO or PCIGUEST_MEMORY */
     uint32_t prefetchable; /* 1 or 0 */
-    uint32_t is_64_bit;    /* 1 or 0: whether the next register has the high half of the address */
+    uint32_t is_64_bit;    /* 1 or 0: whether the next register is the address's high half */
 };
 
-/* Describes a window of a bridge, as its registers on the board set it: the addresses from `first`
- * to `last`, both included. All fields are 0 if the bridge has no such window, or if its base is
- * above its limit. */
+/* Describes a window of a bridge, as the bridge's registers on the board define it: the addresses
+ * from `first` to `last`, inclusive. All fields are 0 if the bridge has no such window, or if the
+ * base of the window is above its limit. */
 struct pciguest_window {
     uint64_t first;
     uint64_t last;
     uint32_t is_there; /* 1 or 0 */
 };
 
-/* Describes the interrupt pin of a function, from 1 for INTA# to 4 for INTD#, and the device on
- * bus 0 and its pin that it reaches. On each bus except bus 0, the device number is added to the
- * pin: PCI-to-PCI Bridge Architecture 1.2, chapter 9.1, has this rule for add-in cards, and here
- * it holds for every bridge. These three fields are 0 if the function has no pin. No interrupt is
- * delivered. */
+/* Describes the interrupt pin of a function, from 1 for INTA# to 4 for INTD#, and the device and
+ * pin on bus 0 to which it is routed. On each bus except bus 0, the pin advances by the device
+ * number, and 1 follows 4. PCI-to-PCI Bridge Architecture 1.2, chapter 9.1, has this rule for
+ * add-in cards; here it applies to every bridge. `pin`, `root_device` and `root_pin` are 0 if the
+ * function has no pin. Interrupts are not delivered. */
 struct pciguest_interrupt {
     uint32_t pin;         /* the value of Interrupt Pin */
     uint32_t root_device; /* the device on bus 0 */
     uint32_t root_pin;    /* that device's pin */
-    uint32_t is_disabled; /* 1 or 0: Interrupt Disable, the guest's copy or else the board's */
+    uint32_t is_disabled; /* 1 or 0: Interrupt Disable, in the guest's copy if there is one */
 };
 
-/* Describes a function of the board as it is now. Its windows are in the order I/O, memory,
- * prefetchable memory. */
+/* Describes the current state of a function of the board. Its windows are in this order: I/O,
+ * memory, prefetchable memory. */
 struct pciguest_function {
-    uint8_t path[PCIGUEST_PATH]; /* as in board files ("2.0/1.0"); the bytes after it are 0 */
+    uint8_t path[PCIGUEST_PATH]; /* as in board files ("2.0/1.0"); the rest is 0 */
     size_t path_length;          /* in bytes, without a terminating 0 */
     uint32_t bus;                /* 0 on bus 0, else the Secondary Bus Number of the bridge above */
     uint32_t device;             /* 0 to 15 */
@@ -152,37 +155,38 @@ struct pciguest_function {
     uint32_t device_id;
     uint32_t revision_id;
     uint32_t class_code;                        /* 24 bits: base class, subclass, interface */
-    uint32_t subsystem_vendor_id;               /* 0 in a bridge */
-    uint32_t subsystem_id;                      /* 0 in a bridge */
+    uint32_t subsystem_vendor_id;               /* 0 for a bridge */
+    uint32_t subsystem_id;                      /* 0 for a bridge */
     uint32_t is_bridge;                         /* 1 or 0 */
-    struct pciguest_bar regions[PCIGUEST_BARS]; /* by register; all 0 in a bridge */
-    struct pciguest_window windows[PCIGUEST_WINDOWS]; /* by kind; all 0 in an endpoint */
-    size_t guest;                        /* the guest that has it if `is_given` is 1, else 0 */
+    struct pciguest_bar regions[PCIGUEST_BARS]; /* by register; all 0 for a bridge */
+    struct pciguest_window windows[PCIGUEST_WINDOWS]; /* by kind; all 0 for an endpoint */
+    size_t guest;                        /* the index of its guest if `is_given` is 1, else 0 */
     uint64_t slot;                       /* its slot in that guest if `is_given` is 1, else 0 */
-    uint32_t is_given;                   /* 1 or 0: whether a guest has it */
+    uint32_t is_given;                   /* 1 or 0: whether it is assigned to a guest */
     struct pciguest_interrupt interrupt; /* all 0 in struct pciguest_board_function */
     uint64_t reserved[PCIGUEST_ROOM];    /* 0 */
 };
 
-/* Describes a function of a board that firmware drives, by its registers now. No guest has it. The
- * fields of `interrupt` are 0: firmware reads the pin itself. */
+/* Describes a function of a board that firmware drives, according to its current registers. No
+ * guest has the function. The fields of `interrupt` are 0, because firmware reads the pin
+ * itself. */
 struct pciguest_board_function {
-    struct pciguest_function function; /* its bus as the bridge above numbers it */
-    uint32_t is_found;                 /* 1 or 0: whether a configuration access there reaches it */
+    struct pciguest_function function; /* its bus is the bridge's current Secondary Bus Number */
+    uint32_t is_found;                 /* 1 or 0: whether an access to its BDF reaches it */
     uint32_t opens_io;                 /* 1 or 0: whether its Command enables I/O space */
     uint32_t opens_memory;             /* 1 or 0: whether its Command enables memory space */
     uint64_t reserved[PCIGUEST_ROOM];  /* 0 */
 };
 
-/* The kinds of problems in the registers of a board, and from CLOSED on the kinds of lacks: what
+/* The kinds of problems in the registers of a board and, from CLOSED on, the kinds of lacks: what
  * an operating system would still have to do.
  * NOT_FORWARDED: a bridge doesn't forward some byte of an open region.
- * CONTENDED: two regions or bridges answer one address on one bus.
- * NOT_FOUND: no configuration cycle finds the function.
+ * CONTENDED: two regions or bridges answer the same address on one bus.
+ * NOT_FOUND: no configuration cycle reaches the function.
  * CLOSED: Command doesn't enable the region's space.
- * OUTSIDE: an open region has an address outside the apertures.
- * PREFETCHED: a bridge prefetches an open region that isn't prefetchable.
- * OTHER_PRIMARY: a bridge's Primary Bus Number isn't the number of its bus. */
+ * OUTSIDE: some address of an open region is outside the apertures.
+ * PREFETCHED: a bridge prefetches from an open region that isn't prefetchable.
+ * OTHER_PRIMARY: a bridge's Primary Bus Number isn't the number of the bus that it is on. */
 enum pciguest_problem_kind {
     PCIGUEST_NOT_FORWARDED = 1,
     PCIGUEST_CONTENDED = 2,
@@ -193,21 +197,21 @@ enum pciguest_problem_kind {
     PCIGUEST_OTHER_PRIMARY = 7
 };
 
-/* Describes a problem in the registers of a board, as a line of its audit does, or a lack, as a
- * line of `host ready` does. `address` is the lowest address that isn't forwarded, that both
- * answer, that is outside the apertures, or that is prefetched. `bus`, `device` and `function` are
- * the numbers at which no cycle finds a function; for a bridge with another Primary, `bus` is the
- * number of its bus. */
+/* Describes one problem in the registers of a board, like one line of its audit, or one lack, like
+ * one line of `host ready`. `address` is the lowest address that isn't forwarded, that both
+ * responders answer, that is outside the apertures, or that is prefetched. For NOT_FOUND, `bus`,
+ * `device` and `function` are the numbers at which no cycle reaches the function; for
+ * OTHER_PRIMARY, `bus` is the number of the bus that the bridge is on. */
 struct pciguest_problem {
     uint32_t kind;                /* of enum pciguest_problem_kind */
-    uint32_t space;               /* PCIGUEST_IO or PCIGUEST_MEMORY; 0 without region and address */
+    uint32_t space;               /* PCIGUEST_IO or PCIGUEST_MEMORY, or 0 if neither applies */
     uint64_t address;             /* as above; 0 for other kinds */
     uint8_t path[PCIGUEST_PATH];  /* of the function, as in struct pciguest_function */
     size_t path_length;           /* in bytes, without a terminating 0 */
-    uint32_t bar;                 /* the register of its region, 0 to 5, or 6 if none is named */
-    uint8_t other[PCIGUEST_PATH]; /* path: the bridge, what answers too, or what is found instead */
-    size_t other_length;          /* 0 if there is none */
-    uint32_t other_bar;           /* the register of the region there, 0 to 5, or 6 */
+    uint32_t bar;                 /* the register of its region, 0 to 5; 6 if no region is named */
+    uint8_t other[PCIGUEST_PATH]; /* path: bridge, other responder, or what is reached instead */
+    size_t other_length;          /* 0 if there is no such path */
+    uint32_t other_bar;           /* the register of its region, 0 to 5; 6 if no region is named */
     uint32_t bus;                 /* as above; 0 for other kinds */
     uint32_t device;              /* as above; 0 for other kinds */
     uint32_t function;            /* as above; 0 for other kinds */
@@ -217,7 +221,7 @@ struct pciguest_problem {
 
 /* Gives the upper limits that hold for every board and machine. */
 struct pciguest_limits {
-    uint64_t guest_image; /* in bytes: no image of a guest is larger */
+    uint64_t guest_image; /* in bytes: no guest's image is larger */
     uint32_t functions;   /* on a board, endpoints and bridges */
     uint32_t guests;      /* of a machine */
     uint32_t slots;       /* of a guest */
@@ -227,16 +231,17 @@ struct pciguest_limits {
     uint64_t reserved[PCIGUEST_ROOM]; /* 0 */
 };
 
-/* The room in bytes that pciguest_run_line and pciguest_board_run_line need for a reply, and the
- * most that pciguest_words and pciguest_guest_name need. */
+/* Buffer sizes in bytes. PCIGUEST_REPLY: what pciguest_run_line and pciguest_board_run_line require
+ * for a reply. PCIGUEST_WORDS, PCIGUEST_GUEST_NAME: enough for every text of pciguest_words and
+ * every name of pciguest_guest_name. */
 enum { PCIGUEST_REPLY = 48, PCIGUEST_WORDS = 20, PCIGUEST_GUEST_NAME = 16 };
 
 /* The error numbers that calls return, each with its text; docs/errors.md explains them. 101 to
  * 112: the board file is refused. 199, 299: out of memory. 201 to 205: the board can't be set up.
- * 206, 207: functions can't be assigned to guests. 301 to 303: an access or a path is refused.
- * 601, 602: a slot is empty or taken, and must not be. 901 to 904: the struct or an argument
- * doesn't fit the call. 905 to 908: bytes can't be loaded as an image of a guest or of a machine.
- * 909: another call is running on the struct. */
+ * 206, 207: functions can't be assigned to guests. 301 to 303: an access or a path is refused. 601:
+ * a slot that must be filled is empty. 602: a slot that must be empty is filled. 901 to 904: the
+ * struct or an argument isn't valid for the call. 905 to 908: bytes can't be loaded as the image of
+ * a guest or of a machine. 909: another call is running on the struct. */
 enum pciguest_status {
     PCIGUEST_OK = 0,
     PCIGUEST_NOT_TOML = 101,          /* not TOML */
@@ -276,8 +281,8 @@ enum pciguest_status {
     PCIGUEST_BUSY = 909               /* busy */
 };
 
-/* Error numbers that no call returns: 401 to 403 appear in replies to lines, and the others in the
- * last line that the program writes. */
+/* Error numbers that no call returns. 401 to 403 appear in replies to lines, and the others in the
+ * program's last line. */
 enum pciguest_told {
     PCIGUEST_NOT_READY = 208,     /* not ready */
     PCIGUEST_REFUSED_LINE = 209,  /* refused line */
@@ -291,64 +296,67 @@ enum pciguest_told {
     PCIGUEST_WORD_MEMORY = 799    /* memory */
 };
 
-/* Returns the version of the library that is linked or loaded, in the form of
- * PCIGUEST_VERSION_NUMBER, which is the header's. Since 0.4.0. */
+/* Returns the version of the library that is linked or loaded, in the same form as
+ * PCIGUEST_VERSION_NUMBER, which is the version of the header. Since 0.4.0. */
 uint32_t pciguest_version(void);
 
-/* Returns the text of an error number, as pciguest_words writes it, terminated by a 0. The text is
- * valid as long as the library is loaded, and empty for a number without a meaning, such as 0.
- * Since 0.4.0. */
+/* Returns the text of an error number, the same text that pciguest_words writes, terminated by a 0.
+ * The text is valid as long as the library is loaded. It is empty for a number without a meaning,
+ * such as 0. Since 0.4.0. */
 const char *pciguest_strerror(uint32_t number);
 
 /* Stores the upper limits that hold for every board and machine. Needs no machine. Since 0.4.0. */
 uint32_t pciguest_limits(struct pciguest_limits *limits);
 
-/* Sets up the board of a board file, given as its bytes, and assigns its functions to the guests
- * of the file. The machine then holds what the file declares, before any access.
- * Returns 0; 101 to 112 or 201 to 205, the first check that the file or its board fails; 199 or
- * 299 out of memory; 903 the struct already holds a machine. */
+/* Creates a machine from the bytes of a board file: sets up the board and assigns its functions to
+ * the guests that the file declares. The machine then holds what the file declares; no access has
+ * been made yet.
+ * Returns 0 on success; 101 to 112 or 201 to 205 for the first check that the file or its board
+ * fails; 199 or 299 if memory runs out; 903 if the struct already holds a machine. */
 uint32_t pciguest_new(struct pciguest *machine, const void *board, size_t length);
 
-/* Frees the machine. The struct is then empty and may be used for a new one. Does nothing if the
- * struct is already empty. */
+/* Frees the machine. The struct is then empty and can be used for a new machine. Does nothing if
+ * the struct is already empty. */
 void pciguest_free(struct pciguest *machine);
 
-/* Finds a guest by its name and stores its index, which other calls take as `guest`. Guests are in
- * the order of the board file, from 0 on.
- * Returns 0; 902 no guest has this name. */
+/* Finds a guest by name and stores its index, which other calls take as `guest`. Guests are
+ * numbered from 0 on, in the order of the board file.
+ * Returns 0 on success; 902 if no guest has this name. */
 uint32_t pciguest_guest(struct pciguest *machine, const char *name, size_t length, size_t *guest);
 
 /* Stores the number of guests that the machine has. Since 0.4.0. */
 uint32_t pciguest_guest_count(struct pciguest *machine, size_t *count);
 
-/* Writes the name of the guest at an index, from 0 to one less than the number that
- * pciguest_guest_count stores, and stores its length in `needed`; the name isn't terminated by a
- * 0. PCIGUEST_GUEST_NAME is always enough room.
- * Returns 0; 902 too little room (nothing is written, only the length is stored), or no such guest
- * (nothing is stored). Since 0.4.0. */
+/* Writes the name of a guest, and stores the length of the name in `needed`. The guest is given by
+ * its index, from 0 to one less than the number that pciguest_guest_count stores. The name isn't
+ * terminated by a 0. A buffer of PCIGUEST_GUEST_NAME bytes is always large enough.
+ * Returns 0 on success; 902 if the buffer is too small (nothing is written, only the length is
+ * stored), or if there is no such guest (nothing is stored). Since 0.4.0. */
 uint32_t pciguest_guest_name(struct pciguest *machine, size_t guest, char *text, size_t room,
                              size_t *needed);
 
-/* Reads as a guest, at a slot and offset, a port, or an address, in the guest's own view. The
- * value is what the guest's own functions return, each of which is a register file of its own; it
+/* Reads 1, 2 or 4 bytes as a guest, at a slot and offset, a port, or an address, as the guest sees
+ * them. The value comes from the guest's own functions, each of which has its own register file; it
  * is all ones if none of them responds. A read changes nothing. The slot matters only in
  * configuration space.
- * Returns 0; 302 the width isn't 1, 2 or 4; 301 `place` isn't a multiple of the width; 303 the
- * slot, offset or port is out of range; 902 no such guest or space. */
+ * Returns 0 on success; 302 if the width isn't 1, 2 or 4; 301 if `place` isn't a multiple of the
+ * width; 303 if the slot, offset or port is out of range; 902 if there is no such guest or
+ * space. */
 uint32_t pciguest_read(struct pciguest *machine, size_t guest, uint32_t space, uint64_t slot,
                        uint64_t place, uint32_t width, uint32_t *value);
 
 /* Writes the low `width` bytes of a value as a guest, at a slot and offset, a port, or an address,
- * in the guest's own view. No other guest can observe it. The slot matters only in configuration
- * space.
- * Returns 0; 302 the width isn't 1, 2 or 4; 301 `place` isn't a multiple of the width; 303 the
- * slot, offset or port is out of range; 902 no such guest or space. */
+ * as the guest sees them. No other guest can observe the write. The slot matters only in
+ * configuration space.
+ * Returns 0 on success; 302 if the width isn't 1, 2 or 4; 301 if `place` isn't a multiple of the
+ * width; 303 if the slot, offset or port is out of range; 902 if there is no such guest or
+ * space. */
 uint32_t pciguest_write(struct pciguest *machine, size_t guest, uint32_t space, uint64_t slot,
                         uint64_t place, uint32_t width, uint32_t value);
 
-/* Returns the size in bytes, 4, 2 or 1, of the first lawful piece of an access of which `left`
- * bytes remain, starting at `place`: the largest that isn't more than `left` and that `place` is a
- * multiple of. Since 0.3.0. */
+/* Returns the size in bytes, 4, 2 or 1, of the next piece of an access that is split into lawful
+ * accesses. The remaining part of the access is `left` bytes long and begins at `place`. The size
+ * is the largest that is at most `left` and that divides `place`. Since 0.3.0. */
 static inline uint32_t pciguest_piece(uint64_t place, uint32_t left)
 {
     return place % 4 == 0 && left >= 4 ? 4 : place % 2 == 0 && left >= 2 ? 2 : 1;
@@ -364,260 +372,270 @@ static inline bool pciguest_ends_within(uint32_t space, uint64_t place, uint32_t
     return place <= last && width - 1 <= last - place;
 }
 
-/* Reads 1 to 8 bytes as a guest, at any alignment, at a slot and offset, a port, or an address, in
- * the guest's own view: an access that a processor can make at once and a bus cycle can't. It is
- * split as a bridge splits it, into the lawful pieces that pciguest_piece returns, in ascending
+/* Reads 1 to 8 bytes as a guest, at any alignment, at a slot and offset, a port, or an address, as
+ * the guest sees them. A processor can make such an access at once, but a bus cycle can't. So the
+ * access is split as a bridge splits it: into the pieces that pciguest_piece returns, in ascending
  * order of addresses. The byte at the lowest address is the lowest byte of the value.
- * Returns 0; 302 the width isn't 1 to 8; 303 the slot is out of range, or the access ends past its
- * space; 902 no such guest or space. Since 0.3.0. */
+ * Returns 0 on success; 302 if the width isn't 1 to 8; 303 if the slot is out of range, or if the
+ * access extends past the end of its space; 902 if there is no such guest or space. Since 0.3.0. */
 uint32_t pciguest_read_wide(struct pciguest *machine, size_t guest, uint32_t space, uint64_t slot,
                             uint64_t place, uint32_t width, uint64_t *value);
 
 /* Writes the low `width` bytes, 1 to 8, of a value as a guest, at any alignment, at a slot and
- * offset, a port, or an address, in the guest's own view: an access that a processor can make at
- * once and a bus cycle can't. It is split as a bridge splits it, into the lawful pieces that
+ * offset, a port, or an address, as the guest sees them. A processor can make such an access at
+ * once, but a bus cycle can't. So the access is split as a bridge splits it: into the pieces that
  * pciguest_piece returns, in ascending order of addresses. The byte at the lowest address is the
  * lowest byte of the value.
- * Returns 0; 302 the width isn't 1 to 8; 303 the slot is out of range, or the access ends past its
- * space; 902 no such guest or space. Since 0.3.0. */
+ * Returns 0 on success; 302 if the width isn't 1 to 8; 303 if the slot is out of range, or if the
+ * access extends past the end of its space; 902 if there is no such guest or space. Since 0.3.0. */
 uint32_t pciguest_write_wide(struct pciguest *machine, size_t guest, uint32_t space, uint64_t slot,
                              uint64_t place, uint32_t width, uint64_t value);
 
-/* Reads 1 to 8 bytes of a region of a guest's function, which is identified by slot, base address
- * register and offset, not by address. This suits a hypervisor that maps each region itself. While
- * the guest's Command closes the region, the value is all ones. If two regions of the guest are at
- * one address, either can be read. The byte at the lowest offset is the lowest byte of the value.
- * Returns 0; 302 the width isn't 1 to 8; 303 the slot is above 31, no region begins at this
- * register, or a byte is past the end of the region; 601 the slot is empty; 902 no such guest, or
- * the part is above 6. Since 0.4.0. */
+/* Reads 1 to 8 bytes, as a guest, from a region of one of its functions. The bytes are identified
+ * by slot, base address register and offset, not by address. This suits a hypervisor that maps each
+ * region itself. While the guest's Command closes the region, the value is all ones. If two regions
+ * of the guest are at the same address, this call can read either. The byte at the lowest offset is
+ * the lowest byte of the value.
+ * Returns 0 on success; 302 if the width isn't 1 to 8; 303 if the slot is above 31, no region
+ * begins at this register, or a byte is past the end of the region; 601 if the slot is empty; 902
+ * if there is no such guest, or the part is above 6. Since 0.4.0. */
 uint32_t pciguest_region_read(struct pciguest *machine, size_t guest, uint64_t slot, uint32_t part,
                               uint64_t offset, uint32_t width, uint64_t *value);
 
 /* Writes the low `width` bytes, 1 to 8, of a value to a region of a guest's function, which is
  * identified by slot, base address register and offset, not by address. This suits a hypervisor
  * that maps each region itself. While the guest's Command closes the region, the write is dropped.
- * If two regions of the guest are at one address, either can be written. The byte at the lowest
- * offset is the lowest byte of the value. If a byte is refused, none is written.
- * Returns 0; 302 the width isn't 1 to 8; 303 the slot is above 31, no region begins at this
- * register, or a byte is past the end of the region; 601 the slot is empty; 902 no such guest, or
- * the part is above 6. Since 0.4.0. */
+ * If two regions of the guest are at the same address, this call can write to either. The byte at
+ * the lowest offset is the lowest byte of the value. If one byte is refused, no byte is written.
+ * Returns 0 on success; 302 if the width isn't 1 to 8; 303 if the slot is above 31, no region
+ * begins at this register, or a byte is past the end of the region; 601 if the slot is empty; 902
+ * if there is no such guest, or the part is above 6. Since 0.4.0. */
 uint32_t pciguest_region_write(struct pciguest *machine, size_t guest, uint64_t slot, uint32_t part,
                                uint64_t offset, uint32_t width, uint64_t value);
 
-/* Sets bits of one byte of the function in a guest's slot, as its device does.
- * Returns 0; 303 the slot is above 31, or the function has no such byte; 601 the slot is empty;
- * 902 no such guest, or the part is above 6. */
+/* Sets bits in one byte of the function in a guest's slot, from the device's side.
+ * Returns 0 on success; 303 if the slot is above 31, or the function has no such byte; 601 if the
+ * slot is empty; 902 if there is no such guest, or the part is above 6. */
 uint32_t pciguest_raise(struct pciguest *machine, size_t guest, uint64_t slot, uint32_t part,
                         uint64_t offset, uint8_t mask);
 
-/* Reads the board as the host: what it shows at a physical bus, device, function and offset, at a
- * port, or at an address. A read changes nothing.
- * Returns 0; 302 the width isn't 1, 2 or 4; 301 `place` isn't a multiple of the width; 303 the
- * offset or port is out of range; 902 no such space, the device is above 31, or the function is
- * above 7. */
+/* Reads the board as the host does: at a physical bus, device, function and offset, at a port, or
+ * at an address. A read changes nothing.
+ * Returns 0 on success; 302 if the width isn't 1, 2 or 4; 301 if `place` isn't a multiple of the
+ * width; 303 if the offset or port is out of range; 902 if there is no such space, the device is
+ * above 31, or the function is above 7. */
 uint32_t pciguest_host_read(struct pciguest *machine, uint32_t space, uint8_t bus, uint8_t device,
                             uint8_t function, uint64_t place, uint32_t width, uint32_t *value);
 
-/* Moves the function in a slot of one guest to a slot of another guest, or of the same one. The
- * function is then at reset: nothing is carried over.
- * Returns 0; 303 a slot is above 31; 601 the source slot is empty; 602 the target slot is taken;
- * 902 no such guest. */
+/* Moves the function in a slot of one guest to a slot of another guest, or to another slot of the
+ * same guest. The function is then at reset: no state is carried over.
+ * Returns 0 on success; 303 if a slot is above 31; 601 if the source slot is empty; 602 if the
+ * target slot is taken; 902 if there is no such guest. */
 uint32_t pciguest_move(struct pciguest *machine, size_t from, uint64_t slot, size_t to,
                        uint64_t target);
 
-/* Resets the function in a guest's slot, where it is: nothing is carried over, as in a move. No
- * line of a script does this; two moves, to an empty slot and back, have the same effect.
- * Returns 0; 303 the slot is above 31; 601 the slot is empty; 902 no such guest. Since 0.3.0. */
+/* Resets the function in a guest's slot and leaves it in the slot. No state is carried over, as in
+ * a move. No script line does this; two moves, to an empty slot and back, have the same effect.
+ * Returns 0 on success; 303 if the slot is above 31; 601 if the slot is empty; 902 if there is no
+ * such guest. Since 0.3.0. */
 uint32_t pciguest_reset(struct pciguest *machine, size_t guest, uint64_t slot);
 
-/* Resets every function of a guest, each where it is, and the guest's own CONFIG_ADDRESS: nothing
- * is carried over. The count of pciguest_changed grows by one. Allocates no memory. No line of a
- * script does this.
- * Returns 0; 902 no such guest. Since 0.4.0. */
+/* Resets every function of a guest, each in its slot, and the guest's own CONFIG_ADDRESS. No state
+ * is carried over. The count that pciguest_changed stores increases by one. Allocates no memory. No
+ * script line does this.
+ * Returns 0 on success; 902 if there is no such guest. Since 0.4.0. */
 uint32_t pciguest_reset_guest(struct pciguest *machine, size_t guest);
 
-/* Stores the size in bytes of the image that pciguest_save would write for a guest now. It stays
- * the same as long as the guest has the same functions in the same slots: the guest's accesses,
- * its devices, resets and loads don't change it. Allocates no memory and changes nothing.
- * Returns 0; 902 no such guest. Since 0.4.0. */
+/* Stores the size in bytes of the image that pciguest_save would write for a guest now. The size
+ * stays the same as long as the guest has the same functions in the same slots: the guest's
+ * accesses, its devices, resets and loads don't change it. Allocates no memory and changes nothing.
+ * Returns 0 on success; 902 if there is no such guest. Since 0.4.0. */
 uint32_t pciguest_image_size(struct pciguest *machine, size_t guest, size_t *size);
 
-/* Saves a guest: writes its image and stores the image's length in `needed`. The image is all that
- * the guest holds: its CONFIG_ADDRESS and, for each of its 32 slots, the declaration of the
- * function and the contents of the guest's registers. It contains nothing about the board, about
- * other guests, or about where the guest's functions are. docs/image-format.md describes the
- * bytes. Room after the image is left as it is. Allocates no memory and leaves the machine as it
- * is.
- * Returns 0; 902 too little room (nothing is written, only the length is stored), or no such guest
- * (nothing is stored). Since 0.4.0. */
+/* Saves a guest: writes its image, and stores the length of the image in `needed`. The image
+ * contains everything that the guest holds: its CONFIG_ADDRESS and, for each of its 32 slots, the
+ * declaration of the function and the contents of its registers, as the guest sees them. It
+ * contains nothing about the board, about other guests, or about where the guest's functions are.
+ * docs/image-format.md describes the bytes. The rest of the buffer stays unchanged. Allocates no
+ * memory, and doesn't change the machine.
+ * Returns 0 on success; 902 if the buffer is too small (nothing is written, only the length is
+ * stored), or if there is no such guest (nothing is stored). Since 0.4.0. */
 uint32_t pciguest_save(struct pciguest *machine, size_t guest, void *image, size_t room,
                        size_t *needed);
 
-/* Loads an image into a guest, which then holds what the saved guest held. The guest's functions
- * must be declared as those of the image are, slot by slot; they may be elsewhere, on another
- * board. Other guests can't observe the load. The count of pciguest_changed grows by one.
- * Allocates no memory. No line of a script does this.
- * Returns 0; 906 other slots are filled, or a function is declared differently; 908 the image has
- * another version of the format; 905 the bytes are not an image, for example because a register
- * can't hold its value; 902 no such guest. Among 905, 906 and 908, the first byte that fails
- * decides. Since 0.4.0. */
+/* Loads an image into a guest, which then holds what the saved guest held. In each slot, the guest
+ * must have a function with the same declaration as in the image, or none if the image has none.
+ * The functions may be in other places, even on another board. Other guests can't observe the load.
+ * The count that pciguest_changed stores increases by one. Allocates no memory. No script line does
+ * this.
+ * Returns 0 on success; 906 if the image has other slots filled than the guest, or a function is
+ * declared differently; 908 if the image has another version of the format; 905 if the bytes are
+ * not an image, for example because a register can't hold its value; 902 if there is no such guest.
+ * The first byte that fails decides between 905, 906 and 908. Since 0.4.0. */
 uint32_t pciguest_load(struct pciguest *machine, size_t guest, const void *image, size_t length);
 
-/* Writes what differs in an image that pciguest_load refuses with 906 for this guest, such as
- * `slot 0: bar0 size 0x1000, here 0x2000`, and stores the text's length in `needed`; the text
- * isn't terminated by a 0. It names the first slot whose function differs, and in it the first
- * field that is declared differently: the field's key in a board file, after `barN` for a region
- * or `config 0xNN` for a block of configuration space; its value in the image; and its value here.
- * A kind is given by its number in docs/image-format.md; `filled` is 1 if the slot has a function;
- * `bar` and `config` by themselves are counts. If pciguest_load would not return 906, there is no
- * text and the length is 0. The text is about the guest's own functions only. Changes nothing.
- * Returns 0; 902 too little room (only the length is stored), or no such guest; 299 out of memory.
- * Since 0.4.0. */
+/* Explains why pciguest_load refuses an image for this guest with 906: writes the first difference,
+ * such as `slot 0: bar0 size 0x1000, here 0x2000`, and stores the length of the text in `needed`.
+ * The text isn't terminated by a 0. It names the first slot whose function differs and, in that
+ * slot, the first field that is declared differently. The field is named by its key in a board
+ * file, after `barN` for a region or `config 0xNN` for a block of configuration space. The key is
+ * followed by the field's value in the image and its value here. A kind is written as its number in
+ * docs/image-format.md. The field `filled` is 1 if the slot has a function. Without a key, `bar`
+ * and `config` are counts. If pciguest_load would not return 906, the text is empty and the length
+ * is 0. The text depends only on the image and on the guest's own functions. Changes nothing.
+ * Returns 0 on success; 902 if the buffer is too small (only the length is stored), or if there is
+ * no such guest; 299 if memory runs out. Since 0.4.0. */
 uint32_t pciguest_image_fault(struct pciguest *machine, size_t guest, const void *image,
                               size_t length, char *text, size_t room, size_t *needed);
 
 /* Stores the size in bytes of the image that pciguest_save_all would write for the whole machine
- * now. It stays the same as long as the guests have the same functions in the same slots.
+ * now. The size stays the same as long as the guests have the same functions in the same slots.
  * Allocates no memory and changes nothing. Since 0.4.0. */
 uint32_t pciguest_image_size_all(struct pciguest *machine, size_t *size);
 
-/* Saves the whole machine: writes its image and stores the image's length in `needed`. The image
- * says which guest has which function of the board in which slot, what each guest holds, and what
- * the board is as the host reads it, except for what guests changed in functions in slots.
- * docs/image-format.md describes the bytes. Room after the image is left as it is. Allocates no
- * memory and leaves the machine as it is.
- * Returns 0; 902 too little room (nothing is written, only the length is stored). Since 0.4.0. */
+/* Saves the whole machine: writes its image, and stores the length of the image in `needed`. The
+ * image says which guest has which function of the board in which slot, and what each guest holds.
+ * It also contains the state of the board as the host reads it, without the guests' changes to
+ * functions in slots. docs/image-format.md describes the bytes. The rest of the buffer stays
+ * unchanged. Allocates no memory, and doesn't change the machine.
+ * Returns 0 on success; 902 if the buffer is too small (nothing is written, only the length is
+ * stored). Since 0.4.0. */
 uint32_t pciguest_save_all(struct pciguest *machine, void *image, size_t room, size_t *needed);
 
 /* Loads an image into the whole machine. Each slot then has the function that it had in the saved
- * machine, and each guest holds what it held there. The board must be an equal one that is set up
- * alike, and the guests must have the same names in the same order; where their functions are now,
- * and what they hold, doesn't matter. The count of pciguest_changed grows for each guest.
- * Allocates no memory. No line of a script does this.
- * Returns 0; 907 the board, its guests or how it is set up differ; 906 a slot would get something
- * that no guest can have there, or a function is declared differently; 908 the image, or an image
- * of a guest in it, has another version of the format; 905 the bytes are not an image of a
- * machine. Among these, the first byte that fails decides. Since 0.4.0. */
+ * machine, and each guest holds what it held there. The board must be equal to the saved machine's
+ * board and set up in the same way, and the guests must have the same names in the same order. It
+ * doesn't matter where the guests' functions are now, or what the guests hold. The count that
+ * pciguest_changed stores increases for each guest. Allocates no memory. No script line does this.
+ * Returns 0 on success; 907 if the board, its guests or its set-up differ; 906 if a slot would get
+ * something that can't be assigned to it, or a function is declared differently; 908 if the image,
+ * or a guest's image in it, has another version of the format; 905 if the bytes are not the image
+ * of a machine. The first byte that fails decides between these numbers. Since 0.4.0. */
 uint32_t pciguest_load_all(struct pciguest *machine, const void *image, size_t length);
 
-/* Assigns a function of the board that no guest has to a guest, in an empty slot. The function is
- * then at reset, in the slot and on the board, except that the registers that guests have copies
- * of keep their values there. The path is a text, as in board files and in struct
- * pciguest_function. No line of a script does this.
- * Returns 0; 303 the slot is above 31, or there is no endpoint at the path; 602 a guest has the
- * function, or the slot is taken; 206 one of the function's regions is closed; 902 no such guest.
- * Since 0.4.0. */
+/* Assigns a function of the board that no guest has to an empty slot of a guest. The function is
+ * then at reset, both in the slot and on the board, with one exception: the registers of which
+ * guests have their own copies keep their values on the board. The path is a text, as in board
+ * files and in struct pciguest_function. No script line does this.
+ * Returns 0 on success; 303 if the slot is above 31, or there is no endpoint at the path; 602 if a
+ * guest already has the function, or the slot is taken; 206 if one of the function's regions is
+ * closed; 902 if there is no such guest. Since 0.4.0. */
 uint32_t pciguest_give(struct pciguest *machine, const char *path, size_t length, size_t guest,
                        uint64_t slot);
 
-/* Takes the function in a guest's slot away from the guest. The slot is then empty, no guest has
- * the function, and it is at reset on the board, except that the registers that guests have copies
- * of keep their values there. No line of a script does this.
- * Returns 0; 303 the slot is above 31; 601 the slot is empty; 902 no such guest. Since 0.4.0. */
+/* Takes the function in a guest's slot away from the guest. The slot is then empty, and no guest
+ * has the function. The function is at reset on the board, with one exception: the registers of
+ * which guests have their own copies keep their values there. No script line does this.
+ * Returns 0 on success; 303 if the slot is above 31; 601 if the slot is empty; 902 if there is no
+ * such guest. Since 0.4.0. */
 uint32_t pciguest_take(struct pciguest *machine, size_t guest, uint64_t slot);
 
-/* Reads one byte of the function in a guest's slot, as its device does: in a region or, in
- * configuration space, the two bytes of Status (06h, 07h) and the device's own registers (40h to
- * FFh). A byte without a register reads 0. Changes nothing.
- * Returns 0; 303 the slot is above 31, or the device has no such byte; 601 the slot is empty; 902
- * no such guest, or the part is above 6. Since 0.3.0. */
+/* Reads one byte of the function in a guest's slot, from the device's side. The byte can be in a
+ * region or in configuration space; in configuration space, a device can read only the two bytes of
+ * Status (06h, 07h) and its own registers (40h to FFh). A byte without a register reads as 0.
+ * Changes nothing.
+ * Returns 0 on success; 303 if the slot is above 31, or the device has no such byte; 601 if the
+ * slot is empty; 902 if there is no such guest, or the part is above 6. Since 0.3.0. */
 uint32_t pciguest_device_read(struct pciguest *machine, size_t guest, uint64_t slot, uint32_t part,
                               uint64_t offset, uint32_t *value);
 
-/* Writes one byte of the function in a guest's slot, as its device does: in a region or, in
- * configuration space, the two bytes of Status (06h, 07h) and the device's own registers (40h to
- * FFh). The byte takes the value whichever bits the guest can change, and the guest can change the
- * same bits afterwards. Where there is no register, nothing changes. No line of a script does
- * this.
- * Returns 0; 303 the slot is above 31, or the device has no such byte; 601 the slot is empty; 902
- * no such guest, or the part is above 6. Since 0.3.0. */
+/* Writes one byte of the function in a guest's slot, from the device's side. The byte can be in a
+ * region or in configuration space; in configuration space, a device can write only the two bytes
+ * of Status (06h, 07h) and its own registers (40h to FFh). The byte takes the value no matter which
+ * bits the guest can change, and the guest can change the same bits afterwards. If there is no
+ * register, nothing changes. No script line does this.
+ * Returns 0 on success; 303 if the slot is above 31, or the device has no such byte; 601 if the
+ * slot is empty; 902 if there is no such guest, or the part is above 6. Since 0.3.0. */
 uint32_t pciguest_device_write(struct pciguest *machine, size_t guest, uint64_t slot, uint32_t part,
                                uint64_t offset, uint8_t value);
 
-/* Reads 1 to 8 bytes of the function in a guest's slot, as its device does, at any offset of one
- * part: in a region or, in configuration space, the two bytes of Status (06h, 07h) and the
- * device's own registers (40h to FFh). A byte without a register reads 0. The byte at the lowest
- * offset is the lowest byte of the value. If a byte is refused, the call is. Changes nothing.
- * Returns 0; 302 the width isn't 1 to 8; 303 the slot is above 31, or a byte is past the part or
- * is not one that the device has; 601 the slot is empty; 902 no such guest, or the part is above
- * 6. Since 0.4.0. */
+/* Reads 1 to 8 bytes of the function in a guest's slot, from the device's side, at any offset
+ * within one part. The part is a region or configuration space; in configuration space, a device
+ * can read only the two bytes of Status (06h, 07h) and its own registers (40h to FFh). A byte
+ * without a register reads as 0. The byte at the lowest offset is the lowest byte of the value. If
+ * one byte is refused, the whole read is refused. Changes nothing.
+ * Returns 0 on success; 302 if the width isn't 1 to 8; 303 if the slot is above 31, or a byte is
+ * past the end of the part or is not one that the device has; 601 if the slot is empty; 902 if
+ * there is no such guest, or the part is above 6. Since 0.4.0. */
 uint32_t pciguest_device_read_wide(struct pciguest *machine, size_t guest, uint64_t slot,
                                    uint32_t part, uint64_t offset, uint32_t width, uint64_t *value);
 
-/* Writes the low `width` bytes, 1 to 8, of a value to the function in a guest's slot, as its
- * device does, at any offset of one part: in a region or, in configuration space, the two bytes of
- * Status (06h, 07h) and the device's own registers (40h to FFh). The bytes take the value
- * whichever bits the guest can change. The byte at the lowest offset is the lowest byte of the
- * value. If a byte is refused, none is written.
- * Returns 0; 302 the width isn't 1 to 8; 303 the slot is above 31, or a byte is past the part or
- * is not one that the device has; 601 the slot is empty; 902 no such guest, or the part is above
- * 6. Since 0.4.0. */
+/* Writes the low `width` bytes, 1 to 8, of a value to the function in a guest's slot, from the
+ * device's side, at any offset within one part. The part is a region or configuration space; in
+ * configuration space, a device can write only the two bytes of Status (06h, 07h) and its own
+ * registers (40h to FFh). The bytes take the value no matter which bits the guest can change. The
+ * byte at the lowest offset is the lowest byte of the value. If one byte is refused, no byte is
+ * written.
+ * Returns 0 on success; 302 if the width isn't 1 to 8; 303 if the slot is above 31, or a byte is
+ * past the end of the part or is not one that the device has; 601 if the slot is empty; 902 if
+ * there is no such guest, or the part is above 6. Since 0.4.0. */
 uint32_t pciguest_device_write_wide(struct pciguest *machine, size_t guest, uint64_t slot,
                                     uint32_t part, uint64_t offset, uint32_t width, uint64_t value);
 
-/* Stores where the region that begins at a base address register, 0 to 5, is now in the guest's
- * own view. The result stays valid until the guest writes Command or a base address register of
- * this function, or until the function is moved, reset, loaded or taken; while pciguest_changed
- * stores the same count, no result for this guest changes. Allocates no memory and changes
- * nothing.
- * Returns 0; 303 the slot is above 31, or no region begins at this register; 601 the slot is
- * empty; 902 no such guest. Since 0.3.0. */
+/* Stores where the region that begins at a base address register, 0 to 5, is now, as the guest sees
+ * it. The result stays valid until the guest writes Command or a base address register of this
+ * function, or until the function is moved, reset, loaded or taken. As long as pciguest_changed
+ * stores the same count, no result for this guest changes. Allocates no memory and changes nothing.
+ * Returns 0 on success; 303 if the slot is above 31, or no region begins at this register; 601 if
+ * the slot is empty; 902 if there is no such guest. Since 0.3.0. */
 uint32_t pciguest_region(struct pciguest *machine, size_t guest, uint64_t slot, uint32_t bar,
                          struct pciguest_region *region);
 
-/* Stores a count that shows whether a region of the guest may have moved: while the count stays
- * the same, so does every result of pciguest_region for this guest, for all slots and registers.
- * It grows by one with each access of the guest, move, reset, pciguest_give or pciguest_take that
- * touches one of the guest's slots in such a way that one of these results may change; by one with
- * each pciguest_reset_guest and pciguest_load of the guest; and by one or more with
- * pciguest_load_all. Nothing else makes it grow. It is 0 in a new machine, and 0 again after
- * `2^64 - 1`. Allocates no memory and changes nothing.
- * Returns 0; 902 no such guest. Since 0.4.0. */
+/* Stores a count that shows whether a region of the guest may have moved. As long as the count
+ * stays the same, so does every result of pciguest_region for this guest, for all slots and
+ * registers. The count increases by one with each access of the guest, move, reset, pciguest_give
+ * or pciguest_take that touches a slot of the guest in a way that may change one of these results;
+ * by one with each pciguest_reset_guest and pciguest_load of the guest; and by one or more with
+ * each pciguest_load_all. Nothing else increases it. It is 0 in a new machine, and returns to 0
+ * after `2^64 - 1`. Allocates no memory and changes nothing.
+ * Returns 0 on success; 902 if there is no such guest. Since 0.4.0. */
 uint32_t pciguest_changed(struct pciguest *machine, size_t guest, uint64_t *count);
 
-/* Updates the caller's rows with where a guest's regions are now, and stores in `count` how many
- * rows differ from before: regions that are elsewhere, or that were opened or closed. The caller
- * keeps the rows from call to call. The row of slot S and base address register B is
- * `places[6 * S + B]`; rows begin with all bytes 0, and PCIGUEST_PLACES is the number of all. In
- * each row that fits in the room, `now` is where the region is, `before` where it was when the row
- * was last updated, and `has_moved` whether these differ. A region that is written back to where
- * it was, as at the end of sizing, has not moved. So a hypervisor unmaps `before` and maps `now`
- * in rows that moved, each if its `is_open` is 1, and calls again once pciguest_changed stores
- * another count. Allocates no memory.
- * Returns 0; 902 no such guest. Since 0.4.0. */
+/* Updates rows that say where a guest's regions are, and stores in `count` how many of these rows
+ * changed: regions that moved, or that were opened or closed. The caller keeps the rows from call
+ * to call and sets all their bytes to 0 before the first one. The row for slot S and base address
+ * register B is `places[6 * S + B]`, and PCIGUEST_PLACES rows cover all slots; `room` is the number
+ * of rows that the caller has. In each of these rows, `now` says where the region is, `before`
+ * where it was when the row was last updated, and `has_moved` whether the two differ. A region that
+ * is back where it was, as at the end of sizing, has not moved. So a hypervisor unmaps `before` and
+ * maps `now` in the rows that moved, each if its `is_open` is 1, and calls again when
+ * pciguest_changed stores another count. Allocates no memory.
+ * Returns 0 on success; 902 if there is no such guest. Since 0.4.0. */
 uint32_t pciguest_moved(struct pciguest *machine, size_t guest, struct pciguest_place *places,
                         size_t room, size_t *count);
 
 /* Finds the byte that an access of a guest reaches at a slot and offset, a port, or an address: a
  * byte of a function in one of the guest's slots, or nothing. Every access there begins at this
- * byte, except one of 4 bytes at port CF8h, which reaches the guest's own CONFIG_ADDRESS.
+ * byte, except a 4-byte access to port CF8h, which reaches the guest's own CONFIG_ADDRESS.
  * Allocates no memory and changes nothing.
- * Returns 0; 303 the slot, offset or port is out of range; 902 no such guest or space. Since
- * 0.3.0. */
+ * Returns 0 on success; 303 if the slot, offset or port is out of range; 902 if there is no such
+ * guest or space. Since 0.3.0. */
 uint32_t pciguest_locate(struct pciguest *machine, size_t guest, uint32_t space, uint64_t slot,
                          uint64_t place, struct pciguest_hit *hit);
 
-/* Writes why an access of a guest at a slot and offset, a port, or an address reaches what it
- * reaches, with one line for each fact, and stores the text's length in `needed`; the text isn't
- * terminated by a 0. At port CF8h, and at CFCh to CFFh, a line says what the guest's
- * CONFIG_ADDRESS makes of the port (PCI Local Bus 3.0, 3.2.2.3.2). Then a line names what answers
- * (the slot, the region or configuration space, and the offset there), or says that nobody
- * answers, that the slot is empty, or that CONFIG_ADDRESS selects no slot. If nobody answers, a
- * line follows for each region of the guest's functions that holds the address but whose space
- * Command doesn't enable (6.2.5), by slot and then by register. The text depends only on the
- * guest's own functions and CONFIG_ADDRESS: two guests that hold the same get the same text.
- * Changes nothing.
- * Returns 0; 303 the slot, offset or port is out of range; 902 no such guest or space, or too
- * little room (only the length is stored); 299 out of memory. Since 0.4.0. */
+/* Explains why a guest's access to a slot and offset, a port, or an address ends up where it does,
+ * or nowhere: writes one line for each fact, and stores the length of the text in `needed`. The
+ * text isn't terminated by a 0. For port CF8h, and for CFCh to CFFh, a line says how the guest's
+ * CONFIG_ADDRESS decides what the port accesses (PCI Local Bus 3.0, 3.2.2.3.2). The next line names
+ * what answers: the slot, the region or configuration space, and the offset there. Otherwise, the
+ * line says that nothing answers, that the slot is empty, or that CONFIG_ADDRESS selects no slot.
+ * If nothing answers at a port or an address, one more line follows for each region of the guest's
+ * functions that contains it but whose space Command doesn't enable (6.2.5), ordered by slot and
+ * then by register. The text depends only on the guest's own functions and CONFIG_ADDRESS: two
+ * guests that hold the same get the same text. Changes nothing.
+ * Returns 0 on success; 303 if the slot, offset or port is out of range; 902 if there is no such
+ * guest or space, or if the buffer is too small (only the length is stored); 299 if memory runs
+ * out. Since 0.4.0. */
 uint32_t pciguest_why(struct pciguest *machine, size_t guest, uint32_t space, uint64_t slot,
                       uint64_t place, char *text, size_t room, size_t *needed);
 
-/* Writes, as a JSON object on one line, why an access of a guest at a slot and offset, a port, or
- * an address reaches what it reaches, and stores the text's length in `needed`; the text isn't
- * terminated by a 0. The object has all that the lines of pciguest_why say, except the value of
- * CONFIG_ADDRESS. Changes nothing.
- * Returns 0; 303 the slot, offset or port is out of range; 902 no such guest or space, or too
- * little room (only the length is stored); 299 out of memory. Since 0.4.0. */
+/* Explains, as a one-line JSON object, why a guest's access to a slot and offset, a port, or an
+ * address ends up where it does, or nowhere, and stores the length of the text in `needed`. The
+ * text isn't terminated by a 0. The object contains everything that the lines of pciguest_why say,
+ * except the value of CONFIG_ADDRESS. Changes nothing.
+ * Returns 0 on success; 303 if the slot, offset or port is out of range; 902 if there is no such
+ * guest or space, or if the buffer is too small (only the length is stored); 299 if memory runs
+ * out. Since 0.4.0. */
 uint32_t pciguest_why_json(struct pciguest *machine, size_t guest, uint32_t space, uint64_t slot,
                            uint64_t place, char *text, size_t room, size_t *needed);
 
@@ -625,110 +643,115 @@ uint32_t pciguest_why_json(struct pciguest *machine, size_t guest, uint32_t spac
  * 0.4.0. */
 uint32_t pciguest_count(struct pciguest *machine, size_t *count);
 
-/* Stores a row for the function at an index, from 0 to one less than the number that
- * pciguest_count stores. Functions are in path order: a bridge comes before what is behind it. Its
- * bus, device and function numbers, regions and windows are those of the board's own registers,
- * which no guest writes; the guest and slot that have it are those after the last move. Allocates
- * no memory and changes nothing.
- * Returns 0; 902 no such function. Since 0.4.0. */
+/* Stores a row that describes the function at an index, from 0 to one less than the number that
+ * pciguest_count stores. Functions are in path order: a bridge comes before what is behind it. The
+ * row's bus, device and function numbers, regions and windows come from the board's own registers,
+ * which no guest writes. Its guest and slot are the current ones, after the last move. Allocates no
+ * memory and changes nothing.
+ * Returns 0 on success; 902 if there is no such function. Since 0.4.0. */
 uint32_t pciguest_function(struct pciguest *machine, size_t index,
                            struct pciguest_function *function);
 
-/* Stores a row for the function in a slot of a guest, the same row that pciguest_function stores
- * for it: its bus, device and function numbers and regions are those of the board's own registers,
- * which no guest writes. Allocates no memory and changes nothing.
- * Returns 0; 303 the slot is above 31; 601 the slot is empty; 902 no such guest. Since 0.4.0. */
+/* Stores a row that describes the function in a slot of a guest, the same row that
+ * pciguest_function stores for it. The row's bus, device and function numbers and regions come from
+ * the board's own registers, which no guest writes. Allocates no memory and changes nothing.
+ * Returns 0 on success; 303 if the slot is above 31; 601 if the slot is empty; 902 if there is no
+ * such guest. Since 0.4.0. */
 uint32_t pciguest_slot(struct pciguest *machine, size_t guest, uint64_t slot,
                        struct pciguest_function *function);
 
-/* Runs one line of a script, with or without its line feed; a line feed elsewhere makes it a bad
- * line. Writes the reply and stores its length in `written`. The reply is one line with its line
- * feed, or nothing for a blank line or a comment; it isn't terminated by a 0. For a line that is
- * refused, the reply says so and the call returns 0.
- * Returns 0; 902 less room than PCIGUEST_REPLY. */
+/* Runs one line of a script, writes the reply, and stores the length of the reply in `written`. The
+ * line may end with its line feed; a line feed anywhere else makes it a bad line. The reply is one
+ * line with its line feed, or nothing for a blank line or a comment. It isn't terminated by a 0. If
+ * the line is refused, the reply says so and the call returns 0.
+ * Returns 0 on success; 902 if the buffer is smaller than PCIGUEST_REPLY. */
 uint32_t pciguest_run_line(struct pciguest *machine, const char *line, size_t length, char *reply,
                            size_t room, size_t *written);
 
-/* Writes the report of a board file, as `pciguest list` does, and stores its length in `needed`;
- * the text isn't terminated by a 0. Needs no machine.
- * Returns 0; 101 to 112 or 201 to 205, the first check that the file or its board fails; 199 or
- * 299 out of memory; 902 too little room (nothing is written, only the length is stored). */
+/* Writes the report of a board file, as `pciguest list` does, and stores the length of the text in
+ * `needed`. The text isn't terminated by a 0. Needs no machine.
+ * Returns 0 on success; 101 to 112 or 201 to 205 for the first check that the file or its board
+ * fails; 199 or 299 if memory runs out; 902 if the buffer is too small (nothing is written, only
+ * the length is stored). */
 uint32_t pciguest_report(const void *board, size_t length, char *text, size_t room, size_t *needed);
 
 /* Writes the report of a board file as a JSON object on one line, as `pciguest list --json` does,
- * and stores its length in `needed`; the text isn't terminated by a 0. Needs no machine.
- * Returns 0; 101 to 112 or 201 to 205, the first check that the file or its board fails; 199 or
- * 299 out of memory; 902 too little room (nothing is written, only the length is stored). Since
- * 0.4.0. */
+ * and stores the length of the text in `needed`. The text isn't terminated by a 0. Needs no
+ * machine.
+ * Returns 0 on success; 101 to 112 or 201 to 205 for the first check that the file or its board
+ * fails; 199 or 299 if memory runs out; 902 if the buffer is too small (nothing is written, only
+ * the length is stored). Since 0.4.0. */
 uint32_t pciguest_report_json(const void *board, size_t length, char *text, size_t room,
                               size_t *needed);
 
 /* Writes what is wrong with a board file, or that its board fits, as `pciguest check board.toml`
- * does, without the warnings that `--all` adds, and stores the text's length in `needed`; the text
- * isn't terminated by a 0. Needs no machine.
- * Returns 0, the board fits; 101 to 112 or 201 to 205, the file or its board is refused, and the
- * text says why; 199 or 299 out of memory (nothing is written or stored); 902 too little room
- * (nothing is written, only the length is stored). */
+ * does, and stores the length of the text in `needed`. The warnings that `--all` adds are not
+ * included. The text isn't terminated by a 0. Needs no machine.
+ * Returns 0 if the board fits; 101 to 112 or 201 to 205 if the file or its board is refused, and
+ * the text says why; 199 or 299 if memory runs out (nothing is written or stored); 902 if the
+ * buffer is too small (nothing is written, only the length is stored). */
 uint32_t pciguest_check(const void *board, size_t length, char *text, size_t room, size_t *needed);
 
-/* Writes the text of an error number that a call returns, or that the program or a reply names,
- * and stores its length in `needed`; the text isn't terminated by a 0. A number without a meaning,
- * such as 0, has no text, and the length is 0. PCIGUEST_WORDS is always enough room. Needs no
- * machine.
- * Returns 0; 902 too little room (nothing is written, only the length is stored). */
+/* Writes the text of an error number, and stores the length of the text in `needed`. The number can
+ * be one that a call returns, or one that appears in a reply or in the program's output. The text
+ * isn't terminated by a 0. A number without a meaning, such as 0, has no text, and the length is 0.
+ * A buffer of PCIGUEST_WORDS bytes is always large enough. Needs no machine.
+ * Returns 0 on success; 902 if the buffer is too small (nothing is written, only the length is
+ * stored). */
 uint32_t pciguest_words(uint32_t number, char *text, size_t room, size_t *needed);
 
-/* Makes the board of a board file, given as its bytes, at reset, for your own firmware to drive:
- * no bus number and no address is assigned, and every function is off. The guests of the file are
+/* Creates a board at reset from the bytes of a board file, for your own firmware to drive: no bus
+ * number or address is assigned, and every function is off. The guests that the file declares are
  * checked, but no function is assigned to them.
- * Returns 0; 101 to 112, the first check that the file fails; 199 out of memory; 903 the struct
- * already holds a board. Since 0.3.0. */
+ * Returns 0 on success; 101 to 112 for the first check that the file fails; 199 if memory runs out;
+ * 903 if the struct already holds a board. Since 0.3.0. */
 uint32_t pciguest_board_new(struct pciguest_board *board, const void *file, size_t length);
 
-/* Frees the board, or the machine that a line made of it. The struct is then empty and may be used
- * for a new one. Does nothing if the struct is already empty. Since 0.3.0. */
+/* Frees the board, or the machine that resulted when a line handed the board over. The struct is
+ * then empty and can be used for a new board. Does nothing if the struct is already empty. Since
+ * 0.3.0. */
 void pciguest_board_free(struct pciguest_board *board);
 
-/* Reads as firmware does, in whatever state the registers are: configuration space by bus, device,
- * function and byte offset, I/O by port, or memory by address. The value is all ones if nothing
- * responds. Bus, device and function matter only in configuration space, which can also be reached
- * through the ports CF8h and CFCh. A read of configuration space by bus, device and function
- * leaves 0 in CONFIG_ADDRESS (CF8h); every other read changes nothing.
- * Returns 0; 302 the width isn't 1, 2 or 4; 301 `place` isn't a multiple of the width; 303 the
- * offset is above 255, or the port is above FFFFFFFFh; 902 no such space, the device is above 31,
- * or the function is above 7. Since 0.3.0. */
+/* Reads as firmware does, whatever state the registers are in. Configuration space is addressed by
+ * bus, device, function and byte offset, I/O by port, and memory by address. The value is all ones
+ * if nothing responds. Bus, device and function matter only in configuration space, which can also
+ * be reached through the ports CF8h and CFCh. A read of configuration space by bus, device and
+ * function sets CONFIG_ADDRESS (CF8h) to 0; every other read changes nothing.
+ * Returns 0 on success; 302 if the width isn't 1, 2 or 4; 301 if `place` isn't a multiple of the
+ * width; 303 if the offset is above 255, or the port is above FFFFFFFFh; 902 if there is no such
+ * space, the device is above 31, or the function is above 7. Since 0.3.0. */
 uint32_t pciguest_board_read(struct pciguest_board *board, uint32_t space, uint8_t bus,
                              uint8_t device, uint8_t function, uint64_t place, uint32_t width,
                              uint32_t *value);
 
-/* Writes the low `width` bytes of a value as firmware does, in whatever state the registers are:
- * configuration space by bus, device, function and byte offset, I/O by port, or memory by address.
- * What nothing takes is dropped. Bus, device and function matter only in configuration space,
- * which can also be reached through the ports CF8h and CFCh. A write of configuration space by
- * bus, device and function leaves 0 in CONFIG_ADDRESS (CF8h).
- * Returns 0; 302 the width isn't 1, 2 or 4; 301 `place` isn't a multiple of the width; 303 the
- * offset is above 255, or the port is above FFFFFFFFh; 902 no such space, the device is above 31,
- * or the function is above 7. Since 0.3.0. */
+/* Writes the low `width` bytes of a value as firmware does, whatever state the registers are in.
+ * Configuration space is addressed by bus, device, function and byte offset, I/O by port, and
+ * memory by address. The write is dropped if nothing responds. Bus, device and function matter only
+ * in configuration space, which can also be reached through the ports CF8h and CFCh. A write to
+ * configuration space by bus, device and function sets CONFIG_ADDRESS (CF8h) to 0.
+ * Returns 0 on success; 302 if the width isn't 1, 2 or 4; 301 if `place` isn't a multiple of the
+ * width; 303 if the offset is above 255, or the port is above FFFFFFFFh; 902 if there is no such
+ * space, the device is above 31, or the function is above 7. Since 0.3.0. */
 uint32_t pciguest_board_write(struct pciguest_board *board, uint32_t space, uint8_t bus,
                               uint8_t device, uint8_t function, uint64_t place, uint32_t width,
                               uint32_t value);
 
-/* Runs one line of a session, as `pciguest firmware` does, with or without its line feed; writes
- * the reply and stores its length in `written`. While firmware drives the board, the line can be a
- * line of firmware; `host audit`, whose reply is the text of pciguest_board_audit; `host ready`,
- * whose reply also lists what the board lacks, as pciguest_board_ready does; `host why ..`, whose
- * reply says why an address, a port or a function's bus, device and function numbers reach what
- * they reach; or `host guests`, which hands the board over to the guests of its file or says why
- * it can't, as pciguest_board_guests does. Once the board is handed over, the line is a line of a
- * script. The struct then holds the machine: pciguest_board_guests moves it to a struct of its
- * own, and the other calls on a board return 901. For a line that is refused, the reply says so
- * and the call returns 0. The reply is one line with its line feed, or nothing; only the replies
- * to `host audit`, `host ready`, `host why ..` and a refused `host guests` can have more lines. It
- * isn't terminated by a 0.
- * Returns 0; 902 less room than PCIGUEST_REPLY, or than a reply of more lines needs (nothing
- * happens, and only the length of the latter is stored); 299 out of memory for `host audit`,
- * `host ready`, `host why ..` or `host guests` (nothing happens). No other line allocates memory.
- * Since 0.3.0. */
+/* Runs one line of a session, as `pciguest firmware` does, with or without its line feed, writes
+ * the reply, and stores the length of the reply in `written`. While firmware drives the board, the
+ * line can be a line of firmware or one of four requests. The reply to `host audit` is the text of
+ * pciguest_board_audit. The reply to `host ready` is the text of pciguest_board_ready. The reply to
+ * `host why ..` explains why an address, a port, or a bus/device/function number leads where it
+ * does, or nowhere. The line `host guests` hands the board over to the guests that its file
+ * declares, as pciguest_board_guests does; if that fails, the reply says why. Once the board has
+ * been handed over, the line is a line of a script. The struct then holds the machine, which
+ * pciguest_board_guests can move to a struct of its own; the other calls on a board return 901. If
+ * a line is refused, the reply says so and the call returns 0. The reply is one line with its line
+ * feed, or nothing. Only the replies to `host audit`, `host ready`, `host why ..` and a refused
+ * `host guests` can have more lines. The reply isn't terminated by a 0.
+ * Returns 0 on success; 902 if the buffer is smaller than PCIGUEST_REPLY (nothing happens), or too
+ * small for a reply of several lines (nothing happens, and only the length of the reply is stored);
+ * 299 if memory runs out for `host audit`, `host ready`, `host why ..` or `host guests` (nothing
+ * happens). No other line allocates memory. Since 0.3.0. */
 uint32_t pciguest_board_run_line(struct pciguest_board *board, const char *line, size_t length,
                                  char *reply, size_t room, size_t *written);
 
@@ -736,98 +759,106 @@ uint32_t pciguest_board_run_line(struct pciguest_board *board, const char *line,
  * Since 0.4.0. */
 uint32_t pciguest_board_count(struct pciguest_board *board, size_t *count);
 
-/* Stores a row for the function at an index, from 0 to one less than the number that
- * pciguest_board_count stores, in path order, as the registers are now, whatever firmware did to
- * them: the bus, device and function numbers at which the function is looked for and whether an
- * access there reaches it, its base address registers or windows, and whether its Command enables
- * their spaces. Allocates no memory and changes nothing, not even CONFIG_ADDRESS.
- * Returns 0; 902 no such function. Since 0.4.0. */
+/* Stores a row that describes the function at an index, from 0 to one less than the number that
+ * pciguest_board_count stores, in path order. The row follows from the registers as they are now,
+ * in whatever state firmware left them. It contains the function's bus, device and function
+ * numbers, whether a configuration access to these numbers reaches the function, its base address
+ * registers or windows, and whether its Command enables their spaces. Allocates no memory and
+ * changes nothing, not even CONFIG_ADDRESS.
+ * Returns 0 on success; 902 if there is no such function. Since 0.4.0. */
 uint32_t pciguest_board_function(struct pciguest_board *board, size_t index,
                                  struct pciguest_board_function *function);
 
-/* Writes what is wrong in the registers of a board as they are now, whoever wrote them: a line for
- * each problem, and a last line `audit: ok` or `audit: N problems`. A problem is a byte of an open
- * region that a bridge above it doesn't forward, an address that two regions or bridges answer on
- * one bus, or a function that no configuration cycle finds. Stores the text's length in `needed`
- * and the number of problems in `count`; the text isn't terminated by a 0. The board stays as it
- * is.
- * Returns 0; 902 too little room (only the length is stored); 299 out of memory. Since 0.3.0. */
+/* Reports what is wrong in the registers of a board as they are now, no matter who wrote them:
+ * writes one line for each problem, then a last line, `audit: ok` or `audit: N problems`. There are
+ * three kinds of problem: a bridge above an open region doesn't forward every byte of the region;
+ * two regions or bridges answer the same address on one bus; or no configuration cycle reaches a
+ * function. Stores the length of the text in `needed` and the number of problems in `count`. The
+ * text isn't terminated by a 0. The board stays unchanged.
+ * Returns 0 on success; 902 if the buffer is too small (only the length is stored); 299 if memory
+ * runs out. Since 0.3.0. */
 uint32_t pciguest_board_audit(struct pciguest_board *board, char *text, size_t room, size_t *needed,
                               size_t *count);
 
-/* Writes what is wrong in the registers of a board as a JSON object on one line, as
- * `pciguest audit --json` does: each problem that pciguest_board_audit has a line for, with all
- * that the line says, in the same order. Stores the text's length in `needed` and the number of
- * problems in `count`; the text isn't terminated by a 0. The board stays as it is.
- * Returns 0; 902 too little room (only the length is stored); 299 out of memory. Since 0.4.0. */
+/* Reports what is wrong in the registers of a board as a JSON object on one line, as
+ * `pciguest audit --json` does. The object contains every problem that pciguest_board_audit
+ * reports, with everything that its line says, in the same order. Stores the length of the text in
+ * `needed` and the number of problems in `count`. The text isn't terminated by a 0. The board stays
+ * unchanged.
+ * Returns 0 on success; 902 if the buffer is too small (only the length is stored); 299 if memory
+ * runs out. Since 0.4.0. */
 uint32_t pciguest_board_audit_json(struct pciguest_board *board, char *text, size_t room,
                                    size_t *needed, size_t *count);
 
-/* Writes what is wrong in the registers of a board as they are now, and what they lack: the lines
- * of pciguest_board_audit except the last, then a line for each lack, and a last line `ready: ok`
- * or a count such as `ready: 1 problem, 2 lacks`. A lack is a region that is closed, outside the
- * apertures, or prefetched although it isn't prefetchable, or a bridge whose Primary Bus Number
- * isn't the number of its bus. Stores the text's length in `needed` and the number of problems and
- * lacks in `count`, which is 0 if the board is ready; the text isn't terminated by a 0. The board
- * stays as it is.
- * Returns 0; 902 too little room (only the length is stored); 299 out of memory. Since 0.4.0. */
+/* Reports what is wrong in the registers of a board as they are now, and what is left to do: writes
+ * the lines of pciguest_board_audit except the last, then one line for each lack, then a last line,
+ * `ready: ok` or counts such as `ready: 1 problem, 2 lacks`. A lack is a region that is closed,
+ * that is outside the apertures, or that is prefetched although it isn't prefetchable, or a bridge
+ * whose Primary Bus Number isn't the number of its bus. Stores the length of the text in `needed`,
+ * and in `count` the number of problems and lacks, which is 0 if the board is ready. The text isn't
+ * terminated by a 0. The board stays unchanged.
+ * Returns 0 on success; 902 if the buffer is too small (only the length is stored); 299 if memory
+ * runs out. Since 0.4.0. */
 uint32_t pciguest_board_ready(struct pciguest_board *board, char *text, size_t room, size_t *needed,
                               size_t *count);
 
-/* Writes what is wrong in the registers of a board and what they lack as a JSON object on one
- * line, as `pciguest ready --json` does: each problem and each lack that pciguest_board_ready has
- * a line for, with all that the line says, in the same order. Stores the text's length in `needed`
- * and the number of problems and lacks in `count`, which is 0 if the board is ready; the text
- * isn't terminated by a 0. The board stays as it is.
- * Returns 0; 902 too little room (only the length is stored); 299 out of memory. Since 0.4.0. */
+/* Reports what is wrong in the registers of a board and what is left to do as a JSON object on one
+ * line, as `pciguest ready --json` does. The object contains every problem and lack that
+ * pciguest_board_ready reports, with everything that its line says, in the same order. Stores the
+ * length of the text in `needed`, and in `count` the number of problems and lacks, which is 0 if
+ * the board is ready. The text isn't terminated by a 0. The board stays unchanged.
+ * Returns 0 on success; 902 if the buffer is too small (only the length is stored); 299 if memory
+ * runs out. Since 0.4.0. */
 uint32_t pciguest_board_ready_json(struct pciguest_board *board, char *text, size_t room,
                                    size_t *needed, size_t *count);
 
-/* Writes, as a JSON object on one line, why an address, a port, or the bus, device and function
- * numbers of a function reach what they reach, or nothing, as the registers are now. The object
- * has all that the lines of `host why ..` say, except the value of CONFIG_ADDRESS. The arguments
- * are those of pciguest_board_read, except that in configuration space `place` is ignored, and
- * that nobody answers at a port above FFFFFFFFh. Stores the text's length in `needed`; the text
- * isn't terminated by a 0. The board stays as it is, CONFIG_ADDRESS too.
- * Returns 0; 902 no such space, device or function, or too little room (only the length is
- * stored); 299 out of memory. Since 0.4.0. */
+/* Explains, as a one-line JSON object, why an address, a port, or a bus/device/function number
+ * leads where it does, or nowhere, given what the registers hold now. The object contains
+ * everything that the lines of `host why ..` say, except the value of CONFIG_ADDRESS. The arguments
+ * are those of pciguest_board_read, except that `place` is ignored in configuration space. A port
+ * above FFFFFFFFh is accepted, and nothing responds to it. Stores the length of the text in
+ * `needed`. The text isn't terminated by a 0. The board stays unchanged, including CONFIG_ADDRESS.
+ * Returns 0 on success; 902 if there is no such space, device or function, or if the buffer is too
+ * small (only the length is stored); 299 if memory runs out. Since 0.4.0. */
 uint32_t pciguest_board_why_json(struct pciguest_board *board, uint32_t space, uint8_t bus,
                                  uint8_t device, uint8_t function, uint64_t place, char *text,
                                  size_t room, size_t *needed);
 
-/* Writes a row for each problem that pciguest_board_audit has a line for, in the same order, and
- * stores the number of problems in `count`. The room is a number of rows. The board stays as it
- * is.
- * Returns 0; 902 room for fewer rows than that (only their number is stored); 299 out of memory.
- * Since 0.4.0. */
+/* Writes one row for each problem that pciguest_board_audit reports, in the same order, and stores
+ * the number of problems in `count`. The buffer size, `room`, is counted in rows. The board stays
+ * unchanged.
+ * Returns 0 on success; 902 if the buffer is too small (only the number of problems is stored); 299
+ * if memory runs out. Since 0.4.0. */
 uint32_t pciguest_board_problems(struct pciguest_board *board, struct pciguest_problem *problems,
                                  size_t room, size_t *count);
 
-/* Writes a row for each lack that pciguest_board_ready has a line for, in the same order, and
- * stores the number of lacks in `count`. The room is a number of rows. The board stays as it is.
- * Returns 0; 902 room for fewer rows than that (only their number is stored); 299 out of memory.
- * Since 0.4.0. */
+/* Writes one row for each lack that pciguest_board_ready reports, in the same order, and stores the
+ * number of lacks in `count`. The buffer size, `room`, is counted in rows. The board stays
+ * unchanged.
+ * Returns 0 on success; 902 if the buffer is too small (only the number of lacks is stored); 299 if
+ * memory runs out. Since 0.4.0. */
 uint32_t pciguest_board_lacks(struct pciguest_board *board, struct pciguest_problem *lacks,
                               size_t room, size_t *count);
 
-/* Sets up a board that is at reset, as pciguest_new does, in place of your own firmware, and
- * assigns its functions to the guests of its file. The machine is then the one that pciguest_new
- * makes from the file. The board stays as it is.
- * Returns 0, or the first of these that applies: 901 there is no board; 903 the machine's struct
- * already holds one; 904 the board was written since reset; 201 to 205 the board can't be set up;
- * 299 out of memory. Since 0.3.0. */
+/* Sets up a board that is at reset, in place of your own firmware, and assigns its functions to the
+ * guests that its file declares. The resulting machine is the one that pciguest_new makes from the
+ * same file. The board stays unchanged.
+ * Returns 0 on success, or the first of these that applies: 901 if there is no board; 903 if the
+ * machine's struct already holds a machine; 904 if the board was written to since reset; 201 to 205
+ * if the board can't be set up; 299 if memory runs out. Since 0.3.0. */
 uint32_t pciguest_set_up(struct pciguest_board *board, struct pciguest *machine);
 
-/* Assigns the functions of a board to the guests of its file, with the board as it is, whoever set
- * it up. This requires that the audit of the board finds no problem and that each region of these
- * functions is open. The machine then has this board, and the board's struct is empty. Each
- * assigned function is reset first, except for the registers that guests have copies of, and the
- * board's CONFIG_ADDRESS is cleared. If a line already handed the board over, the machine is the
- * one that this made, as it is now. On an error both structs stay as they were.
- * Returns 0; 901 there is no board; 903 the machine's struct already holds one; 207 the audit
- * finds a problem, which pciguest_board_audit reports; 206 a region of a function to be assigned
- * is closed; 299 out of memory. 901, 903 and 207 are checked in this order, before 206. Since
- * 0.4.0. */
+/* Assigns the functions of a board to the guests that its file declares. The board is used as it is
+ * now, no matter who set it up. The audit of the board must find no problem, and every region of
+ * the functions to be assigned must be open. The board then belongs to the machine, and the board's
+ * struct is empty. Each assigned function is reset, except for the registers of which guests have
+ * their own copies, and the board's CONFIG_ADDRESS is cleared. If a line has already handed the
+ * board over, `machine` receives the machine that resulted, in its current state. If the call
+ * fails, both structs stay unchanged.
+ * Returns 0 on success; 901 if there is no board; 903 if the machine's struct already holds a
+ * machine; 207 if the audit finds a problem, which pciguest_board_audit reports; 206 if a region of
+ * a function to be assigned is closed; 299 if memory runs out. 901, 903 and 207 are checked in this
+ * order, before 206. Since 0.4.0. */
 uint32_t pciguest_board_guests(struct pciguest_board *board, struct pciguest *machine);
 
 #ifdef __cplusplus
