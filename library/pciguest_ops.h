@@ -1,10 +1,10 @@
-/* Accesses and questions for firmware under test. Each is one line on standard output; the reply is one line on standard
- * input, or several for a question. `pciguest firmware BOARD` answers such lines, and
- * `python3 -m pciguest.firmware_test -- ./my_firmware` tests the firmware on many boards. No library is needed besides this
- * header. Firmware must write nothing else to standard output; its messages go to standard error. If an access or a question
- * is refused or gets no reply, the firmware ends with status 3.
+/* Accesses and questions for firmware under test. The firmware sends each access or question as one line on standard output
+ * and gets the reply on standard input: one line for an access, one or more for a question. `pciguest firmware BOARD` answers
+ * these lines, and `python3 -m pciguest.firmware_test -- ./my_firmware` tests the firmware on many boards. Firmware needs only
+ * this header, and no library. It must write nothing else to standard output; its own messages go to standard error. If an
+ * access or a question is refused or gets no reply, the firmware ends with status 3.
  *
- * A width is 1, 2 or 4 bytes; an offset, port or address must be a multiple of it. */
+ * A width is 1, 2 or 4 bytes. An offset, port or address must be a multiple of the width. */
 #ifndef PCIGUEST_OPS_H
 #define PCIGUEST_OPS_H
 
@@ -15,10 +15,10 @@
 #include <stdlib.h>
 #include <string.h>
 
-/* makes a BDF from bus, device and function numbers */
+/* combines bus, device and function numbers into a BDF */
 #define PG_BDF(bus, device, function) ((uint32_t)(bus) << 8 | (uint32_t)(device) << 3 | (uint32_t)(function))
 
-/* writes a line and returns the value in the reply, or 0 for `ok` */
+/* sends a line and returns the value in the reply, or 0 if the reply is `ok` */
 static inline uint32_t pg_ask(const char *line)
 {
     char reply[64];
@@ -89,8 +89,8 @@ static inline void pg_store(uint64_t address, int width, uint32_t value)
 
 /* ---- questions */
 
-/* Returns whether a line is the last of a reply, which counts the lines above it, such as `audit: ok`,
- * `ready: 1 problem, 2 lacks` or `why: 3 lines`, and stores the count. */
+/* Returns whether a line is the last line of a reply, and stores how many lines it says come before it. Such a line is
+ * `audit: ok`, `ready: 1 problem, 2 lacks` or `why: 3 lines`, for example. */
 static inline int pg_is_count(const char *line, unsigned long *count)
 {
     int audit = 0, both = 0, ready = 0, why = 0;
@@ -112,8 +112,9 @@ static inline int pg_is_count(const char *line, unsigned long *count)
     return strcmp(line, "audit: ok\n") == 0 || strcmp(line, "ready: ok\n") == 0;
 }
 
-/* Asks `host audit`, `host ready` or `host why ..` and writes the lines of the reply to a stream such as stderr, or nowhere
- * for NULL. Returns the number of problems and lacks, or of the lines that answer `host why ..`. */
+/* Sends the question `host audit`, `host ready` or `host why ..`, and copies the lines of the reply to a stream such as
+ * stderr; if the stream is NULL, the lines are discarded. Returns the number of problems and lacks, or for `host why ..` the
+ * number of lines in the answer. */
 static inline unsigned long pg_question(const char *question, FILE *out)
 {
     unsigned long count = 0;
@@ -133,8 +134,8 @@ static inline unsigned long pg_question(const char *question, FILE *out)
     exit(3);
 }
 
-/* Stores the first and last address that firmware may assign in an aperture, "io", "mem" or "pref", which the test passes
- * in the environment. Returns 1, or 0 if the board has no such aperture. */
+/* Stores the first and the last address of an aperture, "io", "mem" or "pref", from which firmware may assign addresses. The
+ * test passes them in the environment. Returns 1, or 0 if the board has no such aperture. */
 static inline int pg_aperture(const char *name, uint64_t *first, uint64_t *last)
 {
     const char *variable = name[0] == 'i' ? "PCIGUEST_IO" : name[0] == 'm' ? "PCIGUEST_MEM" : "PCIGUEST_PREF";
@@ -157,7 +158,7 @@ static inline void pg_port_config_write(uint32_t bdf, uint32_t offset, int width
     pg_out(0xCFC + (offset & 3), width, value);
 }
 
-/* ---- the same as U-Boot's dm_pci_ops: a pci_dev_t has the bus from bit 16 on, and a size is 0, 1 or 2 */
+/* ---- the same with the signatures of U-Boot's dm_pci_ops: a pci_dev_t holds the bus from bit 16 on; a size is 0, 1 or 2 */
 
 static inline int pg_uboot_read_config(const void *bus, int bdf, unsigned offset, unsigned long *value, int size)
 {
@@ -173,7 +174,8 @@ static inline int pg_uboot_write_config(const void *bus, int bdf, unsigned offse
     return 0;
 }
 
-/* ---- the same as libpayload's pci_read_config8 and the like: a pcidev_t has the bus from bit 16 on, and bit 31 */
+/* ---- the same with the signatures of libpayload's pci_read_config8 and the like: a pcidev_t holds the bus from bit 16 on,
+ * and has bit 31 set */
 
 #define PG_LIBPAYLOAD(bits)                                                                                            \
     static inline uint##bits##_t pg_read_config##bits(uint32_t device, uint16_t reg)                                   \
@@ -188,9 +190,9 @@ PG_LIBPAYLOAD(8)
 PG_LIBPAYLOAD(16)
 PG_LIBPAYLOAD(32)
 
-/* ---- the same as EDK2's Pci.Read and Pci.Write: a width is 0, 1 or 2, and 0 is EFI_SUCCESS. An address of
- * EFI_PCI_ROOT_BRIDGE_IO_PROTOCOL, which reaches all functions, has the bus from bit 24 on, then device, function and
- * register in 8 bits each. EFI_PCI_IO_PROTOCOL reaches one function. */
+/* ---- the same with the signatures of EDK2's Pci.Read and Pci.Write: a width is 0, 1 or 2, and 0 is EFI_SUCCESS.
+ * EFI_PCI_ROOT_BRIDGE_IO_PROTOCOL reaches all functions: an address holds the bus from bit 24 on, then the device, the function
+ * and the register in 8 bits each. EFI_PCI_IO_PROTOCOL reaches one function. */
 
 struct pg_root_bridge_io {
     void *data; /* for the firmware's use */
