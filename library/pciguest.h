@@ -9,9 +9,9 @@
  * compute a result; and pciguest_free and pciguest_board_free, which return nothing.
  *
  * Errors. A call that returns an error has changed nothing and stored nothing, with two exceptions.
- * If the buffer for a text, an image or rows is too small, the call stores the length or the number
- * of rows that it needs, where its comment says so. And pciguest_check writes its text. A comment
- * lists the following errors only where their order matters, because any call can return them:
+ * If the buffer for a text, an image or rows is too small, the call still stores the required
+ * length or number of rows, provided that its comment says so. And pciguest_check writes its text.
+ * Any call can return the following errors, so comments list them only where their order matters:
  * 901, the struct is empty (not returned by calls that fill or free it); 902, a pointer is null (a
  * pointer to bytes or to a buffer may be null if its length is 0); 909, another call is running on
  * the struct.
@@ -119,7 +119,7 @@ struct pciguest_bar {
     uint64_t size;
     uint32_t space;        /* PCIGUEST_IO or PCIGUEST_MEMORY */
     uint32_t prefetchable; /* 1 or 0 */
-    uint32_t is_64_bit;    /* 1 or 0: whether the next register is the address's high half */
+    uint32_t is_64_bit;    /* 1 or 0: whether the next register holds the high half */
 };
 
 /* Describes a window of a bridge, as the bridge's registers on the board define it: the addresses
@@ -133,7 +133,7 @@ struct pciguest_window {
 
 /* Describes the interrupt pin of a function, from 1 for INTA# to 4 for INTD#, and the device and
  * pin on bus 0 to which it is routed. On each bus except bus 0, the pin advances by the device
- * number, and 1 follows 4. PCI-to-PCI Bridge Architecture 1.2, chapter 9.1, has this rule for
+ * number, and 1 follows 4. PCI-to-PCI Bridge Architecture 1.2, chapter 9.1, defines this rule for
  * add-in cards; here it applies to every bridge. `pin`, `root_device` and `root_pin` are 0 if the
  * function has no pin. Interrupts are not delivered. */
 struct pciguest_interrupt {
@@ -373,19 +373,20 @@ static inline bool pciguest_ends_within(uint32_t space, uint64_t place, uint32_t
 }
 
 /* Reads 1 to 8 bytes as a guest, at any alignment, at a slot and offset, a port, or an address, as
- * the guest sees them. A processor can make such an access at once, but a bus cycle can't. So the
- * access is split as a bridge splits it: into the pieces that pciguest_piece returns, in ascending
- * order of addresses. The byte at the lowest address is the lowest byte of the value.
+ * the guest sees them. A processor can make such an access in one step, but it may need several bus
+ * cycles. So the call splits the access as a bridge would: into the pieces that pciguest_piece
+ * returns, in ascending order of addresses. The byte at the lowest address is the lowest byte of
+ * the value.
  * Returns 0 on success; 302 if the width isn't 1 to 8; 303 if the slot is out of range, or if the
  * access extends past the end of its space; 902 if there is no such guest or space. Since 0.3.0. */
 uint32_t pciguest_read_wide(struct pciguest *machine, size_t guest, uint32_t space, uint64_t slot,
                             uint64_t place, uint32_t width, uint64_t *value);
 
 /* Writes the low `width` bytes, 1 to 8, of a value as a guest, at any alignment, at a slot and
- * offset, a port, or an address, as the guest sees them. A processor can make such an access at
- * once, but a bus cycle can't. So the access is split as a bridge splits it: into the pieces that
- * pciguest_piece returns, in ascending order of addresses. The byte at the lowest address is the
- * lowest byte of the value.
+ * offset, a port, or an address, as the guest sees them. A processor can make such an access in one
+ * step, but it may need several bus cycles. So the call splits the access as a bridge would: into
+ * the pieces that pciguest_piece returns, in ascending order of addresses. The byte at the lowest
+ * address is the lowest byte of the value.
  * Returns 0 on success; 302 if the width isn't 1 to 8; 303 if the slot is out of range, or if the
  * access extends past the end of its space; 902 if there is no such guest or space. Since 0.3.0. */
 uint32_t pciguest_write_wide(struct pciguest *machine, size_t guest, uint32_t space, uint64_t slot,
@@ -463,11 +464,11 @@ uint32_t pciguest_image_size(struct pciguest *machine, size_t guest, size_t *siz
 uint32_t pciguest_save(struct pciguest *machine, size_t guest, void *image, size_t room,
                        size_t *needed);
 
-/* Loads an image into a guest, which then holds what the saved guest held. In each slot, the guest
- * must have a function with the same declaration as in the image, or none if the image has none.
- * The functions may be in other places, even on another board. Other guests can't observe the load.
- * The count that pciguest_changed stores increases by one. Allocates no memory. No script line does
- * this.
+/* Loads an image into a guest, which then holds what the saved guest held. In each slot, the
+ * guest's function must have the same declaration as the function in the image, and a slot that is
+ * empty in the image must be empty in the guest. The functions may be in other places, even on
+ * another board. Other guests can't observe the load. The count that pciguest_changed stores
+ * increases by one. Allocates no memory. No script line does this.
  * Returns 0 on success; 906 if the image has other slots filled than the guest, or a function is
  * declared differently; 908 if the image has another version of the format; 905 if the bytes are
  * not an image, for example because a register can't hold its value; 902 if there is no such guest.
@@ -760,11 +761,11 @@ uint32_t pciguest_board_run_line(struct pciguest_board *board, const char *line,
 uint32_t pciguest_board_count(struct pciguest_board *board, size_t *count);
 
 /* Stores a row that describes the function at an index, from 0 to one less than the number that
- * pciguest_board_count stores, in path order. The row follows from the registers as they are now,
- * in whatever state firmware left them. It contains the function's bus, device and function
- * numbers, whether a configuration access to these numbers reaches the function, its base address
- * registers or windows, and whether its Command enables their spaces. Allocates no memory and
- * changes nothing, not even CONFIG_ADDRESS.
+ * pciguest_board_count stores, in path order. The row reflects the registers as they are now, in
+ * whatever state firmware left them. It contains the function's bus, device and function numbers,
+ * whether a configuration access to these numbers reaches the function, its base address registers
+ * or windows, and whether its Command enables their spaces. Allocates no memory and changes
+ * nothing, not even CONFIG_ADDRESS.
  * Returns 0 on success; 902 if there is no such function. Since 0.4.0. */
 uint32_t pciguest_board_function(struct pciguest_board *board, size_t index,
                                  struct pciguest_board_function *function);
@@ -844,8 +845,8 @@ uint32_t pciguest_board_lacks(struct pciguest_board *board, struct pciguest_prob
  * guests that its file declares. The resulting machine is the one that pciguest_new makes from the
  * same file. The board stays unchanged.
  * Returns 0 on success, or the first of these that applies: 901 if there is no board; 903 if the
- * machine's struct already holds a machine; 904 if the board was written to since reset; 201 to 205
- * if the board can't be set up; 299 if memory runs out. Since 0.3.0. */
+ * machine's struct already holds a machine; 904 if the board has been written to since reset; 201
+ * to 205 if the board can't be set up; 299 if memory runs out. Since 0.3.0. */
 uint32_t pciguest_set_up(struct pciguest_board *board, struct pciguest *machine);
 
 /* Assigns the functions of a board to the guests that its file declares. The board is used as it is

@@ -194,7 +194,7 @@ pub struct Bar {
     pub space: u32,
     /// 1 or 0
     pub prefetchable: u32,
-    /// 1 or 0: whether the next register is the address's high half
+    /// 1 or 0: whether the next register holds the high half
     pub is_64_bit: u32,
 }
 
@@ -212,8 +212,8 @@ pub struct Window {
 
 /// Describes the interrupt pin of a function, from 1 for INTA# to 4 for INTD#, and the device and pin on bus 0 to which
 /// it is routed. On each bus except bus 0, the pin advances by the device number, and 1 follows 4. PCI-to-PCI Bridge
-/// Architecture 1.2, chapter 9.1, has this rule for add-in cards; here it applies to every bridge. `pin`, `root_device`
-/// and `root_pin` are 0 if the function has no pin. Interrupts are not delivered.
+/// Architecture 1.2, chapter 9.1, defines this rule for add-in cards; here it applies to every bridge. `pin`,
+/// `root_device` and `root_pin` are 0 if the function has no pin. Interrupts are not delivered.
 #[repr(C)]
 #[derive(Clone, Copy, Default)]
 pub struct Interrupt {
@@ -469,9 +469,9 @@ extern "C" {
         value: u32,
     ) -> u32;
     /// Reads 1 to 8 bytes as a guest, at any alignment, at a slot and offset, a port, or an address, as the guest sees
-    /// them. A processor can make such an access at once, but a bus cycle can't. So the access is split as a bridge
-    /// splits it: into the pieces that pciguest_piece returns, in ascending order of addresses. The byte at the lowest
-    /// address is the lowest byte of the value.
+    /// them. A processor can make such an access in one step, but it may need several bus cycles. So the call splits
+    /// the access as a bridge would: into the pieces that pciguest_piece returns, in ascending order of addresses. The
+    /// byte at the lowest address is the lowest byte of the value.
     /// Returns 0 on success; 302 if the width isn't 1 to 8; 303 if the slot is out of range, or if the access extends
     /// past the end of its space; 902 if there is no such guest or space. Since 0.3.0.
     pub fn pciguest_read_wide(
@@ -484,9 +484,9 @@ extern "C" {
         value: *mut u64,
     ) -> u32;
     /// Writes the low `width` bytes, 1 to 8, of a value as a guest, at any alignment, at a slot and offset, a port, or
-    /// an address, as the guest sees them. A processor can make such an access at once, but a bus cycle can't. So the
-    /// access is split as a bridge splits it: into the pieces that pciguest_piece returns, in ascending order of
-    /// addresses. The byte at the lowest address is the lowest byte of the value.
+    /// an address, as the guest sees them. A processor can make such an access in one step, but it may need several bus
+    /// cycles. So the call splits the access as a bridge would: into the pieces that pciguest_piece returns, in
+    /// ascending order of addresses. The byte at the lowest address is the lowest byte of the value.
     /// Returns 0 on success; 302 if the width isn't 1 to 8; 303 if the slot is out of range, or if the access extends
     /// past the end of its space; 902 if there is no such guest or space. Since 0.3.0.
     pub fn pciguest_write_wide(
@@ -596,10 +596,10 @@ extern "C" {
         room: usize,
         needed: *mut usize,
     ) -> u32;
-    /// Loads an image into a guest, which then holds what the saved guest held. In each slot, the guest must have a
-    /// function with the same declaration as in the image, or none if the image has none. The functions may be in other
-    /// places, even on another board. Other guests can't observe the load. The count that pciguest_changed stores
-    /// increases by one. Allocates no memory. No script line does this.
+    /// Loads an image into a guest, which then holds what the saved guest held. In each slot, the guest's function must
+    /// have the same declaration as the function in the image, and a slot that is empty in the image must be empty in
+    /// the guest. The functions may be in other places, even on another board. Other guests can't observe the load. The
+    /// count that pciguest_changed stores increases by one. Allocates no memory. No script line does this.
     /// Returns 0 on success; 906 if the image has other slots filled than the guest, or a function is declared
     /// differently; 908 if the image has another version of the format; 905 if the bytes are not an image, for example
     /// because a register can't hold its value; 902 if there is no such guest. The first byte that fails decides
@@ -967,10 +967,10 @@ extern "C" {
     /// Stores how many functions the board that firmware drives has, endpoints and bridges together. Since 0.4.0.
     pub fn pciguest_board_count(board: *mut BoardHandle, count: *mut usize) -> u32;
     /// Stores a row that describes the function at an index, from 0 to one less than the number that
-    /// pciguest_board_count stores, in path order. The row follows from the registers as they are now, in whatever
-    /// state firmware left them. It contains the function's bus, device and function numbers, whether a configuration
-    /// access to these numbers reaches the function, its base address registers or windows, and whether its Command
-    /// enables their spaces. Allocates no memory and changes nothing, not even CONFIG_ADDRESS.
+    /// pciguest_board_count stores, in path order. The row reflects the registers as they are now, in whatever state
+    /// firmware left them. It contains the function's bus, device and function numbers, whether a configuration access
+    /// to these numbers reaches the function, its base address registers or windows, and whether its Command enables
+    /// their spaces. Allocates no memory and changes nothing, not even CONFIG_ADDRESS.
     /// Returns 0 on success; 902 if there is no such function. Since 0.4.0.
     pub fn pciguest_board_function(
         board: *mut BoardHandle,
@@ -1076,8 +1076,8 @@ extern "C" {
     /// its file declares. The resulting machine is the one that pciguest_new makes from the same file. The board stays
     /// unchanged.
     /// Returns 0 on success, or the first of these that applies: 901 if there is no board; 903 if the machine's struct
-    /// already holds a machine; 904 if the board was written to since reset; 201 to 205 if the board can't be set up;
-    /// 299 if memory runs out. Since 0.3.0.
+    /// already holds a machine; 904 if the board has been written to since reset; 201 to 205 if the board can't be set
+    /// up; 299 if memory runs out. Since 0.3.0.
     pub fn pciguest_set_up(board: *mut BoardHandle, machine: *mut Handle) -> u32;
     /// Assigns the functions of a board to the guests that its file declares. The board is used as it is now, no matter
     /// who set it up. The audit of the board must find no problem, and every region of the functions to be assigned
