@@ -43,7 +43,8 @@ def in_words(status: int) -> str:
 
 class Child:
     """`lines` gives what the process writes, line by line, until it ends well; each is to be answered by `answer`, unless
-    nothing is due. A process that is not done in time or that ends otherwise is a `Misbehaviour`."""
+    nothing is due. The time until the next line is asked for is the caller's own, and isn't charged to the process. A
+    process that is not done in time or that ends otherwise is a `Misbehaviour`."""
 
     def __init__(self, command: List[str], limits: Limits, more: Optional[Mapping[str, str]] = None) -> None:
         pipe, environment = subprocess.PIPE, {**os.environ, **(more or {})}
@@ -121,7 +122,10 @@ class Child:
         while True:
             line = self.take()
             if line is not None:
+                given = time.monotonic()
                 yield line
+                own = time.monotonic() - given
+                self.begun, self.heard = self.begun + own, self.heard + own
             elif not self.wait() and (self.reader not in self.open or self.process.poll() is not None):
                 break
             else:
