@@ -51,6 +51,8 @@ PLAIN = Apertures()
 WIDE = Apertures(pref=(0x400000000, 0x7FFFFFFFFF))
 PARTED = Apertures(mem=(0x80000000, 0xBFFFFFFF), pref=(0xC0000000, 0xFEBFFFFF))
 
+#: Vendor IDs that may be taken for those of no function, by the low byte of the Device ID, so that none is drawn beside it
+VENDORS = {1: 0x0000, 2: 0x0001, 3: 0xFFFE}
 KINDS = ["mem32", "io", "mem32p", "mem64", "mem64p"]
 SMALLEST = {"io": 4}
 PATTERNS = ["", "ff", "f0", "0f", "55aa"]
@@ -94,7 +96,8 @@ class BoardDrawing:
             self.endpoint(path, windows)
 
     def identity(self, path: Path) -> Document:
-        return {"at": path_text(path), "vendor": 0x1234, "device": self.choices.number(0, 0xFFFF)}
+        device = self.choices.number(0, 0xFFFF)
+        return {"at": path_text(path), "vendor": VENDORS.get(device & 0xFF, 0x1234), "device": device}
 
     def bridge(self, path: Path, windows: Above) -> None:
         """A bridge. An I/O window is drawn while there is room for one more unit of ports."""

@@ -47,6 +47,11 @@ def half_of_memory() -> Document:
     return board(bridge("1.0"), endpoint("1.0/0.0", f"mem32 {2 * GB}", "io 32"), mem=[0x80000000, 0xFFFFFFFF])
 
 
+def from_zero() -> Document:
+    """Memory from address 0 on without a gap: the region behind the bridge is there."""
+    return board(endpoint("1.0", f"mem32 {MB}", "io 16"), bridge("2.0"), endpoint("2.0/0.0", f"mem32 {2 * MB}"), mem=[0, 0x7FFFFFFF])
+
+
 def top_of_memory() -> Document:
     """Memory up to FFFFFFFFh without a gap; a window is the last."""
     sizes = [4, 8, 16, 32, 64, 128]
@@ -173,11 +178,15 @@ def many_functions() -> Document:
 
 
 def identities() -> Document:
-    """Device IDs and class codes at their ends, among them those of bridges of other kinds, which have no bus behind."""
-    odd = [(0xFFFF, 0xFFFFFF), (0, 0), (0xFFFF, 0x068000), (1, 0x060000), (0x8000, 0x060100), (0, 0x060980), (0x7010, 0x010180)]
-    tables = [endpoint(f"{place}.0", "mem32 4096", "io 16", device=device, **{"class": code})
-              for place, (device, code) in enumerate(odd, 1)]
-    return board(*tables, {**bridge("8.0"), "device": 0xFFFF}, endpoint("8.0/0.0", "mem32 16", device=0))
+    """Vendor IDs, Device IDs and class codes at their ends. Only the Vendor ID FFFFh says that there is no function. Among
+    the class codes are those of bridges of other kinds, which have no bus behind."""
+    odd = [(0x1234, 0xFFFF, 0xFFFFFF), (0x1234, 0, 0), (0x1234, 0xFFFF, 0x068000), (0x1234, 1, 0x060000), (0x1234, 0x8000, 0x060100),
+           (0x1234, 0, 0x060980), (0x1234, 0x7010, 0x010180), (0, 0, 0xFF0000), (0, 0xFFFF, 0xFF0000), (1, 0xFFFF, 0xFF0000),
+           (1, 1, 0xFF0000), (0xFFFE, 0xFFFF, 0xFF0000)]
+    tables = [endpoint(f"{place}.0", "mem32 4096", "io 16", vendor=vendor, device=device, **{"class": code})
+              for place, (vendor, device, code) in enumerate(odd, 1)]
+    return board(*tables, {**bridge("13.0"), "device": 0xFFFF}, endpoint("13.0/0.0", "mem32 16", device=0),
+                 {**bridge("14.0"), "vendor": 0}, endpoint("14.0/0.0", "mem32 16", vendor=0))
 
 
 def registers() -> Document:
@@ -236,7 +245,7 @@ def no_prefetchable_left() -> Document:
 SPECIAL: Dict[str, Callable[[], Document]] = {
     drawn.__name__: drawn
     for drawn in (
-        large_regions, half_of_memory, top_of_memory, last_region, top_of_prefetchable, top_of_ports, small_regions,
+        large_regions, half_of_memory, from_zero, top_of_memory, last_region, top_of_prefetchable, top_of_ports, small_regions,
         least_windows, greatest_windows, aligned_windows, without_windows, narrow_windows, prefetchable_below,
         not_prefetchable, deep, many_buses, many_functions, identities, registers, siblings, empty_bridges, status_bits,
         no_ports_left, no_memory_left, no_prefetchable_left)
