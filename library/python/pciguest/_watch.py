@@ -10,6 +10,8 @@ from ._follow import Access, Follower
 from ._judge import findings
 
 COMMAND = 0x04
+#: the bits of Status that a one clears
+STATUS_ONES = 0xF900
 SPACES = {1: "I/O", 2: "memory"}
 ONES = 0xFFFFFFFF
 
@@ -93,9 +95,12 @@ class Watch:
         """After a write of Command or Status."""
         kept, word = self.kept[one.at], self.follower.read(access.number, COMMAND)
         command, status = word & 0xFFFF, word >> 16
+        how = "as Command is written" if access.width == 4 else "by a write"
+        ones = sum(access.byte(each) << 8 * (each - 6) for each in (6, 7) if access.touches(range(each, each + 1)))
         if kept.status & ~status:
-            how = "as Command is written" if access.width == 4 else "by a write"
             yield f"status: {one.at}: Status {kept.status:#06x} becomes {status:#06x} {how}"
+        elif ones & STATUS_ONES:
+            yield f"status: {one.at}: ones are written to Status, {ones & STATUS_ONES:#06x}, {how}"
         opened, kept.command, kept.status = command & ~kept.command & 3, command, status
         if opened:
             yield from self.opened_bridge(one, access, opened) if one.is_bridge else self.opened(one, opened)
