@@ -30,6 +30,7 @@ struct resource {
 /* A function that was found, with its resources: up to six regions, or three windows. */
 struct function {
     uint32_t device;
+    bool is_bridge;
     struct bus *behind;
     struct resource resources[6];
     unsigned count;
@@ -138,16 +139,16 @@ static void scan_bridge(const struct bus *bus, struct function *bridge)
         add(bridge, PREF, 0x24)->behind = behind;
 }
 
+/* Firmware that ran before may have left a function open, and bridges with numbers that others are about to get. */
 static void found(struct bus *bus, uint32_t device)
 {
     struct function *function = &functions[function_count++];
 
-    *function = (struct function){ .device = device };
+    *function = (struct function){ .device = device, .is_bridge = (pg_read_config8(device, 0x0E) & 0x7F) == 1 };
     bus->functions[bus->count++] = function;
-    if ((pg_read_config8(device, 0x0E) & 0x7F) == 1)
-        scan_bridge(bus, function);
-    else
-        read_regions(bus, function);
+    pg_write_config16(device, 0x04, (uint16_t)(pg_read_config16(device, 0x04) & ~3));
+    if (function->is_bridge)
+        pg_write_config32(device, 0x18, 0);
 }
 
 static void scan(struct bus *bus)
@@ -161,6 +162,12 @@ static void scan(struct bus *bus)
             n += 7; /* no device */
         if (n % 8 == 0 && !(pg_read_config8(device, 0x0E) & 0x80))
             n += 7;
+    }
+    for (unsigned n = 0; n < bus->count; n++) {
+        if (bus->functions[n]->is_bridge)
+            scan_bridge(bus, bus->functions[n]);
+        else
+            read_regions(bus, bus->functions[n]);
     }
 }
 

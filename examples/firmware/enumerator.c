@@ -64,7 +64,6 @@ static enum space memory_space(const struct bus *bus, bool is_prefetchable, bool
 
 static void size_regions(struct bus *bus, uint32_t function)
 {
-    pg_config_write(function, 0x04, 2, 0);
     for (uint32_t offset = 0x10; offset < 0x28; offset += 4) {
         uint32_t low = probe(function, offset);
         bool is_io = low & 1, is_wide = !is_io && (low & 6) == 4;
@@ -99,7 +98,12 @@ static void scan_bridge(struct bus *bus, uint32_t bridge)
         add(bus, PREF, 0, bridge, 0x24)->behind = behind;
 }
 
-static void scan(struct bus *bus)
+static bool is_bridge(uint32_t function)
+{
+    return (pg_config_read(function, 0x0E, 1) & 0x7F) == 1;
+}
+
+static void each_function(struct bus *bus, void (*visit)(struct bus *, uint32_t))
 {
     for (unsigned device = 0; device < 32; device++) {
         unsigned functions = pg_config_read(PG_BDF(bus->number, device, 0), 0x0E, 1) & 0x80 ? 8 : 1;
@@ -110,12 +114,32 @@ static void scan(struct bus *bus)
                     break; /* no device */
                 continue; /* a gap */
             }
-            if ((pg_config_read(function, 0x0E, 1) & 0x7F) == 1)
-                scan_bridge(bus, function);
-            else
-                size_regions(bus, function);
+            visit(bus, function);
         }
     }
+}
+
+/* Firmware that ran before may have left a function open, and bridges with numbers that others are about to get. */
+static void quiet(struct bus *bus, uint32_t function)
+{
+    (void)bus;
+    pg_config_write(function, 0x04, 2, 0);
+    if (is_bridge(function))
+        pg_config_write(function, 0x18, 4, 0);
+}
+
+static void examine(struct bus *bus, uint32_t function)
+{
+    if (is_bridge(function))
+        scan_bridge(bus, function);
+    else
+        size_regions(bus, function);
+}
+
+static void scan(struct bus *bus)
+{
+    each_function(bus, quiet);
+    each_function(bus, examine);
 }
 
 /* The place of each item of a space behind the first address of its bus: the greatest alignment first. Gives the end. */

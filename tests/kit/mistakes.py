@@ -3,10 +3,11 @@
 
     mistakes.py [--program PROGRAM | --second-hand] [--boards N] [NAME..]
 
-An edit has words of what is told of the mistake first, as a pattern, with the most functions of the board on which it is
-found; or why it is none by the profile, and then nothing may be found. The boards are those of the library, or of the
-program where one is named, or of the second hand, which needs neither. What docs/firmware-testing.md prints of a mistake has to
-be what is told. Status 1 says that one of these isn't so."""
+Both enumerators are run twice on each board. An edit has words of what is told of the mistake first, as a pattern, with the
+most functions of the board on which it is found, and options if it needs any; or why it is none by the profile, and then
+nothing may be found. The boards are those of the library, or of the program where one is named, or of the second hand, which
+needs neither. What docs/firmware-testing.md prints of a mistake has to be what is told. Status 1 says that one of these isn't
+so."""
 import argparse
 import contextlib
 import io
@@ -61,11 +62,12 @@ def examine(room, options, name):
     """Runs an enumerator, with one mistake where an edit has the name: whether what comes of it is as it has to be, and what
     is told of that."""
     words = ["--transients", "--boards", options.boards] + (["--program", options.program] if options.program else [])
-    status, told = tested(f"{room}/{name}", SecondHand() if options.second_hand else None, *words)
     edit = FOLDER / f"mistakes/{name}.edit"
+    said = said_by(edit) if edit.exists() else {"options": "--warm"}
+    words += said.get("options", "").split()
+    status, told = tested(f"{room}/{name}", SecondHand() if options.second_hand else None, *words)
     if not edit.exists():
-        return status == 0, f"{name}: {told.strip()}"
-    said = said_by(edit)
+        return status == 0 and "warning" not in told, f"{name}: {told.strip()}"
     wrong = wrong_with(said, status, told)
     if name == "subordinate_low" and not wrong and not is_documented(told):
         wrong = "docs/firmware-testing.md prints something else"

@@ -11,7 +11,7 @@ from pciguest._judge import KINDS, kind_of, same_problem
 from pciguest._reasons import reasons
 from pciguest._shrink import shrunk
 from pciguest._special import SPECIAL
-from pciguest._tight import TOO_SMALL, cut, tight, too_small
+from pciguest._tight import TOO_SMALL, cut, halved, tight, too_small
 from pciguest._watch import Watch
 from pciguest._writers import story_of, why_unfound, writers
 from second_hand import SecondHand, SecondHandBoard
@@ -71,6 +71,13 @@ class Drawing(unittest.TestCase):
         self.assertEqual(bridges, 6)
         self.assertGreater(depth, 3)
 
+    def test_vendors_that_look_absent(self):
+        every = [SPECIAL["identities"](), *(draw_board(RandomChoices(seed)) for seed in range(100))]
+        drawn = [{one.table["vendor"] for one in functions(document)} for document in every]
+        self.assertEqual(drawn[0], {0x1234, 0, 1, 0xFFFE})
+        self.assertEqual(set().union(*drawn[1:]), {0x1234, 0, 1, 0xFFFE})
+        self.assertLess(sum(vendors != {0x1234} for vendors in drawn[1:]), 50)
+
     def test_a_seed_says_all(self):
         self.assertEqual(draw_board(RandomChoices(7)), draw_board(RandomChoices(7)))
         self.assertNotEqual(draw_board(RandomChoices(7)), draw_board(RandomChoices(8)))
@@ -96,6 +103,16 @@ class Tight(unittest.TestCase):
         self.assertEqual(self.refusal(document), None)
         document["host"]["mem"][1] -= 1 << 20
         self.assertEqual(self.refusal(document), TOO_SMALL["mem"])
+
+    def test_an_aperture_from_zero(self):
+        document = cut(SPECIAL["from_zero"](), "mem", self.refusal)
+        self.assertEqual(document["host"]["mem"], [0, (3 << 20) - 1])
+
+    def test_half_of_the_room(self):
+        document = SPECIAL["from_zero"]()
+        self.assertEqual(halved(document)["host"], {"io": [0x1000, 0x7FFF], "mem": [0, (1 << 30) - 1]})
+        self.assertIsNone(self.refusal(halved(document)))
+        self.assertEqual(self.refusal(halved(cut(document, "mem", self.refusal))), TOO_SMALL["mem"])
 
     def test_no_room_is_left(self):
         for seed in (1, 7):
@@ -194,6 +211,9 @@ class Findings(unittest.TestCase):
         self.assertEqual(seen("host cw 00:01.0 4 4 0xf8000000", document=document), [told])
         self.assertEqual(seen("host cw 00:01.0 7 1 0xff", document=document),
                          ["status: 1.0: Status 0xf900 becomes 0x0000 by a write"])
+        told = "status: 3.0: ones are written to Status, 0xf900, "
+        self.assertEqual(seen("host cw 00:03.0 4 4 0xffff0000", document=document), [told + "as Command is written"])
+        self.assertEqual(seen("host cw 00:03.0 6 2 0xffff", document=document), [told + "by a write"])
         for line in ("4 4 0x2", "4 2 0x2", "6 2 0x6ff", "7 1 0"):
             self.assertEqual(seen(f"host cw 00:01.0 {line}", document=document), [], line)
 

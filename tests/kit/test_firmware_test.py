@@ -21,7 +21,8 @@ from pciguest import firmware_test
 from pciguest._child import Limits
 from pciguest._driven import Program
 from pciguest._firmware_run import Firmware
-from second_hand import SecondHand
+from pciguest._special import SPECIAL
+from second_hand import SecondHand, SecondHandBoard
 
 BOARD = """
 [host]
@@ -165,8 +166,10 @@ class FirmwareTest(unittest.TestCase):
 
     def test_dies(self):
         told = self.fails("sys.exit('no memory')", "the firmware ended with status 1", "--shrink", "1")
-        self.assertIn("set-up finds room for all regions: `pciguest list` shows where\n\nits standard error:\nno memory", told)
-        self.fails("os.kill(os.getpid(), 11)", "was ended by signal 11", "--shrink", "1")
+        words = "set-up finds room for all regions: `pciguest list` shows where"
+        self.assertIn(f"{words}, or --no-room 1 if that status says that there is none\n\nits standard error:\nno memory", told)
+        told = self.fails("os.kill(os.getpid(), 11)", "was ended by signal 11", "--shrink", "1")
+        self.assertIn(f"{words}\n", told)
 
     def test_floods(self):
         self.fails("while True: ask('host cr 00:01.0 0 4')", "writes more than 100 lines, after 100 lines",
@@ -250,6 +253,58 @@ class FirmwareTest(unittest.TestCase):
         self.fails("ask('host cw 00:01.0 4 2 2'); sys.exit(1)", "0x0 is outside the apertures", "--shrink", "0")
         self.fails("os.kill(os.getpid(), 11)", "was ended by signal 11", "--shrink", "0")
 
+    def test_no_room_where_set_up_finds_some(self):
+        said = "1 board: the firmware leaves 0 of them ready, and says of 1 that they have no room; set-up finds room on 1 of these\n"
+        gave_up = "ask('host cw 00:01.0 0x14 4 0x1000'); ask('host cw 00:01.0 4 2 1'); sys.exit('no room')"
+        for way in ("1", "0", "no room"):
+            self.assertEqual(self.run_firmware(gave_up, "--no-room", way), (0, said))
+        self.fails(gave_up, "ended with status 1", "--shrink", "0")
+        self.fails(gave_up, "ended with status 1", "--shrink", "0", "--no-room", "2")
+        self.fails("ask('host cw 00:01.0 4 2 2'); sys.exit(1)", "0x0 is outside the apertures", "--shrink", "0", "--no-room", "1")
+
+    def test_what_is_wrong_beside_no_room(self):
+        self.board.write_text(BOARD.replace("0xdfffffff", "0xc00fffff").replace("size = 4096", "size = 0x200000"))
+        told = self.fails("ask('host cw 00:01.0 4 2 2')", "room: the board has no room", "--shrink", "0")
+        self.assertIn("the first of these is so since line 1 of 1: host cw 00:01.0 4 2 2\n", told)
+        self.assertIn("1.0 Command: written last by line 1 of 1: host cw 00:01.0 4 2 2\nhost why mem 0x0\n", told)
+
+    def test_only_roomy_boards(self):
+        special = {name: SPECIAL[name] for name in ("top_of_memory", "no_ports_left", "from_zero")}
+        patched = {"EXAMPLES": [], "SPECIAL": special}
+        with mock.patch.multiple(firmware_test, **patched), contextlib.redirect_stdout(io.StringIO()) as out:
+            words = ["--boards", "4", "--roomy", "--all", "--save", str(self.failed), "--", "true"]
+            self.assertEqual(firmware_test.main(words, SecondHand()), 1)
+        self.assertIn("5 boards: the firmware fails on 5\n2 boards left out: less than twice the room that set-up needs\n",
+                      out.getvalue())
+
+    def test_a_second_run(self):
+        sized = "ask('host cw 00:01.0 0x10 4 0xffffffff'); ask('host cw 00:01.0 0x14 4 0xffffffff');"
+        self.assertEqual(self.run_firmware(sized + PLACE + OPEN)[0], 0)
+        told = self.fails(sized + PLACE + OPEN, "sizing: 00:01.0 bar0: all ones are written while Command 0x0003 opens memory\n",
+                          "--warm", "--shrink", "0")
+        self.assertIn("the firmware begins a second time with line 6\nthe first of these is so since line 6 of 10:", told)
+        self.assertIn("test --warm --board", told)
+        self.assertEqual(self.run_firmware("ask('host cw 00:01.0 4 2 0');" + sized + PLACE + OPEN, "--warm")[0], 0)
+
+    def test_a_warning_that_names_the_cause(self):
+        code = PLACE + "ask('host cw 00:01.0 4 2 3'); ask('host cw 00:01.0 0x10 4 0xe0000000')"
+        told = self.fails(code, "outside the apertures", "--shrink", "0")
+        self.assertIn("\n\nwarning: moved: 1.0 bar0 at 0xe0000000 size 0x1000: moves while Command 0x0003 opens memory, from "
+                      "0xc0000000 (by line 4)\nready: 1.0 bar0 at 0xe0000000", told)
+
+    def test_the_time_of_the_kit(self):
+        class Slow(SecondHandBoard):
+            def run_line(self, line):
+                time.sleep(0.2)
+                return super().run_line(line)
+
+        class SlowHand(SecondHand):
+            def board(self, text):
+                return Slow(tomllib.loads(text))
+
+        run = Firmware([sys.executable, "-c", ASK + PLACE + OPEN], SlowHand(), Limits(1, 1)).run(tomllib.loads(BOARD))
+        self.assertEqual((run.wrong, len(run.lines)), ([], 3))
+
     def test_transients(self):
         code = "ask('host cw 00:01.0 4 2 3');" + PLACE
         told = ("moved: 1.0 bar0 at 0xc0000000 size 0x1000: moves while Command 0x0003 opens memory, from 0x0")
@@ -301,6 +356,18 @@ class FirmwareTest(unittest.TestCase):
             words = f"{begins} --allow sizing --time 2 --lines 100 --board"
             self.assertIn(f"\nthis board again:  {words} {self.failed} -- sh -c 'exit 3'\n", told)
             self.assertIn(f"\nthe first one:     {words} {self.board} -- sh -c 'exit 3'\n", told)
+
+    def test_apertures_that_no_board_may_have(self):
+        status, told = self.run_firmware("pass", "--io", "0-0xffff")
+        self.assertEqual((status, told), (2, f"{self.board} cannot be set up with these addresses; `pciguest check {self.failed}` says why\n"))
+        self.assertEqual(tomllib.loads(self.failed.read_text())["host"]["io"], [0, 0xFFFF])
+
+    def test_numbers_that_cannot_be_used(self):
+        for option in ("--boards", "--bridges", "--lines"):
+            with self.assertRaises(SystemExit) as ended, contextlib.redirect_stderr(io.StringIO()) as errors:
+                firmware_test.main([f"{option}=-5", "--", "true"], SecondHand())
+            self.assertEqual(ended.exception.code, 2)
+            self.assertIn("-5 is no number from 0 on", errors.getvalue())
 
     def test_words_that_cannot_be_used(self):
         self.assertEqual(self.run_command(["./no such command"])[0], 2)

@@ -20,8 +20,9 @@ NO_ACCESS = {"401", "402", "403"}
 
 class Run(NamedTuple):
     """What firmware wrote and was answered, and what is wrong, the first first; `kind` is that of the first. `since` has the
-    line of each finding that is about a line, among them the warnings, which aren't wrong. Of firmware that misbehaves the
-    end of its standard error is kept, and how long it was silent."""
+    line of each finding that is about a line, among them the warnings, which aren't wrong. `first_lines` counts the lines of
+    the first run where there was a second one, and `gave_up` tells whether the firmware says that the board has no room.
+    For firmware that misbehaves the end of its standard error is kept, and how long it was silent."""
 
     lines: List[str]
     replies: List[Optional[str]]
@@ -31,21 +32,27 @@ class Run(NamedTuple):
     warnings: List[str] = []
     last_words: str = ""
     longest_silence: float = 0
+    first_lines: int = 0
+    gave_up: bool = False
 
 
 class Asked(NamedTuple):
-    """What is asked of firmware: all but what is allowed, by its kind, and transients where they are no warnings; and how
-    it says that a board has no room: by a status, 0 for any but 0, or by words of its standard error."""
+    """What is asked of firmware: all but what is allowed, by its kind; transients where they are no warnings; a second run
+    on the board as the first one left it; and how it says that a board has no room: by a status, 0 for any but 0, or by
+    words of its standard error. Unless one of these is given, any status but 0 says so, on boards without room alone."""
 
     allowed: FrozenSet[str] = frozenset()
     transients: bool = False
-    no_room: Union[int, str] = 0
+    no_room: Union[int, str, None] = None
+    is_warm: bool = False
 
-    def is_said(self, status: Optional[int], last_words: str) -> bool:
+    def is_said(self, has_room: bool, status: Optional[int], last_words: str) -> bool:
         """Whether firmware that ended says that there is no room."""
         if isinstance(self.no_room, str):
             return self.no_room in last_words
-        return status is not None and (status == self.no_room if self.no_room else status > 0)
+        if status is None or has_room and self.no_room is None:
+            return False
+        return status == self.no_room if self.no_room else status > 0
 
 
 def environment(document: Document) -> Dict[str, str]:
@@ -64,27 +71,38 @@ class Firmware:
         self.command, self.maker, self.limits, self.asked = command, maker, limits, asked
 
     def run(self, document: Document, has_room: bool = True) -> Run:
-        """Runs it to its end on a board at reset, and judges what it does and leaves. Where the board has no room for all
-        regions, it has to say so, and closed ones are no lack."""
-        run, allowed = Run([], [], [], None, {}), self.asked.allowed
+        """Runs it to its end on a board at reset, and if that is asked once more on what it left there."""
+        run = Run([], [], [], None, {})
         with closing(self.maker.board(text_of(document))) as board:
-            with closing(Child(self.command, self.limits, environment(document))) as child:
-                try:
-                    self.converse(child, Watch(board, document), run)
-                except Misbehaviour as wrong:
-                    if has_room or wrong.kind != "dies" or not self.asked.is_said(child.status, child.last_words()):
-                        told = f"the firmware {wrong.told}{after(run.lines)}"
-                        return run._replace(wrong=[told], kind=wrong.kind, last_words=child.last_words(),
-                                            longest_silence=child.longest_silence)
-                is_said = self.asked.is_said(child.status, child.last_words())
-            left = findings(board)
-        if not has_room and left:
-            said = [] if is_said else ["room: the board has no room for all regions, and the firmware doesn't say so"]
-            left = said + [each for each in left if kind_of(each) != "closed"]
-        return self.judged(run, left, allowed)
+            watch = Watch(board, document)
+            run = self.run_once(watch, document, run, has_room)
+            if self.asked.is_warm and not run.wrong:
+                run = self.run_once(watch, document, run._replace(first_lines=len(run.lines)), has_room)
+        return run
 
-    def judged(self, run: Run, left: List[str], allowed: FrozenSet[str]) -> Run:
+    def run_once(self, watch: Watch, document: Document, run: Run, has_room: bool) -> Run:
+        """Runs it to its end, and judges what it does and leaves. Where the board has no room for all regions, it has to say
+        so. Where it may say so, and does, closed ones are no lack."""
+        with closing(Child(self.command, self.limits, environment(document))) as child:
+            wrong: Optional[Misbehaviour] = None
+            try:
+                self.converse(child, watch, run)
+            except Misbehaviour as caught:
+                wrong = caught
+            gave_up = self.asked.is_said(has_room, child.status, child.last_words())
+            if wrong and not (gave_up and wrong.kind == "dies"):
+                told = f"the firmware {wrong.told}{after(run.lines)}"
+                return run._replace(wrong=[told], kind=wrong.kind, last_words=child.last_words(),
+                                    longest_silence=child.longest_silence)
+        left = findings(watch.board)
+        if left and (gave_up or not has_room):
+            said = [] if gave_up else ["room: the board has no room for all regions, and the firmware doesn't say so"]
+            left = said + [each for each in left if kind_of(each) != "closed"]
+        return self.judged(run._replace(gave_up=gave_up), left)
+
+    def judged(self, run: Run, left: List[str]) -> Run:
         """The run with what is wrong: about its lines, and then about what is left."""
+        allowed = self.asked.allowed
         about_lines = [each for each in run.since if kind_of(each) not in allowed and each.replace("overlap", "audit", 1) not in left]
         warnings = [each for each in about_lines if kind_of(each) in TRANSIENTS and not self.asked.transients]
         wrong = [each for each in about_lines if each not in warnings]

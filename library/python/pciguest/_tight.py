@@ -31,6 +31,13 @@ def with_aperture(document: Document, key: str, units: int) -> Document:
     return {**document, "host": {**document["host"], key: [first, first + units * UNITS[key] - 1]}}
 
 
+def halved(document: Document) -> Document:
+    """The board with half of each aperture."""
+    for key, (first, last) in document["host"].items():
+        document = with_aperture(document, key, max(1, (last + 1 - first) // UNITS[key] // 2))
+    return document
+
+
 def cut(document: Document, key: str, refusal: Refusal) -> Document:
     """The board with the least aperture with which it can be set up."""
     first, last = document["host"][key]

@@ -10,6 +10,7 @@ from __future__ import annotations
 
 import argparse
 import os
+import re
 import shlex
 import sys
 import time
@@ -28,8 +29,8 @@ from ._firmware_run import Asked, Firmware, Run, reasons_after, since
 from ._judge import KINDS, LEFT, kind_of
 from ._shrink import shrunk
 from ._special import SPECIAL
-from ._tight import TOO_SMALL, cut, tight, too_small
-from ._writers import story_of, why_unfound, writers
+from ._tight import TOO_SMALL, cut, halved, tight, too_small
+from ._writers import registers_of, story_of, why_unfound, writers
 
 #: most lines that tell who wrote registers
 MOST_WRITERS = 24
@@ -59,6 +60,13 @@ def aperture(word: str) -> Tuple[int, int]:
         raise argparse.ArgumentTypeError(f"{word} is no range as 0x1000-0xffff") from None
 
 
+def natural(word: str) -> int:
+    """A number from 0 on."""
+    if not word.isdecimal():
+        raise argparse.ArgumentTypeError(f"{word} is no number from 0 on")
+    return int(word)
+
+
 def no_room(word: str) -> Union[int, str]:
     """How firmware says that there is no room: a status, or words."""
     return int(word) if word.isdigit() else word
@@ -77,15 +85,15 @@ def parser() -> argparse.ArgumentParser:
         description="Runs firmware on many boards, and finds the smallest board on which it fails. Status 1 says that it "
         "fails on a board, 2 that the words or files can't be used.",
     )
-    words.add_argument("--boards", type=int, default=100, metavar="N", help="random boards (100)")
+    words.add_argument("--boards", type=natural, default=100, metavar="N", help="random boards (100)")
     words.add_argument("--seed", type=int, default=1, metavar="S", help="of the first random board (1)")
-    words.add_argument("--bridges", type=int, default=6, metavar="N", help="most bridges of a random board (6)")
+    words.add_argument("--bridges", type=natural, default=6, metavar="N", help="most bridges of a random board (6)")
     words.add_argument("--board", action="append", default=[], metavar="FILE", help="this board file, and no other board")
     words.add_argument("--special", action="append", default=[], choices=SPECIAL, metavar="NAME",
                        help=f"the board for this kind of mistake, and no other board: {', '.join(SPECIAL)}")
     words.add_argument("--time", type=float, default=10, metavar="SECONDS",
                        help="without a line, and twenty times that for a board (10)")
-    words.add_argument("--lines", type=int, default=200_000, metavar="N", help="most lines on a board (200000)")
+    words.add_argument("--lines", type=natural, default=200_000, metavar="N", help="most lines on a board (200000)")
     words.add_argument("--io", type=aperture, metavar="FIRST-LAST", help="the ports that firmware gives out")
     words.add_argument("--mem", type=aperture, metavar="FIRST-LAST", help="the memory")
     words.add_argument("--pref", type=aperture, metavar="FIRST-LAST", help="the prefetchable memory")
@@ -93,9 +101,11 @@ def parser() -> argparse.ArgumentParser:
                        help=f"don't ask for this: {', '.join(KINDS)}")
     words.add_argument("--transients", action="store_true",
                        help="what is wrong only while firmware writes is a failure, and no warning")
-    words.add_argument("--no-room", type=no_room, default=0, metavar="STATUS|WORDS",
+    words.add_argument("--warm", action="store_true", help="run the firmware a second time, on the board as it left it")
+    words.add_argument("--no-room", type=no_room, metavar="STATUS|WORDS",
                        help="how firmware says that a board has no room for all regions: it ends with this status, or any "
-                       "but 0 (0), or its standard error has these words")
+                       "but 0 (0), or its standard error has these words. It may then say so where set-up finds room")
+    words.add_argument("--roomy", action="store_true", help="only boards with twice the room that set-up needs")
     words.add_argument("--all", action="store_true", help="all boards: a line for each on which it fails, and no smaller board")
     words.add_argument("--shrink", type=float, default=60, metavar="SECONDS", help="time to look for a smaller board (60)")
     words.add_argument("--save", default="failed.toml", metavar="FILE", help="the board that failed (failed.toml)")
@@ -115,7 +125,7 @@ class Test:
         self.warnings: Dict[str, List[Tuple[Named, Run, str]]] = {}
 
     def firmware(self, limits: Optional[Limits] = None) -> Firmware:
-        asked = Asked(frozenset(self.options.allow), self.options.transients, self.options.no_room)
+        asked = Asked(frozenset(self.options.allow), self.options.transients, self.options.no_room, self.options.warm)
         return Firmware(self.options.command, self.maker, limits or self.limits, asked)
 
     def refusal(self, document: Document) -> Optional[int]:
@@ -138,22 +148,23 @@ class Test:
         return Named(name, document, again, self.refusal(document))
 
     def special(self, name: str) -> Named:
-        """A special board, whose apertures have no more than it needs. Where memory is given, no other is."""
+        """A special board, whose apertures have no more than it needs, unless it is to be roomy. Where memory is given, no
+        other is."""
         document, given = SPECIAL[name](), self.given()
         own = {key: value for key, value in document["host"].items() if key != "pref" or "mem" not in given}
         document = {**document, "host": {**own, **given}}
         for key in document["host"]:
-            if key not in given and self.refusal(document) is None:
+            if key not in given and not self.options.roomy and self.refusal(document) is None:
                 document = cut(document, key, self.refusal)
         return self.named(f"the special board {name}", document, f"--special {name}")
 
     def random(self, seed: int) -> Named:
-        """A random board. One in three has no room left, and one in nine not enough."""
+        """A random board. One in three has no room left, and one in nine not enough, unless it is to be roomy."""
         given = self.given()
         apertures = [PLAIN._replace(**{key: (first, last) for key, (first, last) in given.items()})]
         choices = RandomChoices(seed)
         document = draw_board(choices, self.options.bridges, apertures if given else [PLAIN, WIDE, PARTED], guests=False)
-        if self.refusal(document) is None and (seed % 3 == 1 or seed % 9 == 3):
+        if self.refusal(document) is None and not self.options.roomy and (seed % 3 == 1 or seed % 9 == 3):
             document = tight(document, list(given), choices, self.refusal)
             document = (too_small(document, choices, self.refusal) if seed % 9 == 3 else None) or document
         return self.named(f"random board {seed}", document, f"--boards 1 --seed {seed}")
@@ -171,6 +182,23 @@ class Test:
             raise Usage(f"{file}: {error}") from None
         return self.named(name, {**document, "host": host}, f"--board {shlex.quote(str(file))}")
 
+    def why_left_out(self, board: Named) -> Optional[str]:
+        """Why a board isn't asked, unless it was chosen."""
+        if self.options.board or self.options.special:
+            return None
+        if self.options.roomy and self.refusal(halved(board.document)) is not None:
+            return "less than twice the room that set-up needs"
+        return "no room in these addresses" if board.refusal in TOO_SMALL.values() and board.again.startswith("--board ") else None
+
+    def usage(self, board: Named) -> Usage:
+        """Says that a board can't be set up at all, and which file shows why."""
+        file = board.name
+        if self.given():
+            file = self.options.save
+            Path(file).write_text(text_of(board.document))
+        return Usage(f"{board.name} cannot be set up{' with these addresses' if self.given() else ''}; "
+                     f"`pciguest check {file}` says why")
+
     # ---- runs
 
     def smallest(self, board: Named, run: Run) -> Document:
@@ -182,18 +210,21 @@ class Test:
         def fails(candidate: Document) -> bool:
             if self.refusal(candidate) != board.refusal:
                 return False
-            return firmware.run(candidate, board.refusal is None).kind == run.kind
+            found = firmware.run(candidate, board.refusal is None)
+            return found.kind == run.kind and bool(found.first_lines) == bool(run.first_lines)
 
         return shrunk(board.document, fails, self.options.shrink)
 
     def test(self) -> int:
         """Runs the firmware on all boards, up to the first on which it fails, or to the last."""
-        left_out, without_room, failed = 0, 0, 0
+        left_out: Counter[str] = Counter()
+        without_room, gave_up, failed = 0, 0, 0
         for board in self.boards():
             if board.refusal not in (None, *TOO_SMALL.values()):
-                raise Usage(f"{board.name}: cannot be set up; `pciguest check {board.name}` says why")
-            if board.refusal and board.again.startswith("--board ") and not self.options.board:
-                left_out += 1  # an example in apertures that are given
+                raise self.usage(board)
+            why = self.why_left_out(board)
+            if why:
+                left_out[why] += 1
                 continue
             begun = time.monotonic()
             run = self.firmware().run(board.document, board.refusal is None)
@@ -207,11 +238,14 @@ class Test:
                 failed += 1
                 if not self.options.all:
                     break
-            without_room += board.refusal is not None and not run.wrong
+            without_room += (board.refusal is not None or run.gave_up) and not run.wrong
+            gave_up += board.refusal is None and run.gave_up and not run.wrong
         if not failed:
-            self.tell_ready(without_room, left_out)
+            self.tell_ready(without_room, gave_up)
         elif self.options.all:
             print(f"{counted(len(self.results), 'board')}: the firmware fails on {failed}")
+        for why, number in left_out.items():
+            print(f"{counted(number, 'board')} left out: {why}")
         self.tell_warnings()
         return int(failed > 0)
 
@@ -221,12 +255,11 @@ class Test:
         counts = ", ".join(f"{kind} {count}" for kind, count in kinds.items())
         return f"FAILED on {board.name} ({counts}): {run.wrong[0]}"
 
-    def tell_ready(self, without_room: int, left_out: int) -> None:
+    def tell_ready(self, without_room: int, gave_up: int) -> None:
         ready = f"{len(self.results) - without_room} of them ready, and says of {without_room} that they have no room"
         ready = ready if without_room else "each of them ready"
-        print(f"{counted(len(self.results), 'board')}: the firmware leaves {ready}")
-        if left_out:
-            print(f"{counted(left_out, 'board')} left out: no room in these addresses")
+        found = f"; set-up finds room on {gave_up} of these" if gave_up else ""
+        print(f"{counted(len(self.results), 'board')}: the firmware leaves {ready}{found}")
 
     def tell_warnings(self) -> None:
         """The first warning of each kind."""
@@ -246,21 +279,35 @@ class Test:
         Path(self.options.save).write_text(text_of(small))
         count, least = (counted(len(functions(each)), "function") for each in (board.document, small))
         again = [*called(), *self.repeated()]
+        first = next((each for each in last.wrong if last.kind in KINDS and kind_of(each) != "room"), None)
         lines = [f"FAILED on {board.name} ({count}), and on this board ({least}):", ""]
-        lines += [text_of(small).rstrip(), "", *last.wrong]
-        lines += self.told_since(small, last) if last.kind in KINDS and last.kind != "room" else []
-        lines += ["set-up finds room for all regions: `pciguest list` shows where"] if last.kind == "dies" else []
+        lines += [text_of(small).rstrip(), "", *(self.causes(small, last, first) if first else []), *last.wrong]
+        lines += [f"the firmware begins a second time with line {last.first_lines + 1}"] if last.first_lines else []
+        lines += self.told_since(small, last, first) if first else []
+        lines += self.told_room(last) if last.kind == "dies" and board.refusal is None else []
         lines += ["", "its standard error:", last.last_words] if last.last_words else []
         words = shlex.join([*again, "--board", self.options.save, "--", *self.options.command])
         lines += ["", f"this board again:  {words}"]
         words = f"{shlex.join(again)} {board.again} -- {shlex.join(self.options.command)}"
         return "\n".join([*lines, f"the first one:     {words}"])
 
-    def told_since(self, document: Document, run: Run) -> List[str]:
-        """Of the first problem since which line it is there, and why it is so at the end, or after that line where it went
-        by; or why its function was never found. Before that, who wrote the registers that it names, or that all problems
-        name which are there at the end."""
-        finding, count, text = run.wrong[0], len(run.lines), text_of(document)
+    def causes(self, document: Document, run: Run, finding: str) -> List[str]:
+        """Warnings about a function that the first problem names, each of which may be its cause."""
+        named = {at for at, _ in registers_of(document, finding)}
+        return [f"warning: {each} (by line {run.since[each]})" for each in run.warnings
+                if named & {at for at, _ in registers_of(document, each)}]
+
+    def told_room(self, run: Run) -> List[str]:
+        """That a board has room, and how firmware that ends with a status may say that it found none."""
+        status = re.search(r"ended with status (\d+)", run.wrong[0])
+        words = f", or --no-room {status[1]} if that status says that there is none" if status else ""
+        return [f"set-up finds room for all regions: `pciguest list` shows where{words}"]
+
+    def told_since(self, document: Document, run: Run, finding: str) -> List[str]:
+        """Of a problem since which line it is there, and why it is so at the end, or after that line where it went by; or
+        why its function was never found. Before that, who wrote the registers that it names, or that all problems name
+        which are there at the end."""
+        count, text = len(run.lines), text_of(document)
         place = run.since.get(finding) or since(self.maker, document, run.lines, finding)
         told = f"reset: none of the {count} lines changed it"
         if place:
@@ -273,7 +320,8 @@ class Test:
             why = why_unfound(self.maker, text, run.lines, unfound, story.asked.get(unfound))
         else:
             why = reasons_after(self.maker, document, lines, finding)
-        named = [finding] if finding in run.since else [each for each in run.wrong if each not in run.since]
+        left = [each for each in run.wrong if each not in run.since and kind_of(each) != "room"]
+        named = [finding] if finding in run.since else left
         wrote = list(dict.fromkeys(line for each in named for line in writers(story, document, each, count)))
         more = [f"... and {len(wrote) - MOST_WRITERS} registers more"] if len(wrote) > MOST_WRITERS else []
         return [f"the first of these is so since {told}", *wrote[:MOST_WRITERS], *more, *why]
@@ -285,7 +333,9 @@ class Test:
             words += [f"--{key}", "{:#x}-{:#x}".format(*getattr(options, key))] if getattr(options, key) else []
         words += [word for kind in options.allow for word in ("--allow", kind)]
         words += ["--transients"] if options.transients else []
-        words += ["--no-room", str(options.no_room)] if options.no_room else []
+        words += ["--warm"] if options.warm else []
+        words += ["--roomy"] if options.roomy else []
+        words += ["--no-room", str(options.no_room)] if options.no_room is not None else []
         words += ["--bridges", str(options.bridges)] if options.bridges != 6 else []
         words += ["--time", f"{options.time:g}"] if options.time != 10 else []
         words += ["--lines", str(options.lines)] if options.lines != 200_000 else []
