@@ -41,17 +41,21 @@ static bool find(struct pciguest *machine, size_t guest, struct trap trap, struc
     return pciguest_locate(machine, guest, trap.space, 0, trap.place, hit) == 0 && (hit->found || is_selection);
 }
 
-/* Serves one access, and answers what is read or written: of a region by its slot, its register and the offset, as `find` told
- * them, and else by the port. A real bus has no refusal: a write that no one takes is lost. */
+/* Serves one access, and answers what is read or written: of a region of memory by its slot, its register and the offset, as
+ * `find` told them. Ports are served by their address, and so is what goes on past a region's end, where another may begin. A
+ * real bus has no refusal: a write that no one takes is lost. */
 static uint64_t serve(struct pciguest *machine, size_t guest, struct trap trap, const struct pciguest_hit *hit)
 {
     uint64_t value = trap.is_write ? trap.value : UINT64_MAX;
+    uint32_t number = PCIGUEST_OUT_OF_RANGE;
 
     if (trap.space == PCIGUEST_MEMORY && trap.is_write)
-        (void)pciguest_region_write(machine, guest, hit->slot, hit->part, hit->offset, trap.width, value);
+        number = pciguest_region_write(machine, guest, hit->slot, hit->part, hit->offset, trap.width, value);
     else if (trap.space == PCIGUEST_MEMORY)
-        (void)pciguest_region_read(machine, guest, hit->slot, hit->part, hit->offset, trap.width, &value);
-    else if (trap.is_write)
+        number = pciguest_region_read(machine, guest, hit->slot, hit->part, hit->offset, trap.width, &value);
+    if (number != PCIGUEST_OUT_OF_RANGE)
+        return value;
+    if (trap.is_write)
         (void)pciguest_write_wide(machine, guest, trap.space, 0, trap.place, trap.width, value);
     else
         (void)pciguest_read_wide(machine, guest, trap.space, 0, trap.place, trap.width, &value);
@@ -121,6 +125,7 @@ static const struct trap accesses[] = {
     {true, PCIGUEST_IO, 0xcfc, 2, 0x0402}, /* no interrupts any more; where its region stands isn't told again */
     {true, PCIGUEST_MEMORY, 0xe0000006, 8, 0}, /* across alignment, and over the doorbell */
     {false, PCIGUEST_MEMORY, 0xe0000000, 8, 0},
+    {false, PCIGUEST_MEMORY, 0xe0000ffc, 8, 0}, /* past the region's end */
     {false, PCIGUEST_MEMORY, 0xd0000000, 4, 0}, /* nobody there */
 };
 

@@ -163,20 +163,24 @@ uint64_t now(void)
     return (uint64_t)time.tv_sec * 1000000000 + (uint64_t)time.tv_nsec;
 }
 
-/* Makes an access: of a region by its slot, its register and the offset, and of configuration space by the ports. */
+/* Makes an access: of a region by its slot, its register and the offset; by the address if it is of configuration space, by the
+ * ports, or if it goes on past the region's end, where another may begin. */
 static void make(struct machine *machine, struct access *access, const struct pciguest_hit *hit)
 {
     struct pciguest *guests = &machine->board->guests;
-    bool is_port = !hit->found || hit->part == PCIGUEST_RAISE_CONFIG;
+    bool is_region = hit->found && hit->part != PCIGUEST_RAISE_CONFIG;
+    uint32_t number = PCIGUEST_OUT_OF_RANGE;
 
-    if (is_port && access->is_write)
-        (void)pciguest_write_wide(guests, machine->guest, PCIGUEST_IO, 0, access->place, access->width, access->value);
-    else if (is_port)
-        (void)pciguest_read_wide(guests, machine->guest, PCIGUEST_IO, 0, access->place, access->width, &access->value);
-    else if (access->is_write)
-        (void)pciguest_region_write(guests, machine->guest, hit->slot, hit->part, hit->offset, access->width, access->value);
+    if (is_region && access->is_write)
+        number = pciguest_region_write(guests, machine->guest, hit->slot, hit->part, hit->offset, access->width, access->value);
+    else if (is_region)
+        number = pciguest_region_read(guests, machine->guest, hit->slot, hit->part, hit->offset, access->width, &access->value);
+    if (number != PCIGUEST_OUT_OF_RANGE)
+        return;
+    if (access->is_write)
+        (void)pciguest_write_wide(guests, machine->guest, access->space, 0, access->place, access->width, access->value);
     else
-        (void)pciguest_region_read(guests, machine->guest, hit->slot, hit->part, hit->offset, access->width, &access->value);
+        (void)pciguest_read_wide(guests, machine->guest, access->space, 0, access->place, access->width, &access->value);
 }
 
 /* Serves an access if it is the board's. What nobody answers there reads all ones, and what is written is lost. */

@@ -13,6 +13,8 @@ from pciguest import Guest, Hit, Machine, Refusal
 # The registers of the device's region: bit 0 of STATUS says that a ring was served, and writing a one clears it; COUNT says
 # how many were, and a driver only reads it; a write of DOORBELL rings.
 STATUS, COUNT, DOORBELL, SERVED = 0x00, 0x04, 0x08, 1
+# The number by which an access past a region's end is refused.
+OUT_OF_RANGE = 303
 
 
 @dataclass(frozen=True)
@@ -34,16 +36,22 @@ def find(guest: Guest, trap: Trap) -> Tuple[bool, Optional[Hit]]:
 
 def serve(guest: Guest, trap: Trap, hit: Optional[Hit]) -> int:
     """Serves one access, and gives what is read or written: of a region by its slot, its register and the offset, as `find`
-    told them, and else by the port. A real bus has no refusal: a write that no one takes is lost."""
-    with suppress(Refusal):
-        if hit is None or hit.region is None:
+    told them. Configuration space is served by its ports, and what goes on past a region's end, where another may begin, by
+    the address. A real bus has no refusal: a write that no one takes is lost."""
+    try:
+        if hit is not None and hit.region is not None:
             if trap.written is None:
-                return guest.io.wide[trap.place:trap.width]
-            guest.io.wide[trap.place:trap.width] = trap.written
-        elif trap.written is None:
-            return guest.region_read(hit.slot, hit.region, hit.offset, trap.width)
-        else:
+                return guest.region_read(hit.slot, hit.region, hit.offset, trap.width)
             guest.region_write(hit.slot, hit.region, hit.offset, trap.written, trap.width)
+            return trap.written
+    except Refusal as refusal:
+        if refusal.number != OUT_OF_RANGE:
+            return (1 << 8 * trap.width) - 1 if trap.written is None else trap.written
+    space = guest.io if trap.space == "io" else guest.memory
+    with suppress(Refusal):
+        if trap.written is None:
+            return space.wide[trap.place:trap.width]
+        space.wide[trap.place:trap.width] = trap.written
     return (1 << 8 * trap.width) - 1 if trap.written is None else trap.written
 
 
@@ -121,6 +129,7 @@ ACCESSES = (
     data(2, 0x0402),  # no interrupts any more; where its region stands isn't told again
     register(COUNT + 2, 8, 0),  # across alignment, and over the doorbell
     register(STATUS, 8),
+    register(0xFFC, 8),  # past the region's end
     Trap("memory", 0xD0000000, 4),  # nobody there
 )
 

@@ -13,6 +13,9 @@ const COUNT: u64 = 0x04;
 const DOORBELL: u64 = 0x08;
 const SERVED: u8 = 1;
 
+/// The number by which an access past a region's end is refused.
+const OUT_OF_RANGE: u32 = 303;
+
 /// What the processor tells of an access that it trapped: where, how wide (1 to 8 bytes), and what a write wrote.
 #[derive(Clone, Copy)]
 struct Trap {
@@ -35,16 +38,21 @@ impl Board {
     }
 
     /// Serves one access, and gives what is read or written: of a region by its slot, its register and the offset, as `find`
-    /// told them, and else by the port. A real bus has no refusal: a write that no one takes is lost.
+    /// told them. Configuration space is served by its ports, and what goes on past a region's end, where another may begin,
+    /// by the address. A real bus has no refusal: a write that no one takes is lost.
     fn serve(&mut self, trap: Trap, hit: Option<Hit>) -> u64 {
         let (machine, guest, Trap { at, width, written }) = (&mut self.machine, self.guest, trap);
-        let served = match (hit, written) {
+        let by_region = match (hit, written) {
             (Some(Hit { slot, part: Part::Region(register), offset }), Some(value)) => {
-                machine.region_write(guest, slot, register, offset, width, value).map(|()| value)
+                Some(machine.region_write(guest, slot, register, offset, width, value).map(|()| value))
             }
             (Some(Hit { slot, part: Part::Region(register), offset }), None) => {
-                machine.region_read(guest, slot, register, offset, width)
+                Some(machine.region_read(guest, slot, register, offset, width))
             }
+            _ => None,
+        };
+        let served = match (by_region, written) {
+            (Some(served), _) if !matches!(&served, Err(error) if error.number() == OUT_OF_RANGE) => served,
             (_, Some(value)) => machine.write_wide(guest, at, width, value).map(|()| value),
             (_, None) => machine.read_wide(guest, at, width),
         };
@@ -151,6 +159,7 @@ fn accesses() -> Vec<Trap> {
         write(DATA, 2, 0x0402), // no interrupts any more; where its region stands isn't told again
         write(register(COUNT + 2), 8, 0), // across alignment, and over the doorbell
         read(register(STATUS), 8),
+        read(register(0xffc), 8),                     // past the region's end
         read(At::Memory { address: 0xd000_0000 }, 4), // nobody there
     ]
 }
