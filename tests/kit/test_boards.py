@@ -147,6 +147,15 @@ class Shrinking(unittest.TestCase):
         self.assertEqual([one.at for one in functions(found)], ["1.0", "1.0/0.0"])
         self.assertNotIn("guest", found)
 
+    def test_many_functions_go_at_once(self):
+        asked = []
+
+        def holds(smaller):
+            asked.append(len(functions(smaller)))
+            return sum(one.is_bridge for one in functions(smaller)) >= 86
+
+        self.assertEqual(len(functions(shrunk(SPECIAL["many_buses"](), lambda smaller: len(asked) < 10 and holds(smaller), 60))), 90)
+
     def test_to_a_second_function(self):
         document = tomllib.loads((BOARDS / "server.toml").read_text())
         found = self.shrunk(document, lambda smaller: any(one.path[-1][1] and one.regions() for one in functions(smaller)))

@@ -5,6 +5,7 @@ from __future__ import annotations
 import copy
 import json
 import time
+from functools import partial
 from typing import Callable, Iterator, Set
 
 from ._board_file import Document, Function, Path, functions, path_of, path_text
@@ -13,6 +14,8 @@ from ._board_file import Document, Function, Path, functions, path_of, path_text
 OPTIONAL = ["config", "pin", "revision", "subvendor", "subsystem", "status", "min_gnt", "max_lat"]
 OPTIONAL_OF_REGION = ["block", "reset", "rw", "w1c"]
 LEAST = {"io": 4}
+#: so many devices are left out in parts first
+LARGE = 32
 PLAIN_VALUES = {"vendor": 0x1234, "device": 1, "class": 0xFF0000}
 
 
@@ -122,25 +125,37 @@ def simpler_regions(bar: Document) -> Iterator[Document]:
         yield {**bare, "index": index}
 
 
-SIMPLER = [without_guests, with_fewer_functions, closer, with_simpler_tables, at_lower_places]
+def without_part(parts: int, document: Document) -> Iterator[Document]:
+    """Without one of so many parts of the devices of a large board, and without what is behind them."""
+    devices = sorted({(*one.path[:-1], (one.path[-1][0], 0)) for one in functions(document)})
+    for part in range(parts if len(devices) >= LARGE else 0):
+        gone = {*devices[part * len(devices) // parts : (part + 1) * len(devices) // parts]}
+        yield moved(document, lambda path: None if any((*path[:depth], (path[depth][0], 0)) in gone for depth in range(len(path)))
+                    else path)
+
+
+SIMPLER = [without_guests, *(partial(without_part, 1 << bit) for bit in range(1, 6)), with_fewer_functions, closer,
+           with_simpler_tables, at_lower_places]
 
 
 def shrunk(document: Document, holds: Callable[[Document], bool], seconds: float) -> Document:
-    """The smallest board that is found in the time and of which the same holds. Each is asked once."""
+    """The smallest board that is found in the time and of which the same holds. Each is asked once. A way of making a board
+    smaller is gone until it leads no further, each time from where it led last."""
     deadline, asked = time.monotonic() + seconds, set()  # type: float, Set[str]
 
-    def simpler() -> Iterator[Document]:
-        for way in SIMPLER:
-            yield from way(document)
+    def is_smaller(candidate: Document) -> bool:
+        key = json.dumps(candidate, sort_keys=True)
+        is_new = time.monotonic() < deadline and key not in asked
+        asked.add(key)
+        return is_new and holds(candidate)
 
-    is_done = False
-    while not is_done:
-        is_done = True
-        for candidate in simpler():
-            key = json.dumps(candidate, sort_keys=True)
-            if time.monotonic() > deadline:
-                return document
-            if key not in asked and not asked.add(key) and holds(candidate):  # type: ignore[func-returns-value]
-                document, is_done = candidate, False
-                break
+    way = place = in_vain = 0
+    while in_vain < len(SIMPLER):
+        every = list(SIMPLER[way](document))
+        order = [*range(place, len(every)), *range(min(place, len(every)))]
+        found = next((each for each in order if is_smaller(every[each])), None)
+        if found is None:
+            way, place, in_vain = (way + 1) % len(SIMPLER), 0, in_vain + 1
+        else:
+            document, place, in_vain = every[found], found, 0
     return document
