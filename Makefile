@@ -36,18 +36,20 @@ pciguest:
 
 # The gate: what the documents say of files and what runs tests and proofs, which takes a moment; then the proofs of all that
 # users get, from nothing, and after them the tests that no contract has, the proved program as its user runs it, the commands
-# that the documents print, and each growth of memory refused in turn on the main board; and beside all these the edits, each
-# crate's once it is proved. Parts between brackets run side by side. At the end stands how long each took.
+# that the documents print, each growth of memory refused in turn on the main board, and some board files with mistakes; and
+# beside all these the edits, each crate's once it is proved. Parts between brackets run side by side. At the end stands how
+# long each took.
 FIRST := [ tests/documents.sh tests/kit.sh tests/tools.sh tests/bindings.sh tests/bench.sh ]
 PROGRAM := 'tests/try.sh test_streams' tests/program.sh tests/commands.sh \
-  'python3 tests/hostile/growths.py crates/pciguest/out/pciguest --quick --arrays crates/test_arrays/out/test_arrays'
+  'python3 tests/hostile/growths.py crates/pciguest/out/pciguest --quick --arrays crates/test_arrays/out/test_arrays' \
+  'python3 tests/fuzz/mistakes.py crates/pciguest/out/pciguest --files 200'
 EDITS := 'tests/edits.py --gate --behind'
 gate:
 	@tests/parts.py $(FIRST) [ "tests/parts.py '$(PROVE) --gate' [ $(PROGRAM) ]" $(EDITS) ]
 
-# The gate with the library for C as its user links it, and what is installed and packed.
+# The gate with the library for C as its user links it, what is installed and packed, and boards and files at every limit.
 PLACE := install -m 755 crates/pciguest/out/pciguest pciguest
-USERS := tests/library.sh tests/install.sh 'tests/schema.py ./pciguest'
+USERS := tests/library.sh tests/install.sh 'tests/schema.py ./pciguest' 'tests/limits/limits.py ./pciguest'
 test:
 	@tests/parts.py $(FIRST) [ "tests/parts.py '$(PROVE) --gate --library' '$(PLACE)' [ $(PROGRAM) $(USERS) ]" $(EDITS) ]
 

@@ -1,0 +1,227 @@
+"""The calls of the library for C, each of which is to answer what is asked and never that memory is out."""
+import ctypes
+import os
+import re
+import sys
+from ctypes import byref, c_size_t, c_uint32, c_uint64
+from pathlib import Path
+
+from boards import writes
+
+TOP = Path(__file__).resolve().parent.parent.parent
+sys.path.insert(0, str(TOP / "library/python"))
+from pciguest import _calls as declared  # noqa: E402
+from pciguest._library import CALLS  # noqa: E402
+
+CONFIG, IO, MEMORY = range(3)
+FEW_BYTES = 4_000_000
+
+
+class Library:
+    """Calls, with the tally to which each counts and the names of those that were made."""
+
+    def __init__(self, tally):
+        self.tally, self.called, self.title = tally, set(), ""
+
+    def ok(self, name, *arguments, wanted=(declared.OK,)):
+        """Makes a call that has to answer one of these."""
+        self.called.add(name)
+        answer = CALLS[name](*arguments)
+        self.tally.expect(f"{self.title}: pciguest_{name}", answer in wanted, f"{answer}, not {wanted}")
+
+    def number(self, name, *arguments, of=c_size_t):
+        """What a call stores."""
+        stored = of()
+        self.ok(name, *arguments, byref(stored))
+        return stored if issubclass(of, ctypes.Structure) else stored.value
+
+    def text(self, name, *arguments, more=()):
+        """What a call writes, which says first how much room that needs."""
+        needed = c_size_t()
+        self.ok(name, *arguments, None, 0, byref(needed), *more, wanted=[declared.ARGUMENT])
+        text = ctypes.create_string_buffer(needed.value)
+        self.ok(name, *arguments, text, len(text), byref(needed), *more)
+        return text.raw
+
+    def rows(self, name, board, row):
+        """The rows that a call fills in, which says first how many they are."""
+        count = c_size_t()
+        self.ok(name, board, None, 0, byref(count), wanted=(declared.OK, declared.ARGUMENT))
+        rows = (row * count.value)()
+        self.ok(name, board, rows, len(rows), byref(count))
+        return rows
+
+    def line(self, name, holder, line, room=declared.REPLY):
+        reply, written = ctypes.create_string_buffer(room), c_size_t()
+        self.ok(name, holder, line, len(line), reply, room, byref(written))
+        return reply.raw[:written.value]
+
+
+# ---- no machine
+
+def without_a_machine(library, text):
+    """Calls over the bytes of a board file, and those that need nothing."""
+    library.called |= {"version", "strerror"}
+    library.tally.expect("pciguest_version", CALLS["version"]() == declared.VERSION_NUMBER)
+    library.tally.expect("pciguest_strerror", CALLS["strerror"](101) == b"not TOML")
+    library.tally.expect("pciguest_words", library.text("words", 101) == b"not TOML")
+    for name in ("report", "report_json", "check"):
+        library.text(name, text, len(text))
+
+
+# ---- a machine
+
+def slot_calls(library, machine, guest, slot):
+    """Each call on a function in a slot, and on its regions, which are opened where its guest has them now."""
+    key = (byref(machine), guest)
+    library.ok("write", *key, CONFIG, slot, 4, 2, 3)
+    library.number("read", *key, CONFIG, slot, 0, 4, of=c_uint32)
+    library.ok("write_wide", *key, CONFIG, slot, 0x0C, 7, 0)
+    library.number("read_wide", *key, CONFIG, slot, 1, 8, of=c_uint64)
+    library.ok("raise", *key, slot, declared.RAISE_CONFIG, 7, 0)
+    library.ok("device_write", *key, slot, declared.RAISE_CONFIG, 0x40, 1)
+    library.number("device_read", *key, slot, declared.RAISE_CONFIG, 0x40, of=c_uint32)
+    row = library.number("slot", *key, slot, of=declared.FunctionTold)
+    for bar in range(declared.BARS):
+        region = library.number("region", *key, slot, bar, of=declared.RegionTold)
+        library.number("locate", *key, region.space, slot, region.first, of=declared.HitTold)
+        library.ok("region_write", *key, slot, bar, 0, 4, 0x12345678)
+        library.number("region_read", *key, slot, bar, 0, 4, of=c_uint64)
+        library.ok("device_write_wide", *key, slot, bar, 0, 4, 0x12345678)
+        library.number("device_read_wide", *key, slot, bar, 0, 4, of=c_uint64)
+    library.number("host_read", byref(machine), CONFIG, row.bus, row.device, row.function, 0, 4, of=c_uint32)
+    library.ok("reset", *key, slot)
+    return bytes(row.path[:row.path_length])
+
+
+def guest_calls(library, machine, guest, slots):
+    """Each call on a guest."""
+    key = (byref(machine), guest)
+    name = library.text("guest_name", *key)
+    library.tally.expect(f"guest {guest} by its name", library.number("guest", byref(machine), name, len(name)) == guest)
+    paths = [slot_calls(library, machine, guest, slot) for slot in range(slots)]
+    library.number("changed", *key, of=c_uint64)
+    places = (declared.PlaceTold * declared.PLACES)()
+    library.number("moved", *key, places, len(places))
+    for space, place in ((CONFIG, 0), (IO, 0x1000), (MEMORY, 0)):
+        library.text("why", *key, space, 0, place)
+        library.text("why_json", *key, space, 0, place)
+    library.ok("take", *key, 0)
+    library.ok("give", byref(machine), paths[0], len(paths[0]), guest, 0)
+    library.ok("reset_guest", *key)
+    return image_calls(library, key)
+
+
+def image_calls(library, key):
+    size, needed = library.number("image_size", *key), c_size_t()
+    image = ctypes.create_string_buffer(size)
+    library.ok("save", *key, image, size, byref(needed))
+    library.ok("load", *key, image.raw, size)
+    library.ok("image_fault", *key, image.raw, size, None, 0, byref(needed))
+    return size
+
+
+def machine_calls(library, machine, guests):
+    """Each call on a machine with so many functions in each guest's slots."""
+    held, limits = byref(machine), library.number("limits", of=declared.LimitsTold)
+    library.tally.expect(f"{library.title}: guests", library.number("guest_count", held) == len(guests))
+    largest = max(guest_calls(library, machine, guest, slots) for guest, slots in enumerate(guests))
+    library.tally.expect(f"{library.title}: images", largest <= limits.guest_image, largest)
+    last = len(guests) - 1
+    library.ok("take", held, last, guests[last] - 1)
+    library.ok("move", held, 0, 0, last, guests[last] - 1)
+    library.ok("move", held, last, guests[last] - 1, 0, 0)
+    for index in range(library.number("count", held)):
+        library.number("function", held, index, of=declared.FunctionTold)
+    library.tally.expect(f"{library.title}: a line", library.line("run_line", held, b"g0 cr 0 0 4") == b"g0: 0x00031234\n")
+    size, needed = library.number("image_size_all", held), c_size_t()
+    image = ctypes.create_string_buffer(size)
+    library.ok("save_all", held, image, size, byref(needed))
+    library.ok("load_all", held, image.raw, size)
+
+
+def machines(library, text, guests):
+    """A machine of a board file."""
+    machine = declared.Handle()
+    library.ok("new", byref(machine), text, len(text))
+    machine_calls(library, machine, guests)
+    CALLS["free"](byref(machine))
+
+
+# ---- a board that firmware drives
+
+def questions(library, board, wanted):
+    """Each call that asks about a board, which has so many problems and so many lacks."""
+    held, count = byref(board), c_size_t()
+    for index in range(library.number("board_count", held)):
+        library.number("board_function", held, index, of=declared.BoardFunctionTold)
+    library.number("board_read", held, CONFIG, 0, 0, 0, 0, 4, of=c_uint32)
+    audit, ready = (library.text(name, held, more=[byref(count)]) for name in ("board_audit", "board_ready"))
+    for name in ("board_audit_json", "board_ready_json"):
+        library.text(name, held, more=[byref(count)])
+    for space, place in ((CONFIG, 0), (IO, 0x1000), (MEMORY, 0), (MEMORY, 0x80000000)):
+        library.text("board_why_json", held, space, 0, 0, 0, place)
+    rows = [library.rows(f"board_{it}", held, declared.ProblemTold) for it in ("problems", "lacks")]
+    found = tuple(map(len, rows))
+    library.tally.expect(f"{library.title}: problems and lacks", found == wanted, f"{found}, not {wanted}")
+    room = len(ready) + 100
+    library.tally.expect(f"{library.title}: host audit", library.line("board_run_line", held, b"host audit", room) == audit)
+    told = library.line("board_run_line", held, b"host ready", room)
+    library.tally.expect(f"{library.title}: host ready", told == ready)
+    for asked in (b"mem 0x80000000", b"mem 0", b"io 0x1000", b"io 0", b"cfg 01:00.0"):
+        library.line("board_run_line", held, b"host why " + asked, room)
+
+
+def write_all(library, board, written):
+    for bus, device, function, offset, width, value in written:
+        library.ok("board_write", byref(board), CONFIG, bus, device, function, offset, width, value)
+
+
+def boards(library, text, guests, wanted):
+    """A board at reset, over which a machine is made, and then one that firmware sets up and hands over: so many problems and
+    lacks has it at reset, when no bridge routes anything, and once it is set up."""
+    report, title = library.text("report", text, len(text)).decode(), library.title
+    board, machine = declared.BoardHandle(), declared.Handle()
+    library.ok("board_new", byref(board), text, len(text))
+    for step, count in zip(("at reset", "without routes", "set up"), wanted):
+        library.title = f"{title}, {step}"
+        if step == "at reset":
+            library.ok("set_up", byref(board), byref(machine))
+            machine_calls(library, machine, guests)
+            CALLS["free"](byref(machine))
+        else:
+            write_all(library, board, writes(report, step == "set up"))
+        questions(library, board, count)
+    library.ok("board_guests", byref(board), byref(machine))
+    machine_calls(library, machine, guests)
+    CALLS["free"](byref(machine))
+    library.title = title
+
+
+# ---- what is freed
+
+def held_bytes():
+    """The bytes of memory that this process has."""
+    return int(Path("/proc/self/statm").read_text().split()[1]) * os.sysconf("SC_PAGE_SIZE")
+
+
+def freed(library, text):
+    """Whether machines and boards that are freed leave nothing behind."""
+    for name, holder in (("", declared.Handle), ("board_", declared.BoardHandle)):
+        for number in range(12):
+            held = holder()
+            library.ok(f"{name}new", byref(held), text, len(text))
+            library.called.add(f"{name}free")
+            CALLS[f"{name}free"](byref(held))
+            library.tally.expect(f"pciguest_{name}free leaves an empty struct", not held.live)
+            if number == 2:
+                before = held_bytes()
+        grown = held_bytes() - before
+        library.tally.expect(f"pciguest_{name}free gives all memory back", grown < FEW_BYTES, f"{grown} bytes are held")
+
+
+def all_calls(library):
+    """The calls of the header that weren't made."""
+    header = re.findall(r"^[A-Za-z][\w *]*pciguest_(\w+)\(", (TOP / "library/pciguest.h").read_text(), re.M)
+    left = {*header} - library.called - {"piece", "ends_within"}
+    library.tally.expect("each call of the header was made", not left, left)
