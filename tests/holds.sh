@@ -5,6 +5,7 @@ room=$(mktemp -d)
 trap 'rm -rf "$room"' EXIT
 passed=0
 failed=0
+skipped=()
 
 # holds NAME COMMAND..: the command ends with 0
 holds() {
@@ -23,8 +24,12 @@ run() { "$@" > out 2>&1; status=$?; }
 has() { grep -qxE "$1" out; }
 ends() { [ "$(tail -n 1 out)" = "$1" ] && [ "$status" = "$2" ]; }
 
-# tells how many, which is the last line, and whether all held
+# skips WHAT WHY [PACKAGE]: what is not tried here, why, and the package of Debian with which it would be
+skips() { skipped+=("$1 ($2${3:+: apt-get install $3})"); }
+
+# tells what was skipped, and how many held and failed, which is the last line; and whether all held
 counted() {
+  [ ${#skipped[@]} = 0 ] || printf 'skipped: %s\n' "${skipped[@]}"
   echo "$passed passed, $failed failed"
   [ "$failed" = 0 ]
 }

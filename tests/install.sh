@@ -76,6 +76,8 @@ if command -v zsh > /dev/null; then
   holds 'another word of an audit in zsh' same '--strict chain.toml' in_zsh pciguest audit --json ch
   holds 'a board after these in zsh' same 'chain.toml' in_zsh pciguest audit --json --strict ch
   holds 'no board of the demo in zsh' same '' in_zsh pciguest demo ch
+else
+  skips "zsh's completion" 'no zsh' zsh
 fi
 if command -v fish > /dev/null; then
   in_fish() {
@@ -96,6 +98,8 @@ if command -v fish > /dev/null; then
   holds 'another word of an audit in fish' same '--json' in_fish 'pciguest audit --strict -'
   holds 'a board after these in fish' same 'chain.toml' in_fish 'pciguest audit --strict --json ch'
   holds 'no board of the demo in fish' same '' in_fish 'pciguest demo ch'
+else
+  skips "fish's completion" 'no fish' fish
 fi
 
 # ---- the manual, where something that reads it is there
@@ -104,6 +108,8 @@ if command -v mandoc > /dev/null; then
 elif command -v man > /dev/null; then
   is_clean() { [ -z "$(man --warnings -E UTF-8 -l -Tutf8 -Z "$1" 2>&1 > /dev/null | tee /dev/stderr)" ]; }
   for page in man/*; do holds "$page" is_clean "$page"; done
+else
+  skips 'the manual' 'no mandoc and no man' mandoc
 fi
 
 holds 'make uninstall' "${installing[@]}" uninstall
@@ -121,10 +127,16 @@ if command -v nm > /dev/null && command -v readelf > /dev/null; then
   holds 'it needs the C library alone' same $'[libc.so.6]\n[libpciguest.so.0]' needed
   no_text_changes() { ! readelf -dW library/libpciguest.so.0 | grep -q TEXTREL; }
   holds 'its code is position independent' no_text_changes
+else
+  skips 'what the shared library takes' 'no nm or no readelf' binutils
 fi
 
 # ---- the wheel, in an environment of its own: it has the library, a readme, and what tests of firmware take
-if tools/wheel "$room/wheels" > "$room/told" 2>&1 && python3 -m venv "$room/own" > /dev/null 2>&1; then
+if ! tools/wheel "$room/wheels" > "$room/told" 2>&1 && grep -q ' is missing\. ' "$room/told"; then
+  skips 'the wheel' 'no pip, setuptools or wheel' 'python3-pip python3-wheel'
+elif ! python3 -m venv "$room/own" > /dev/null 2>&1; then
+  skips 'the wheel' 'no venv' python3-venv
+else
   own() { env -i -C "$room" PATH="$room/own/bin:/usr/bin:/bin" "$@"; }
   holds 'the wheel is installed' own pip install --quiet --no-index "$room"/wheels/pciguest-*-py3-none-linux_x86_64.whl
   holds 'the device model over the wheel' same tests/library/device.stdout \
@@ -138,9 +150,9 @@ if tools/wheel "$room/wheels" > "$room/told" 2>&1 && python3 -m venv "$room/own"
   if own python -c 'import tomllib' 2> /dev/null; then
     own pciguest-firmware-test --boards 6 -- true > "$room/tested" 2>&1
     holds 'firmware that does nothing, tested by the wheel' grep -q 'FAILED on' "$room/tested"
+  else
+    skips 'firmware tested by the wheel' 'no Python 3.11' python3
   fi
-else
-  echo "the wheel is not tried: $(tail -n 1 "$room/told")"
 fi
 
 # ---- the tarball, in an empty folder and without the kit
@@ -160,6 +172,8 @@ holds 'a report' same "$room/report" outside bin/pciguest list boards/main.toml
 if command -v python3 > /dev/null; then
   told='import ctypes; n = ctypes.CDLL("lib/libpciguest.so.0").pciguest_version(); print(f"{n // 10000}.{n // 100 % 100}.{n % 100}")'
   holds 'the version that the library tells' same "$(sed -n 's/^pciguest //p' VERSION)" outside "$(command -v python3)" -c "$told"
+else
+  skips 'the version that the library tells' 'no Python 3' python3
 fi
 if command -v cc > /dev/null && command -v pkg-config > /dev/null; then
   with() { outside sh -c "cc -O1 -Wall -Wextra -Werror -o $1 examples/c/device.c $2"; }
@@ -171,7 +185,7 @@ if command -v cc > /dev/null && command -v pkg-config > /dev/null; then
   holds 'the example over the archive' same "$top/tests/library/device.stdout" outside ./static examples/device.toml
   rm -f shared static
 else
-  echo 'no C compiler or no pkg-config: the library of the tarball is not tried'
+  skips 'the library of the tarball' 'no C compiler or no pkg-config' 'gcc pkg-config'
 fi
 if command -v cc > /dev/null && python3 -c 'import tomllib' 2> /dev/null; then
   holds 'the enumerator is built' outside cc -O1 -Wall -Wextra -Werror -Iinclude -o enumerator examples/firmware/enumerator.c
@@ -179,9 +193,10 @@ if command -v cc > /dev/null && python3 -c 'import tomllib' 2> /dev/null; then
     outside "PYTHON=$(command -v python3)" bin/pciguest-firmware-test --boards 10 -- ./enumerator
   holds 'firmware that does nothing' sh -c '! bin/pciguest-firmware-test --save failed -- true > told && grep -q "FAILED on" told'
 else
-  echo 'no C compiler or no Python 3.11: the test of firmware in the tarball is not tried'
+  skips 'the test of firmware in the tarball' 'no C compiler or no Python 3.11' 'gcc python3'
 fi
 holds 'what the README gives to each of its readers' "$top/tests/users.sh" "$PWD"
-echo "from the tarball: $(tail -n 2 "$room/told")"
+grep '^waited: ' "$room/told"
+while read -r _ it; do skipped+=("$it"); done < <(grep '^skipped: ' "$room/told")
 
 counted

@@ -4,11 +4,12 @@
 set -u
 cd "$(dirname "$0")/kit"
 python3 -c 'import tomllib' 2> /dev/null ||
-  { echo 'no Python 3.11: the kit is not tried. On Debian: apt-get install python3'; echo '0 passed, 0 failed'; exit 0; }
+  { echo 'skipped: the kit (no Python 3.11: apt-get install python3)'; echo '0 passed, 0 failed'; exit 0; }
 told=$(python3 -B -m unittest discover 2>&1)
 status=$?
 count=$(sed -n 's/^Ran \([0-9]*\) tests.*/\1/p' <<< "$told")
 [ $status = 0 ] || echo "$told"
+command -v cc > /dev/null || echo 'skipped: firmware in C (no cc: apt-get install gcc)'
 wrong=$(grep -cE '^(FAIL|ERROR): ' <<< "$told")
 echo "$((${count:-0} - wrong)) passed, $wrong failed"
 exit $status

@@ -12,7 +12,7 @@ program=$(readlink -f "${1:-crates/pciguest/out/pciguest}")
 board=$top/boards/main.toml
 compile=${CC:-cc}
 [ -x "$program" ] || { echo "no program at $program: make build"; echo '0 passed, 1 failed'; exit 1; }
-command -v "$compile" > /dev/null || { echo 'no C compiler: the library for C is not tried'; echo '0 passed, 0 failed'; exit 0; }
+command -v "$compile" > /dev/null || { skips 'the library' 'no C compiler' gcc; counted; exit; }
 [ -e library/libpciguest.a ] || tools/library || { echo '0 passed, 1 failed'; exit 1; }
 
 cd "$room" || exit 1
@@ -35,6 +35,7 @@ wraps=(-Wl,--wrap=malloc -Wl,--wrap=realloc -Wl,--wrap=free)
 echo 'int main(void) { return 0; }' > empty.c
 kinds=(plain)
 "$compile" -fsanitize=address,undefined -o empty empty.c 2> /dev/null && ./empty 2> /dev/null && kinds+=(sanitized)
+[ ${#kinds[@]} = 2 ] || skips 'the library under sanitizers' 'the compiler has none' gcc
 for kind in "${kinds[@]}"; do
   words=()
   [ "$kind" != sanitized ] || words=(-fsanitize=address,undefined -fno-sanitize-recover=all)
@@ -139,7 +140,7 @@ if command -v valgrind > /dev/null && "$compile" -fsyntax-only watched.c 2> /dev
     -include "$top/tests/library/watched.h" -pthread -Wl,--wrap=malloc
   holds 'threads under helgrind' valgrind --quiet --tool=helgrind --error-exitcode=1 ./watched "$board" 100
 else
-  echo 'no valgrind: threads are not tried under helgrind. On Debian: apt-get install valgrind'
+  skips 'threads under helgrind' 'no valgrind' valgrind
 fi
 
 # ---- the header by itself, in the oldest languages that have what it includes, as C++ too where there is a compiler
@@ -151,6 +152,8 @@ if command -v c++ > /dev/null; then
   for words in c++98 c++11 c++17; do
     holds "the header as $words" c++ "-std=$words" -Wall -Wextra -Wpedantic -Werror -I"$top/library" -c header.cc
   done
+else
+  skips 'the header in C++' 'no c++' g++
 fi
 
 # ---- a program that has another library of Rattle beside it, with names that this one has too
@@ -186,18 +189,19 @@ if cargo --version > /dev/null 2>&1; then
     offline "$top/examples/rust" vmm make -s vmm > vmm.out
     holds 'Rust: the buses of a hypervisor' test "$(cat vmm.out)" = $'printer: read from RAM by the device\nserial: 1 printed'
   else
-    echo 'no crates of Debian: the example of a hypervisor in Rust is not tried. On Debian: apt-get install librust-vm-superio-dev'
+    skips 'a hypervisor in Rust' 'no crate vm-superio' librust-vm-superio-dev
   fi
 else
-  echo 'no cargo: the crates for Rust are not tried. On Debian: apt-get install cargo'
+  skips "Rust's crates" 'no cargo' cargo
 fi
 
 # ---- the module for Python: its tests, the examples of its documentation, and the example
 if ! command -v python3 > /dev/null; then
-  echo 'no Python 3: the module for Python is not tried. On Debian: apt-get install python3'
+  skips "Python's module" 'no Python 3' python3
 elif [ ! -e "$top/library/libpciguest.so.0" ]; then
-  echo 'no library/libpciguest.so.0: the module for Python is not tried. make library'
+  skips "Python's module" 'no library/libpciguest.so.0: make library'
 else
+  command -v mypy > /dev/null || skips "the types of Python's module" 'no mypy' mypy
   holds 'Python: the tests of the module' env -C "$top/library/python" PYTHONDONTWRITEBYTECODE=1 \
     PCIGUEST_LIBRARY_DIR="$top/library" python3 -m unittest discover -s tests
   holds 'Python: random guests, saved and loaded as by a second hand' env PYTHONDONTWRITEBYTECODE=1 \

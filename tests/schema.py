@@ -22,7 +22,7 @@ sys.path.insert(0, str(TOP / "tests" / "fuzz"))
 try:
     import tomllib
 except ImportError:
-    print("no Python 3.11: the schema of board files is not tried\n0 passed, 0 failed")
+    print("skipped: the schema of board files (no Python 3.11: apt-get install python3)\n0 passed, 0 failed")
     sys.exit(0)
 
 from board import board_file, random_board
@@ -94,7 +94,7 @@ class Tests:
             from jsonschema import Draft7Validator
             self.other = Draft7Validator(self.schema.whole).is_valid
         except ImportError:
-            self.other = self.schema.accepts
+            self.other = None
 
     def holds(self, name, found):
         """Counts a test, which holds where nothing is found."""
@@ -115,7 +115,7 @@ class Tests:
         document = tomllib.loads(text.decode())
         accepted = self.schema.accepts(document)
         self.seen[number, accepted] = self.seen.get((number, accepted), 0) + 1
-        if self.other(document) != accepted:
+        if self.other and self.other(document) != accepted:
             return "the module jsonschema says otherwise"
         if accepted and number in (102, 103, 104) and not (number == 104 and ends_late(document)):
             return f"accepted, and the program answers {number}"
@@ -196,6 +196,8 @@ def main():
     tests.directives()
     tests.examples()
     tests.random(chosen.files, chosen.seed)
+    if not tests.other:
+        print("skipped: the schema by the module jsonschema (no such module: apt-get install python3-jsonschema)")
     print(f"{tests.passed} passed, {tests.failed} failed")
     return 1 if tests.failed else 0
 

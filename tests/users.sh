@@ -60,7 +60,7 @@ if has cc && has make && /usr/bin/python3 -c 'import tomllib' 2> /dev/null; then
     holds "$mistake, run again" test "$(grep -E '^(audit|ready|sizing): ' told)" = "$(grep -E '^(audit|ready|sizing): ' again)"
   done
 else
-  echo 'no C compiler, no make or no Python 3.11: no firmware is tested'
+  skips 'firmware from the tarball' 'no C compiler, no make or no Python 3.11' 'gcc make python3'
 fi
 
 done_by 'who writes firmware'
@@ -73,9 +73,11 @@ if has cc && has make; then
   if has pkg-config; then
     holds 'cc and pkg-config' outside sh -c 'cc -Wall -Werror -o shared examples/c/device.c $(pkg-config --cflags --libs pciguest)'
     holds 'over the shared library' same "$device" outside env LD_LIBRARY_PATH=lib ./shared examples/device.toml
+  else
+    skips 'the shared library of the tarball' 'no pkg-config' pkg-config
   fi
 else
-  echo 'no C compiler or no make: the library is not tried from C'
+  skips 'C over the tarball' 'no C compiler or no make' 'gcc make'
 fi
 if cargo --version > /dev/null 2>&1; then
   mkdir -p crate/src
@@ -90,9 +92,11 @@ if cargo --version > /dev/null 2>&1; then
   holds 'the program in Rust' same "$device" with_cargo make -s -C examples/rust
   if compgen -G '/usr/share/cargo/registry/vm-superio-*' > /dev/null; then
     holds 'the buses of a hypervisor in Rust' with_cargo sh -c 'make -s -C examples/rust vmm | grep -qx "serial: 1 printed"'
+  else
+    skips 'a hypervisor in Rust over the tarball' 'no crate vm-superio' librust-vm-superio-dev
   fi
 else
-  echo 'no cargo: the crate for Rust is not tried'
+  skips 'Rust over the tarball' 'no cargo' cargo
 fi
 
 done_by 'who writes a hypervisor'
@@ -107,7 +111,7 @@ if has python3; then
   printf 'a.vendor\ntree\n' | outside python3 -m pciguest boards/main.toml > answers
   holds 'the prompt' grep -qx 'a: 0x1234' answers
 else
-  echo 'no Python 3: its module is not tried'
+  skips 'Python over the tarball' 'no Python 3' python3
 fi
 holds 'the schema that boards name' test -e examples/board.schema.json
 for board in boards/*.toml examples/*.toml examples/*/*.toml; do
