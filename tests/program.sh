@@ -364,6 +364,11 @@ timeout 60 "$program" run --strict "$boards/main.toml" < bad.script > out 2> err
 } > wanted.err
 wanted=1
 tell 'run, more lines without a form than are told of'
+timeout 60 "$program" ready "$boards/main.toml" < /dev/null 2> /dev/null | cat <(echo 'host: refused 401 bad line') - > wanted.out
+timeout 60 "$program" ready "$boards/main.toml" <<< 'host cr 1.0 0 4' > out 2> err; status=$?
+printf 'pciguest: line 1: word 2: 1.0 is no number BB:DD.F\npciguest: fault 208 not ready\n' > wanted.err
+wanted=1
+tell 'ready, why a line has no form before the fault'
 printf '\xef\xbb\xbfa cr 0 0 4\na cr 0 0 4\n' > marked.script
 printf '?: refused 402 unknown guest\na: 0x00011234\n' > wanted.out
 timeout 60 "$program" run "$boards/main.toml" < marked.script > out 2> err; status=$?

@@ -1,3 +1,6 @@
+use simulation::OutputStream;
+use std::cell::Cell;
+use std::io::Write;
 use std::test::Fail;
 use streams::{BufferedWriter, Writer, write_all};
 use test_fakes::FakeWriter;
@@ -57,5 +60,40 @@ fn writes_that_take_nothing_fail(rt: HostRuntime) -> Result<(), Fail> {
     let fake = FakeWriter::<8>::new(4, None);
     let mut without_room = BufferedWriter::with_capacity(rt.alloc(), 0, fake)?;
     assert!(rt; without_room.write(b"a").is_err());
+    Ok(())
+}
+
+/// A writer of the system that keeps all bytes back until a flush, and notes how many it has handed on.
+#[derive(Drop)]
+struct KeepsBack<'a> {
+    kept: usize,
+    handed_on: &'a Cell<usize>,
+}
+
+impl Write for KeepsBack<'_> {
+    fn write(&mut self, buf: &[u8]) -> std::io::Result<usize> {
+        self.kept = self.kept.saturating_add(buf.len());
+        Ok(buf.len())
+    }
+
+    fn flush(&mut self) -> std::io::Result<()> {
+        self.handed_on.set(self.kept);
+        Ok(())
+    }
+}
+
+/// A flush of standard output is one of what stands behind it: an answer is there before more is read.
+#[test]
+fn a_flush_goes_to_the_system(rt: HostRuntime) -> Result<(), Fail> {
+    let handed_on = Cell::new(0);
+    let behind = KeepsBack {
+        kept: 0,
+        handed_on: &handed_on,
+    };
+    let mut writer = OutputStream::buffered(rt.alloc(), behind).expect(&rt, "memory");
+    assert!(rt; write_all(&mut writer, b"a: ok\n").is_ok());
+    assert_eq!(rt; handed_on.get(), 0);
+    assert!(rt; writer.flush().is_ok());
+    assert_eq!(rt; handed_on.get(), 6);
     Ok(())
 }
