@@ -139,19 +139,9 @@ holds 'types of one name in two crates, or that are no longer' homonyms
 # ---- a lemma stands once
 holds 'lemmas that stand twice' tests/doubles.py
 
-# ---- what somebody asked for: each line has its file, a test has its words there, and an edit of the gate has its line and its
-# clause; and no fewer lines are there than the list says
-unnamed() {
-  local file words edit list=tests/named.txt
-  while IFS='|' read -r file words _; do
-    file=${file% } words=${words# } words=${words% }
-    [ -e "$file" ] || { echo "$list: no $file"; continue; }
-    [[ $file == *.edit && $words =~ ^[a-zA-Z_0-9-]+$ ]] || grep -qF -- "$words" "$file" || echo "$list: $file without '$words'"
-  done < <(grep -v '^#' "$list")
-  for edit in crates/*/must-fail/*.edit; do grep -qF "$edit | " "$list" || echo "$list: not $edit"; done
-  find crates/*/must-fail tests/edits -name '*.twin' | while read -r edit; do [ -e "${edit%.twin}.edit" ] || echo "$edit: no edit beside it"; done
-  [ "$(grep -v '^#' "$list" | sort -u | wc -l)" -ge "$(sed -n '1s/.*: \([0-9]*\) lines.*/\1/p' "$list")" ] || echo "$list: lines are gone"
-}
+# ---- what somebody asked for: each line has its file, a test has its words there where a run reaches them, each edit of the gate
+# and each twin has its line; and no fewer lines are there than the list says
+unnamed() { tests/named.py 2>&1; }
 holds 'what was asked for, and is not there' unnamed
 
 # ---- laws and calls that documents name are those of the crates

@@ -1,0 +1,80 @@
+#!/usr/bin/env python3
+"""Says what tests/named.txt lists and is not there, and what is there and not listed. Its head explains its lines.
+
+A test's words have to be what a run does, and no comment: in a file of rows a line, or the whole head of a section that has
+rows; in Rust and Rattle a function below #[test]; in Python a method `test_..` of a case, or what its file defines and uses; in
+bash a line that holds something, or that takes a file of the tests."""
+import ast
+import pathlib
+import re
+
+TOP = pathlib.Path(__file__).resolve().parent.parent
+LIST = TOP / "tests/named.txt"
+TWINS = ("crates/*/must-fail/*.twin", "tests/edits/*/*.twin")
+# a goal of a check
+GOAL = re.compile(r"[\w-]+")
+# a line of bash that counts a test, perhaps in a loop
+HOLDS = re.compile(r"\s*(?:for .*; do |command -v .* && )?(?:holds|tell|ends_with|fails_with|ends_with_fault|full|hints) ")
+
+
+def in_rows(text, words, _):
+    lines = [it for it in text.split("\n") if it and not it.startswith("#")]
+    if words.startswith("== "):
+        return any(pair[0] == words and not pair[1].startswith("== ") for pair in zip(lines, [*lines[1:], "== "]))
+    return any(words in it for it in lines)
+
+
+def in_rust(text, words, _):
+    name = re.escape(words.removeprefix("fn ").removesuffix("("))
+    return re.search(rf"^( *)#\[test\]\n(?:\1(?!#\[ignore)(?:#\[|//).*\n)*\1fn {name}\(", text, re.M)
+
+
+def in_python(text, words, file):
+    """A test of a case, or a function or a value that other lines of the file use, or other files beside it."""
+    name, tree = re.search(r"\w+(?=\(| = )", words)[0], ast.parse(text)
+    cases = [it for it in tree.body if isinstance(it, ast.ClassDef)]
+    if name.startswith("test_"):
+        return any(isinstance(it, ast.FunctionDef) and it.name == name for case in cases for it in case.body)
+    loaded = {it.id for it in ast.walk(tree) if isinstance(it, ast.Name) and isinstance(it.ctx, ast.Load)}
+    others = [it.read_text(encoding="utf-8") for it in file.parent.glob("*.py")]
+    return words in text and (name in loaded or any(f"{file.stem}.{name}(" in it for it in others))
+
+
+def in_bash(text, words, _):
+    is_file = (TOP / words).is_file()
+    lines = [it for it in text.split("\n") if not it.lstrip().startswith("#") and words in it]
+    return any(is_file or HOLDS.match(it) for it in lines)
+
+
+FORMS = {".rows": in_rows, ".rt": in_rust, ".rs": in_rust, ".py": in_python, ".sh": in_bash}
+
+
+def lost(row):
+    """What is wrong with a line, if anything is."""
+    name, words, _ = row.split(" | ", 2)
+    file = TOP / name
+    if not file.is_file():
+        return f"no {name}"
+    if file.suffix in (".edit", ".twin"):
+        is_right = GOAL.fullmatch(words) if file.suffix == ".edit" else words == "proved"
+        return None if is_right else f"{name}: `{words}` is no goal"
+    if file.suffix not in FORMS:
+        return f"{name}: no form of tests"
+    is_there = FORMS[file.suffix](file.read_text(encoding="utf-8"), words, file)
+    return None if is_there else f"{name} has no test `{words}`"
+
+
+def problems():
+    head, *lines = LIST.read_text(encoding="utf-8").rstrip("\n").split("\n")
+    rows = [it for it in lines if not it.startswith("#")]
+    yield from filter(None, map(lost, rows))
+    listed = {it.split(" | ")[0] for it in rows}
+    for form in ("crates/*/must-fail/*.edit", *TWINS):
+        found = {str(it.relative_to(TOP)) for it in TOP.glob(form)}
+        yield from (f"not listed: {it}" for it in sorted(found - listed))
+        yield from (f"no edit beside it: {it}" for it in sorted(found) if not (TOP / it).with_suffix(".edit").is_file())
+    if len({*rows}) < int(re.search(r": (\d+) lines", head)[1]):
+        yield "lines are gone"
+
+
+print("".join(f"tests/named.txt: {it}\n" for it in problems()), end="")
