@@ -29,6 +29,12 @@ def in_rust(text, words, _):
     return re.search(rf"^( *)#\[test\]\n(?:\1(?!#\[ignore)(?:#\[|//).*\n)*\1fn {name}\(", text, re.M)
 
 
+def in_rattle(text, words, file):
+    """The same in a module of its crate."""
+    modules = (file.parent / "lib.rt").read_text(encoding="utf-8")
+    return in_rust(text, words, file) and re.search(rf"^mod {file.stem};$", modules, re.M)
+
+
 def in_python(text, words, file):
     """A test of a case, or a function or a value that other lines of the file use, or other files beside it."""
     name, tree = re.search(r"\w+(?=\(| = )", words)[0], ast.parse(text)
@@ -46,7 +52,7 @@ def in_bash(text, words, _):
     return any(is_file or HOLDS.match(it) for it in lines)
 
 
-FORMS = {".rows": in_rows, ".rt": in_rust, ".rs": in_rust, ".py": in_python, ".sh": in_bash}
+FORMS = {".rows": in_rows, ".rt": in_rattle, ".rs": in_rust, ".py": in_python, ".sh": in_bash}
 
 
 def lost(row):
