@@ -1,9 +1,10 @@
 #!/usr/bin/env python3
-"""Says what tests/named.txt lists and is not there, and what is there and not listed. Its head explains its lines.
+"""Reports what tests/named.txt lists but isn't there, and mutants of the gate and controls that it doesn't list. The head of that
+file explains its lines.
 
-A test's words have to be what a run does, and no comment: in a file of rows a line, or the whole head of a section that has
-rows; in Rust and Rattle a function below #[test]; in Python a method `test_..` of a case, or what its file defines and uses; in
-bash a line that holds something, or that takes a file of the tests."""
+A test's words must not be in a comment only. In a file of rows they are in a row, or are the whole head of a section that has
+rows; in Rust and Rattle they name a function below #[test]; in Python a method `test_..` of a case, or something that is defined
+and used; and in bash they are in a line that holds something, or in any line if they are a file of the tests."""
 import ast
 import pathlib
 import re
@@ -30,13 +31,13 @@ def in_rust(text, words, _):
 
 
 def in_rattle(text, words, file):
-    """The same in a module of its crate."""
+    """The same, in a file that its crate has as a module."""
     modules = (file.parent / "lib.rt").read_text(encoding="utf-8")
     return in_rust(text, words, file) and re.search(rf"^mod {file.stem};$", modules, re.M)
 
 
 def in_python(text, words, file):
-    """A test of a case, or a function or a value that other lines of the file use, or other files beside it."""
+    """A test of a case, or a function or value that the file itself or one next to it uses."""
     name, tree = re.search(r"\w+(?=\(| = )", words)[0], ast.parse(text)
     cases = [it for it in tree.body if isinstance(it, ast.ClassDef)]
     if name.startswith("test_"):
@@ -56,7 +57,7 @@ FORMS = {".rows": in_rows, ".rt": in_rattle, ".rs": in_rust, ".py": in_python, "
 
 
 def lost(row):
-    """What is wrong with a line, if anything is."""
+    """What is wrong with a line, or None."""
     name, words, _ = row.split(" | ", 2)
     file = TOP / name
     if not file.is_file():

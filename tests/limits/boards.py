@@ -1,4 +1,4 @@
-"""Boards at every limit, as text and as what firmware writes to set them up."""
+"""Board files at every limit, and the writes by which firmware sets up their boards."""
 import json
 import re
 
@@ -10,7 +10,7 @@ def places(devices, above=""):
     return [f"{above}{device}.{function}" for device in range(devices) for function in range(8)]
 
 
-# with the bridges, as many functions as a board may have
+# as many functions as a board may have, together with the bridges
 ON_BUS_0, BEHIND = places(15), [places(14, f"{bridge}/") for bridge in BRIDGES]
 ENDPOINTS = [*ON_BUS_0, *(it for behind in BEHIND for it in behind)]
 # as many guests as a machine may have, all but the last with as many slots as a guest may have
@@ -46,7 +46,7 @@ def regions():
 
 
 def ports():
-    """Six regions of ports for each endpoint, which fill the aperture, and each bridge's window, to the last byte."""
+    """Six I/O regions for each endpoint. They fill each bridge's window and the aperture to the last byte."""
     left = {"": (176, 64, 32), **{f"{bridge}/": (352, 8, 4) for bridge in BRIDGES}}
 
     def bars_of(at):
@@ -70,13 +70,13 @@ def cells():
 FUNCTION = re.compile(r"(\w\w):(\w\w)\.(\d) \S+ (?:bridge \S+ buses (\w\w) (\w\w) (\w\w)|endpoint)")
 WINDOW = re.compile(r"  (io|mem|pref) 0x(\w+) 0x(\w+)")
 REGION = re.compile(r"  bar(\d) \w+ at 0x(\w+)")
-# where a window's base and limit are, how many bits of an address they leave out, the width of both, and how it is shut
+# for each window: the offset of base and limit, the address bits that they leave out, the width of each, and how it is shut
 WINDOWS = {"io": (0x1C, 8, 1, 0x00F0), "mem": (0x20, 16, 2, 0x0000FFF0), "pref": (0x24, 16, 2, 0x0000FFF0)}
 
 
 def writes(report, is_routed=True):
-    """What sets up the board of a report: bus, device, function, offset, width and value of each write. Where it isn't routed,
-    each window is shut, and the bridges have no numbers in the end."""
+    """The writes that set up the board of a report, each as bus, device, function, offset, width and value. If it isn't routed,
+    all windows stay shut, and the bridges lose their numbers in the end."""
     last, numbers = [], None
     for line in report.split("\n"):
         if found := FUNCTION.match(line):
@@ -97,6 +97,6 @@ def writes(report, is_routed=True):
 
 
 def script(written):
-    """The same as lines of firmware."""
+    """These writes as lines of firmware."""
     return "".join(f"host cw {bus:02x}:{device:02x}.{function} {offset} {width} {value}\n"
                    for bus, device, function, offset, width, value in written)

@@ -1,4 +1,4 @@
-"""The calls of the library for C, each of which is to answer what is asked and never that memory is out."""
+"""Every call of the library for C, over boards at their limits: each must succeed."""
 import ctypes
 import os
 import re
@@ -18,25 +18,25 @@ FEW_BYTES = 4_000_000
 
 
 class Library:
-    """Calls, with the tally to which each counts and the names of those that were made."""
+    """Makes calls, counts each as a test, and notes which were made."""
 
     def __init__(self, tally):
         self.tally, self.called, self.title = tally, set(), ""
 
     def ok(self, name, *arguments, wanted=(declared.OK,)):
-        """Makes a call that has to answer one of these."""
+        """Makes a call that must return one of these."""
         self.called.add(name)
         answer = CALLS[name](*arguments)
         self.tally.expect(f"{self.title}: pciguest_{name}", answer in wanted, f"{answer}, not {wanted}")
 
     def number(self, name, *arguments, of=c_size_t):
-        """What a call stores."""
+        """The number or struct that a call stores."""
         stored = of()
         self.ok(name, *arguments, byref(stored))
         return stored if issubclass(of, ctypes.Structure) else stored.value
 
     def text(self, name, *arguments, more=()):
-        """What a call writes, which says first how much room that needs."""
+        """The text that a call writes. A first call asks how much room it needs."""
         needed = c_size_t()
         self.ok(name, *arguments, None, 0, byref(needed), *more, wanted=[declared.ARGUMENT])
         text = ctypes.create_string_buffer(needed.value)
@@ -44,7 +44,7 @@ class Library:
         return text.raw
 
     def rows(self, name, board, row):
-        """The rows that a call fills in, which says first how many they are."""
+        """The rows that a call fills in. A first call asks how many there are."""
         count = c_size_t()
         self.ok(name, board, None, 0, byref(count), wanted=(declared.OK, declared.ARGUMENT))
         rows = (row * count.value)()
@@ -60,7 +60,7 @@ class Library:
 # ---- no machine
 
 def without_a_machine(library, text):
-    """Calls over the bytes of a board file, and those that need nothing."""
+    """Calls on the bytes of a board file, and those that need no argument of that kind."""
     library.called |= {"version", "strerror"}
     library.tally.expect("pciguest_version", CALLS["version"]() == declared.VERSION_NUMBER)
     library.tally.expect("pciguest_strerror", CALLS["strerror"](101) == b"not TOML")
@@ -72,7 +72,7 @@ def without_a_machine(library, text):
 # ---- a machine
 
 def slot_calls(library, machine, guest, slot):
-    """Each call on a function in a slot, and on its regions, which are opened where its guest has them now."""
+    """Each call on a function in a slot and on its regions, which its guest has enabled; returns the function's path."""
     key = (byref(machine), guest)
     library.ok("write", *key, CONFIG, slot, 4, 2, 3)
     library.number("read", *key, CONFIG, slot, 0, 4, of=c_uint32)
@@ -95,7 +95,7 @@ def slot_calls(library, machine, guest, slot):
 
 
 def guest_calls(library, machine, guest, slots):
-    """Each call on a guest."""
+    """Each call on a guest; returns the size of its image."""
     key = (byref(machine), guest)
     name = library.text("guest_name", *key)
     library.tally.expect(f"guest {guest} by its name", library.number("guest", byref(machine), name, len(name)) == guest)
@@ -122,7 +122,7 @@ def image_calls(library, key):
 
 
 def machine_calls(library, machine, guests):
-    """Each call on a machine with so many functions in each guest's slots."""
+    """Each call on a machine whose guests have so many functions."""
     held, limits = byref(machine), library.number("limits", of=declared.LimitsTold)
     library.tally.expect(f"{library.title}: guests", library.number("guest_count", held) == len(guests))
     largest = max(guest_calls(library, machine, guest, slots) for guest, slots in enumerate(guests))
@@ -141,7 +141,7 @@ def machine_calls(library, machine, guests):
 
 
 def machines(library, text, guests):
-    """A machine of a board file."""
+    """Each call on the machine of a board file."""
     machine = declared.Handle()
     library.ok("new", byref(machine), text, len(text))
     machine_calls(library, machine, guests)
@@ -151,7 +151,7 @@ def machines(library, text, guests):
 # ---- a board that firmware drives
 
 def questions(library, board, wanted):
-    """Each call that asks about a board, which has so many problems and so many lacks."""
+    """Each call that asks about a board, which must have so many problems and lacks."""
     held, count = byref(board), c_size_t()
     for index in range(library.number("board_count", held)):
         library.number("board_function", held, index, of=declared.BoardFunctionTold)
@@ -178,8 +178,8 @@ def write_all(library, board, written):
 
 
 def boards(library, text, guests, wanted):
-    """A board at reset, over which a machine is made, and then one that firmware sets up and hands over: so many problems and
-    lacks has it at reset, when no bridge routes anything, and once it is set up."""
+    """A board at reset, from which a machine is made; then the same board, set up by firmware and handed over to its guests. It
+    must have so many problems and lacks at reset, while no bridge routes anything, and once it is set up."""
     report, title = library.text("report", text, len(text)).decode(), library.title
     board, machine = declared.BoardHandle(), declared.Handle()
     library.ok("board_new", byref(board), text, len(text))
@@ -201,12 +201,12 @@ def boards(library, text, guests, wanted):
 # ---- what is freed
 
 def held_bytes():
-    """The bytes of memory that this process has."""
+    """The memory of this process, in bytes."""
     return int(Path("/proc/self/statm").read_text().split()[1]) * os.sysconf("SC_PAGE_SIZE")
 
 
 def freed(library, text):
-    """Whether machines and boards that are freed leave nothing behind."""
+    """Expects that machines and boards that are freed leave no memory behind."""
     for name, holder in (("", declared.Handle), ("board_", declared.BoardHandle)):
         for number in range(12):
             held = holder()
@@ -221,7 +221,7 @@ def freed(library, text):
 
 
 def all_calls(library):
-    """The calls of the header that weren't made."""
+    """Expects that each call of the header was made."""
     header = re.findall(r"^[A-Za-z][\w *]*pciguest_(\w+)\(", (TOP / "library/pciguest.h").read_text(), re.M)
     left = {*header} - library.called - {"piece", "ends_within"}
     library.tally.expect("each call of the header was made", not left, left)

@@ -1,13 +1,13 @@
 #!/usr/bin/env python3
-"""Asks the program and the library for C whatever can be asked, over boards, files and scripts at every limit: neither says
-that memory is out where there is enough, nor reads, places or reports less of what is large.
+"""Runs every command of the program and every call of the library for C over boards, files and scripts at every limit. None may
+report that memory ran out where there is enough, and none may read or report only a part of what is large.
 
     tests/limits/limits.py PROGRAM
 
-Two boards have 1,024 functions with six regions each and 32 guests of 32 slots, one of them with ports to the brim; and one has
-a guest with all the registers that it may have, in a file of 3 MB. Firmware leaves them with thousands of problems, and with
-none. The library is library/libpciguest.so.0, or that of the folder PCIGUEST_LIBRARY_DIR. The last line is 'N passed, M
-failed'."""
+Two boards have 1,024 functions with six regions each and 32 guests of 32 slots; one of them fills all of I/O space. The third
+has a guest with as many registers as a guest can have, in a file of 3 MB. Firmware leaves the first two with thousands of
+problems, and then with none. The library is library/libpciguest.so.0, or that of the folder PCIGUEST_LIBRARY_DIR. The last
+line is 'N passed, M failed'."""
 import re
 import subprocess
 import sys
@@ -25,7 +25,7 @@ FAULT = re.compile(r"^pciguest: fault (\d+) ", re.M)
 
 
 class Tally:
-    """What held and what failed; of each kind the first few are told."""
+    """Counts what holds and what fails, and prints the first 50 failures."""
 
     def __init__(self):
         self.passed = self.failed = 0
@@ -37,7 +37,7 @@ class Tally:
 
 
 class Program:
-    """The program, in a folder with the files of boards."""
+    """The program, in a folder of board files."""
 
     def __init__(self, program, folder, tally):
         self.program, self.folder, self.tally = Path(program).resolve(), Path(folder), tally
@@ -46,7 +46,7 @@ class Program:
         (self.folder / name).write_text(text)
 
     def run(self, words, script="", wanted=0):
-        """What a run writes, which has to end with this fault, or well."""
+        """The output of a run, which must end with this fault, or well if it is 0."""
         ran = subprocess.run([self.program, *words], cwd=self.folder, input=script, capture_output=True, text=True, timeout=SECONDS)
         found = FAULT.search(ran.stderr)
         fault = int(found[1]) if found else 0
@@ -55,7 +55,7 @@ class Program:
         return ran.stdout
 
     def answers(self, words, script, wanted=0):
-        """The lines of a run over a script, none of which says that memory is out."""
+        """The output of a run over a script, as lines, none of which may report that memory ran out."""
         lines = self.run(words, script, wanted).split("\n")[:-1]
         lost = [it for it in lines if re.search(r": refused [1-7]99 ", it)]
         self.tally.expect(f"{' '.join(words)}: memory", not lost, lost[:1])
@@ -69,20 +69,20 @@ QUESTIONS = "".join(f"host {it}\n" for it in (
 
 
 def guest_lines(guests, more=1):
-    """Lines of each guest on each of its slots, some of which open its regions."""
+    """Each guest reads and writes each of its functions."""
     forms = ("cw {1} 4 2 3", "cr {1} 0 4", "mr 0 4", "ir 0 4", "raise {1} cfg 7 0", "mw 0 4 1")
     return "".join(f"g{guest} {form.format(guest, slot)}\n" for _ in range(more) for guest, slots in enumerate(guests)
                    for slot in range(slots) for form in forms)
 
 
 def counted(program, name, lines, wanted):
-    """The numbers in the last line of a report are these."""
+    """Expects these numbers in the last line."""
     found = [int(it) for it in re.findall(r"\d+", lines[-1])] if lines else None
     program.tally.expect(f"{name}: how many", found == wanted, f"{found}, not {wanted}")
 
 
 def reports(program, name, functions):
-    """What is said of a board's file; the report of its set-up."""
+    """Asks for all reports of a board file, and returns that of `list`."""
     report = program.run(["list", name])
     counted(program, f"list {name}", report.split("\n")[:1], functions)
     for words in (["list", "--json"], ["check"], ["check", "--all"]):
@@ -91,7 +91,7 @@ def reports(program, name, functions):
 
 
 def firmware(program, name, report, states):
-    """Firmware asks all that it can of a board at reset, without routes and set up, and hands it over to its guests."""
+    """Firmware asks everything about a board at reset, without routes and set up, and hands it over to its guests."""
     scripts = ("", boards.script(boards.writes(report, False)), boards.script(boards.writes(report)))
     for script, (problems, lacks) in zip(scripts, states):
         wrong = [it for it in (problems, lacks) if it]
@@ -106,7 +106,7 @@ def firmware(program, name, report, states):
 
 
 def scripts(program, name, guests, more=1):
-    """Each guest's lines on a board that the program sets up."""
+    """Runs each guest's lines on a board that the program sets up."""
     script = guest_lines(guests, more)
     said = program.answers(["run", name], script)
     program.tally.expect(f"run {name}: a reply to each line", len(said) == script.count("\n"), len(said))
@@ -117,7 +117,7 @@ def scripts(program, name, guests, more=1):
 # ---- files and scripts of great length
 
 def placed(program, name, text, key, fault):
-    """A check of a file that is wrong at its last such key says so, and at which line."""
+    """Expects that a file whose last such key or value is wrong is refused, and that a check reports its line."""
     line = text[:text.rindex(key)].count("\n") + 1
     program.write(name, text)
     said = program.run(["check", name], wanted=fault)
@@ -127,7 +127,7 @@ def placed(program, name, text, key, fault):
 
 
 def long_files(program, main, largest):
-    """A value that is wrong far behind in a file is found, and placed: below comments, and below other values."""
+    """A value that is wrong far down in a file is found and reported at its line: below comments, and below other values."""
     for size in (100_000, MEGABYTE, 3 * MEGABYTE):
         lines = "# a comment of 32 bytes with its\n" * (size // 33 + 1)
         placed(program, f"above_{size}.toml", f"{lines}{main}".replace("= 0x1234", "= 0xffff", 1), "0xffff", 104)
@@ -139,8 +139,8 @@ def long_files(program, main, largest):
 
 
 def ask(program, library, name, text, functions, guests, states):
-    """All that can be asked of a board with so many endpoints and bridges, and so many slots of each guest. At reset, without
-    routes and set up it has so many problems and lacks."""
+    """Asks everything about a board, given the number of its endpoints and bridges, the slots of each guest, and how many
+    problems and lacks it has at reset, without routes and set up."""
     program.write(name, text)
     library.title = name
     firmware(program, name, reports(program, name, functions), states)
@@ -152,7 +152,7 @@ def ask(program, library, name, text, functions, guests, states):
 
 
 def ask_all(program, library):
-    """All boards, then long scripts and files, and what is freed."""
+    """Asks everything about all boards, then runs long scripts and reads long files, and then frees boards and machines."""
     largest, states = boards.cells(), [(896, 6096), (7 * 896, 0), (0, 0)]
     for name, text in (("regions.toml", boards.regions()), ("ports.toml", boards.ports())):
         ask(program, library, name, text, [1016, 8], boards.SLOTS, states)
