@@ -14,7 +14,8 @@ from pciguest import _calls as declared  # noqa: E402
 from pciguest._library import CALLS  # noqa: E402
 
 CONFIG, IO, MEMORY = range(3)
-FEW_BYTES = 4_000_000
+# nine of the machines that are freed hold 80 MB
+FEW_BYTES = 30_000_000
 
 
 class Library:
