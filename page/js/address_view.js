@@ -1,67 +1,22 @@
 // A bar for each aperture, to scale: windows by the depth of their bus, regions below them, gaps between. A bar can be
-// zoomed into, and read by mouse and by keys, and asked why something answers at an address or doesn't.
+// zoomed into, and read by mouse and by keys, and asked why something answers at an address or doesn't. What Command disables
+// is drawn in dashes. Beside a bar that firmware fills is what its registers put below and above the range that is shown.
 
 import { aperture_of, hex, size_in_words } from './report.js';
-import { make, make_button, mark_of, owner_in_words } from './marks.js';
-import { bang_at, before_box, cause_box, lack_at, name_in, question_mark_at, region_box, svg, ticks } from './bars.js';
+import { make, make_button, mark_of } from './marks.js';
+import { bang_at, before_box, cause_box, ghost_box, gutter_box, gutter_of, lack_at, name_in, question_mark_at, region_box, svg, ticks } from './bars.js';
+import { called } from './names.js';
+import { at_address, change_of, findings_in_words, holds_address, least, most, naming, span_alone, span_in_words, spans_by_aperture } from './spans.js';
 import { question_at } from './why.js';
 
-const ROW = 20, TICKS = 36;
+const ROW = 20, TICKS = 36, NAMED_BESIDE = 6;
 const NAMES = { io: 'I/O', mem: 'Memory', pref: 'Prefetchable memory' };
 const keys_in_words = can_ask => `arrow keys go from one to the next, ${can_ask ? 'Enter asks who answers there and why, +' : 'Enter or +'} zooms into it, Escape shows all`;
 
-// A function by its number, or by its path where a cycle for its number doesn't find it.
-const told_as = one => (one.lost ? one.path : one.place);
-
-// Everything that is placed in one aperture, by address, with the depth of the bus it stands on.
-function spans_in(space, functions, apertures) {
-  return functions.flatMap(one => one.windows.filter(window => aperture_of(window.space, window.first, apertures) === space)
-    .map(window => ({ first: window.first, last: window.last, depth: one.depth, of: one, name: `${window.space} window` }))
-    .concat(one.regions.filter(region => aperture_of(region.kind, region.first, apertures) === space)
-      .map(region => ({ first: region.first, last: region.first + region.size - 1n, depth: one.depth, of: one, name: region.name, region }))))
-    .sort((a, b) => (a.first === b.first ? a.depth - b.depth : a.first < b.first ? -1 : 1));
-}
-
-const least = (one, other) => (one < other ? one : other);
-const most = (one, other) => (one < other ? other : one);
-
-// Where an address stands in a width, and what stands at a share of it.
+// Where an address is in a width, and what is at a share of it.
 const place_of = (address, [first, last], width) => Number((address - first) * 1000000n / (last - first + 1n)) / 1000000 * width;
 const address_at = (share, [first, last]) => first + BigInt(Math.floor(share * 1000000)) * (last - first + 1n) / 1000000n;
-
-// Whose a region is, on a board that has guests.
-const whose = (path, { owners, marks }) => (marks.size === 0 ? '' : `, ${owner_in_words(owners.get(path))}`);
-
-// What stands at an address: the region that has it, else the innermost window.
-function at_address(address, spans, board) {
-  const those = spans.filter(span => span.first <= address && address <= span.last);
-  const region = those.find(span => span.region);
-  if (region) {
-    return `${told_as(region.of)} ${region.name} + ${hex(address - region.first)}${whose(region.of.path, board)}`;
-  }
-  const window = those.sort((a, b) => b.depth - a.depth)[0];
-  return window ? `nothing, in the ${window.name} of ${told_as(window.of)}` : 'nothing';
-}
-
-// The problems or lacks that name a region or, where they name no register, a window of its bridge at their address.
-const naming = ({ of, region, first, last }, findings) => findings.filter(one => one.of.some(({ path, register }) => path === of.path
-  && (region ? register === region.name : register === null && first <= one.address && one.address <= last)));
-
-// The causes that name a region or, where they name no register, a bridge.
-const causes_naming = ({ of, region }, causes) => causes.filter(one => one.of.some(({ path, register }) => path === of.path && (region ? region.name : null) === register));
-
-// What the last line changed of a region or a window.
-const change_of = ({ of, name }, changes) => changes.find(one => one.path === of.path && one.name === name);
-
-const findings_in_words = ({ problems, lacks, asked, changes }, spans) => {
-  const told = (those, name) => those.filter(one => spans.some(span => name(span, [one]).length > 0));
-  return [...spans.map(span => change_of(span, changes)).filter(Boolean).map(one => `; before: ${one.before}`),
-    ...told(problems, naming).map(one => `; ! ${one.text}`), ...told(lacks, naming).map(one => `; left to do: ${one.text}`),
-    ...told(asked.causes, causes_naming).map(one => `; why: ${one.text}`)].join('');
-};
-
-const span_in_words = (span, board, findings) => `${told_as(span.of)} ${span.name} ${hex(span.first)} to ${hex(span.last)}, `
-  + size_in_words(span.last - span.first + 1n) + (span.region ? whose(span.of.path, board) : '') + findings_in_words(findings, [span]);
+const is_within = (span, range) => span.first <= range[1] && range[0] <= span.last;
 
 // The used part of an aperture in a thin strip of the whole, the part that is shown, and the address that is asked about.
 function strip_of(used, shown, aperture, width, asked) {
@@ -88,15 +43,17 @@ export class Addresses {
   // `findings` are problems and lacks, with the address and the space at which they are seen, what is asked, and what the last line changed;
   // `none` is told where there is nothing to draw.
   draw(functions, apertures, owners, marks, findings, none = '') {
-    const spans = new Map(Object.keys(NAMES).map(space => [space, spans_in(space, functions, apertures)]));
-    this.board = { spans, apertures, owners, marks, findings, none };
+    const spans = spans_by_aperture(functions, apertures, Object.keys(NAMES)), is_driven = functions.some(one => one.all_regions !== undefined);
+    const deepest = is_io => Math.max(0, ...functions.filter(one => [...one.regions, ...one.all_regions ?? []].some(({ kind }) => (kind === 'io') === is_io)
+      || [...one.windows, ...one.all_windows ?? []].some(({ space }) => (space === 'io') === is_io)).map(one => one.depth));
+    this.board = { spans, apertures, owners, marks, findings: { ...findings, functions }, none, is_driven, rows: { io: deepest(true) + 1, mem: deepest(false) + 1 } };
     this.redraw();
   }
 
   // A bar that has the keys keeps them, and a question whose bar is gone stands below the others.
   redraw() {
     if (this.board === null) return;
-    const count = Object.keys(NAMES).filter(space => this.spans_and_places_before(space).length > 0).length;
+    const count = Object.keys(NAMES).filter(space => this.is_drawn(space)).length;
     // asked once for each width, as the browser lays the page out to answer
     if (this.width === 0 || count !== this.count) {
       this.into.style.setProperty('--bars', Math.max(count, 1));
@@ -130,26 +87,28 @@ export class Addresses {
     this.zoom(space, is_shown ? [range[0] + quarter, range[1] - quarter] : wanted);
   }
 
+  // An aperture of the file has its bar even if nothing is in it, so that lines don't move what is below.
+  is_drawn(space) { return this.board.apertures[space] !== undefined || this.spans_and_places_before(space).length > 0; }
+
   figure(space) {
+    if (!this.is_drawn(space)) return null;
     const { apertures } = this.board, spans = this.board.spans.get(space), findings = this.findings_in(space);
-    const all = this.spans_and_places_before(space);
-    if (all.length === 0) return null;
-    const [aperture, used, outside] = this.extent_of(all, apertures[space]), range = this.ranges.get(space) ?? used;
+    const [aperture, used] = this.extent_of(this.spans_and_places_before(space), apertures[space]), range = this.ranges.get(space) ?? used;
     const figure = make('div', 'space'), told = make('div', 'told'), bar = this.bar(space, spans, range, findings);
     figure.dataset.space = space;
     told.setAttribute('role', 'status');
     bar.setAttribute('aria-label', `${NAMES[space]}: ${keys_in_words(this.question.can_ask())}`);
     this.follow_pointer(bar, told, space, spans, range, findings);
     this.follow_keys(bar, told, space, spans, range, findings);
-    figure.append(this.title(space, spans, range, outside, aperture), strip_of(used, range, aperture, this.width, findings.asked.address), bar, told,
+    figure.append(this.title(space, spans, range, aperture), strip_of(used, range, aperture, this.width, findings.asked.address), bar, told,
       ...this.question.below(space));
     return figure;
   }
 
   findings_in(space) {
-    const { findings: { problems, lacks, asked, changes }, apertures } = this.board;
+    const { findings: { problems, lacks, asked, changes, functions }, apertures } = this.board;
     const is_here = one => one.address !== null && aperture_of(one.space, one.address, apertures) === space;
-    return { problems: problems.filter(is_here), lacks: lacks.filter(is_here), asked: { ...asked, address: is_here(asked) ? asked.address : null }, changes };
+    return { problems: problems.filter(is_here), lacks: lacks.filter(is_here), asked: { ...asked, address: is_here(asked) ? asked.address : null }, changes, functions };
   }
 
   spans_and_places_before(space) {
@@ -157,10 +116,11 @@ export class Addresses {
     return [...spans.get(space), ...this.places_before(space, changes)];
   }
 
-  // Where the board's regions and windows stood that the last line moved or shut, in one aperture.
+  // Where the board's regions and windows were that the last line moved, in one aperture.
   places_before(space, changes) {
-    return changes.filter(({ was }) => was !== null && was.owner === undefined && aperture_of(was.space, was.first, this.board.apertures) === space)
-      .map(({ was, path, name, before }) => ({ ...was, depth: path.split('/').length - 1, text: `${path} ${name} ${before}` }));
+    return changes.filter(({ was, now }) => was !== null && was.owner === undefined && (was.first !== now?.first || was.last !== now?.last)
+      && aperture_of(was.space, was.first, this.board.apertures) === space)
+      .map(({ was, path, called: one, name, before }) => ({ ...was, depth: path.split('/').length - 1, text: `${one} ${name} ${before}` }));
   }
 
   // Where regions and windows stand that causes name, in one aperture, with the depth of their bus.
@@ -169,83 +129,118 @@ export class Addresses {
       .map(one => ({ ...one, text, depth: one.path.split('/').length - 1 })));
   }
 
-  // The aperture, what is used of it, and how many spans stand outside, which only firmware leaves. Where nothing is in the
-  // aperture, it is what is used.
+  // The aperture, and what is used of it, or all of it if nothing is in it.
   extent_of(spans, aperture) {
-    const inside = aperture ? spans.filter(span => span.first <= aperture[1] && aperture[0] <= span.last) : spans;
-    const those = inside.length > 0 ? inside : spans, used = [those[0].first, those.reduce((last, span) => most(last, span.last), 0n)];
-    if (inside.length === 0 || !aperture) return [used, used, 0];
-    return [[least(aperture[0], used[0]), most(aperture[1], used[1])], used, spans.length - inside.length];
+    const inside = aperture ? spans.filter(span => is_within(span, aperture)) : spans;
+    if (inside.length === 0) return [aperture, aperture];
+    const used = inside.reduce(([first, last], span) => [least(first, span.first), most(last, span.last)], [inside[0].first, 0n]);
+    return [aperture ? [least(aperture[0], used[0]), most(aperture[1], used[1])] : used, used];
   }
 
-  title(space, spans, range, outside, aperture) {
+  title(space, spans, range, aperture) {
     const title = make('div', 'title'), buttons = make('span', 'buttons'), size = range[1] - range[0] + 1n;
-    title.append(make('span', '', NAMES[space]), make('span', '', `${hex(range[0])} to ${hex(range[1])}, ${size_in_words(size)}`
-      + ` of the aperture's ${size_in_words(aperture[1] - aperture[0] + 1n)}${outside > 0 ? `; ${outside} outside it, by the arrow keys` : ''}`), buttons);
+    title.append(make('span', '', NAMES[space]), make('span', 'range', `${hex(range[0])} to ${hex(range[1])}, ${size_in_words(size)}`
+      + ` of the aperture's ${size_in_words(aperture[1] - aperture[0] + 1n)}`), buttons);
     const out = [most(range[0] - size / 2n, aperture[0]), least(range[1] + size / 2n, aperture[1])];
     for (const [name, words, act] of [['−', 'Zoom out', () => this.zoom(space, out)], ['+', 'Zoom in', () => this.zoom_in(space, spans, range)],
-      ['used', 'Show all that is used', () => this.zoom(space, null)], ['aperture', 'Show the whole aperture', () => this.zoom(space, aperture)]]) {
+      ['Fit', 'Show what is used', () => this.zoom(space, null)], ['All', 'Show the whole aperture', () => this.zoom(space, aperture)]]) {
       buttons.append(Object.assign(make_button(name, act, '', `${words}, ${NAMES[space]}`), { title: words }));
     }
     return title;
   }
 
-  bar(space, spans, range, { problems, lacks, asked, changes }) {
-    const { owners, marks } = this.board, is_seen = span => span.first <= range[1] && range[0] <= span.last, seen = spans.filter(is_seen);
-    const told = this.places_told(space, asked).filter(is_seen), were = this.places_before(space, changes).filter(is_seen);
-    const deepest = Math.max(0, ...[...seen, ...told, ...were].map(span => span.depth)) + 1, height = deepest * ROW + 4;
-    const sides_of = span => [place_of(most(span.first, range[0]), range, this.width), place_of(least(span.last, range[1]) + 1n, range, this.width)];
+  // How a bar maps addresses to places: its range, between two gutters where firmware drives the board.
+  scale_of_bar(range) {
+    const gutter = this.board.is_driven ? gutter_of(this.width) : 0, inner = this.width - 2 * gutter;
+    const x_of = address => gutter + place_of(address, range, inner);
+    return { range, gutter, inner, x_of, sides_of: span => [x_of(most(span.first, range[0])), x_of(least(span.last, range[1]) + 1n)] };
+  }
+
+  bar(space, spans, range, findings) {
+    const scale = this.scale_of_bar(range), rows = this.board.rows[space === 'io' ? 'io' : 'mem'], height = rows * ROW + 4;
     const bar = svg('svg', { width: this.width, height: height + TICKS, class: 'bars', tabindex: 0, role: 'group' });
-    bar.append(svg('rect', { x: 0, y: 0, width: this.width, height, class: 'well' }));
-    for (const span of seen.slice().sort((a, b) => a.depth - b.depth || !b.region - !a.region)) {
-      const [from, to] = sides_of(span), y = span.depth * ROW + 2, mark = mark_of(owners.get(span.of.path), marks);
-      const wrong = (naming(span, problems).length > 0 ? ' wrong' : naming(span, lacks).length > 0 ? ' lacks' : '') + (change_of(span, changes) ? ' changed' : '');
-      if (span.region) bar.append(region_box(from, to - from, y, ROW - 1, mark, [`${told_as(span.of)} ${span.name}`, told_as(span.of)], wrong, this.board.marks.size > 0));
-      else bar.append(svg('rect', { x: from, width: Math.max(to - from, 2), y, height: ROW * (deepest - span.depth), class: `window${wrong}` }),
-        ...name_in([`${span.name} of ${told_as(span.of)}`, `of ${told_as(span.of)}`], from, to - from, y + ROW / 2 + 4, 'of'));
-    }
-    const edge = box => one => {
-      const [from, to] = sides_of(one);
-      return box(from, to - from, one.depth * ROW + 2, one.register === null ? ROW * (deepest - one.depth) : ROW - 1, one.text);
-    };
-    bar.append(...were.map(edge(before_box)), ...told.map(edge(cause_box)), ...ticks(this.ticks_of(seen, range), this.width, height, 2, 14));
+    bar.append(svg('rect', { x: scale.gutter, y: 0, width: scale.inner, height, class: 'well' }));
+    if (scale.gutter > 0) bar.append(...this.beside(spans, scale, height, findings.changes));
+    const seen = spans.filter(span => is_within(span, range)).sort((a, b) => a.depth - b.depth || !b.region - !a.region);
+    for (const span of [...seen.filter(one => one.open), ...seen.filter(one => !one.open)]) bar.append(...this.drawn(span, scale, rows, findings));
+    bar.append(...this.edges(space, scale, rows, findings), ...ticks(this.ticks_of(spans, scale), this.width, height, 2, 14));
     const at = (those, mark) => those.filter(({ address }) => range[0] <= address && address <= range[1])
-      .map(one => mark(place_of(one.address, range, this.width), this.width, height, one.text));
+      .map(one => mark(scale.x_of(one.address), this.width, height, one.text));
+    const { problems, lacks, asked } = findings;
     bar.append(...at(lacks, lack_at), ...at(problems, bang_at), ...at(asked.address === null ? [] : [{ ...asked, text: hex(asked.address) }], question_mark_at));
     return bar;
   }
 
+  // A region or a window, in dashes if Command disables it.
+  drawn(span, { sides_of }, rows, { problems, lacks, changes }) {
+    const { owners, marks } = this.board, [from, to] = sides_of(span), y = span.depth * ROW + 2, one = called(span.of), tall = ROW * (rows - span.depth);
+    const state = (naming(span, problems).length > 0 ? ' wrong' : naming(span, lacks).length > 0 ? ' lacks' : '') + (change_of(span, changes) ? ' changed' : '');
+    const names = span.region ? [`${one} ${span.name}`, one, span.name] : [`${span.name} of ${one}`, `of ${one}`];
+    if (!span.open) return [ghost_box(from, to - from, y, span.region ? ROW - 1 : tall, names, ROW, state)];
+    if (span.region) return [region_box(from, to - from, y, ROW - 1, mark_of(owners.get(span.of.path), marks), names.slice(0, 2), state, marks.size > 0)];
+    return [svg('rect', { x: from, width: Math.max(to - from, 2), y, height: tall, class: `window${state}` }), ...name_in(names, from, to - from, y + ROW / 2 + 4, 'of')];
+  }
+
+  // Edges around what was elsewhere before the last line, and around what a cause names.
+  edges(space, { range, sides_of }, rows, { asked, changes }) {
+    const edge = box => one => {
+      const [from, to] = sides_of(one);
+      return box(from, to - from, one.depth * ROW + 2, one.register === null ? ROW * (rows - one.depth) : ROW - 1, one.text);
+    };
+    const seen = those => those.filter(one => is_within(one, range));
+    return [...seen(this.places_before(space, changes)).map(edge(before_box)), ...seen(this.places_told(space, asked)).map(edge(cause_box))];
+  }
+
+  // What is below the range that is shown, and what is above it: in each gutter a box for each depth.
+  beside(spans, { range, gutter, inner }, height, changes) {
+    const sides = [[0, 'below', spans.filter(span => span.last < range[0])], [gutter + inner + 2, 'above', spans.filter(span => span.first > range[1])]];
+    return sides.flatMap(([x, side, those]) => [svg('rect', { x, y: 0, width: gutter - 2, height, class: 'gutter' }),
+      ...[...new Set(those.map(span => span.depth))].map(depth => {
+        const here = those.filter(span => span.depth === depth), names = here.slice(0, NAMED_BESIDE).map(span_alone);
+        const more = here.length > NAMED_BESIDE ? [`${here.length - NAMED_BESIDE} more`] : [];
+        const label = here.length > 1 ? [`${here.length} ${side}`, `${here.length}`] : [`${called(here[0].of)} ${here[0].name}`, here[0].name, here[0].name.split(' ')[0]];
+        const state = (here.some(span => change_of(span, changes)) ? ' changed' : '') + (here.some(span => span.open) ? ' open' : '');
+        return gutter_box(x + 2, gutter - 6, depth * ROW + 2, ROW - 1, label, [...names, ...more].join('\n'), state);
+      })]);
+  }
+
   // The ends of what is shown first, then those of windows, then where regions begin.
-  ticks_of(spans, range) {
-    const at = (address, past = 0n) => ({ x: place_of(address + past, range, this.width), text: hex(address) });
+  ticks_of(spans, { range, x_of, gutter }) {
+    const at = (address, past = 0n) => ({ x: x_of(address + past), text: hex(address) });
     const inside = address => range[0] < address && address < range[1];
     const windows = spans.filter(span => !span.region).flatMap(span => [[span.first, 0n], [span.last, 1n]]);
     const regions = spans.filter(span => span.region).map(span => [span.first, 0n]);
-    return [at(range[0]), at(range[1], 1n), ...windows.concat(regions).filter(([address]) => inside(address)).map(one => at(...one))];
+    const below = spans.filter(span => span.last < range[0]), above = spans.filter(span => span.first > range[1]);
+    const beside = gutter === 0 ? [] : [...below.slice(0, 1).map(span => ({ x: gutter / 2, text: hex(span.first) })),
+      ...above.slice(0, 1).map(span => ({ x: this.width - gutter / 2, text: hex(span.first) }))];
+    return [at(range[0]), at(range[1], 1n), ...windows.concat(regions).filter(([address]) => inside(address)).map(one => at(...one)), ...beside];
+  }
+
+  // Where in a bar a pointer is: the address, the row, and the spans there, which in a gutter are those on its side.
+  pointed(event, bar, spans, { range, gutter, inner }) {
+    const box = bar.getBoundingClientRect(), x = (event.clientX - box.left) / box.width * this.width;
+    const share = Math.min(Math.max((x - gutter) / inner, 0), 0.999999), address = address_at(share, range), row = Math.floor((event.clientY - box.top - 2) / ROW);
+    const is_beside = x < gutter || x > gutter + inner, beside = spans.filter(span => (x < gutter ? span.last < range[0] : span.first > range[1]));
+    return { x, address, row, is_beside: is_beside && beside.length > 0, here: is_beside ? beside : spans.filter(span => holds_address(address, span)) };
   }
 
   follow_pointer(bar, told, space, spans, range, findings) {
-    const cursor = svg('line', { class: 'cursor', y1: 0, y2: bar.getAttribute('height') - TICKS, visibility: 'hidden' });
+    const cursor = svg('line', { class: 'cursor', y1: 0, y2: bar.getAttribute('height') - TICKS, visibility: 'hidden' }), scale = this.scale_of_bar(range);
     bar.append(cursor);
-    const pointed = event => {
-      const box = bar.getBoundingClientRect(), share = Math.min(Math.max((event.clientX - box.left) / box.width, 0), 0.999999);
-      return { share, address: address_at(share, range), row: Math.floor((event.clientY - box.top - 2) / ROW) };
-    };
     bar.addEventListener('pointermove', event => {
-      const { share, address } = pointed(event);
-      for (const name of ['x1', 'x2']) cursor.setAttribute(name, share * this.width);
+      const { x, address, is_beside, here } = this.pointed(event, bar, spans, scale);
+      for (const name of ['x1', 'x2']) cursor.setAttribute(name, x);
       cursor.setAttribute('visibility', 'visible');
-      const here = spans.filter(span => span.first <= address && address <= span.last);
-      told.textContent = `${hex(address)}: ${at_address(address, spans, this.board)}${findings_in_words(findings, here)}`;
-      this.light(spans.find(span => span.region && span.first <= address && address <= span.last)?.of.path ?? null);
+      told.textContent = is_beside ? here.slice(0, NAMED_BESIDE).map(span => span_in_words(span, this.board, findings)).join('; ')
+        : `${hex(address)}: ${at_address(address, spans, this.board)}${findings_in_words(findings, here)}`;
+      this.light(here.find(span => span.region)?.of.path ?? null);
     });
     bar.addEventListener('pointerleave', () => { cursor.setAttribute('visibility', 'hidden'); told.textContent = ''; this.light(null); });
     bar.addEventListener('click', event => {
-      const { address, row } = pointed(event);
-      const those = spans.filter(span => span.first <= address && address <= span.last).sort((a, b) => b.depth - a.depth);
+      const { address, row, is_beside, here } = this.pointed(event, bar, spans, scale), those = here.slice().sort((a, b) => b.depth - a.depth);
       const one = those.find(span => span.depth <= row) ?? those[0];
       if (one) this.at.set(space, spans.indexOf(one));
-      if (this.question.can_ask()) this.ask(space, address);
+      if (this.question.can_ask()) this.ask(space, is_beside ? one.first : address);
       else if (one) this.zoom(space, this.around(one));
     });
   }

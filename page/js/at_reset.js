@@ -3,8 +3,9 @@
 import { TO_BYTES, TO_TEXT } from './engine.js';
 import { hex, parent_of, two_digits } from './report.js';
 import { keeping_latch } from './asked.js';
+import { UNNUMBERED } from './names.js';
 
-const COMMAND = 0x04, BUSES = 0x18, NO_NUMBER = '–';
+const COMMAND = 0x04, BUSES = 0x18;
 const NO_WINDOW = { first: 1n, last: 0n, open: false };
 
 // Which windows a bridge has, as set-up left them: one that is there is never left with all bits 0.
@@ -22,14 +23,14 @@ const windows_in_row = ({ windows, opens }, decodes) => windows.filter(({ space 
 export class AtReset {
   // `functions` are the report's; `decodes` has the windows of each bridge, by its path.
   constructor(driven, functions, decodes) {
-    Object.assign(this, { driven, declared: functions, decodes, cycles: new Map(), functions: [], given: false, problems: [], lacks: [] });
-    this.look();
+    Object.assign(this, { driven, declared: functions, decodes, cycles: new Map(), functions: [], given: false, problems: [], lacks: [], found: null });
   }
 
-  // Looks at all functions, and tells which problems came and which went. Once the board is given to its guests nothing of it changes.
-  look() {
+  // Looks at all functions, and tells which problems came and which went. Once the board is given to its guests nothing of it changes. What is
+  // known of this moment already isn't asked again.
+  look(known) {
     const before = this.problems;
-    this.ask();
+    this.ask(known);
     if (!this.given) keeping_latch(this.driven, () => this.look_at_functions());
     const [old, now] = [before, this.problems].map(those => new Set(those.map(one => one.text)));
     return { came: [...now].filter(text => !old.has(text)), gone: [...old].filter(text => !now.has(text)) };
@@ -37,10 +38,10 @@ export class AtReset {
 
   // What is wrong and what is lacking. It isn't told once the board is given to its guests: nothing was wrong then, and what they do changes
   // neither that nor what was lacking.
-  ask() {
-    const found = this.driven.findings();
+  ask(known) {
+    const found = known === undefined ? this.driven.findings() : known;
     this.given = found === null;
-    Object.assign(this, found ?? { problems: [] });
+    Object.assign(this, found ?? { problems: [] }, { found });
   }
 
   look_at_functions() {
@@ -53,10 +54,10 @@ export class AtReset {
     const before = this.functions[nth], told = this.driven.function_at(nth, before?.told), values = this.values_of(one, before, told, lost !== null);
     if (told === before?.told && values === before.values && lost === before.lost) return before;
     const bus = told.place.slice(0, 2), all_regions = regions_in_row(one, told), decodes = this.decodes.get(one.path), all_windows = windows_in_row(told, decodes);
-    const now = { ...one, place: told.place, bus: bus === '00' && one.depth > 0 ? NO_NUMBER : bus, lost, told, values, decodes, all_regions, all_windows,
+    const now = { ...one, place: told.place, bus: bus === '00' && one.depth > 0 ? UNNUMBERED : bus, lost, told, values, decodes, all_regions, all_windows,
       regions: all_regions.filter(region => region.open), windows: all_windows.filter(window => window.open) };
     if (one.kind === 'bridge') {
-      now.buses = [0, 8, 16].map(shift => values.get(BUSES) >> shift & 0xff).map(number => (number === 0 ? NO_NUMBER : two_digits(number)));
+      now.buses = [0, 8, 16].map(shift => values.get(BUSES) >> shift & 0xff).map(number => (number === 0 ? UNNUMBERED : two_digits(number)));
       if (one.depth === 0) now.buses[0] = two_digits(values.get(BUSES) & 0xff);
     }
     return now;
@@ -73,7 +74,7 @@ export class AtReset {
   // At which number a function is looked for, and the bus number of the bridge above it by which that is so.
   way_to(path) {
     const at = name => this.functions.find(one => one.path === name), above = at(parent_of(path)), [, bus] = above.buses;
-    return `${path} is looked for at ${at(path).place}: the bridge above it, ${above.path}, has Secondary ${bus === NO_NUMBER ? '00, so its bus has no number' : bus}`;
+    return `${path} is looked for at ${at(path).place}: the bridge above it, ${above.path}, has Secondary ${bus === UNNUMBERED ? '00, so its bus has no number' : bus}`;
   }
 
   // The lines that read a function's registers at a number, with the registers: they are written once while the number stays.

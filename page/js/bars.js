@@ -30,6 +30,23 @@ export function region_box(x, width, y, height, mark, names, wrong = '', lettere
   return all;
 }
 
+// A region or a window that Command disables: its edge in dashes, with the longest name that fits its first row.
+export function ghost_box(x, width, y, height, names, row, state) {
+  const all = svg('g', { class: `ghost${state}` });
+  all.append(svg('rect', { x, y, width: Math.max(width, 4), height }), ...name_in(names, x, width, y + row / 2 + 4, 'of'));
+  return all;
+}
+
+// How wide the gutter on each side of a bar is.
+export const gutter_of = width => Math.round(Math.min(Math.max(width * 0.12, 44), 96));
+
+// What is in a gutter: the longest name that fits, and all of it in words.
+export function gutter_box(x, width, y, height, names, text, state) {
+  const all = ghost_box(x, width, y, height, names, height, ` beside${state}`);
+  all.append(svg('title', {}, text));
+  return all;
+}
+
 // Where a problem or a lack is seen: a line, with a sign at its upper end.
 function sign_at(name, x, height, text, sign) {
   const all = svg('g', { class: name });

@@ -5,7 +5,7 @@ import { hex, size_in_words } from './report.js';
 import { make } from './marks.js';
 
 const NIBBLE = 4;
-const KINDS = { set: 'can be written', kind: 'tells the kind', wired: 'wired' };
+const KINDS = { set: 'can be written', kind: 'encodes the kind', wired: 'hardwired' };
 
 // Each bit of a register, the highest first: { bit, on, kind }. `value` is what is written; what is wired stays as it is.
 function bits_of_register({ width, ones, zeros, low }, value) {
@@ -48,15 +48,15 @@ function bits_in_words(bits, kind) {
 function size_told(registers, { space, mem64 }) {
   const low = registers[0].ones & (space === 'io' ? ~3n : ~15n), bits = mem64 ? 64n : 32n;
   const back = low + (mem64 ? registers[1].ones << 32n : 0n), size = (1n << bits) - back;
-  return `Without the bits that tell the kind that is ${hex(back)}. Its complement is ${hex(size - 1n)}, and one more ${hex(size)}: ${size_in_words(size)}. `
-    + 'The bits below the size are wired to 0, so a region begins at a multiple of its size.';
+  return `Without the bits for the kind that is ${hex(back)}. Inverted it is ${hex(size - 1n)}, and one more is ${hex(size)}: ${size_in_words(size)}. `
+    + 'The bits below the size are hardwired to 0, so a region starts at a multiple of its size.';
 }
 
 const meaning_of = {
   base: (registers, form) => size_told(registers, form),
   window: (_, { unit }) => 'The bits that can be written are the upper ones of the address. Those below are 0 in Base and 1 in Limit, '
     + `so a window is made of units of ${size_in_words(unit)}.`,
-  command: () => 'A bit that is wired to 0 is a switch that this function doesn\'t have.',
+  command: () => 'A bit that is hardwired to 0 is a switch that this function doesn\'t have.',
 };
 
 export class Bits {
@@ -82,7 +82,7 @@ export class Bits {
 
   row_of(register, value, names) {
     const row = make('div', 'of_bits'), bits = bits_of_register(register, value);
-    const told = make('span', 'unit', `${register.name}, ${register.offset.toString(16)}h: ${digits(value_of(bits), register.width)}`);
+    const told = make('span', 'unit', `${register.name}, ${hex(register.offset)}: ${digits(value_of(bits), register.width)}`);
     row.append(told, boxes_of(bits, names));
     row.setAttribute('role', 'img');
     row.setAttribute('aria-label', `${told.textContent}, in bits ${bits.map(one => (one.on ? 1 : 0)).join('')}`);
@@ -97,7 +97,7 @@ export class Bits {
 
   in_words(form, registers) {
     const of_each = registers.map(register => {
-      const bits = bits_of_register(register, 0n), told = [['set', 'can be written'], ['kind', 'tell the kind'], ['wired', 'are wired']]
+      const bits = bits_of_register(register, 0n), told = [['set', 'can be written'], ['kind', 'encode the kind'], ['wired', 'are hardwired']]
         .map(([kind, words]) => [bits_in_words(bits, kind), words]).filter(([span]) => span !== null).map(([span, words]) => `${span} ${words}`);
       return `${register.name}: bits ${told.join('; ')}`;
     });

@@ -2,19 +2,20 @@
 
 import { hex, parent_of, size_in_words } from './report.js';
 import { badge, colour, make, make_button, mark_of, owner_in_words, sign } from './marks.js';
+import { number_shown, UNNUMBERED, with_numbers } from './names.js';
 
 export const LARGE = 64;
-const MANY = 12, TOLD = 8, UNNUMBERED = '–';
+const MANY = 12, TOLD = 8;
 
-// What a function holds, part by part, but for regions that are told to be closed by what it lacks.
+// What a function holds, part by part, except regions whose being disabled is already told as left to do.
 export function places_of(one, lacks = []) {
   const is_told = region => lacks.some(text => text.startsWith(`${one.path} ${region.name} at `));
   const places = one.regions.map(region => `${region.name} ${region.kind} at ${hex(region.first)} to ${hex(region.first + region.size - 1n)}, ${size_in_words(region.size)}`)
     .concat(one.windows.map(window => `${window.space} window ${hex(window.first)} to ${hex(window.last)}`));
-  const shut = [...(one.all_regions ?? []).filter(region => !region.open && !is_told(region)).map(region => `${region.name} ${region.kind} shut, ${size_in_words(region.size)}`),
-    ...(one.all_windows ?? []).filter(window => !window.open).map(window => `${window.space} window shut`)];
+  const disabled = [...(one.all_regions ?? []).filter(region => !region.open && !is_told(region)).map(region => `${region.name} ${region.kind} disabled, ${size_in_words(region.size)}`),
+    ...(one.all_windows ?? []).filter(window => !window.open).map(window => `${window.space} window disabled`)];
   if (one.buses) places.unshift(`bridge to bus ${one.buses[1]}, last bus ${one.buses[2]}`);
-  return [...places, ...shut];
+  return [...places, ...disabled];
 }
 
 // The first of many texts, and how many more there are.
@@ -123,16 +124,19 @@ export class Board {
     const owner = this.owners.get(one.path), mark = mark_of(owner, this.marks), chip = make('div', 'chip');
     const [troubles, lacks, causes, changes] = [this.troubles, this.lacks, this.causes, this.changes].map(texts => this.told_at(one, texts));
     const owned = one.kind === 'bridge' || this.marks.size === 0 ? [] : [owner_in_words(owner)];
-    const words = [`${one.place}, ${one.words}, ${one.path}`, ...few_of(troubles), ...few_of(lacks).map(text => `left to do: ${text}`),
-      ...few_of(causes).map(text => `why: ${text}`), ...few_of(changes).map(text => `changed: ${text}`), ...(one.lost ? ['a click or Enter asks why'] : []), ...owned, ...places_of(one, lacks)];
+    const said = texts => few_of(texts).map(text => with_numbers(text, this.functions));
+    const words = [`${number_shown(one)}, ${one.words}, ${one.path}`, ...said(troubles), ...said(lacks).map(text => `left to do: ${text}`),
+      ...said(causes).map(text => `why: ${text}`), ...few_of(changes).map(text => `changed: ${text}`), ...(one.lost ? ['a click or Enter asks why'] : []), ...owned, ...places_of(one, lacks)];
     chip.title = words.join('\n');
     chip.dataset.path = one.path;
     chip.tabIndex = 0;
     if (one.kind === 'bridge') chip.classList.add('bridge');
     else { colour(chip, mark); chip.append(badge(mark)); }
-    chip.append(`${one.place.slice(3)} ${one.words}`, ...(troubles.length > 0 ? [sign_of('bang', '!', 'wrong', troubles)] : []),
+    const signs = make('span', 'signs');
+    signs.append(...(troubles.length > 0 ? [sign_of('bang', '!', 'wrong', troubles)] : []),
       ...(lacks.length > 0 ? [sign_of('lack', '○', 'left to do', lacks)] : []), ...(causes.length > 0 ? [sign_of('cause', '?', 'why', causes)] : []),
-      ...(changes.length > 0 ? [sign_of('change', 'Δ', 'changed', changes)] : []), small_of(one));
+      ...(changes.length > 0 ? [sign_of('change', 'Δ', 'changed', changes)] : []));
+    chip.append(`${number_shown(one)} ${one.words}`, signs, small_of(one));
     chip.classList.toggle('troubled', troubles.length > 0);
     chip.classList.toggle('lost', Boolean(one.lost));
     chip.classList.toggle('changed', changes.length > 0);
@@ -177,12 +181,13 @@ export class Board {
   row_of(one, names) {
     const row = make('tr', ''), owner = this.owners.get(one.path), held = make('td', ''), taken = make('td', 'owner');
     row.dataset.path = one.path;
-    const [troubles, lacks, causes] = [this.troubles, this.lacks, this.causes].map(texts => texts.get(one.path) ?? []);
-    held.append(...troubles.map(text => line_of('wrong', '!', 'wrong', text)), ...lacks.map(text => line_of('lacks', '○', 'left to do', text)),
+    const [troubles, said_lacks, causes] = [this.troubles, this.lacks, this.causes].map(texts => (texts.get(one.path) ?? []).map(text => with_numbers(text, this.functions)));
+    const lacks = this.lacks.get(one.path) ?? [];
+    held.append(...troubles.map(text => line_of('wrong', '!', 'wrong', text)), ...said_lacks.map(text => line_of('lacks', '○', 'left to do', text)),
       ...causes.map(text => line_of('causes', '?', 'why', text)));
     for (const place of places_of(one, lacks)) held.append(make('div', '', place));
     if (one.kind !== 'bridge') taken.append(badge(mark_of(owner, this.marks)), owner ? `${owner.guest}, slot\u00a0${owner.slot}` : 'no guest');
-    row.append(make('td', '', one.place), taken, make('td', '', one.path), make('td', '', `${one.words} ${one.identity}`), held, make('td', '', one.interrupt));
+    row.append(make('td', '', number_shown(one)), taken, make('td', '', one.path), make('td', '', `${one.words} ${one.identity}`), held, make('td', '', one.interrupt));
     [...row.children].forEach((cell, nth) => { cell.dataset.name = names[nth]; });
     return row;
   }

@@ -25,7 +25,7 @@ export class Bytes {
   }
 
   build(rows, kind) {
-    const head = make('tr', ''), corner = make('th', '', 'h');
+    const head = make('tr', ''), corner = make('th', '', '0x');
     head.append(corner, ...Array.from({ length: ACROSS }, (_, nth) => make('th', '', nth.toString(16))));
     this.cells = [];
     this.into.replaceChildren(head, ...rows.map(row => {
@@ -39,7 +39,7 @@ export class Bytes {
   cell_of(offset, kind) {
     const cell = make('td', ''), register = register_at(kind, offset);
     const name = register === null ? (offset < HEADER ? 'reserved' : "the device's own") : register.title;
-    cell.title = `${two_digits(offset)}h: ${name}`;
+    cell.title = `0x${two_digits(offset)}: ${name}`;
     cell.addEventListener('pointerenter', () => { this.told.textContent = cell.title; this.mark(offset); });
     cell.addEventListener('pointerleave', () => { this.told.textContent = ''; this.mark(null); });
     this.cells.push([offset, cell]);

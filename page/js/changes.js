@@ -1,6 +1,7 @@
 // What a line changed: what it wrote, and after it numbers, regions, windows and who has a function, each before and after.
 
 import { hex } from './report.js';
+import { called } from './names.js';
 import { number_of, words_in } from './reasons.js';
 import { register_at } from './register_names.js';
 import { owner_in_words } from './marks.js';
@@ -9,29 +10,29 @@ const READS = { cw: 'cr', iw: 'ir', mw: 'mr' };
 const range_of = ({ first, last }) => `${hex(first)} to ${hex(last)}`;
 const last_of = region => region.first + region.size - 1n;
 
-// A fact has the function that it is about, its words, its value in words, and the place that it opens, or null.
-const fact = (path, name, value, place = null) => ({ path, name, value, place });
+// A fact has the function that it is about, its words, its value in words, and the place that its registers name, or null.
+const fact = (one, name, value, place = null) => ({ path: one.path, called: called(one), name, value, place });
 
 function facts_of_bridge(one) {
-  const told = window => (window.open ? range_of(window) : window.first > window.last ? 'shut, Base above Limit' : `shut by Command, ${range_of(window)}`);
-  return [fact(one.path, 'buses', one.buses.join(' ')), ...one.all_windows.map(window => fact(one.path, `${window.space} window`, told(window),
-    window.open ? { space: window.space === 'io' ? 'io' : 'mem', register: null, first: window.first, last: window.last } : null))];
+  const told = window => (window.open ? range_of(window) : window.first > window.last ? 'disabled, Base above Limit' : `disabled, ${range_of(window)}`);
+  return [fact(one, 'buses', one.buses.join(' ')), ...one.all_windows.map(window => fact(one, `${window.space} window`, told(window),
+    window.first > window.last ? null : { space: window.space === 'io' ? 'io' : 'mem', register: null, first: window.first, last: window.last }))];
 }
 
 function fact_of_region(one, region) {
   const place = { space: region.kind === 'io' ? 'io' : 'mem', register: region.name, first: region.first, last: last_of(region) };
-  return fact(one.path, region.name, `${region.open ? 'open' : 'shut'}, ${range_of(place)}`, region.open ? place : null);
+  return fact(one, region.name, `${region.open ? 'enabled' : 'disabled'}, ${range_of(place)}`, place);
 }
 
 // What firmware's registers say of a function.
 function facts_of_function(one) {
-  const found = fact(one.path, 'number', one.lost ? `${one.place}, where no cycle finds it` : one.place);
+  const found = fact(one, 'number', one.lost ? `${one.place}, where no cycle finds it` : one.place);
   return [found, ...(one.kind === 'bridge' ? facts_of_bridge(one) : one.all_regions.map(region => fact_of_region(one, region)))];
 }
 
 // What guests open, each region by its name.
 const name_of_open = one => `guest ${one.owner.guest}, slot ${one.owner.slot} ${one.region.name}`;
-const facts_of_open = open => (open ?? []).map(one => fact(one.of.path, name_of_open(one), range_of(one), one));
+const facts_of_open = open => (open ?? []).map(one => fact(one.of, name_of_open(one), range_of(one), one));
 
 const text_of_regions = regions => (regions ?? []).map(one => `${one.first} ${one.last ?? ''} ${one.open}`).join();
 const is_as = (old, fresh) => old === fresh || (old.place === fresh.place && old.lost === fresh.lost && String(old.buses) === String(fresh.buses)
@@ -43,35 +44,35 @@ function doubtful(before, after) {
   const driven = (before.driven ?? []).flatMap((old, nth) => (after.driven === null || is_as(old, after.driven[nth]) ? [] : [[old, after.driven[nth]]]));
   const moved = after.functions.filter(({ path }) => String(owner_in_words(before.owners.get(path))) !== owner_in_words(after.owners.get(path)));
   const of = (moment, nth) => [...driven.flatMap(pair => facts_of_function(pair[nth])),
-    ...moved.map(({ path }) => fact(path, 'had by', owner_in_words(moment.owners.get(path)))), ...facts_of_open(moment.open)];
+    ...moved.map(one => fact(one, 'assigned to', owner_in_words(moment.owners.get(one.path)))), ...facts_of_open(moment.open)];
   return [of(before, 0), of(after, 1)].map(all => new Map(all.map(one => [`${one.path} ${one.name}`, one])));
 }
 
-// What is otherwise in the later of two moments: { changes, came, gone }. A change has a path, a name, its words before and after, and the
-// places that it opened and opens, or null. A moment has what firmware's registers say of functions or null, its problems, who has which
+// What is different in the later of two moments: { changes, came, gone }. A change has a function, a name, its words before and after, and the
+// places that its registers named and name, or null. A moment has what firmware's registers say of functions or null, its problems, who has which
 // function, and what guests open or null.
 export function changes_between(before, after) {
   const [old, fresh] = doubtful(before, after), changes = [];
   for (const key of new Set([...old.keys(), ...fresh.keys()])) {
     const [one, other] = [old.get(key), fresh.get(key)], { path, name } = one ?? other;
     if (one?.value === other?.value) continue;
-    changes.push({ path, name, before: one?.value ?? 'shut', after: other?.value ?? 'shut', was: one?.place ?? null, now: other?.place ?? null });
+    changes.push({ path, called: (other ?? one).called, name, before: one?.value ?? 'disabled', after: other?.value ?? 'disabled', was: one?.place ?? null, now: other?.place ?? null });
   }
   const texts = those => new Set(those.map(one => one.text)), [had, has] = [texts(before.problems), texts(after.problems)];
   return { changes, came: [...has].filter(text => !had.has(text)), gone: [...had].filter(text => !has.has(text)) };
 }
 
-// What a line writes: the read of the same place, and its words; null of a line that writes nothing.
+// What a line writes: the read of the same place, and its words; null for a line that writes nothing.
 export function written_by(line, { functions, owners }) {
   const [who, verb, ...rest] = words_in(line).map(one => one.word), reads = READS[verb];
   if (reads === undefined) return null;
   const asks = `${[who, reads, ...rest.slice(0, -1)].join(' ')}`;
-  if (verb !== 'cw') return { line: asks, path: null, offset: 0, words: `${verb === 'iw' ? 'port' : 'address'} ${rest[0]}${who === 'host' ? '' : ` of ${who}`}` };
+  if (verb !== 'cw') return { line: asks, path: null, offset: 0, words: `${verb === 'iw' ? 'I/O port' : 'memory'} ${rest[0]}${who === 'host' ? '' : ` of ${who}`}` };
   const [where, offset, width] = rest, [from, bytes] = [offset, width].map(word => Number(number_of(word ?? '') ?? 0n));
   const is_it = who === 'host' ? one => one.place === where?.toLowerCase() && !one.lost
     : one => owners.get(one.path)?.guest === who && BigInt(owners.get(one.path).slot) === number_of(where ?? '');
   const one = functions.find(is_it), titles = new Set(Array.from({ length: bytes }, (_, nth) => register_at(one?.kind ?? 'endpoint', from + nth)?.title ?? 'bytes of its own'));
-  return { line: asks, path: one?.path ?? null, offset: from, words: [...titles].join(', ') };
+  return { line: asks, path: one?.path ?? null, called: one && called(one), offset: from, words: [...titles].join(', ') };
 }
 
 // What was changed of each function, in words, by its path.
@@ -87,9 +88,9 @@ function offsets_between({ offset, before, after }) {
   return old.flatMap((byte, nth) => (byte === fresh[nth] ? [] : [offset + nth]));
 }
 
-function change_written({ path, words, before, after }) {
+function change_written({ path, called: one, words, before, after }) {
   const value = text => text.slice(text.indexOf(':') + 2);
-  return { path, name: words, before: value(before), after: before === after ? 'as it was' : value(after), was: null, now: null };
+  return { path, called: one, name: words, before: value(before), after: before === after ? 'as it was' : value(after), was: null, now: null };
 }
 
 // Whether a line is a remark, or has no word: it changes nothing, and nobody counts it.

@@ -7,7 +7,7 @@ const SUBS = { 0x0101: 'IDE', 0x0106: 'SATA', 0x0108: 'NVMe', 0x0300: 'VGA', 0x0
 
 export function class_in_words(code) {
   const base = code >> 16;
-  return SUBS[code >> 8] ?? BASES[base] ?? (base === 0xff ? 'other' : `class ${base.toString(16)}h`);
+  return SUBS[code >> 8] ?? BASES[base] ?? (base === 0xff ? 'other' : `class 0x${base.toString(16)}`);
 }
 
 // What a host reads of a function's class code.

@@ -1,13 +1,13 @@
-// The words that may stand where one types in a line: guests, what they do, functions by path or number, registers by name.
+// The words that fit where one types in a line: guests, what they do, functions by path or number, registers by name.
 
 import { hex, two_digits } from './report.js';
 import { form_of, forms_of, number_of, shape_of, words_in } from './reasons.js';
 import { register_at, registers_of } from './register_names.js';
 
 const DOES = { cr: 'reads configuration bytes', cw: 'writes configuration bytes', ir: 'reads ports', iw: 'writes ports', mr: 'reads memory', mw: 'writes memory',
-  raise: 'its device raises bits', move: 'gives a function to a guest',
-  audit: 'tells what is wrong', ready: 'tells what is wrong and what is left to do', guests: 'gives the board to its guests',
-  why: 'tells who answers, or why nobody does' };
+  raise: 'its device sets status bits', move: 'reassigns a function',
+  audit: 'lists what is wrong', ready: 'lists what is wrong and what is left to do', guests: 'hands the board over to its guests',
+  why: 'says what answers, or why nothing does' };
 
 // An offer has what is put in, what is told beside it, and the names by which it is found.
 const offer = (text, told, ...names) => ({ text, told, names: [text, ...names] });

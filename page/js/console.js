@@ -3,7 +3,9 @@
 import { count_in_words } from './report.js';
 import { asked_of } from './asked.js';
 import { make, make_button } from './marks.js';
+import { with_numbers } from './names.js';
 import { why_bad, why_refused } from './reasons.js';
+import { explained } from './meant.js';
 import { question_after } from './why.js';
 import { HANDS_OVER, move_in } from './replay.js';
 
@@ -28,6 +30,7 @@ export class Console {
   // Begins anew, with a line to begin with.
   clear(marks, first) {
     this.playing += 1;
+    cancelAnimationFrame(this.scrolls);
     this.marks = marks;
     Object.assign(this, nothing_run());
     this.parts.line.placeholder = first;
@@ -38,14 +41,21 @@ export class Console {
   put(name, text) {
     const one = make('div', name, text);
     this.parts.transcript.append(one);
-    this.scroll();
+    if (name !== 'before') this.show(() => this.parts.transcript.lastElementChild);
     return one;
   }
 
-  // Shows the last line, once for all that is put and drawn at once.
-  scroll() {
+  // Shows a row, once for all that is put and drawn at once: in the transcript, or in a lesson in the column that scrolls, above the line box.
+  show(find) {
     cancelAnimationFrame(this.scrolls);
-    this.scrolls = requestAnimationFrame(() => { this.parts.transcript.scrollTop = this.parts.transcript.scrollHeight; });
+    this.scrolls = requestAnimationFrame(() => {
+      const { transcript, work, dock } = this.parts, row = find();
+      if (!row) return;
+      transcript.scrollTop = row.offsetTop + row.offsetHeight - transcript.clientHeight;
+      const { top, bottom } = row.getBoundingClientRect(), beyond = bottom - dock.getBoundingClientRect().top, above = top - work.getBoundingClientRect().top;
+      if (beyond > 0) work.scrollTop += beyond;
+      else if (above < 0) work.scrollTop += above;
+    });
   }
 
   // The lines that the reader ran, as a script, and with those that were prepared.
@@ -56,10 +66,8 @@ export class Console {
   // Shows the lines behind the first ones as not run yet, and leads to the last that ran.
   mark(count) {
     const rows = [...this.parts.transcript.querySelectorAll('.row, .remark')], at = count - this.prepared.length;
-    cancelAnimationFrame(this.scrolls);
     rows.forEach((row, nth) => { row.classList.toggle('later', nth >= at); row.toggleAttribute('aria-current', nth === at - 1 && at < rows.length); });
-    const { transcript } = this.parts, row = rows[at - 1];
-    transcript.scrollTop = row === undefined ? 0 : row.offsetTop - transcript.clientHeight / 2;
+    this.show(() => rows[at - 1] ?? this.parts.transcript.firstElementChild);
   }
 
   run(line) {
@@ -81,10 +89,11 @@ export class Console {
     row.append(' ', one);
     if (this.marks.has(who)) one.style.setProperty('--hue', this.marks.get(who).hue);
     one.classList.toggle('refused', reply.includes(': refused '));
-    const { as, guests } = this.whose(), why = why_refused(line, reply, guests, as);
+    const { as, guests, functions } = this.whose(), why = why_refused(line, reply, guests, as);
     if (why !== null) {
-      this.put('why', why);
-      this.mark_word(row.firstChild, line, / refused 40[123] /.test(reply) ? why_bad(line, guests, as)?.word : null);
+      const bad = / refused 40[123] /.test(reply) ? why_bad(line, guests, as) : null;
+      this.put('why', bad === null ? why : explained(bad, functions));
+      this.mark_word(row.firstChild, line, bad?.word);
     }
     this.follow_line(line, reply);
     this.heard(reply);
@@ -147,7 +156,7 @@ export class Console {
   // Tells of problems that came and went.
   note(came, gone) {
     for (const [name, sign, texts] of [['came', '+', came], ['gone', '−', gone]]) {
-      for (const text of texts.slice(0, NOTED)) this.put(name, `${sign} ${text}`);
+      for (const text of texts.slice(0, NOTED)) this.put(name, `${sign} ${with_numbers(text, this.whose().functions)}`);
       if (texts.length > NOTED) this.put(name, `${sign} ${texts.length - NOTED} more`);
     }
   }

@@ -9,7 +9,7 @@ const STATUS_BITS = [['Master data parity error', 8], ['Signaled target abort', 
   ['Signaled system error', 14], ['Detected parity error', 15]];
 const SECONDARY_STATUS_BITS = STATUS_BITS.map(([name, bit]) => [bit === 14 ? 'Received system error' : name, bit]);
 
-const at_offset = registers => `${registers[0].title}, offset ${registers.map(({ offset }) => `${offset.toString(16)}h`).join(' and ')}`;
+const at_offset = registers => `${registers[0].title}, offset ${registers.map(({ offset }) => hex(offset)).join(' and ')}`;
 const place_in = ({ offset, width }) => [offset, width];
 
 // What a register holds, and whether Command opens a space.
@@ -57,7 +57,7 @@ function window_of(space, { decodes, values, all_windows }) {
   const registers = [['Base', base[0]], ['Limit', limit[0]], ['upper Base', base[1]], ['upper Limit', limit[1]]].filter(([, register]) => register)
     .map(([name, register], nth) => ({ ...register, name, low: nth < 2 ? shape.low : 0 }));
   return { title, form: { is: 'window', title, unit: shape.unit, registers }, switches: [],
-    told: first > last ? 'shut by Limit' : opens(values, space) ? size_in_words(last - first + 1n) : 'shut by Command',
+    told: first > last ? 'disabled: Base above Limit' : opens(values, space) ? size_in_words(last - first + 1n) : 'disabled by Command',
     fields: [address_field('first', base, shape, first), address_field('last', limit, shape, last)] };
 }
 
@@ -65,7 +65,7 @@ function base_of({ name, kind, first, size }, { values }) {
   const space = kind === 'io' ? 'io' : 'mem', mem64 = kind.startsWith('mem64'), shape = { ...BASE, low: space === 'io' ? 2 : 4 };
   const registers = [name, ...(mem64 ? [`bar${Number(name.slice(3)) + 1}`] : [])].map(one => register_named('endpoint', one));
   const form = { is: 'base', title: `${name} ${kind}`, space, mem64, registers: registers.map((register, nth) => ({ ...register, low: nth === 0 ? shape.low : 0 })) };
-  return { title: `${name} ${kind}, ${size_in_words(size)}`, form, told: opens(values, space) ? 'open' : 'shut by Command', switches: [],
+  return { title: `${name} ${kind}, ${size_in_words(size)}`, form, told: opens(values, space) ? 'enabled' : 'disabled by Command', switches: [],
     fields: [address_field('base', registers, shape, address_in(values, registers, shape, first))] };
 }
 

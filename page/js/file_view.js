@@ -1,17 +1,37 @@
-// The board file as one edits it: its lines are numbered, and those are marked of which a check tells.
+// The board file as one edits it: its lines are numbered, and those that a check reports are marked. The board is set up again once one has
+// stopped typing.
+
+import { LARGEST_FILE, too_large } from './limits.js';
+
+// Milliseconds without a letter after which one has stopped typing, and how many lines are numbered: more take the browser seconds.
+const TYPED = 200, MOST_NUMBERED = 8000;
 
 export class FileView {
-  // `parts` are the elements `board`, `numbers` and `check`.
-  constructor(parts) {
-    this.parts = parts;
+  // `parts` are the elements `board`, `numbers` and `check`; `changed` is called once the file is another one, and `tell` says what is refused.
+  constructor(parts, { changed, tell }) {
+    Object.assign(this, { parts, changed, timer: null });
     parts.board.addEventListener('scroll', () => { parts.numbers.scrollTop = parts.board.scrollTop; });
+    parts.board.addEventListener('input', () => { clearTimeout(this.timer); this.timer = setTimeout(() => this.settle(), TYPED); });
+    parts.board.addEventListener('blur', () => this.settle());
+    parts.board.addEventListener('paste', event => {
+      const length = parts.board.value.length + event.clipboardData.getData('text').length;
+      if (length > LARGEST_FILE) { event.preventDefault(); tell(too_large(length), true); }
+    });
+  }
+
+  // Sets the board up at once if it waits for more letters.
+  settle() {
+    if (this.timer === null) return;
+    clearTimeout(this.timer);
+    this.timer = null;
+    this.changed();
   }
 
   bytes() { return new TextEncoder().encode(this.parts.board.value); }
 
   // Numbers the lines of the file, and marks those of which a check tells: what is wrong, and what it warns of.
   number_lines(wrong, warned) {
-    const { board, numbers } = this.parts, lines = board.value.split('\n').map((_, nth) => nth + 1);
+    const { board, numbers } = this.parts, lines = board.value.split('\n').slice(0, MOST_NUMBERED).map((_, nth) => nth + 1);
     numbers.innerHTML = lines.map(line => (wrong.has(line) ? `<b>${line}</b>` : warned.has(line) ? `<i>${line}</i>` : line)).join('\n');
     numbers.scrollTop = board.scrollTop;
   }

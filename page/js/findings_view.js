@@ -2,10 +2,12 @@
 
 import { parent_of } from './report.js';
 import { make, make_button, put_text } from './marks.js';
+import { with_numbers } from './names.js';
 
 export class Findings {
-  // `total` and `list` are elements, and `few` is how many are shown at first; `light` is given paths, and `choose` one.
-  constructor({ total, list, few }, light, choose) { Object.assign(this, { total, list, few, light, choose, whole: false, all: [], came: [] }); }
+  // `total` and `list` are elements, and `few` is how many are shown at first; `light` is given paths, and `choose` one; `functions` gives those
+  // whose numbers are shown.
+  constructor({ total, list, few }, light, choose, functions) { Object.assign(this, { total, list, few, light, choose, functions, whole: false, all: [], came: [] }); }
 
   // `told` is what stands for all of them; those that came are marked, but where that are all.
   draw(all, told, came = []) {
@@ -25,9 +27,10 @@ export class Findings {
 
   // A function that isn't found leads to the bridge above it; what names none leads nowhere.
   item_of({ text, of, number }) {
-    if (of.length === 0) return make('li', '', text);
+    const said = with_numbers(text, this.functions());
+    if (of.length === 0) return make('li', '', said);
     const item = make('li', this.came.includes(text) ? 'came' : ''), last = of[of.length - 1].path;
-    const button = make_button(text, () => this.choose(number === null ? last : parent_of(last) || last));
+    const button = make_button(said, () => this.choose(number === null ? last : parent_of(last) || last));
     for (const event of ['focus', 'pointerenter']) button.addEventListener(event, () => this.light(...of.map(one => one.path)));
     for (const event of ['blur', 'pointerleave']) button.addEventListener(event, () => this.light());
     item.append(button);

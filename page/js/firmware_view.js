@@ -5,6 +5,7 @@ import { texts_by_path } from './findings.js';
 import { texts_of_changes } from './changes.js';
 import { Findings } from './findings_view.js';
 import { hex_line } from './fields.js';
+import { with_numbers } from './names.js';
 import { count_in_words, two_digits } from './report.js';
 import { keeping_latch } from './asked.js';
 import { bytes_of, seen_in } from './registers.js';
@@ -13,9 +14,9 @@ export class Firmware {
   // `give` runs a line in the console.
   constructor(parts, board, addresses, registers, light, give) {
     Object.assign(this, { board, addresses, registers, give, driven: null, now: null, came: [], is_drawn: false });
-    const choose = path => this.choose(path);
-    this.problems = new Findings({ total: parts.total, list: parts.audit, few: 8 }, light, choose);
-    this.lacks = new Findings({ total: parts.left, list: parts.lacking, few: 4 }, light, choose);
+    const choose = path => this.choose(path), functions = () => this.now?.functions ?? [];
+    this.problems = new Findings({ total: parts.total, list: parts.audit, few: 8 }, light, choose, functions);
+    this.lacks = new Findings({ total: parts.left, list: parts.lacking, few: 4 }, light, choose, functions);
   }
 
   // A board at reset, with the functions of its report and its machine after set-up; without a report nothing is drawn.
@@ -25,6 +26,7 @@ export class Firmware {
     const bridges = functions.filter(one => one.kind === 'bridge');
     this.decodes = new Map(bridges.map(one => [one.path, decodes_of(machine, one.place)]));
     this.now = new AtReset(driven, functions, this.decodes);
+    this.now.look();
     this.board.chosen = (bridges[0] ?? functions[0])?.path ?? null;
   }
 
@@ -55,15 +57,15 @@ export class Firmware {
     if (functions.length === 0) return;
     this.board.draw(functions, ...whose, { troubles: texts_by_path(problems), lacks: texts_by_path(lacks), causes: texts_by_path(asked.causes),
       changes: texts_of_changes(changes) });
-    this.addresses.draw(functions, apertures, ...whose, { problems, lacks, asked, changes }, 'No region and no window is open.');
+    this.addresses.draw(functions, apertures, ...whose, { problems, lacks, asked, changes }, 'The board file has no aperture.');
     this.draw_registers();
   }
 
   draw_findings(problems, lacks) {
-    const nothing = problems.length > 0 ? 'nothing else' : 'nothing, the board is ready';
+    const nothing = problems.length > 0 ? 'nothing else' : 'nothing: the board is ready';
     this.problems.draw(problems, problems.length > 0 ? count_in_words(problems.length, 'problem') : 'ok', this.came);
     this.problems.total.classList.toggle('wrong', problems.length > 0);
-    this.lacks.draw(lacks, lacks.length > 0 ? count_in_words(lacks.length, 'lack') : nothing);
+    this.lacks.draw(lacks, lacks.length > 0 ? `${lacks.length}` : nothing);
   }
 
   // The registers of the selected function, with its bytes where a cycle finds it. Once guests have the board theirs are shown.
@@ -72,17 +74,17 @@ export class Firmware {
     const { functions } = this.now, one = functions.find(each => each.path === this.board.chosen);
     if (one === undefined) { this.registers.clear(); return; }
     const bytes = one.lost === null ? keeping_latch(this.driven, () => bytes_of(this.driven, 'host', one.place)) : null;
-    const lost = one.lost === null ? '' : `No cycle finds it, so nothing can be written. Bases, windows and what Command opens are as they stand; the rest was read last: ${one.lost}`;
+    const lost = one.lost === null ? '' : `No configuration cycle reaches it, so nothing can be written. Bases, windows and what Command enables are as they are now; the rest is what was read last. ${with_numbers(one.lost, functions)}`;
     this.registers.draw(functions, bytes === null ? one : seen_in(one, bytes, one.decodes),
       { bytes, note: lost, whose: 'host', write: each => this.give(hex_line('host', one.place, each)) });
   }
 
   // Of a board without a report no function is drawn.
-  choose(path) {
+  choose(path, takes_keys = true) {
     if (this.now === null || this.now.functions.length === 0) return;
     this.board.chosen = path;
     this.board.redraw();
-    document.querySelector(`#tree [data-path="${path}"]`)?.focus({ preventScroll: true });
+    if (takes_keys) document.querySelector(`#tree [data-path="${path}"]`)?.focus({ preventScroll: true });
     this.draw_registers();
   }
 

@@ -12,8 +12,8 @@ const ARROW = /^(.*?)\s*->\s*(.+)$/;
 const IN_WORDS = {
   ready: () => 'The board is ready',
   audit: ({ text }) => `The audit says ${text.slice('audit: '.length)}`,
-  read: ({ line, reply }) => `${line} is answered ${reply}`,
-  told: ({ reply }) => `A line of yours is answered ${reply}`,
+  read: ({ line, reply }) => `${line} returns ${reply}`,
+  told: ({ reply }) => `One of your lines returns ${reply}`,
 };
 
 function condition_of(text) {
@@ -27,10 +27,10 @@ function condition_of(text) {
 // Why a condition is none, or null.
 function why_none({ kind, line }, guests, as) {
   if (kind === null) return 'write ready, audit: ok, LINE -> REPLY or -> REPLY';
-  if (kind !== 'read') return kind !== 'told' && as !== 'firmware' ? 'of firmware alone an audit is asked' : null;
+  if (kind !== 'read') return kind !== 'told' && as !== 'firmware' ? 'only firmware can run an audit' : null;
   const bad = why_bad(line, guests, as);
   if (bad !== null) return bad.why;
-  return /^\s*\S+\s+[cim]r\s/.test(line) ? null : 'what is asked has to be a read, since it is asked after each line';
+  return /^\s*\S+\s+[cim]r\s/.test(line) ? null : 'this has to be a read, because it runs after each line';
 }
 
 // The conditions of a goal, and what is wrong with it: { rows, wrong }.
@@ -40,7 +40,7 @@ export function read_goal(text, guests, as) {
     return { ...one, words: words.join(' # ') || (one.kind === null ? line : IN_WORDS[one.kind](one)) };
   });
   const wrong = rows.flatMap(one => { const why = why_none(one, guests, as); return why === null ? [] : [`${one.text}: ${why}`]; });
-  return { rows, wrong: rows.length === 0 ? ['a goal has a condition, each on a line of its own'] : wrong };
+  return { rows, wrong: rows.length === 0 ? ['a goal has at least one condition, each on a line of its own'] : wrong };
 }
 
 // A board that was given to its guests was in order then, and stays so; it is asked no more. Where firmware drives nothing there is no audit.
@@ -51,7 +51,10 @@ function lines_of_audit(held) {
 }
 
 export class Goals {
-  constructor(text, guests, as) { Object.assign(this, { rows: read_goal(text, guests, as).rows, as, told: new Set(), lacks: [] }); }
+  constructor(text, guests, as) {
+    const { rows } = read_goal(text, guests, as);
+    Object.assign(this, { rows, as, told: new Set(), lacks: [], wants_ready: rows.some(one => one.kind === 'ready') });
+  }
 
   // A reply to a line of the reader's. It counts where the conditions above hold, but for those that are replies too.
   hear(reply, held, lacks) {
@@ -64,7 +67,7 @@ export class Goals {
 
   // Which conditions hold now. `held` answers lines, and `lacks` tells what is wrong and what is lacking.
   look(held, lacks) {
-    this.lacks = this.rows.some(one => one.kind === 'ready') ? lacks() : [];
+    this.lacks = this.wants_ready ? lacks() : [];
     return this.judge(this.rows, held, () => this.lacks);
   }
 

@@ -28,15 +28,15 @@ export class GuestRegisters {
     const as_guest = owner !== undefined && this.parts.view.value === 'guest', [who, where] = as_guest ? [owner.guest, owner.slot] : ['host', one.place];
     const bytes = bytes_of(machine, who, where), decodes = one.kind === 'bridge' ? decodes_of(machine, one.place) : null;
     this.registers.draw(functions, seen_in(one, bytes, decodes), { bytes, whose: who, write: each => this.give(hex_line(who, where, each)),
-      note: as_guest ? '' : 'The board, as the host reads it: firmware wrote these registers, and now nobody does.' });
+      note: as_guest ? '' : 'The board, as the host reads it: firmware wrote these registers, and nothing writes them now.' });
   }
 
   redraw() { if (this.last !== null) this.draw(this.last.machine, this.last.functions, this.last.owners); }
 
-  choose(path) {
+  choose(path, takes_keys = true) {
     this.board.chosen = path;
     this.board.redraw();
-    document.querySelector(`#tree [data-path="${path}"]`)?.focus({ preventScroll: true });
+    if (takes_keys) document.querySelector(`#tree [data-path="${path}"]`)?.focus({ preventScroll: true });
     this.redraw();
   }
 }

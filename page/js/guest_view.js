@@ -49,7 +49,7 @@ const ends_of = (spans, scale) => spans.map(({ first }) => ({ x: scale.at(first)
 // What the last line moved stood in an edge of dashes.
 function picture(those, all, were, scales, marks, width, { tell, ask }) {
   const top = EDGE, below = top + BAR + LINKS;
-  const picture = svg('svg', { height: below + BAR + EDGE, width, class: 'map', role: 'group', 'aria-label': 'What this guest opens, and where it stands; Enter asks where a region begins' });
+  const picture = svg('svg', { height: below + BAR + EDGE, width, class: 'map', role: 'group', 'aria-label': 'What this guest enables, and where it is on the board; Enter asks at the start of a region' });
   for (const y of [top, below]) picture.append(svg('rect', { x: 0, y, width, height: BAR, class: 'well' }));
   for (const { first, last } of all.map(on_board)) {
     const x = scales.board.at(first);
@@ -105,8 +105,8 @@ function hint(owners) {
   const one = make('p', 'hint'), first = [...owners.values()][0];
   if (first === undefined) one.append('No guest has a function.');
   else {
-    one.append('Nothing is open: no guest has set a Command bit. ', make('code', '', `${first.guest} cw ${first.slot} 4 2 3`),
-      ` opens what stands in slot ${first.slot} of guest ${first.guest}.`);
+    one.append('Nothing is enabled: no guest has set a Command bit. ', make('code', '', `${first.guest} cw ${first.slot} 4 2 3`),
+      ` enables the function in slot ${first.slot} of guest ${first.guest}.`);
   }
   return one;
 }
@@ -116,7 +116,7 @@ function shut_of(all, owners, marks) {
   const open = new Set(all.map(one => one.owner.guest)), held = new Set([...owners.values()].map(one => one.guest));
   return [...marks].filter(([guest]) => held.has(guest) && !open.has(guest)).map(([guest, mark]) => {
     const line = make('div', 'whose');
-    line.append(badge(mark), `guest ${guest}: nothing is open`);
+    line.append(badge(mark), `guest ${guest}: nothing is enabled`);
     return line;
   });
 }
@@ -124,7 +124,16 @@ function shut_of(all, owners, marks) {
 // `light` is given the path of a function, or null; `question` is what one asks, whose box stands in `below`.
 export class GuestMaps {
   // `below` takes what was asked in a bar that is gone.
-  constructor(into, light, question, below) { Object.assign(this, { into, light, question, below, seen: '', places: new Map() }); }
+  constructor(into, light, question, below) {
+    Object.assign(this, { into, light, question, below, seen: '', places: new Map(), outer: 0 });
+    new ResizeObserver(() => { this.outer = into.clientWidth; }).observe(into);
+  }
+
+  // The width, asked of the browser once, as it lays the page out to answer.
+  width() {
+    if (this.outer === 0) this.outer = this.into.clientWidth;
+    return this.outer;
+  }
 
   // Where the reply stands to what is asked in a guest's bar: below that bar.
   place_of(guest, space) {
@@ -140,7 +149,7 @@ export class GuestMaps {
   }
 
   figure(space, all, marks, told, changes) {
-    const width = Math.max(this.into.clientWidth, 240), figure = make('div', 'space'), were = changes.filter(({ was }) => was?.owner && was.space === space);
+    const width = Math.max(this.width(), 240), figure = make('div', 'space'), were = changes.filter(({ was }) => was?.owner && was.space === space);
     const scales = { guest: scale_of([...all, ...were.map(one => one.was)], width), board: scale_of(all.map(on_board), width) };
     figure.append(make('div', 'title', `${SPACES[space]}: in the order of addresses; gaps and sizes are not to scale`));
     const tell = one => { told.textContent = one === null ? '' : in_words(one); this.light(one?.of.path ?? null); };
@@ -156,7 +165,7 @@ export class GuestMaps {
   // `open` is what guests have open, and `changes` what the last line changed.
   draw(open, owners, marks, changes) {
     const all = open.slice().sort((a, b) => [...marks.keys()].indexOf(a.owner.guest) - [...marks.keys()].indexOf(b.owner.guest));
-    const now = all.map(in_words).join('\n') + this.into.clientWidth + [...owners.keys()] + changes.map(one => `${one.name} ${one.before}`);
+    const now = all.map(in_words).join('\n') + this.width() + [...owners.keys()] + changes.map(one => `${one.name} ${one.before}`);
     if (now === this.seen && all.length > 0) return;
     this.seen = now;
     this.into.replaceChildren(...(all.length === 0 ? [hint(owners)] : this.figures_of(all, owners, marks, changes)));

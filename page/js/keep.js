@@ -42,9 +42,29 @@ export async function task_in(text) {
 }
 
 // A browser that keeps nothing, as some do for files, is no fault.
-export function keep(held) {
+function keep_now(held) {
   try { localStorage.setItem(KEY, JSON.stringify(held)); } catch { /* the page works without */ }
 }
+
+// Milliseconds after which a large board is kept, and what is large: the browser takes as long to keep it as the page to answer a line.
+const KEPT_AFTER = 300, LARGE_TEXT = 1 << 16;
+let unkept = null, keeps_at = 0;
+
+function keep_rest() {
+  clearTimeout(keeps_at);
+  if (unkept !== null) keep_now(unkept);
+  unkept = null;
+}
+
+export function keep(held) {
+  unkept = held;
+  clearTimeout(keeps_at);
+  if (held.board.length < LARGE_TEXT) keep_rest();
+  else keeps_at = setTimeout(keep_rest, KEPT_AFTER);
+}
+
+// With the page that is left nothing is lost.
+export const keep_what_is_left = () => addEventListener('pagehide', keep_rest);
 
 export async function kept() {
   try { return await read_kept(localStorage.getItem(KEY)); } catch { return null; }

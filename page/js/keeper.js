@@ -1,6 +1,8 @@
 // The board goes elsewhere with its state: into a link, into a file, and back from there.
 
 import { fragment_of, is_too_long, kilobytes, LINK, link_of, PASTE, TOO_LONG } from './keep.js';
+import { LARGEST_FILE, too_large } from './limits.js';
+import { is_script } from './scripts.js';
 import { count_in_words } from './report.js';
 import { State } from './state.js';
 import { file_of, parts_of } from './state_file.js';
@@ -24,7 +26,7 @@ function told_of({ as, lines, state, script }, is_refused) {
 
 export class Keeper {
   // `parts` are its elements. `page` has `held`, the board with the lines that were run; `as_it_is`, the board with its state; `is_refused`;
-  // `open`, which shows a board from a beginning on; and `begin_task`.
+  // `open`, which shows a board from a beginning on; `begin_task`; and `run`, which runs a script.
   constructor(parts, page) {
     Object.assign(this, { told: parts.kept_told, page });
     parts.link.addEventListener('click', () => this.copy(page.held()));
@@ -33,7 +35,9 @@ export class Keeper {
     parts.open.addEventListener('change', async () => {
       const [file] = parts.open.files;
       if (file === undefined) return;
-      await this.open(new Uint8Array(await file.arrayBuffer()));
+      if (file.size > LARGEST_FILE) this.tell(`${file.name} isn't opened: ${too_large(file.size)}`, true);
+      else if (is_script(file.name)) page.run(await file.text());
+      else await this.open(new Uint8Array(await file.arrayBuffer()));
       parts.open.value = '';
     });
     addEventListener('paste', event => { if (this.paste(event.clipboardData.getData('text'))) event.preventDefault(); });

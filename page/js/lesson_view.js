@@ -4,6 +4,7 @@ import { count_in_words } from './report.js';
 import { make, make_button, put_text, sign } from './marks.js';
 
 const LACKS_SHOWN = 4;
+const NOTES = ['Show', 'Ask', 'The mistake that students make'];
 
 // A text with code between backticks, and an empty line between paragraphs.
 function paragraphs_of(text) {
@@ -20,13 +21,20 @@ export class LessonView {
     Object.assign(this, { parts, tasks, acts });
     parts.again.addEventListener('click', acts.again);
     parts.leave.addEventListener('click', acts.leave);
+    parts.begin.addEventListener('click', () => acts.begin(Number(parts.begin.dataset.nth)));
+    addEventListener('keydown', event => {
+      if (!event.altKey || event.code !== 'KeyN' || parts.notes.childElementCount === 0) return;
+      event.preventDefault();
+      parts.notes.hidden = !parts.notes.hidden;
+    });
     parts.next.addEventListener('click', () => acts.begin(Number(parts.next.dataset.nth), parts.next.dataset.part ? Number(parts.next.dataset.part) : undefined));
   }
 
-  // The task stands above the lines, and the board file below them; without one the file stands above.
+  // The task is above the lines, and the board file below them; without a task the file is above.
   enter(is_entered) {
     document.body.classList.toggle('at-task', is_entered);
     this.parts.task.hidden = !is_entered;
+    if (!is_entered) this.parts.next.hidden = true;
     if (is_entered) this.parts.editor.before(this.parts.desk);
     else this.parts.editor.after(this.parts.desk);
   }
@@ -34,7 +42,7 @@ export class LessonView {
   // The numbers of the lessons, with those that are done.
   draw_steps(lessons) {
     const done = this.tasks.filter(one => lessons.is_done(one)).length;
-    const kept = lessons.progress.keeps ? '' : '. This browser keeps nothing: what is done is known as long as the page is open';
+    const kept = lessons.progress.keeps ? '' : '. This browser keeps nothing: what is done counts until the page is closed';
     this.parts.progress.textContent = `${done} of ${this.tasks.length} done${kept}`;
     this.parts.steps.replaceChildren(...this.tasks.map((task, nth) => {
       const item = make('li', ''), is_done = lessons.is_done(task);
@@ -45,6 +53,9 @@ export class LessonView {
       item.append(button);
       return item;
     }));
+    const open = Math.max(this.tasks.findIndex(task => !lessons.is_done(task)), 0);
+    this.parts.begin.dataset.nth = open;
+    this.parts.begin.textContent = open === 0 ? 'Begin lesson 1' : `Go on with lesson ${open + 1}`;
     this.draw_parts(lessons);
   }
 
@@ -66,6 +77,7 @@ export class LessonView {
     this.parts.hint.hidden = task.hint === '';
     this.parts.hint.open = false;
     this.parts.hint_text.replaceChildren(...(task.hint ? paragraphs_of(task.hint) : []));
+    this.parts.notes.replaceChildren(...(task.notes ?? []).flatMap((text, at) => [make('strong', '', NOTES[at]), ...paragraphs_of(text)]));
     this.draw_steps(lessons);
   }
 
@@ -78,9 +90,10 @@ export class LessonView {
     }));
     const { lacks } = lessons.goals, more = lacks.length > LACKS_SHOWN ? [`${lacks.length - LACKS_SHOWN} more`] : [];
     this.parts.lacks.replaceChildren(...[...lacks.slice(0, LACKS_SHOWN), ...more].map(one => make('li', '', one)));
+    this.parts.lacks.hidden = !lessons.goals.wants_ready;
     const state = done ? 'Done.' : `${rows.filter(one => one.met).length} of ${count_in_words(rows.length, 'condition')} met`;
     put_text(this.parts.task_state, state);
-    this.parts.task.classList.toggle('done', done);
+    for (const one of [this.parts.task, this.parts.dock]) one.classList.toggle('done', done);
     if (done) this.draw_steps(lessons);
     this.offer_next(lessons, done);
   }
@@ -100,10 +113,10 @@ export class LessonView {
     this.enter(false);
   }
 
-  // Leads to the task that was begun.
+  // Leads to the task that was begun, from wherever one was.
   show() {
     this.parts.task_title.focus({ preventScroll: true });
-    this.parts.task.scrollTop = 0;
+    this.parts.work.scrollTop = 0;
     this.parts.lessons.scrollIntoView({ block: 'start' });
   }
 }

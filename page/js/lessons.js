@@ -58,7 +58,7 @@ export class Lessons {
   }
 
   // Another board, or another reader, ends the task, which is told.
-  leave(told = '. The board was set up anew, which ended the lesson') {
+  leave(told = '. The board was set up again, which ended the lesson') {
     if (this.opening || this.task === null) return;
     Object.assign(this, { task: null, goals: null, key: '' });
     this.view.draw_steps(this);

@@ -1,7 +1,9 @@
 // The page: its parts, and what happens as one types.
 
 import { Engine } from './engine.js';
-import { apertures_in, count_in_words, parent_of, report_in } from './report.js';
+import { apertures_in, counts_in_words, report_in } from './report.js';
+import { light } from './light.js';
+import { register_in } from './register_in_line.js';
 import { read_json } from './json.js';
 import { class_of } from './classes.js';
 import { draw_key, marks_of } from './marks.js';
@@ -15,7 +17,7 @@ import { ScriptBox } from './script_box.js';
 import { Registers } from './registers.js';
 import { GuestRegisters } from './guest_registers.js';
 import { Firmware } from './firmware_view.js';
-import { keep } from './keep.js';
+import { keep, keep_what_is_left } from './keep.js';
 import { Keeper } from './keeper.js';
 import { wire_leads } from './leads.js';
 import { Opening } from './opening.js';
@@ -26,14 +28,17 @@ import { places_on } from './places.js';
 import { Question } from './question.js';
 import { question_at } from './why.js';
 import { texts_by_path } from './findings.js';
+import { with_numbers } from './names.js';
 import { asked_of, keeping_latch } from './asked.js';
 import { texts_of_changes } from './changes.js';
 import { HANDS_OVER, owners_in, path_in } from './replay.js';
 import { Moments } from './moments.js';
 import { FileView } from './file_view.js';
-import { sent_by, way_of } from './way.js';
+import { sent_by, sent_by_guest, way_of } from './way.js';
 import { WayView } from './way_view.js';
 import { Wired } from './wired.js';
+import { tell_unable } from './unable.js';
+import { Scripts } from './scripts.js';
 
 const part = Object.fromEntries([...document.querySelectorAll('[id]')].map(one => [one.id, one]));
 const still = matchMedia('(prefers-reduced-motion: reduce)').matches;
@@ -41,13 +46,13 @@ let shows_before = true, engine = null, machine = null, functions = [], owners =
 
 // Whether firmware has given its board to the guests of the file: its lines are a script's from there on.
 const given = () => as === 'firmware' && Boolean(firmware.now?.given);
-const choose = path => (as === 'firmware' && !given() ? firmware : guest_registers).choose(path);
+const choose = (path, takes_keys) => (as === 'firmware' && !given() ? firmware : guest_registers).choose(path, takes_keys);
 const give = line => script_console.give(line);
 const answers = () => (as === 'firmware' ? firmware.driven : machine);
 const speaking = () => (given() ? 'guests' : as);
 const guests = () => (speaking() === 'firmware' ? [] : [...marks.keys()]);
 // What is asked of firmware's board, or of a guest: why something finds what it finds.
-const question = new Question(part.heard, { light, choose, path_in: (guest, slot) => path_in(owners, { guest, slot }), held: answers, driven: () => (speaking() === 'firmware' ? firmware.driven : null),
+const question = new Question(part.heard, { light, choose, path_in: (guest, slot) => path_in(owners, { guest, slot }), held: answers, driven: () => (speaking() === 'firmware' ? firmware.driven : null), functions: () => functions_now(),
   changed: () => { if (as !== 'firmware') question.look(); draw(); } });
 const board = new Board({ tree: part.tree, told: part.told, table: part.functions }, light, choose, ask_of_lost);
 const addresses = new Addresses(part.addresses, light, question);
@@ -55,24 +60,23 @@ const maps = new GuestMaps(part.maps, light, question, part.asked_there);
 const registers = new Registers(part, choose, { wired: (path, places) => wired.read_back(path, places), moment: () => moments.about() });
 const guest_registers = new GuestRegisters(part, registers, board, give);
 const firmware = new Firmware(part, board, addresses, registers, light, give);
-const box = new ScriptBox(part, known);
+const box = new ScriptBox(part, known, follow_register);
 const script_console = new Console(part, box,
-  { machine: answers, whose: () => ({ as: speaking(), guests: guests() }), moved, heard: reply => lessons.hear(reply), begins, ran, question });
-const lacks = () => (firmware.now === null ? ['firmware alone is told'] : [...firmware.now.problems, ...firmware.now.lacks].map(one => one.text));
+  { machine: answers, whose: () => ({ as: speaking(), guests: guests(), functions: functions_now() }), moved, heard: reply => lessons.hear(reply), begins, ran, question });
+const lacks = () => (firmware.now === null ? ['only firmware can ask'] : [...firmware.now.problems, ...firmware.now.lacks].map(one => with_numbers(one.text, functions_now())));
 const lessons = new Lessons(part, TASKS, { open: open_task, move_live, held: answers, guests, left: set_up, lacks });
 const shown = () => ({ board: part.board.value, as });
-const file_view = new FileView(part);
-const keeper = new Keeper(part, { held, as_it_is, is_refused: () => answers() === null, open: open_beginning, begin_task: task => lessons.take_up(task) });
+const file_view = new FileView(part, { changed: set_up, tell: (...words) => keeper.tell(...words) });
+const keeper = new Keeper(part, { held, as_it_is, is_refused: () => answers() === null, open: open_beginning, begin_task: task => lessons.take_up(task), run: text => scripts.run(text) });
 new TaskForm(part, { shown: () => ({ ...shown(), guests: guests() }), with_lines, as_it_is, save: made => keeper.save(made) });
 // The width up to which guests' registers begin folded, and what a file is refused by that is no TOML.
 const NARROW = 640, NOT_TOML = 101;
-let following = false, unseen = false, has_moved = false, has_marks = false;
-
-let wired = null, sent = null;
+let following = false, unseen = false, has_moved = false, has_marks = false, wired = null, sent = null;
 const read_only = line => (as === 'firmware' ? keeping_latch(answers(), () => asked_of(answers(), line)) : asked_of(answers(), line));
 // What each line changed, and the board as it was then.
 const moments = new Moments(part, { shown: () => ({ held: answers(), functions, owners, now: as === 'firmware' ? firmware.now : null }), show: show_moment,
-  read: read_only, lines: all_lines, copy: () => copy_of_board(), choose, light });
+  read: read_only, lines: all_lines, copy: () => copy_of_board(), choose, light, functions: () => functions_now() });
+const scripts = new Scripts(part, { console: script_console, steps: moments.steps, start_again });
 const way = new WayView(part, { still, find: sent_now, way_of: found => way_of(found, functions_now()), passed: what => { sent = what; draw(); } });
 
 // What one may type about: the functions with their numbers as they are now, and where regions stand.
@@ -90,6 +94,7 @@ function moved(from, to) {
 
 // What is kept of the board and of what the reader does. A task has a beginning of its own.
 function held() {
+  file_view.settle();
   const task = lessons.kept();
   return { ...shown(), ...(task ? { task } : beginning), script: script_console.script() };
 }
@@ -102,6 +107,7 @@ function with_lines() {
 
 // The board with the state of its guests, and the lines by which firmware gave it to them. Where no guest has it, all lines lead here.
 async function as_it_is() {
+  file_view.settle();
   moments.to_now();
   const image = answers()?.save() ?? null;
   if (image === null) return { ...shown(), lines: script_console.all_lines(), state: null };
@@ -115,6 +121,14 @@ function begins(line, is_noted) {
   if (as !== 'firmware' || given() || !HANDS_OVER.test(line)) return;
   if (is_noted) note();
   else firmware.look();
+}
+
+// The panel of registers shows the function that a line names, and the bits of its register with what is typed for it.
+function follow_register(line) {
+  const found = answers() === null || moments.is_past() ? null : register_in(line, functions_now(), owners);
+  if (found === null) return;
+  if (board.chosen !== found.path) choose(found.path, false);
+  if (found.offset !== null) registers.preview(found.offset, found.width, found.value);
 }
 
 // What is wrong after a line of firmware is noted under it; on a large board, after all that run at once. Reads and questions change nothing.
@@ -174,7 +188,9 @@ function show_moment({ held: answering, owners: those, now }, count) {
 // What goes down the board that is shown: what is asked, or else what the last line sent; null where nothing does.
 function sent_now() {
   const line = question.asked?.call === null ? question.asked.line : moments.last.line;
-  return line === null || answers() === null ? null : sent_by(line, () => answers().number('host ir 0xcf8 4'));
+  if (line === null || answers() === null) return null;
+  const those = functions_now(), open = speaking() === 'guests' ? moments.open() ?? all_open(answers(), those, owners) : [];
+  return sent_by(line, () => answers().number('host ir 0xcf8 4')) ?? sent_by_guest(line, open, (guest, slot) => path_in(owners, { guest, slot }), those);
 }
 
 const functions_now = () => (as === 'firmware' ? firmware.now?.functions ?? [] : functions);
@@ -206,16 +222,6 @@ function ask_of_lost({ path, place }) {
   question.turn(asked, part.asked, () => document.querySelector(`#tree [data-path="${path}"]`));
 }
 
-// Marks functions where they are drawn; of one behind a folded bus, the bridge before it.
-function light(...paths) {
-  for (const one of document.querySelectorAll('.lit')) one.classList.remove('lit');
-  const drawn = at => document.querySelectorAll(`[data-path="${at}"]`);
-  for (let path of paths) {
-    while (path && drawn(path).length === 0) path = parent_of(path);
-    if (path) for (const one of drawn(path)) one.classList.add('lit');
-  }
-}
-
 // What is asked, or else the address that is on its way.
 function marked_now() {
   const asked = question.marked();
@@ -244,8 +250,8 @@ function draw_board(whole) {
 // A line that works on this board, if it was taken.
 function first_line() {
   if (as === 'firmware') return firmware.first_line();
+  const [taken] = owners.values();
   if (machine === null) return '';
-  const taken = [...owners.values()][0];
   return taken ? `${taken.guest} cr ${taken.slot} 0 4` : `host cr ${functions[0]?.place ?? '00:00.0'} 0 4`;
 }
 
@@ -259,9 +265,7 @@ function take(text, file) {
   marks = marks_of(machine.guests());
   apertures = apertures_in(part.board.value);
   part.report.textContent = decoder.decode(text);
-  const bridges = functions.filter(one => one.kind === 'bridge').length;
-  const counts = [[functions.length - bridges, 'endpoint'], [bridges, 'bridge'], ...(as === 'firmware' ? [] : [[marks.size, 'guest']])];
-  tell(false, `${as === 'firmware' ? 'Driven by firmware' : 'Set up'}: ${counts.map(([count, name]) => count_in_words(count, name)).join(', ')}`);
+  tell(false, as === 'firmware' ? `Driven by firmware: ${counts_in_words(functions, null)}` : `Set up: ${counts_in_words(functions, marks.size)}`);
 }
 
 // Sets the board up anew, and draws it. A task ends there, but for its own beginning.
@@ -281,7 +285,7 @@ function set_up() {
   if (report.number === 0) {
     take(report.text, file);
   } else {
-    tell(true, `${report.number} ${WORDS[report.number] ?? ''}${report.number === NOT_TOML && line !== null ? `; it can't be read on in line ${line}` : ''}`);
+    tell(true, `${report.number} ${WORDS[report.number] ?? ''}${report.number === NOT_TOML && line !== null ? `; it can't be parsed from line ${line} on` : ''}`);
   }
   if (as === 'firmware') firmware.open(engine.open_at_reset(file).made, machine, machine === null ? [] : functions);
   else guest_registers.open(machine === null ? [] : functions, owners);
@@ -379,10 +383,10 @@ function start_again() {
 
 function wire() {
   document.body.append(patterns());
-  part.board.addEventListener('input', set_up);
   part.restart.addEventListener('click', start_again);
   part.as.addEventListener('change', event => { be(event.target.value); set_up(); });
   addEventListener('resize', follow);
+  keep_what_is_left();
   wire_leads(part);
 }
 
@@ -391,5 +395,5 @@ try {
   wire();
   await new Opening(part, { still, show: show_text, open: open_beginning, play: (script, at_once) => script_console.play(script, at_once), lessons, tell: (...words) => keeper.tell(...words) }).begin();
 } catch (wrong) {
-  tell(true, `This browser can't run the module: ${wrong}. It needs WebAssembly with memories of 64-bit addresses, as Chromium and Firefox have them.`);
+  tell_unable(part.unable, wrong);
 }

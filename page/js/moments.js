@@ -4,15 +4,18 @@ import { NOTHING_CHANGED, Watch, is_remark } from './changes.js';
 import { moment_of, Replay } from './replay.js';
 import { Steps } from './steps.js';
 
+// Milliseconds after which the reader does nothing.
+const IDLE = 700;
+
 export class Moments {
   // `page` has `shown`, who answers lines, with functions, owners and what firmware sees; `show`, which shows another moment and is given how many
   // lines ran until then; `read`, which reads without a trace; `lines`, those that ran, with how many of them can't be gone through; `copy`, what
-  // a copy of the board is made of; `choose` and `light`.
+  // a copy of the board is made of; `choose`, `light`, and `functions`, with their numbers as they are now.
   constructor(parts, page) {
-    Object.assign(this, { page, last: NOTHING_CHANGED, present: null, replay: null });
+    Object.assign(this, { page, last: NOTHING_CHANGED, present: null, replay: null, spare: null, timer: 0 });
     const moment = () => { const shown = page.shown(); return shown.held === null ? null : moment_of(shown); };
     this.watch = new Watch({ read: page.read, moment });
-    this.steps = new Steps(parts, { show: count => this.go(count), choose: page.choose, light: page.light });
+    this.steps = new Steps(parts, { show: count => this.go(count), choose: page.choose, light: page.light, functions: page.functions });
   }
 
   is_past() { return this.steps.is_past(); }
@@ -36,6 +39,25 @@ export class Moments {
   forget() {
     this.watch.forget();
     this.last = NOTHING_CHANGED;
+    this.spare?.close();
+    this.spare = null;
+    this.open_soon();
+  }
+
+  // Opens a copy of the board while the reader does nothing, so that going back needn't wait for it.
+  open_soon() {
+    clearTimeout(this.timer);
+    this.timer = setTimeout(() => { this.spare ??= this.page.copy().open(); }, IDLE);
+  }
+
+  copy() {
+    const copy = this.page.copy();
+    return { ...copy, open: () => {
+      const { spare } = this;
+      this.spare = null;
+      this.open_soon();
+      return spare ?? copy.open();
+    } };
   }
 
   // After lines: what they changed, and through which one can go. Whether any ran.
@@ -50,7 +72,7 @@ export class Moments {
   go(count) {
     this.present ??= { ...this.page.shown(), last: this.last };
     if (this.is_past()) {
-      this.replay ??= new Replay(this.page.copy());
+      this.replay ??= new Replay(this.copy());
       this.last = this.replay.go(this.page.lines().lines, count);
       this.page.show(this.replay, count);
       return;

@@ -3,6 +3,7 @@
 
 import { make, make_button, put_text } from './marks.js';
 import { Findings } from './findings_view.js';
+import { with_numbers } from './names.js';
 import { read_why, read_why_of_guest } from './why.js';
 
 const LINES_SHOWN = 8;
@@ -10,9 +11,9 @@ const UNASKED = { asked: null, place: null, back: () => null, reply: null, lines
 
 export class Question {
   // `heard` is told each reply; `driven` gives what answers firmware's questions, or null where none can be asked, and `held` what answers
-  // those of guests; `path_in` gives the function in a guest's slot; `changed` lets the question look, and draws what is marked.
-  constructor(heard, { driven, held, path_in, light, choose, changed }) {
-    Object.assign(this, { heard, driven, held, path_in, changed, ...UNASKED });
+  // those of guests; `path_in` gives the function in a guest's slot, and `functions` all of them; `changed` lets the question look, and draws what is marked.
+  constructor(heard, { driven, held, path_in, light, choose, changed, functions }) {
+    Object.assign(this, { heard, driven, held, path_in, changed, functions, ...UNASKED });
     const head = make('div', 'line'), line = make('code', ''), list = make('ul', '');
     head.append(line, make_button('×', () => this.close(), 'fold', 'Close the question'));
     this.about = make('p', 'about');
@@ -20,7 +21,7 @@ export class Question {
     for (const [name, value] of [['role', 'group'], ['aria-label', 'Why'], ['aria-live', 'off']]) this.box.setAttribute(name, value);
     this.box.addEventListener('keydown', event => { if (event.key === 'Escape') this.close(); });
     this.box.append(head, this.about, list);
-    this.findings = new Findings({ total: line, list, few: LINES_SHOWN }, light, choose);
+    this.findings = new Findings({ total: line, list, few: LINES_SHOWN }, light, choose, functions);
   }
 
   can_ask() { return this.driven() !== null; }
@@ -51,13 +52,13 @@ export class Question {
     const lines = call === null ? read_why(answers.board_why_json(at), reply) : read_why_of_guest(answers.why_json(call), reply, slot => this.path_in(call.guest, slot));
     Object.assign(this, { reply, lines });
     this.findings.draw(this.lines, this.asked.line);
-    this.heard.textContent = [...(this.about.hidden ? [] : [this.about.textContent]), ...this.lines.map(one => one.text)].join('; ');
+    this.heard.textContent = [...(this.about.hidden ? [] : [this.about.textContent]), ...this.lines.map(one => with_numbers(one.text, this.functions()))].join('; ');
     return true;
   }
 
   // What the question is about, as registers are now, where its line doesn't say it.
   tell_about() {
-    const told = this.asked.about?.() ?? '';
+    const told = with_numbers(this.asked.about?.() ?? '', this.functions());
     put_text(this.about, told);
     this.about.hidden = told === '';
   }

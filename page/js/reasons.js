@@ -1,5 +1,5 @@
-// Why a line is no line: which word is wrong, and what would be right, in the words of the prompt for Python
-// (library/python/pciguest/_explain.py). The module judges lines; this finds the word.
+// Why a line is malformed: which word is wrong, and what would be right. The module judges lines; this finds the word, the same one as the
+// prompt for Python does (library/python/pciguest/_explain.py).
 
 const MOST_BYTES = 200;
 
@@ -14,7 +14,7 @@ export function number_of(word) {
 const counted = (name, most = (1n << 64n) - 1n) => ({ name,
   wrong: word => {
     const value = number_of(word);
-    if (value === null) return 'is no number: write decimal digits, or 0x and hexadecimal ones, below 2^64';
+    if (value === null) return "isn't a number: write decimal digits, or 0x and hexadecimal digits, below 2^64";
     return value <= most ? null : `is above 0x${most.toString(16)}`;
   },
   begun: word => /^0x$/i.test(word) });
@@ -23,20 +23,20 @@ const PARTS = ['cfg', 'bar0', 'bar1', 'bar2', 'bar3', 'bar4', 'bar5'];
 const among = (name, words, otherwise) => ({ name, wrong: word => (words.includes(word) ? null : otherwise), begun: word => words.some(one => one.startsWith(word)), words });
 
 const FUNCTION = { name: 'the function',
-  wrong: word => (/^[0-9a-f]{2}:[01][0-9a-f]\.[0-7]$/i.test(word) ? null : 'is no function: write bus, device and function, as 01:02.0'),
+  wrong: word => (/^[0-9a-f]{2}:[01][0-9a-f]\.[0-7]$/i.test(word) ? null : "isn't a function's number: write bus, device and function, such as 01:02.0"),
   begun: word => '00:00.0'.startsWith(word.replace(/[0-9a-f]/gi, '0')) };
 
 const SLOT = counted('the slot'), OFFSET = counted('the offset'), PORT = counted('the port'), ADDRESS = counted('the address'), WIDTH = counted('the width');
 const VALUE = counted('the value', 0xffffffffn);
-const ASKED_SPACE = among('the space', ['mem', 'io', 'cfg'], 'is no space: mem, io or cfg');
+const ASKED_SPACE = among('the space', ['mem', 'io', 'cfg'], "isn't a space: mem, io or cfg");
 
 // The words after the second, by the second: of a guest, of its host, and of firmware.
 const GUEST = { cr: [SLOT, OFFSET, WIDTH], cw: [SLOT, OFFSET, WIDTH, VALUE], ir: [PORT, WIDTH], iw: [PORT, WIDTH, VALUE],
   mr: [ADDRESS, WIDTH], mw: [ADDRESS, WIDTH, VALUE],
-  raise: [SLOT, among('the part', PARTS, 'is no part of a function: cfg, or bar0 to bar5'), OFFSET, counted('the mask', 0xffn)] };
+  raise: [SLOT, among('the part', PARTS, "isn't a part of a function: cfg, or bar0 to bar5"), OFFSET, counted('the mask', 0xffn)] };
 
 function forms_of_host(guests) {
-  const otherwise = `is no guest: ${guests.join(', ')}`;
+  const otherwise = `isn't a guest: ${guests.join(', ')}`;
   return { cr: [FUNCTION, OFFSET, WIDTH], ir: [PORT, WIDTH], mr: [ADDRESS, WIDTH],
     move: [among('the guest that has the function', guests, otherwise), SLOT, among('the guest that gets it', guests, otherwise), SLOT] };
 }
@@ -69,36 +69,36 @@ function wrong_word(words, form) {
   for (const [nth, { name, wrong, begun }] of form.entries()) {
     if (nth === rest.length) return { why: `${name} is missing: ${shape}`, word: null, begun: true };
     const why = wrong(rest[nth].word);
-    if (why !== null) return { why: `${name}, '${rest[nth].word}', ${why}`, word: rest[nth], begun: begun(rest[nth].word), name, is_number: why.startsWith('is no number') };
+    if (why !== null) return { why: `${name}, '${rest[nth].word}', ${why}`, word: rest[nth], begun: begun(rest[nth].word), name, is_number: why.startsWith("isn't a number") };
   }
-  return rest.length > form.length ? { why: `'${rest[form.length].word}' is a word too many: ${shape}`, word: rest[form.length], begun: false } : null;
+  return rest.length > form.length ? { why: `one word too many, '${rest[form.length].word}': ${shape}`, word: rest[form.length], begun: false } : null;
 }
 
 // Why a line is refused by 401, 402 or 403: { why, word, begun }, where the word may be none, and `begun` tells that the line may
 // become right by what is typed next; null where it is a line. Firmware's guests are none.
 export function why_bad(line, guests, as) {
   const length = new TextEncoder().encode(line).length;
-  if (length > MOST_BYTES) return { why: `the line has ${length} bytes, and may have ${MOST_BYTES}`, word: null, begun: false };
+  if (length > MOST_BYTES) return { why: `the line has ${length} bytes; the most is ${MOST_BYTES}`, word: null, begun: false };
   const words = words_in(line), names = as === 'firmware' ? [] : guests;
   if (words.length === 0 || words[0].word.startsWith('#')) return null;
   const who = words[0].word, forms = forms_of(who, names, as), last = nth => words.length === nth + 1 && !/\s$/.test(line);
   const begins = (all, word, nth) => last(nth) && all.some(one => one.startsWith(word)), all = [...names, 'host'];
-  if (forms === null) return { why: `'${who}' is no guest: ${all.join(', ')}`, word: words[0], begun: begins(all, who, 0) };
+  if (forms === null) return { why: `'${who}' isn't a guest: ${all.join(', ')}`, word: words[0], begun: begins(all, who, 0) };
   const verbs = Object.keys(forms);
   if (words.length < 2) return { why: `the second word is missing: ${verbs.join(', ')}`, word: null, begun: true };
   const verb = words[1].word;
-  if (!verbs.includes(verb)) return { why: `'${verb}' is nothing that ${who} does: ${verbs.join(', ')}`, word: words[1], begun: begins(verbs, verb, 1) };
+  if (!verbs.includes(verb)) return { why: `${who} has no command '${verb}': ${verbs.join(', ')}`, word: words[1], begun: begins(verbs, verb, 1) };
   const found = wrong_word(words, form_of(forms, verb, words[2]?.word));
   return found && { ...found, begun: found.begun && (found.word === null || last(words.indexOf(found.word))) };
 }
 
 // What the numbers mean by which a line that has a lawful form is refused.
 export const MEANING = {
-  301: 'the address, port or offset is no multiple of the width',
-  302: 'the width is none of 1, 2 and 4',
-  303: 'a slot above 31, an offset above 255 or outside its region, or a port above ffffffffh',
-  601: 'nothing is in the slot',
-  602: 'the slot has a function',
+  301: "the address, port or offset isn't a multiple of the width",
+  302: "the width isn't 1, 2 or 4",
+  303: 'a slot above 31, an offset above 255 or outside its region, or a port above 0xffffffff',
+  601: 'the slot is empty',
+  602: 'the slot already has a function',
 };
 
 // Why a reply refuses a line, or nothing.

@@ -2,6 +2,7 @@
 
 import { hex } from './report.js';
 import { make, put_text } from './marks.js';
+import { number_shown } from './names.js';
 import { number_of } from './reasons.js';
 import { groups_of, identity_of, number_in } from './fields.js';
 import { Bytes } from './bytes_view.js';
@@ -28,7 +29,7 @@ export class Registers {
   // `parts` are the elements `chosen`, `lost`, `identity`, `fields`, `bytes`, `byte` and `bits`; `choose` is given a path, `wired` gives what
   // registers of a function read back, and `moment` which bytes of which function the last line changed, and whether that is past.
   constructor(parts, choose, { wired, moment }) {
-    Object.assign(this, { parts, wired, moment, seen: '', listed: '', marked: [], of_bits: '', one: null });
+    Object.assign(this, { parts, wired, moment, seen: '', listed: '', marked: [], of_bits: '', one: null, groups: [] });
     this.bytes = new Bytes(parts.bytes, parts.byte, offset => this.light_fields(offset));
     this.bits = new Bits(parts.bits);
     parts.chosen.addEventListener('change', () => choose(parts.chosen.value));
@@ -47,17 +48,17 @@ export class Registers {
   // Shows `one` of some functions: `bytes` are its 256 bytes or null, `note` says why nothing can be written, or nothing; `write` is given
   // an offset, a width and a value.
   draw(functions, one, { bytes, note, whose, write }) {
-    const listed = functions.map(each => each.path).join(' ');
+    const listed = functions.map(each => `${each.path} ${number_shown(each)}`).join(' ');
     if (this.listed !== listed) {
       this.listed = listed;
-      this.parts.chosen.replaceChildren(...functions.map(each => new Option(`${each.path} ${each.words}`, each.path)));
+      this.parts.chosen.replaceChildren(...functions.map(each => new Option(`${number_shown(each)} ${each.words}, ${each.path}`, each.path)));
     }
     this.parts.chosen.value = one.path;
-    const { of, offsets, is_past } = this.moment(), why_shut = is_past ? 'The registers as they were then. A line goes on from how they are now.' : note;
+    const { of, offsets, is_past } = this.moment(), why_shut = is_past ? 'The registers as they were then. A new line continues from the present.' : note;
     put_text(this.parts.lost, why_shut);
     put_text(this.parts.identity, bytes === null ? '' : identity_of(one));
     const groups = groups_of(one), form = [one.path, whose, ...groups.map(group => group.title)].join();
-    this.one = one;
+    Object.assign(this, { one, groups });
     if (this.seen !== form) { this.seen = form; this.of_bits = ''; this.build(groups); }
     this.bytes.draw(bytes, one, whose, of === one.path ? offsets : []);
     this.show(groups, why_shut !== '', write);
@@ -74,6 +75,18 @@ export class Registers {
       this.of_bits = title;
       this.bits.draw(form, this.wired(this.one.path, places), values);
     } else this.bits.show(values);
+  }
+
+  // Shows the bits of the register at which a line reads or writes, with the value that is typed so far, or null.
+  preview(offset, width, value) {
+    const meets = one => one.offset < offset + width && offset < one.offset + one.width;
+    const group = this.groups.find(({ form }) => form?.registers.some(meets));
+    if (!group) return;
+    const byte_of = (one, at) => (value !== null && offset <= at && at < offset + width ? value >> BigInt(8 * (at - offset)) & 0xffn
+      : number_in(this.one.values, one) >> BigInt(8 * (at - one.offset)) & 0xffn);
+    const written = group.form.registers.filter(meets).map(one => [one.offset, one.width,
+      Array.from({ length: one.width }, (_, nth) => byte_of(one, one.offset + nth) << BigInt(8 * nth)).reduce((sum, byte) => sum | byte, 0n)]);
+    this.show_bits(group, written);
   }
 
   // A fieldset for each group.

@@ -29,7 +29,7 @@ export function moment_of({ held, functions, owners, now }) {
 export class Replay {
   // `board` has `open`, which gives what answers lines at the beginning; `functions` and `owners`, those of the report; `decodes`, the windows
   // that bridges have, or null where guests have the board; and `state`, which is loaded behind `prepared` lines, or null.
-  constructor(board) { Object.assign(this, { board, held: null, count: 0 }); }
+  constructor(board) { Object.assign(this, { board, held: null, count: 0, found: new Map() }); }
 
   begin() {
     this.close();
@@ -39,6 +39,12 @@ export class Replay {
     this.watch = new Watch({ read: line => (this.now === null ? asked_of(this.held, line) : keeping_latch(this.held, () => asked_of(this.held, line))),
       moment: () => moment_of(this) });
     this.load();
+  }
+
+  // Looks at the board, which was asked before if one comes back to a moment.
+  look() {
+    this.now?.look(this.found.get(this.count));
+    if (this.now) this.found.set(this.count, this.now.found);
   }
 
   load() {
@@ -61,13 +67,13 @@ export class Replay {
   go(lines, count) {
     if (this.held === null || count <= this.count) this.begin();
     while (this.count + 1 < count) this.run(lines[this.count]);
-    this.now?.look();
+    this.look();
     this.watch.forget();
     if (this.count === count) return NOTHING_CHANGED;
     const line = lines[this.count];
     this.watch.begins(line);
     this.watch.ends(line, this.run(line));
-    this.now?.look();
+    this.look();
     return this.watch.look();
   }
 

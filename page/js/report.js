@@ -20,13 +20,19 @@ function reported_function({ path, type, vendor, device_id, regions = [], window
 export const report_in = ({ functions, guests }) => ({ functions: functions.map(reported_function),
   slots: guests.flatMap(({ name, slots }) => slots.map(({ slot, path }) => ({ guest: name, slot: Number(slot), path }))) });
 
-// The aperture that a region or window was placed in: prefetchable memory that can't reach its aperture stands in the
-// other, so for memory the address decides.
-export function aperture_of(kind, first, apertures) {
+// How far an address is from an aperture.
+const away = ([first, last], at) => (at < first ? first - at : at > last ? at - last : 0n);
+
+// The aperture in which a region or window is, or to which it is nearest: prefetchable memory may be in either, so for memory the address decides.
+export function aperture_of(kind, first, { mem, pref }) {
   if (kind === 'io') return 'io';
-  const pref = apertures.pref;
-  return pref !== undefined && pref[0] <= first && first <= pref[1] ? 'pref' : 'mem';
+  if (mem === undefined || pref === undefined) return pref !== undefined && away(pref, first) === 0n ? 'pref' : 'mem';
+  return away(pref, first) < away(mem, first) ? 'pref' : 'mem';
 }
+
+// The windows and regions of a function, with whether its Command enables them: set-up enables all.
+export const windows_of = one => one.all_windows ?? one.windows.map(window => ({ ...window, open: true }));
+export const regions_of = one => one.all_regions ?? one.regions.map(region => ({ ...region, open: true }));
 
 // The apertures of a board file that was taken, as [first, last], by their keys' names. Only the host's keys
 // have these names and two numbers.
@@ -46,6 +52,12 @@ export const hex = value => '0x' + value.toString(16);
 export const two_digits = value => value.toString(16).padStart(2, '0');
 
 export const count_in_words = (count, name) => `${count} ${name}${count === 1 ? '' : 's'}`;
+
+// How many endpoints, bridges and guests a board has; no guests where they are null.
+export function counts_in_words(functions, guests) {
+  const bridges = functions.filter(one => one.kind === 'bridge').length, counts = [[functions.length - bridges, 'endpoint'], [bridges, 'bridge']];
+  return [...counts, ...(guests === null ? [] : [[guests, 'guest']])].map(one => count_in_words(...one)).join(', ');
+}
 
 // To one place after the point; sizes of regions and of apertures are whole.
 export function size_in_words(size) {

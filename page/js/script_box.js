@@ -1,33 +1,47 @@
-// The box in which a line is typed: while one types, it tells which word is wrong, and offers what may stand there.
+// The box in which a line is typed: while one types, it tells which word is wrong, and offers what fits there.
 
 import { make } from './marks.js';
 import { why_bad } from './reasons.js';
+import { checked, explained, meant_by } from './meant.js';
 import { completions } from './completion.js';
 
 const OFFERS_SHOWN = 60;
 
 export class ScriptBox {
-  // `parts` are the elements `line`, `why` and `offers`; `board` gives what is known of the board, or null where none is there.
-  constructor({ line, why, offers }, board) {
+  // `parts` are the elements `line`, `why` and `offers`; `board` gives what is known of the board, or null where none is there; `typed` is
+  // called with each line as far as it is typed.
+  constructor({ line, why, offers }, board, typed) {
     Object.assign(this, { line, why, list: offers, board, offers: [], from: 0, at: -1 });
-    line.addEventListener('input', () => this.look());
+    line.addEventListener('input', () => { this.look(); typed(line.value); });
     line.addEventListener('blur', () => this.shut());
     line.addEventListener('keydown', event => this.follow_key(event));
   }
 
   // After each change: what is wrong, and what may follow.
   look() {
-    const board = this.board(), text = this.line.value;
-    const bad = board === null ? null : why_bad(text, board.guests, board.as);
-    const ends = this.line.selectionStart === text.length;
-    const { from, offers } = board === null || !ends || text === '' ? { from: 0, offers: [] } : completions(text, board);
-    // a word that begins what is offered in its place is a name, and none that is wrong
-    const is_name = offers.length > 0 && bad?.word?.at === from, wrong = bad !== null && !bad.begun && !is_name;
-    this.why.textContent = is_name && bad.is_number ? `${bad.name}: ${bad.word.word} begins what is offered` : bad?.why ?? '';
-    this.why.classList.toggle('wrong', wrong);
-    this.line.setAttribute('aria-invalid', wrong);
+    const board = this.board(), text = this.line.value, ends = this.line.selectionStart === text.length;
+    if (board === null || text === '') { this.tell('', false); this.show([]); return; }
+    const bad = why_bad(text, board.guests, board.as), { from, offers } = ends ? this.offered(bad, text, board) : { from: 0, offers: [] };
+    // a word that begins what is offered in its place is a name, and not wrong
+    const is_name = offers.length > 0 && bad?.word?.at === from, check = bad === null || bad.begun || is_name ? checked(text, board.guests, board.as) : null;
+    if (check !== null) this.tell(check, true);
+    else if (bad !== null && (bad.is_number || !is_name) && meant_by(bad, board.functions) !== null) this.tell(explained(bad, board.functions), true);
+    else if (is_name) this.tell(bad.is_number ? `${bad.name}: ${bad.word.word} begins what is offered` : '', false);
+    else this.tell(bad === null ? '' : explained(bad, board.functions), bad !== null && !bad.begun);
     Object.assign(this, { from, at: -1 });
     this.show(offers.slice(0, OFFERS_SHOWN));
+  }
+
+  // What may follow, or the number that was meant by the word that is being typed: { from, offers }.
+  offered(bad, text, board) {
+    const meant = bad?.is_number ? meant_by(bad, board.functions) : null, is_last = meant && bad.word.at + bad.word.word.length === text.length;
+    return is_last ? { from: bad.word.at, offers: [{ text: meant, told: 'did you mean this?' }] } : completions(text, board);
+  }
+
+  tell(words, is_wrong) {
+    this.why.textContent = words;
+    this.why.classList.toggle('wrong', is_wrong);
+    this.line.setAttribute('aria-invalid', is_wrong);
   }
 
   show(offers) {
@@ -51,8 +65,7 @@ export class ScriptBox {
   // Empties the box.
   clear() {
     this.line.value = '';
-    this.why.textContent = '';
-    this.line.setAttribute('aria-invalid', false);
+    this.tell('', false);
     this.shut();
   }
 

@@ -2,13 +2,14 @@
 
 import { count_in_words } from './report.js';
 import { make, make_button, put_text } from './marks.js';
+import { with_numbers } from './names.js';
 
 const SHOWN = 8;
 const KEYS = { F8: -1, F9: 1 };
 
 // One change in words, which leads to its function.
-function item_of({ path, name, before, after }, choose, light) {
-  const item = make('li', ''), words = path === null ? name : `${path} ${name}`;
+function item_of({ path, called: one_called, name, before, after }, choose, light) {
+  const item = make('li', ''), words = path === null ? name : `${one_called} ${name}`;
   const one = path === null ? make('span', '', words) : make_button(words, () => choose(path), 'plain');
   if (path !== null) {
     for (const event of ['focus', 'pointerenter']) one.addEventListener(event, () => light(path));
@@ -18,10 +19,10 @@ function item_of({ path, name, before, after }, choose, light) {
   return item;
 }
 
-const noted = (name, sign, texts) => texts.map(text => make('li', name, `${sign} ${text}`));
+const noted = (name, sign, texts, functions) => texts.map(text => make('li', name, `${sign} ${with_numbers(text, functions)}`));
 
 export class Steps {
-  // `parts` are its elements; `page` has `show`, which is given how many lines have run, `choose` and `light`.
+  // `parts` are its elements; `page` has `show`, which is given how many lines have run, `choose`, `light`, and `functions`.
   constructor(parts, page) {
     Object.assign(this, { parts, page, stops: [0], at: 0 });
     parts.step.addEventListener('input', () => this.go(Number(parts.step.value)));
@@ -58,6 +59,7 @@ export class Steps {
     step_back.disabled = ran === 0;
     step_on.disabled = ran === all;
     put_text(step_told, all === 0 ? 'no line has run' : ran === all ? `${count_in_words(all, 'line')} ran` : `as after ${ran} of ${count_in_words(all, 'line')}`);
+    this.parts.go_on.hidden = ran === all;
     document.body.classList.toggle('past', ran < all);
   }
 
@@ -65,7 +67,8 @@ export class Steps {
   draw({ line, reply, changes, came, gone }) {
     const { last, changes: list } = this.parts, { choose, light } = this.page;
     last.replaceChildren(...(line === null ? [] : [line, make('span', 'unit', ' → '), reply.split('\n')[0]]));
-    const all = [...changes.map(one => item_of(one, choose, light)), ...noted('came', '+', came), ...noted('gone', '−', gone)];
+    last.title = last.textContent;
+    const functions = this.page.functions(), all = [...changes.map(one => item_of(one, choose, light)), ...noted('came', '+', came, functions), ...noted('gone', '−', gone, functions)];
     const more = all.length > SHOWN ? [make('li', '', `${all.length - SHOWN} more`)] : [];
     list.replaceChildren(...all.slice(0, SHOWN), ...more, ...(all.length === 0 && line !== null ? [make('li', 'unit', 'It changed no register.')] : []));
   }

@@ -1,7 +1,8 @@
 // The way of a configuration number, an address or a port down the tree, bus by bus: which register of whom takes it there, and which drop it.
 
-import { hex, parent_of, two_digits } from './report.js';
+import { hex, parent_of, regions_of, two_digits, windows_of } from './report.js';
 import { number_of, words_in } from './reasons.js';
+import { called } from './names.js';
 import { SPACE_READ } from './why.js';
 
 const WINDOW_NAMES = { io: 'I/O window', mem: 'memory window', pref: 'prefetchable window' };
@@ -22,32 +23,42 @@ export function sent_by(line, latch) {
   const at = number_of(place);
   if (at === null) return null;
   if (space === 'io' && LATCH_PORT <= at && at <= LAST_PORT) return sent_by_latch(at, latch);
-  return { space, place: at, words: `${space === 'io' ? 'port' : 'address'} ${hex(at)}` };
+  return { space, place: at, words: `${space === 'io' ? 'I/O port' : 'address'} ${hex(at)}` };
+}
+
+// What goes down by a guest's line: its own address, translated by a region that it has enabled, `open`, or the function in its slot.
+export function sent_by_guest(line, open, path_in_slot, functions) {
+  const [who, verb, word] = words_in(line).map(one => one.word), space = SPACE_OF[verb], at = number_of(word ?? '');
+  if (space === undefined || at === null) return null;
+  const path = space === 'cfg' ? path_in_slot(who, Number(at)) : undefined, in_slot = functions.find(each => each.path === path);
+  if (in_slot) return { space, place: in_slot.place, words: `slot ${at} of ${who}, configuration ${in_slot.place} on the board` };
+  const one = open.find(each => each.owner.guest === who && each.space === space && is_in(each, at)), place = one && one.region.first + at - one.first;
+  return one ? { space, place, words: `${space === 'io' ? 'I/O port' : 'address'} ${hex(at)} of ${who}, ${hex(place)} on the board` } : null;
 }
 
 function sent_by_latch(at, latch) {
   const value = Number(at < LATCH_DATA ? 0n : latch());
   if (value >>> 31 === 0) return null;
   const place = `${two_digits(value >> 16 & 0xff)}:${two_digits(value >> 11 & 31)}.${value >> 8 & 7}`;
-  return { space: 'cfg', place, words: `port ${hex(at)}, by the latch configuration ${place}` };
+  return { space: 'cfg', place, words: `I/O port ${hex(at)}, by CONFIG_ADDRESS configuration ${place}` };
 }
 
 // How a function takes what is sent to a bus, or why not: { takes, text, down }, where `down` tells that it goes to the bus behind.
 function met_by_window(one, { space, place }) {
-  const all = one.all_windows ?? one.windows.map(window => ({ ...window, open: true })), those = all.filter(window => (window.space === 'io') === (space === 'io'));
+  const those = windows_of(one).filter(window => (window.space === 'io') === (space === 'io'));
   const window = those.find(each => each.open && is_in(each, place));
   if (window) return { takes: true, down: true, text: `takes it down: its ${WINDOW_NAMES[window.space]}, ${reach_of(window)}, holds it` };
-  const why = each => (each.first > each.last ? `${WINDOW_NAMES[each.space]} has its Base above its Limit` : !each.open ? `${WINDOW_NAMES[each.space]} is shut by Command`
+  const why = each => (each.first > each.last ? `${WINDOW_NAMES[each.space]} has its Base above its Limit` : !each.open ? `${WINDOW_NAMES[each.space]} is disabled by Command`
     : `${WINDOW_NAMES[each.space]}, ${reach_of(each)}, doesn't hold it`);
   return { takes: false, text: `drops it: ${those.length === 0 ? 'it has no such window' : `its ${those.map(why).join(', its ')}`}` };
 }
 
 function met_by_region(one, { space, place }) {
-  const those = (one.all_regions ?? one.regions.map(region => ({ ...region, open: true }))).map(span_on_way)
+  const those = regions_of(one).map(span_on_way)
     .filter(region => (region.kind === 'io') === (space === 'io') && is_in(region, place));
   const open = those.find(region => region.open);
   if (open) return { takes: true, down: false, text: `answers: its ${open.name}, ${reach_of(open)}, holds it at offset ${hex(place - open.first)}` };
-  return { takes: false, text: those.length > 0 ? `drops it: its ${those[0].name} holds it, and Command shuts it` : '' };
+  return { takes: false, text: those.length > 0 ? `drops it: its ${those[0].name} holds it, and is disabled by Command` : '' };
 }
 
 function met_by_number(one, { place }, bus) {
@@ -70,10 +81,10 @@ export function way_of(sent, functions) {
     const met = here.map(one => ({ one, ...met_by(one) }));
     const takers = met.filter(each => each.takes), told = met.filter(each => each.text !== '');
     const name = bus === null ? 'a bus without a number' : `bus ${two_digits(bus)}`;
-    stops.push({ name, path: takers[0]?.one.path ?? (parent || null), met: told.map(({ one, takes, text }) => ({ path: one.path, takes, text })) });
-    if (takers.length === 0) return { sent, stops, ends: [], told: `Nobody on ${name} takes it: what is read is all ones` };
-    if (takers.length > 1 && sent.space !== 'cfg') return { sent, stops, ends: takers.map(each => each.one.path), told: `${takers.length} take it on ${name}: they contend` };
-    if (!takers[0].down) return { sent, stops, ends: [takers[0].one.path], told: `${takers[0].one.path} has it` };
+    stops.push({ name, path: takers[0]?.one.path ?? (parent || null), met: told.map(({ one, takes, text }) => ({ path: one.path, called: called(one), takes, text })) });
+    if (takers.length === 0) return { sent, stops, ends: [], told: `Nothing on ${name} takes it: a read returns all ones` };
+    if (takers.length > 1 && sent.space !== 'cfg') return { sent, stops, ends: takers.map(each => each.one.path), told: `${takers.length} functions on ${name} take it: an address conflict` };
+    if (!takers[0].down) return { sent, stops, ends: [takers[0].one.path], told: `${called(takers[0].one)} has it` };
     parent = takers[0].one.path;
     bus = hex_bus(takers[0].one.buses[1]) || null;
   }

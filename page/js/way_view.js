@@ -69,19 +69,20 @@ export class WayView {
   draw() {
     const { stops, sent, told } = this.way, list = make('ol', ''), is_end = this.at === stops.length - 1, buttons = make('div', 'bar');
     const had = this.into.contains(document.activeElement) ? document.activeElement.title : '';
-    for (const [text, title, act] of [['‹ Stop before', 'The stop before (arrow to the left)', () => this.go(this.at - 1)],
-      ['Next stop ›', 'The next stop (arrow to the right)', () => this.go(this.at + 1)], ['Leave its way', 'Escape', () => this.leave()]]) {
+    for (const [text, title, act] of [['‹ Stop', 'The stop before (left arrow)', () => this.go(this.at - 1)],
+      ['Stop ›', 'The next stop (right arrow)', () => this.go(this.at + 1)], ['Close', 'Escape', () => this.leave()]]) {
       buttons.append(Object.assign(make_button(text, act), { title }));
     }
     list.append(...stops.slice(0, this.at + 1).map(({ name, met }) => {
       const item = make('li', '', `${name}: `);
-      item.append(...met.map(({ path, takes, text }) => make('div', takes ? 'takes' : 'drops', `${path} ${text}`)));
+      item.append(...met.map(({ called: one, takes, text }) => make('div', takes ? 'takes' : 'drops', `${one} ${text}`)));
       return item;
     }));
     const end = make('p', '', is_end ? `${told}.` : '');
     end.setAttribute('role', 'status');
     buttons.append(end);
-    this.into.replaceChildren(make('p', 'unit', `The way of ${sent.words} from bus 00`), list, buttons);
+    this.into.replaceChildren(buttons, make('p', 'unit', `From bus 00 down: ${sent.words}`), list);
+    this.into.parentElement.scrollTop = this.into.offsetHeight;
     (buttons.querySelector(`[title="${had}"]`) ?? buttons.children[1]).focus({ preventScroll: true });
     this.passed(sent);
   }
@@ -90,7 +91,10 @@ export class WayView {
   mark() {
     if (this.way === null) return;
     const { path, met } = this.way.stops[this.at], chip = this.tree.querySelector(`[data-path="${path}"]`);
-    for (const one of this.tree.querySelectorAll('.took, .dropped')) one.classList.remove('took', 'dropped');
+    for (const one of this.tree.querySelectorAll('.took, .dropped, .passed')) one.classList.remove('took', 'dropped', 'passed');
+    for (const { path: each, takes } of this.way.stops.slice(0, this.at + 1).flatMap(stop => stop.met)) {
+      if (takes) this.tree.querySelector(`[data-path="${each}"]`)?.classList.add('passed');
+    }
     for (const { path: each, takes } of met) this.tree.querySelector(`[data-path="${each}"]`)?.classList.add(takes ? 'took' : 'dropped');
     const dot = this.tree.querySelector('.cycle') ?? this.tree.appendChild(make('span', 'cycle'));
     dot.setAttribute('aria-hidden', true);
