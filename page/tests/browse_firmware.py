@@ -3,9 +3,9 @@ import json
 
 from browse_why import ASKED, CLICK
 from chromium import press
-from tried import CUT, FIELD, MAPS, SEEN, TOP, holds, said_last, text_of, type_line, until, write_field
+from tried import CUT, FIELD, MAPS, PLAIN, SEEN, TOP, holds, said_last, text_of, type_line, until, write_field
 
-AUDIT = "[...document.querySelectorAll('#audit li')].map(one => one.textContent)"
+AUDIT = f"[...document.querySelectorAll('#audit li')].map(one => one.textContent{PLAIN})"
 STORY_SCRIPT = TOP / 'boards/bridge.script'
 # Goes to a moment.
 STEP = "(() => { const one = document.getElementById('step'); one.value = %s; one.dispatchEvent(new Event('input')); })()"
@@ -22,7 +22,7 @@ def the_reader_is_firmware(browser, page):
     holds('a key makes the reader firmware', text_of(browser, 'verdict') == 'Driven by firmware: 3 endpoints, 1 bridge', text_of(browser, 'verdict'))
     wanted = ['2.0/0.0: a cycle for 00:00.0 reaches nothing', '2.0/1.0: a cycle for 00:01.0 reaches 1.0']
     holds('at reset the audit tells of what is not found', browser.run(AUDIT) == wanted, browser.run(AUDIT))
-    titles = browser.run("[...document.querySelectorAll('#tree .lost')].map(one => one.title.split('\\n')[1])")
+    titles = browser.run(f"[...document.querySelectorAll('#tree .lost')].map(one => one.title.split('\\n')[1]{PLAIN})")
     holds('what is not found is marked in the tree', titles == wanted, titles)
     seen = browser.run("['maps', 'guests', 'fields'].map(name => document.getElementById(name).checkVisibility())")
     holds('firmware sees no guests', seen == [False, False, True], seen)
@@ -63,9 +63,11 @@ def problems_come_and_go(browser, page):
     places = "['#tree .troubled', '#addresses .wrong', '#addresses .bang-at'].map(find => document.querySelectorAll(find).length)"
     holds('it is marked in the tree and in a bar', browser.run(places) == [2, 1, 1], browser.run(places))
     browser.run("document.querySelector('[data-space=mem] .bars').focus()")
-    press(browser, 'ArrowRight')
-    told = browser.run("document.querySelector('[data-space=mem] .told').textContent")
-    holds('the keys tell of it at its region', told.endswith(f'; ! {text}'), told)
+    told = []
+    for _ in range(6):
+        press(browser, 'ArrowRight')
+        told.append(browser.run(f"document.querySelector('[data-space=mem] .told').textContent{PLAIN}"))
+    holds('the keys tell of it at its region', any(one.endswith(f'; ! {text}') for one in told), told)
     browser.run("document.querySelector('#audit button').focus()")
     lit = browser.run("[...document.querySelectorAll('#tree .lit')].map(one => one.dataset.path)")
     holds('a problem shows its functions', lit == ['2.0', '2.0/0.0'], lit)
@@ -125,7 +127,7 @@ def a_line_hands_the_board_over(browser, page):
 def firmware_has_a_story(browser, page):
     browser.open(f'{page}#{STORY}&now')
     until(browser, "document.querySelectorAll('#transcript .gone').length >= 6")
-    notes = browser.run("[...document.querySelectorAll('#transcript .came, #transcript .gone')].map(one => one.textContent)")
+    notes = browser.run(f"[...document.querySelectorAll('#transcript .came, #transcript .gone')].map(one => one.textContent{PLAIN})")
     wanted = ['+ 2.0/0.0: a cycle for 01:00.0 reaches nothing', '− 2.0/0.0: a cycle for 01:00.0 reaches nothing',
               '+ 2.0/0.0 bar0 at 0xc0000000 size 0x100000: 0xc0000000 is not forwarded by 2.0',
               '− 2.0/0.0 bar0 at 0xc0000000 size 0x100000: 0xc0000000 is not forwarded by 2.0',

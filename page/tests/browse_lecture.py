@@ -66,10 +66,10 @@ def lines_can_be_gone_through(browser, page):
     holds('the lines before a task can be gone through too', browser.run(TOLD) == '6 lines ran', browser.run(TOLD))
     for line in WINDOW:
         type_line(browser, line)
-    wanted = ['2.0 Command: 0x0000 → 0x0003', '2.0 io window: shut by Command, 0x1000 to 0x1fff → 0x1000 to 0x1fff',
-              '2.0 mem window: shut by Command, 0xc0000000 to 0xc00fffff → 0xc0000000 to 0xc00fffff']
+    wanted = ['00:02.0 Command: 0x0000 → 0x0003', '00:02.0 io window: disabled, 0x1000 to 0x1fff → 0x1000 to 0x1fff',
+              '00:02.0 mem window: disabled, 0xc0000000 to 0xc00fffff → 0xc0000000 to 0xc00fffff']
     found = browser.run(CHANGES)
-    holds('what a line changed is told before and after', found[:3] == wanted and len(found) == 6 and found[3].startswith('− 2.0/0.0 bar0'), found)
+    holds('what a line changed is told before and after', found[:3] == wanted and len(found) == 6 and found[3].startswith('− 01:00.0 (2.0/0.0) bar0'), found)
     holds('and marked in the tree', browser.run(MARKED) == ['2.0 Δ 3'], browser.run(MARKED))
     holds('and in the bars', browser.run(BARS) == [0, 0, 2], browser.run(BARS))
     audit, state = text_of(browser, 'total'), text_of(browser, 'task_state')
@@ -78,8 +78,8 @@ def lines_can_be_gone_through(browser, page):
     holds('problems are as they were', text_of(browser, 'total') == '3 problems', text_of(browser, 'total'))
     command = f"{FIELD % ('Command', 'Memory space')}"
     holds('so are registers, which nobody writes then', browser.run(f"[{command}.checked, {command}.disabled]") == [False, True])
-    holds('what that line changed is told', browser.run(CHANGES)[0] == '2.0 I/O Base, I/O Limit: 0x0000 → 0x1010', browser.run(CHANGES))
-    holds('its bytes are marked', browser.run("[...document.querySelectorAll('#bytes .changed')].map(one => one.title)") == ['1ch: I/O Base', '1dh: I/O Limit'],
+    holds('what that line changed is told', browser.run(CHANGES)[0] == '00:02.0 I/O Base, I/O Limit: 0x0000 → 0x1010', browser.run(CHANGES))
+    holds('its bytes are marked', browser.run("[...document.querySelectorAll('#bytes .changed')].map(one => one.title)") == ['0x1c: I/O Base', '0x1d: I/O Limit'],
           browser.run("[...document.querySelectorAll('#bytes .changed')].map(one => one.title)"))
     holds('the task stands', text_of(browser, 'task_state') == state, text_of(browser, 'task_state'))
     browser.run("document.getElementById('step_back').click()")
@@ -94,7 +94,7 @@ def lines_can_be_gone_through(browser, page):
     holds('lines that are not shown can not be gone through', browser.run("document.getElementById('step_back').disabled"))
     type_line(browser, 'host cw 00:02.0 0x22 2 0xc030')
     moved = browser.run(CHANGES)
-    holds('a window that grows is told', moved[1] == '2.0 mem window: 0xc0000000 to 0xc02fffff → 0xc0000000 to 0xc03fffff', moved)
+    holds('a window that grows is told', moved[1] == '00:02.0 mem window: 0xc0000000 to 0xc02fffff → 0xc0000000 to 0xc03fffff', moved)
     holds('and drawn before and after', browser.run(BARS) == [1, 0, 1], browser.run(BARS))
     browser.open(page)
     browser.run("document.getElementById('leave').click()")
@@ -104,13 +104,13 @@ def guests_lines_can_be_gone_through(browser, page):
     browser.open(f'{page}#lesson=move', 1440, 900)
     type_line(browser, 'web cw 0 0x10 4 0x90000000')
     found = browser.run(CHANGES)
-    holds("a guest's region that moves is told", found == ['2.0/0.0 Base Address Register 0: 0x80000000 → 0x90000000',
-          '2.0/0.0 guest web, slot 0 bar0: 0x80000000 to 0x8001ffff → 0x90000000 to 0x9001ffff'], found)
+    holds("a guest's region that moves is told", found == ['01:00.0 Base Address Register 0: 0x80000000 → 0x90000000',
+          '01:00.0 guest web, slot 0 bar0: 0x80000000 to 0x8001ffff → 0x90000000 to 0x9001ffff'], found)
     drawn = browser.run("['.was-at', '.joined.changed'].map(find => document.querySelectorAll(`#maps ${find}`).length)")
     holds('and drawn before and after', drawn == [1, 1], drawn)
     type_line(browser, 'host move web 0 store 2')
     found = browser.run(CHANGES)
-    holds('a move is told', '2.0/0.0 had by: guest web, slot 0 → guest store, slot 2' in found, found)
+    holds('a move is told', '01:00.0 assigned to: guest web, slot 0 → guest store, slot 2' in found, found)
     browser.press('F8')
     owner = browser.run("document.querySelector('#tree [data-path=\"2.0/0.0\"]').title")
     holds('before it the function is where it was', 'guest web, slot 0' in owner and browser.run("document.querySelectorAll('.joined').length") == 1, owner)
@@ -124,12 +124,12 @@ def guests_lines_can_be_gone_through(browser, page):
 
 
 # What is sent, and what stands at its stops.
-WAYS = [('host mr 0xc0020000 4', ['bus 00: 2.0 takes it down: its memory window, 0xc0000000 to 0xc00fffff, holds it',
-                                  'bus 01: 2.0/1.0 answers: its bar5, 0xc0020000 to 0xc0020fff, holds it at offset 0x0']),
-        ('host mr 0xc0100000 4', ["bus 00: 2.0 drops it: its memory window, 0xc0000000 to 0xc00fffff, doesn't hold it"]),
-        ('host cr 01:01.0 0 4', ['bus 00: 2.0 takes it down: Secondary 01, Subordinate 01', 'bus 01: 2.0/1.0 is found']),
-        ('host cr 02:00.0 0 4', ['bus 00: 2.0 drops it: Secondary 01, Subordinate 01']),
-        ('host ir 0x1000 4', ['bus 00: 2.0 takes it down: its I/O window, 0x1000 to 0x1fff, holds it', 'bus 01: 2.0/0.0 answers: its bar1, 0x1000 to 0x103f, holds it at offset 0x0'])]
+WAYS = [('host mr 0xc0020000 4', ['bus 00: 00:02.0 takes it down: its memory window, 0xc0000000 to 0xc00fffff, holds it',
+                                  'bus 01: 01:01.0 answers: its bar5, 0xc0020000 to 0xc0020fff, holds it at offset 0x0']),
+        ('host mr 0xc0100000 4', ["bus 00: 00:02.0 drops it: its memory window, 0xc0000000 to 0xc00fffff, doesn't hold it"]),
+        ('host cr 01:01.0 0 4', ['bus 00: 00:02.0 takes it down: Secondary 01, Subordinate 01', 'bus 01: 01:01.0 is found']),
+        ('host cr 02:00.0 0 4', ['bus 00: 00:02.0 drops it: Secondary 01, Subordinate 01']),
+        ('host ir 0x1000 4', ['bus 00: 00:02.0 takes it down: its I/O window, 0x1000 to 0x1fff, holds it', 'bus 01: 01:00.0 answers: its bar1, 0x1000 to 0x103f, holds it at offset 0x0'])]
 
 
 def a_cycle_can_be_followed(browser, page):
@@ -154,7 +154,7 @@ def a_cycle_can_be_followed(browser, page):
     type_line(browser, 'host ir 0xcfc 4')
     browser.press('F4')
     browser.press('ArrowRight')
-    holds('a port of the latch goes as a configuration cycle', browser.run(STOPS)[-1:] == ['bus 01: 2.0/1.0 is found'], browser.run(STOPS))
+    holds('a port of the latch goes as a configuration cycle', browser.run(STOPS)[-1:] == ['bus 01: 01:01.0 is found'], browser.run(STOPS))
 
 
 BITS = "[...document.querySelectorAll('#bits .of_bits')].map(one => one.getAttribute('aria-label'))"
@@ -166,11 +166,11 @@ def register_bits_are_boxes(browser, page):
     base = FIELD % ('bar0', 'base')
     browser.run(f'{base}.focus(); {base}.select()')
     browser.insert('0xc0012345')
-    holds('while one types, bits are as they would be read back', browser.run(BITS) == [f'bar0, 10h: 0xc0000000, in bits {0xc0000000:032b}'], browser.run(BITS))
+    holds('while one types, bits are as they would be read back', browser.run(BITS) == [f'bar0, 0x10: 0xc0000000, in bits {0xc0000000:032b}'], browser.run(BITS))
     kinds = browser.run("['set', 'wired', 'kind'].map(kind => document.querySelectorAll(`#bits .boxes .${kind}`).length)")
     holds('each bit is of a kind', kinds == [15, 13, 4], kinds)
     told = browser.run("document.querySelector('#bits > .hint:last-child').textContent")
-    holds('what all ones read back is told, and why that is the size', 'reads back 0xfffe0000 in bar0' in told and 'one more 0x20000: 128 KB' in told, told)
+    holds('what all ones read back is told, and why that is the size', 'reads back 0xfffe0000 in bar0' in told and 'one more is 0x20000: 128 KB' in told, told)
     lines = browser.run("document.querySelectorAll('#transcript .said').length")
     holds('typing is no line yet', lines == 0, lines)
     browser.run("document.querySelector('#tree [data-path=\"2.0\"]').click()")
@@ -178,12 +178,12 @@ def register_bits_are_boxes(browser, page):
     browser.run(f'{last}.focus(); {last}.select()')
     browser.insert('0xc01fffff')
     found = browser.run(BITS)
-    holds('a window has Base and Limit', found == ['Base, 20h: 0x0000, in bits 0000000000000000', f'Limit, 22h: 0xc010, in bits {0xc010:016b}'], found)
+    holds('a window has Base and Limit', found == ['Base, 0x20: 0x0000, in bits 0000000000000000', f'Limit, 0x22: 0xc010, in bits {0xc010:016b}'], found)
     told = browser.run("document.querySelector('#bits > .hint:last-child').textContent")
     holds('its unit is told', 'reads back 0xfff0 in Base and 0xfff0 in Limit' in told and 'units of 1 MB' in told, told)
     browser.run(f"{FIELD % ('Command', 'Memory space')}.focus()")
     told = browser.run("document.querySelector('#bits > .hint:last-child').textContent")
-    holds('Command has switches and wired bits', 'Command: bits' in told and 'are wired' in told, told)
+    holds('Command has switches and wired bits', 'Command: bits' in told and 'are hardwired' in told, told)
     browser.open(f'{page}#board=server', 1440, 900)
     holds("a guest's registers have bits too", browser.run(BITS) != [], browser.run(BITS))
 
@@ -206,7 +206,7 @@ def refusals_have_reasons(browser, page):
     browser.open(f'{page}#board=main&as=firmware', 1280, 720)
     type_line(browser, 'host cr 00:02.0 0xg 4')
     marked = browser.run("document.querySelector('#transcript mark').textContent")
-    holds('the word for which a line is refused is marked', marked == '0xg' and 'is no number' in said_last(browser, 'why'), marked)
+    holds('the word for which a line is refused is marked', marked == '0xg' and "isn't a number" in said_last(browser, 'why'), marked)
     browser.run("(() => { const one = document.getElementById('line'); one.value = ''; one.focus(); })()")
     browser.insert('host cr 00:02.0 mem')
     holds('a name that is typed is not told to be no number', text_of(browser, 'why') == 'the offset: mem begins what is offered', text_of(browser, 'why'))
@@ -214,7 +214,7 @@ def refusals_have_reasons(browser, page):
     fine = browser.run("(() => { const one = document.createElement('i'); one.style.color = 'var(--fine)'; document.body.append(one); return getComputedStyle(one).color; })()")
     holds('no green edge stands beside problems', browser.run(edge) != fine and text_of(browser, 'total') == '2 problems', browser.run(edge))
     browser.open(f'{page}#board=main', 1280, 720)
-    browser.run("(() => { const one = document.getElementById('board'); one.value = one.value.replace('0x1234', '0x12g4'); one.dispatchEvent(new Event('input')); })()")
+    browser.run("(() => { const one = document.getElementById('board'); one.value = one.value.replace('0x1234', '0x12g4'); one.dispatchEvent(new Event('input')); one.dispatchEvent(new Event('blur')); })()")
     told = text_of(browser, 'verdict')
     holds('of a file that is no TOML the line is told, and no other reason', told.startswith('101 not TOML: ') and 'UTF-8' not in told and 'line 9' in told, told)
 

@@ -6,10 +6,9 @@ LOOKS = [(1400, 'light'), (1400, 'dark'), (400, 'light'), (400, 'dark')]
 STATE = "document.getElementById('task_state').textContent"
 CODES = "[...document.querySelectorAll('#%s code')].map(one => one.textContent)"
 AUDIT = "[...document.querySelectorAll('#audit li')].map(one => one.textContent)"
-# The number of a function, by its bus and what stands first in its chip.
+# The number of a function, as its chip says it.
 NUMBER = """(() => { const chip = [...document.querySelectorAll('#tree .chip')].find(one => one.textContent.includes('%s'));
-  const bus = chip.closest('.bus').querySelector('.rail').textContent.split(' ')[1], own = [...chip.childNodes].find(one => one.nodeType === 3).data;
-  return `${bus}:${own.split(' ')[0]}`; })()"""
+  return [...chip.childNodes].find(one => one.nodeType === 3).data.split(' ')[0]; })()"""
 FITS = 'document.documentElement.scrollWidth <= innerWidth'
 
 

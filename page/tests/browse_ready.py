@@ -3,10 +3,11 @@ import base64
 import json
 import zlib
 
-from tried import TOP, holds, said_last, text_of, type_line, until
+from tried import PLAIN, TOP, holds, said_last, text_of, type_board, type_line, until
 
 EXAMPLES = TOP / 'examples/audit'
-LEFT = "[...document.querySelectorAll('#lacking li')].map(one => one.textContent)"
+LEFT = f"[...document.querySelectorAll('#lacking li')].map(one => one.textContent{PLAIN})"
+LACKS = f"document.getElementById('lacks').textContent{PLAIN}"
 SIGNS = "[...document.querySelectorAll('#tree .lack')].map(one => `${one.closest('.chip').dataset.path} ${one.querySelector('.mark').textContent}`)"
 BARS = "['.lack-at', '.region.lacks', '.window.lacks', '.bang-at', '.region.wrong'].map(find => document.querySelectorAll(`#addresses ${find}`).length)"
 STATE = "document.getElementById('task_state').textContent"
@@ -28,7 +29,7 @@ def what_is_left_is_listed(browser, page):
     browser.open(f'{page}#board=main&as=firmware')
     wanted = ['1.0 bar0 at 0x0 size 0x20 is closed', '1.0 bar1 at 0x0 size 0x1000 is closed', '2.0/0.0 bar0 at 0x0 size 0x100000 is closed',
               '2.0/0.0 bar1 at 0x0 size 0x8 is closed', '2.0/1.0 bar0 at 0x0 size 0x1000000 is closed']
-    holds('what is left at reset is counted', text_of(browser, 'left') == '5 lacks', text_of(browser, 'left'))
+    holds('what is left at reset is counted', text_of(browser, 'left') == '5', text_of(browser, 'left'))
     holds('the first of it is listed', browser.run(LEFT) == [*wanted[:4], '1 more'], browser.run(LEFT))
     browser.run("document.querySelector('#lacking li:last-child button').click()")
     holds('a button lists all', browser.run(LEFT) == [*wanted, 'show fewer'], browser.run(LEFT))
@@ -38,9 +39,9 @@ def what_is_left_is_listed(browser, page):
     holds('what is left is not told as wrong', browser.run(f"{SEEN}.matches('.troubled, .lost') || {SEEN}.querySelector('.bang') !== null") is False)
     colours = browser.run("['#audit button', '#lacking button'].map(find => getComputedStyle(document.querySelector(find)).color)")
     holds('nor has it that colour', colours[0] != colours[1], colours)
-    title = browser.run(f'{SEEN}.title').split('\n')
+    title = browser.run(f'{SEEN}.title{PLAIN}').split('\n')
     holds('a function tells what is left of it', title[1:] == [f'left to do: {text}' for text in wanted[:2]], title)
-    row = browser.run("[...document.querySelectorAll('#functions tr[data-path=\"1.0\"] .lacks')].map(one => one.textContent)")
+    row = browser.run(f"[...document.querySelectorAll('#functions tr[data-path=\"1.0\"] .lacks')].map(one => one.textContent{PLAIN})")
     holds('so does its row', row == [f'○ left to do: {text}' for text in wanted[:2]], row)
     browser.run("document.querySelector('#lacking button').focus()")
     lit = browser.run("[...document.querySelectorAll('#tree .lit')].map(one => one.dataset.path)")
@@ -85,18 +86,18 @@ KINDS = [('never_opened', '2.0/2.0/0.0 bar0 at 0xc0000000 size 0x1000 is closed'
 
 
 def each_kind_is_marked(browser, page):
-    told = "document.querySelector('[data-space=mem] .told').textContent"
+    told = f"document.querySelector('[data-space=mem] .told').textContent{PLAIN}"
     for name, text, signs, drawn in KINDS:
         browser.open(f'{page}#lesson=wrong&part=1')
         holds('beside a problem nothing else is left', [text_of(browser, 'total'), text_of(browser, 'left')] == ['1 problem', 'nothing else'], text_of(browser, 'left'))
         type_line(browser, MENDED)
-        holds('of a ready board it is told', [text_of(browser, 'total'), text_of(browser, 'left')] == ['ok', 'nothing, the board is ready'], text_of(browser, 'left'))
+        holds('of a ready board it is told', [text_of(browser, 'total'), text_of(browser, 'left')] == ['ok', 'nothing: the board is ready'], text_of(browser, 'left'))
         for line in lines_of(name):
             type_line(browser, line)
         holds(f'{name} is left to do', browser.run(LEFT) == [text] and text_of(browser, 'total') == 'ok', browser.run(LEFT))
         holds(f'{name} has its signs', browser.run(SIGNS) == signs, browser.run(SIGNS))
         holds(f'{name} is drawn in the bars', browser.run(BARS) == [*drawn, 0, 0], browser.run(BARS))
-        holds(f'{name} keeps a goal from being met', [browser.run(STATE), text_of(browser, 'lacks')] == ['1 of 2 conditions met', text], text_of(browser, 'lacks'))
+        holds(f'{name} keeps a goal from being met', [browser.run(STATE), browser.run(LACKS)] == ['1 of 2 conditions met', text], browser.run(LACKS))
         if name == 'outside_apertures':
             browser.run("document.querySelector('[data-space=mem] .bars').focus()")
             for _ in range(12):
@@ -126,7 +127,7 @@ def guests_leave_what_is_left(browser, page):
     browser.press('F8')
     holds('so it is where one goes back', browser.run(LEFT) == [text] and browser.run(SIGNS) == ['2.0 ○'], browser.run(LEFT))
     browser.run("document.getElementById('restart').click()")
-    holds('at reset all is left again', text_of(browser, 'left') == '5 lacks', text_of(browser, 'left'))
+    holds('at reset all is left again', text_of(browser, 'left') == '5', text_of(browser, 'left'))
 
 
 def many_lines_give_a_board(browser, page):
@@ -138,7 +139,7 @@ def many_lines_give_a_board(browser, page):
     task = {'title': 'Given', 'text': 'It is given.', 'board': large_board(), 'as': 'firmware', 'lines': lines, 'goal': 'ready\naudit: ok'}
     browser.open(page + link_of(task, 'task'))
     until(browser, "document.getElementById('task_title').textContent !== ''")
-    holds('so it is before a task', [browser.run(LEFT), text_of(browser, 'lacks'), browser.run(STATE)] == [[text], text, '1 of 2 conditions met'], browser.run(LEFT))
+    holds('so it is before a task', [browser.run(LEFT), browser.run(LACKS), browser.run(STATE)] == [[text], text, '1 of 2 conditions met'], browser.run(LEFT))
     browser.open(page + link_of({**task, 'as': 'guests', 'lines': ''}, 'task'))
     until(browser, "document.getElementById('task_title').textContent !== ''")
     holds('guests are told neither', browser.run(STATE) == '0 of 2 conditions met', browser.run(STATE))
@@ -152,8 +153,7 @@ def a_board_without_a_report_is_told(browser, page):
     browser.run("document.querySelector('#lacking button').focus()")
     browser.press('Enter')
     holds('and leads nowhere', browser.run('mistakes') == [], browser.run('mistakes'))
-    browser.run("document.getElementById('board').focus(); document.getElementById('board').select()")
-    browser.insert('unknown = 1')
+    type_board(browser, 'unknown = 1')
     told = [text_of(browser, 'total'), text_of(browser, 'left'), browser.run(LEFT)]
     holds('of a file that is refused nothing is told', told == ['', '', []], told)
 

@@ -3,7 +3,7 @@ page/tests/browse."""
 import json
 import time
 
-from tried import CUT, FIELD, PAINTED, holds, said_last, text_of, type_line, until
+from tried import CUT, FIELD, PAINTED, holds, said_last, text_of, type_board, type_line, until
 
 MAPS = "[...document.querySelectorAll('.joined')].map(one => one.getAttribute('aria-label'))"
 # Keeps what the page would save as a file.
@@ -18,7 +18,7 @@ NOISE = """(() => { const board = document.getElementById('board'), pattern = ()
   const region = index => `{ index = ${index}, kind = "mem32", size = 4096, block = 4096, reset = "${pattern()}" }`;
   board.value = `[host]\\nio = [0x1000, 0xffff]\\nmem = [0xc0000000, 0xdfffffff]\\n[[endpoint]]\\nat = "1.0"\\nvendor = 1\\ndevice = 1\\nclass = 0
 bar = [${[0, 1, 2, 3].map(region)}]\\n[[guest]]\\nname = "a"\\nslots = ["1.0"]\\n`;
-  board.dispatchEvent(new Event('input')); })()"""
+  board.dispatchEvent(new Event('input')); board.dispatchEvent(new Event('blur')); })()"""
 # What guests of the main board do, and what the host does then.
 LINES = ['a cw 0 0x14 4 0x80000000', 'a cw 0 4 2 2', 'a mw 0x80000004 4 0x12345678', 'b cw 0 0x10 4 0x90000000', 'b cw 0 4 2 2', 'host move a 0 b 3',
          'b cw 3 0x14 4 0xa0000000', 'b cw 3 4 2 2', 'b raise 3 bar1 0 1', 'b iw 0xcf8 4 0x80001810']
@@ -105,8 +105,7 @@ def a_file_has_the_state(browser, page):
     wanted = replies(browser)
     browser.open(f'{page}#board=server')
     board = text[:text.index('#pciguest-state guests')]
-    browser.run(f"document.getElementById('board').focus(); document.getElementById('board').select()")
-    browser.insert(text)
+    type_board(browser, text)
     wrong = browser.run("document.querySelectorAll('#numbers b').length")
     holds('to others it is a board file', text_of(browser, 'verdict').startswith('Set up: 3 endpoints') and wrong == 0, text_of(browser, 'check'))
     browser.run(OPEN % json.dumps(text))
@@ -170,7 +169,7 @@ def a_cut_link_is_told(browser, page):
         browser.open(f'{page}#board=server')
         browser.open(place)
         found = told(browser)
-        holds(f'{name} is told', found.startswith('The link is cut, or was changed on its way'), found)
+        holds(f'{name} is told', found.startswith('The link is cut off, or was changed on its way'), found)
         type_line(browser, browser.run("document.getElementById('line').placeholder"))
         holds(f'after {name} a board can be used', ': 0x' in said_last(browser, 'reply'), said_last(browser, 'reply'))
 
@@ -261,7 +260,7 @@ def the_state_looks_well(browser, page, folder, shot):
     wanted = [['Link to the state', 'The board with the state of its guests', 0], ['Keep a file', 'The board with the state of its guests', 0]]
     holds('what keeps the state has names', browser.run(NAMED) == wanted, browser.run(NAMED))
     run_lines(browser, LINES)
-    browser.run("document.getElementById('link').focus()")
+    browser.run("document.getElementById('menu').open = true; document.getElementById('link').focus()")
     browser.press('Tab')
     holds('a key leads there', browser.run('document.activeElement.id') == 'state_link', browser.run('document.activeElement.id'))
     browser.press('Enter')

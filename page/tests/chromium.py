@@ -13,7 +13,7 @@ class Browser:
 
     def __init__(self, room):
         (their_in, self.out), (self.back, their_out) = os.pipe(), os.pipe()
-        words = [shutil.which('chromium'), '--headless=new', '--no-sandbox', '--disable-gpu', '--hide-scrollbars',
+        words = [shutil.which('chromium'), '--headless=new', '--no-sandbox', '--disable-gpu',
                  f'--user-data-dir={room}', '--remote-debugging-pipe']
         self.process = subprocess.Popen(
             ['bash', '-c', 'exec "$@" 3<&"$IN" 4>&"$OUT"', 'bash', *words], pass_fds=[their_in, their_out],

@@ -9,7 +9,7 @@ import sys
 import time
 
 PREFERENCES = {'browser.shell.checkDefaultBrowser': False, 'datareporting.policy.dataSubmissionEnabled': False, 'app.update.enabled': False,
-               'browser.startup.page': 0, 'toolkit.telemetry.enabled': False, 'marionette.port': 0}
+               'browser.startup.page': 0, 'widget.gtk.overlay-scrollbars.enabled': False, 'toolkit.telemetry.enabled': False, 'marionette.port': 0}
 KEYS = {'Enter': '\ue007', 'Escape': '\ue00c', 'ArrowRight': '\ue014', 'ArrowDown': '\ue015', 'ArrowUp': '\ue013', 'ArrowLeft': '\ue012',
         'Tab': '\ue004', 'F2': '\ue032', 'F4': '\ue034', 'F8': '\ue038', 'F9': '\ue039'}
 # Makes the page's place in the window as wide and high as is asked, as a window of its own can't be narrow.

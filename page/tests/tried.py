@@ -29,6 +29,23 @@ def until(browser, script):
     return False
 
 
+def lines_in(script):
+    """The lines of a script, without its remarks."""
+    return [line for line in script.read_text().splitlines() if line and not line.startswith('#')]
+
+
+def seen(browser, find):
+    """Whether an element is whole in the window, with nothing above it: in no part that scrolled away, and behind nothing."""
+    return browser.run(WHOLE % find) is True
+
+
+def type_board(browser, text):
+    """Types a text in place of the board file, and waits until it is set up."""
+    browser.run("document.getElementById('board').focus(); document.getElementById('board').select()")
+    browser.insert(text)
+    browser.run("document.getElementById('board').blur()")
+
+
 def type_line(browser, line):
     browser.run("document.getElementById('line').focus({ preventScroll: true })")
     browser.insert(line)
@@ -36,7 +53,7 @@ def type_line(browser, line):
 
 
 def said_last(browser, name='said'):
-    return browser.run(f"[...document.querySelectorAll('#transcript .{name}')].at(-1)?.textContent")
+    return browser.run(f"[...document.querySelectorAll('#transcript .{name}')].at(-1)?.textContent{PLAIN.replace('.', '?.', 1)}")
 
 
 FIELD = """(() => { const set = [...document.querySelectorAll('#fields fieldset')].find(one => one.textContent.startsWith('%s'));
@@ -50,9 +67,13 @@ def write_field(browser, group, name, value):
     browser.press('Enter')
 
 
+WHOLE = """(() => { const one = document.querySelector('%s'), box = one.getBoundingClientRect();
+  const at = [[0.5, 0.5], [0.1, 0.2], [0.9, 0.8]].map(([x, y]) => document.elementFromPoint(box.left + x * box.width, box.top + y * box.height));
+  return box.height > 0 && box.top >= 0 && box.bottom <= innerHeight && at.every(found => one.contains(found)); })()"""
+
 # Elements that reach past the right edge, outside those that scroll or draw themselves.
 CUT = """[...document.querySelectorAll('body *')].filter(one => { const box = one.getBoundingClientRect();
-  return box.width > 0 && box.right > innerWidth + 0.5 && !one.closest('.text, svg'); }).map(one => `${one.tagName} ${one.className} ${one.id}`)"""
+  return box.width > 0 && box.right > document.documentElement.clientWidth + 0.5 && !one.closest('.text, svg'); }).map(one => `${one.tagName} ${one.className} ${one.id}`)"""
 
 # The least contrast of the texts of the page, as the browser paints them, and of the fill of regions with the page.
 PAINTED = """(() => {
@@ -68,6 +89,9 @@ PAINTED = """(() => {
   const fills = [...document.querySelectorAll('.fill')].map(one => ratio(light(getComputedStyle(one).fill), light(getComputedStyle(document.body).backgroundColor)));
   return [Math.min(...texts), Math.min(...fills)];
 })()"""
+
+# Numbers in front of paths, which the page adds to the library's texts.
+PLAIN = r".replace(/[0-9a-f]{2}:[0-9a-f]{2}\.[0-7] \(([\d./]+)\)/g, '$1')"
 
 # What guests open, as the page draws it.
 MAPS = "[...document.querySelectorAll('.joined')].map(one => one.getAttribute('aria-label'))"
