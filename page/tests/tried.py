@@ -73,7 +73,7 @@ WHOLE = """(() => { const one = document.querySelector('%s'), box = one.getBound
 
 # Elements that reach past the right edge, outside those that scroll or draw themselves.
 CUT = """[...document.querySelectorAll('body *')].filter(one => { const box = one.getBoundingClientRect();
-  return box.width > 0 && box.right > document.documentElement.clientWidth + 0.5 && !one.closest('.text, svg'); }).map(one => `${one.tagName} ${one.className} ${one.id}`)"""
+  return box.width > 0 && box.right > document.documentElement.clientWidth + 0.5 && !one.closest('.text, svg, #last'); }).map(one => `${one.tagName} ${one.className} ${one.id}`)"""
 
 # The least contrast of the texts of the page, as the browser paints them, and of the fill of regions with the page.
 PAINTED = """(() => {
