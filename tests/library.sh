@@ -185,11 +185,11 @@ if cargo --version > /dev/null 2>&1; then
   holds 'Rust: the crate without the standard library' offline outside/bare target cargo run --offline --quiet
   offline "$top/examples/rust" device env RUSTFLAGS='-D warnings' make -s > device.rust.out
   holds 'Rust: the example prints what the one in C does' cmp device.rust.out "$top/tests/library/device.stdout"
-  if compgen -G '/usr/share/cargo/registry/vm-superio-*' > /dev/null; then
+  if ls -d /usr/share/cargo/registry/vm-{memory,superio}-* > /dev/null 2>&1; then
     offline "$top/examples/rust" vmm make -s vmm > vmm.out
     holds 'Rust: the buses of a hypervisor' test "$(cat vmm.out)" = $'printer: read from RAM by the device\nserial: 1 printed'
   else
-    skips 'a hypervisor in Rust' 'no crate vm-superio' librust-vm-superio-dev
+    skips 'a hypervisor in Rust' 'no crates of VMMs' 'librust-vm-memory-dev librust-vm-superio-dev'
   fi
 else
   skips "Rust's crates" 'no cargo' cargo

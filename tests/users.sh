@@ -90,10 +90,10 @@ if cargo --version > /dev/null 2>&1; then
   holds 'the crate for Rust' with_cargo cargo build --offline --quiet --manifest-path crate/Cargo.toml
   holds 'what it reports' same wanted with_cargo cargo run --offline --quiet --manifest-path crate/Cargo.toml
   holds 'the program in Rust' same "$device" with_cargo make -s -C examples/rust
-  if compgen -G '/usr/share/cargo/registry/vm-superio-*' > /dev/null; then
+  if ls -d /usr/share/cargo/registry/vm-{memory,superio}-* > /dev/null 2>&1; then
     holds 'the buses of a hypervisor in Rust' with_cargo sh -c 'make -s -C examples/rust vmm | grep -qx "serial: 1 printed"'
   else
-    skips 'a hypervisor in Rust over the tarball' 'no crate vm-superio' librust-vm-superio-dev
+    skips 'a hypervisor in Rust over the tarball' 'no crates of VMMs' 'librust-vm-memory-dev librust-vm-superio-dev'
   fi
 else
   skips 'Rust over the tarball' 'no cargo' cargo

@@ -6,7 +6,7 @@ import copy
 import json
 import time
 from functools import partial
-from typing import Callable, Iterator, Set
+from typing import Callable, Iterator, List, Set
 
 from ._board_file import Document, Function, Path, functions, path_of, path_text
 
@@ -134,8 +134,9 @@ def without_part(parts: int, document: Document) -> Iterator[Document]:
                     else path)
 
 
-SIMPLER = [without_guests, *(partial(without_part, 1 << bit) for bit in range(1, 6)), with_fewer_functions, closer,
-           with_simpler_tables, at_lower_places]
+SIMPLER: List[Callable[[Document], Iterator[Document]]] = [
+    without_guests, *(partial(without_part, 1 << bit) for bit in range(1, 6)), with_fewer_functions, closer, with_simpler_tables,
+    at_lower_places]
 
 
 def shrunk(document: Document, holds: Callable[[Document], bool], seconds: float) -> Document:
