@@ -262,6 +262,7 @@ def the_state_looks_well(browser, page, folder, shot):
     run_lines(browser, LINES)
     browser.run("document.getElementById('menu').open = true; document.getElementById('link').focus()")
     browser.press('Tab')
+    browser.press('Tab')
     holds('a key leads there', browser.run('document.activeElement.id') == 'state_link', browser.run('document.activeElement.id'))
     browser.press('Enter')
     holds('a key makes the link', until(browser, "location.hash.startsWith('#kept=')") and browser.run(f"{TOLD}.getAttribute('role')") == 'status', told(browser))
