@@ -1,7 +1,7 @@
 //! What an endpoint's declaration has at each base address register.
 ghost use Rattle.std.specs.{Prelude.{◌≡◌, ◌≤◌, ◌<◌, ℕ, IfOk, length, map, slice_get, Some, [], ◌∷◌}, Option.option_copied};
 ghost use Rattle.lists.specs.Elements.{Each};
-ghost use Rattle.model_registers.specs.{AccessLaws.HoldsBytes, Registers.{config, cells_from}};
+ghost use Rattle.model_registers.specs.{Registers.{config, cells_from}};
 ghost use Rattle.bridge_forward.specs.EndpointParts.{region_at, declared_bar, declared_block, as_made, blocks_after};
 
 use bars::BarDecl;
@@ -76,16 +76,5 @@ pub(crate) fn reset_all(blocks: &mut [Cells])
 {
     for block in blocks.iter_mut() {
         block.reset();
-    }
-}
-
-/// Looks at each cell of blocks: what all hold are bytes.
-pub(crate) fn hold_bytes(blocks: &[Cells])
-    ensures { Each (λ f. HoldsBytes f.now) blocks.now }
-{
-    let mut left = blocks;
-    while let Some((block, rest)) = left.split_first() {
-        block.hold_bytes();
-        left = rest;
     }
 }

@@ -1,6 +1,6 @@
 //! A bridge of the board, with its registers.
 ghost use Rattle.std.specs.Prelude.{◌≡◌, ◌%◌, ◌&&◌, IfOk, Option, option_map};
-ghost use Rattle.model_registers.specs.{AccessLaws.HoldsBytes, Registers.{config, number, read, write}, ByteEnables.lanes, DeclarationRules.IsLawfulBridge, BridgeTable.bridge_reset, Decoding.{command_word, is_open}};
+ghost use Rattle.model_registers.specs.{Registers.{config, number, read, write}, ByteEnables.lanes, DeclarationRules.IsLawfulBridge, BridgeTable.bridge_reset, Decoding.{command_word, is_open}};
 ghost use Rattle.model_board.specs.{Routing.windows, Windows.{Window, is_in, is_in_window, io_window, mem_window, pref_window}, Cycles.{secondary_register, subordinate_register}};
 ghost use Rattle.bars.specs.Kinds.{named_space};
 ghost use Rattle.headers.specs.WindowPairs.{pair_of};
@@ -101,13 +101,6 @@ impl BridgeFn {
     {
         self.cells.write(u16::from(off), enables, data);
         self.decoded = decode(&self.cells, &self.decl);
-    }
-
-    /// Looks at each cell: what all hold are bytes.
-    pub(crate) fn hold_bytes(&self)
-        ensures { HoldsBytes self.now.file }
-    {
-        self.cells.hold_bytes();
     }
 
     /// Whether an address is forwarded: Command opens its space, and a window of that space holds it

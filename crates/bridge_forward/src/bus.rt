@@ -1,7 +1,6 @@
 //! The functions of a board as a tree of buses.
 ghost use Rattle.std.specs.{Prelude.{◌≡◌, ◌%◌, ◌<◌, IfOk, IfSome, IsSome, IsTrue, find, length, slice_get}, Borrow.sem, Option.{option_and_then, option_copied_mut}};
 ghost use Rattle.lists.specs.Elements.{Each, EachPair};
-ghost use Rattle.model_registers.specs.AccessLaws.{HoldsBytes};
 ghost use Rattle.model_board.specs.{Routing.routing, Paths.{path_before, path_eq}, Board.IsBoard, Places.board_of, State.row_at, Claims.first_claim, AtReset.{board_at, reset_state, IsAtReset}};
 ghost use Rattle.bars.specs.{Slots.bases_from, Kinds.named_space};
 ghost use Rattle.bridge_forward.specs.{BasesNow.bases_nth, Cycled.reached_by, Layout.{function_of, functions_of}, RoutingRows.{primary_nth, secondary_nth}};
@@ -116,17 +115,6 @@ fn declared(alloc: Global, nodes: &[Node]) -> Result<Vec<Decl>, AllocError>
         decls.push(node.declared()?)?;
     }
     Ok(decls)
-}
-
-/// Looks at each cell of the functions of nodes: what all hold are bytes.
-fn hold_bytes(nodes: &[Node])
-    ensures { Each (λ f. HoldsBytes f.file) (functions_of nodes.now) }
-{
-    let mut left = nodes;
-    while let Some((node, rest)) = left.split_first() {
-        node.function.hold_bytes();
-        left = rest;
-    }
 }
 
 impl Bus {
@@ -278,14 +266,6 @@ impl Bus {
         }
         let node = &mut self.nodes[at];
         node.function.endpoint_mut()
-    }
-
-    /// Looks at each cell of each function: what all hold are bytes. So it is in any state, since cells are kept in
-    /// bytes.
-    pub fn hold_bytes(&self)
-        ensures { Each (λ f. HoldsBytes f.file) self.now }
-    {
-        hold_bytes(&self.nodes);
     }
 
     /// Resets the endpoint at a path. Its Command and base address registers stay as they are, and so do

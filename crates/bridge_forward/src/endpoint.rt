@@ -1,11 +1,11 @@
 //! An endpoint of the board, with its registers.
 ghost use Rattle.std.specs.Prelude.{◌≡◌, ◌%◌, ◌+◌, ◌*◌, ◌≤◌, ◌<◌, ◌⊎◌, IfOk, IfSome, IfNone, IsTrue, map};
-ghost use Rattle.model_registers.specs.{Registers.{config, block, cell_at, read, write, raise}, AccessLaws.HoldsBytes, DeviceBytes.{is_device_byte, set_value}, ByteEnables.lanes, DeclarationRules.IsLawfulEndpoint, EndpointTable.endpoint_reset, Decoding.{base_address, command_word, lone_claim}, CopiedFiles.after_reset};
+ghost use Rattle.model_registers.specs.{Registers.{config, block, cell_at, read, write, raise}, DeviceBytes.{is_device_byte, set_value}, ByteEnables.lanes, DeclarationRules.IsLawfulEndpoint, EndpointTable.endpoint_reset, Decoding.{base_address, command_word, lone_claim}, CopiedFiles.after_reset};
 ghost use Rattle.bars.specs.{Kinds.named_space, Slots.bases_from, Hits.named_hit};
 ghost use Rattle.headers.specs.Places.{place_of};
 ghost use Rattle.bridge_forward.specs.RoutingRows.{base_of};
 
-use crate::blocks::{bar_decls, block_files, hold_bytes, reset_all};
+use crate::blocks::{bar_decls, block_files, reset_all};
 use crate::offsets;
 use crate::routing::regions_of;
 use crate::routing_region::RoutingRegion;
@@ -186,14 +186,6 @@ impl EndpointFn {
                 }
             }
         }
-    }
-
-    /// Looks at each cell: what all hold are bytes.
-    pub(crate) fn hold_bytes(&self)
-        ensures { HoldsBytes self.now.file }
-    {
-        self.config.hold_bytes();
-        hold_bytes(&self.blocks);
     }
 
     /// Goes back to reset. Command and the base address registers stay as they are, and so does the

@@ -1,6 +1,6 @@
 //! What stands at a path.
 ghost use Rattle.std.specs.{Prelude.{◌≡◌, ◌%◌, ◌&&◌, ◌==◌, nat_le, IfOk}, Borrow.sem, Option.{option_copied, option_copied_mut}};
-ghost use Rattle.model_registers.specs.{AccessLaws.HoldsBytes, Registers.{config, number, read, write}, ByteEnables.{LiesInWord, lanes}, Decoding.command_word};
+ghost use Rattle.model_registers.specs.{Registers.{config, number, read, write}, ByteEnables.{LiesInWord, lanes}, Decoding.command_word};
 ghost use Rattle.model_board.specs.{Board.is_bridge, Routing.ranges_of, Lawful.IsLawfulDecl, Cycles.{secondary_register, subordinate_register}};
 ghost use Rattle.bars.specs.Slots.{bases_from};
 ghost use Rattle.bridge_forward.specs.{BasesNow.bases_of, BridgeDecls.declared_bridge, ByIndex.ranges_told, RoutingRows.{named_ranges, primary_of, secondary_of}};
@@ -98,16 +98,6 @@ impl Function {
         match self {
             Function::Endpoint(endpoint) => endpoint.config_write(off, enables, data),
             Function::Bridge(bridge) => bridge.config_write(off, enables, data),
-        }
-    }
-
-    /// Looks at each cell: what all hold are bytes.
-    pub(crate) fn hold_bytes(&self)
-        ensures { HoldsBytes (file_of self.now) }
-    {
-        match self {
-            Function::Endpoint(endpoint) => endpoint.hold_bytes(),
-            Function::Bridge(bridge) => bridge.hold_bytes(),
         }
     }
 

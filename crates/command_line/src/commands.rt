@@ -7,7 +7,7 @@ use clap::{Arg, ArgAction, Command};
 use std::alloc::{AllocError, Global};
 
 /// The version of the program, which is that of the library's header.
-const VERSION: &str = "0.4.0";
+const VERSION: &str = "0.4.0-dev";
 
 const REFUSED: &str = "End with status 1 where a line was refused";
 

@@ -1,6 +1,6 @@
 //! The cells of one function's configuration space, or of one region's block.
 ghost use Rattle.std.specs.{Prelude.{◌≡◌, ◌==◌, ◌<◌, ◌%◌, ◌^◌, ◌↔◌, All, IfOk, IsTrue, not, length, if◌then◌else◌}, List.list_all};
-ghost use Rattle.model_registers.specs.{Cell.written, Registers.{config, changed, read, write, raise, cell_at}, DeviceBytes.set_value, AccessLaws.HoldsBytes, ByteEnables.{enabled_bytes, is_enabled, lanes}, FileLaws.IsConfigFile};
+ghost use Rattle.model_registers.specs.{Cell.written, Registers.{config, changed, read, write, raise, cell_at}, DeviceBytes.set_value, ByteEnables.{enabled_bytes, is_enabled, lanes}, FileLaws.IsConfigFile};
 ghost use Rattle.lists.specs.Elements.{Each, all_pairs};
 ghost use Rattle.config_bytes.specs.CellFile.{HasDistinctOffsets, differ, KeepsPlaces, file_of, placed, placed_outside, reset_outside};
 
@@ -110,13 +110,6 @@ fn offsets_differ(cells: &[(u16, Cell)]) -> bool
         left = rest;
     }
     true
-}
-
-/// Whether no two cells stand at one offset, as `Cells::new` wants it.
-pub fn has_distinct_offsets(cells: &[(u16, Cell)]) -> bool
-    ensures { IsTrue result ↔ HasDistinctOffsets cells.now }
-{
-    offsets_differ(cells)
 }
 
 impl Cells {
@@ -250,13 +243,6 @@ impl Cells {
         }
         let at = usize::from(off);
         self.table[at] = self.table[at].with_value(value);
-    }
-
-    /// Looks at each cell: what all hold are bytes.
-    pub fn hold_bytes(&self)
-        ensures { HoldsBytes self.now.now }
-    {
-        are_cells(&self.table);
     }
 
     /// Goes back to the cells that `new` was given.

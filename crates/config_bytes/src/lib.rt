@@ -11,7 +11,7 @@ mod lanes;
 mod op;
 
 pub use cell::{Cell, CellFault, are_cells};
-pub use cells::{Cells, has_distinct_offsets};
+pub use cells::Cells;
 pub use lanes::{all_ones, enables_of, from_lanes, into_lanes, lowered};
 pub use op::Op;
 

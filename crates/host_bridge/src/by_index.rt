@@ -2,7 +2,7 @@
 //! No call takes memory.
 ghost use Rattle.std.specs.{Prelude.{◌≡◌, ◌%◌, IsSome, IsTrue, length, option_map, slice_get}, Option.option_copied};
 ghost use Rattle.lists.specs.Elements.{Each};
-ghost use Rattle.model_registers.specs.{AccessLaws.HoldsBytes, Registers.{cell_at, config, number, raise, read, write}, ByteEnables.{LiesInWord, lanes}, DeviceBytes.{is_device_byte, set_value}};
+ghost use Rattle.model_registers.specs.{Registers.{cell_at, config, number, raise, read, write}, ByteEnables.{LiesInWord, lanes}, DeviceBytes.{is_device_byte, set_value}};
 ghost use Rattle.model_board.specs.State.{BoardFunction};
 ghost use Rattle.headers.specs.Places.{place_of};
 ghost use Rattle.bridge_forward.specs.{BridgeDecls.declared_bridge_nth, ByIndex.{ranges_told, ranges_nth}, Lending.endpoint_nth};
@@ -18,13 +18,6 @@ impl Host {
         ensures { result ≡ length self.now.state.functions }
     {
         self.root.count()
-    }
-
-    /// Looks at each cell of each function: what all hold are bytes.
-    pub fn hold_bytes(&self)
-        ensures { Each (λ f. HoldsBytes f.file) self.now.state.functions }
-    {
-        self.root.hold_bytes();
     }
 
     /// The path of the function at an index, in path order.

@@ -7,17 +7,15 @@
 --     number_value      a bus, device and function number
 --     problem_value      a problem
 --     problems_value, problems_json      the whole value; its text, and a line feed
---     audit_json fs      that of all that is wrong in a register state
 --     lack_value      what is lacking
 --     lacks_value, lacks_json      problems and lacks; their text, and a line feed
---     ready_json a fs      that of all that is wrong and all that is lacking, by these apertures
 use Rattle.std.specs.{Prelude.{List, [], ◌∷◌, ◌++◌, ℕ, Option, map, codes}, Option.option_map_or}
 use Rattle.serde_json.specs.{Data.{Data, null, number, unsigned, string, array, object, member, no_members}, View.items_of, Written.compact_text}
-use Rattle.model_registers.specs.{Decoding.{Space, io, memory}, Apertures.Apertures}
-use Rattle.model_board.specs.{Paths.Path, State.BoardFunction, Cycles.BusAddress}
+use Rattle.model_registers.specs.Decoding.{Space, io, memory}
+use Rattle.model_board.specs.{Paths.Path, Cycles.BusAddress}
 use Rattle.model_set_up.specs.PlacedRegions.{PlacedRegion}
 use Rattle.model_guests.specs.{Text.Text, PathTexts.path_text}
-use Rattle.model_findings.specs.{Agents.Agent, Problems.{Problem, not_forwarded, contended, not_found, problems}, Lacks.{Lack, not_open, outside_apertures, prefetched_by, other_primary, lacks}}
+use Rattle.model_findings.specs.{Agents.Agent, Problems.{Problem, not_forwarded, contended, not_found}, Lacks.{Lack, not_open, outside_apertures, prefetched_by, other_primary}}
 
 abbrev pub natural : ℕ → Data
 natural n = number (unsigned n)
@@ -77,9 +75,6 @@ problems_value ps = object (member (codes "problems") (array (items_of (map prob
 abbrev pub problems_json : List Problem → Text
 problems_json ps = compact_text (problems_value ps) ++ 10 ∷ []
 
-abbrev pub audit_json : List BoardFunction → Text
-audit_json fs = problems_json (problems fs)
-
 abbrev pub lack_value : Lack → Data
 lack_value (not_open q) = object (
     member (codes "region") (region_value q) (
@@ -106,6 +101,3 @@ lacks_value ps ls = object (
 
 abbrev pub lacks_json : List Problem → List Lack → Text
 lacks_json ps ls = compact_text (lacks_value ps ls) ++ 10 ∷ []
-
-abbrev pub ready_json : Apertures → List BoardFunction → Text
-ready_json a fs = lacks_json (problems fs) (lacks a fs)

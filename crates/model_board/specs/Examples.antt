@@ -1,8 +1,6 @@
 -- Boards and apertures of the worked examples.
 --     main_board, main_apertures      two endpoints behind a bridge, and one beside it
---     twin_bridges      two bridges, each over 16 MB and 1 MB
 --     many_bridges      255 bridges
---     chain      bridges one behind the other, and an endpoint at the end
 use Rattle.std.specs.Prelude.{List, [], ◌∷◌, ℕ, zero, suc, ◌/◌, ◌%◌, true, false, replicate, ◌^◌, ◌++◌, Some}
 use Rattle.model_registers.specs.{Cell.Cell, Declarations.{Kind, io_kind, mem32, mem64, Region, Endpoint, no_io, io16, no_pref, pref64, Bridge}, Apertures.{Aperture, Apertures}}
 use Rattle.model_board.specs.{Paths.{Part, Path}, Board.{Decl, endpoint, bridge, Row, Board}}
@@ -83,24 +81,6 @@ main_apertures = record {
 abbrev pub memory_bridge : Bridge
 memory_bridge = record { vendor = 0x1234; device = 5; revision = 0; io = no_io; pref = no_pref }
 
--- an endpoint with one memory region
-abbrev pub memory_of : ℕ → Endpoint
-memory_of size = plain 3 0 0 (region 0 (mem32 false) size ∷ [])
-
--- a bridge over 16 MB and 1 MB
-abbrev pub pair_behind : ℕ → Board
-pair_behind d =
-    function_at (part d 0 ∷ []) (bridge memory_bridge)
-    ∷ function_at (part d 0 ∷ part 0 0 ∷ []) (endpoint (memory_of (2 ^ 24)))
-    ∷ function_at (part d 0 ∷ part 1 0 ∷ []) (endpoint (memory_of (2 ^ 20))) ∷ []
-
-abbrev pub twin_bridges : Board
-twin_bridges = pair_behind 1 ++ pair_behind 2
-
--- a bridge with nothing behind it
-abbrev pub lone_bridge : Bridge → Board
-lone_bridge d = function_at (part 2 0 ∷ []) (bridge d) ∷ []
-
 -- 128 bridges on bus 0, and one behind each but the last
 abbrev pub many_pairs : ℕ → Board
 many_pairs zero = []
@@ -110,12 +90,3 @@ many_pairs (suc n) = many_pairs n ++
 
 abbrev pub many_bridges : Board
 many_bridges = many_pairs 127 ++ function_at (part 15 7 ∷ []) (bridge main_bridge) ∷ []
-
--- n bridges behind the bus at `above`, one behind the other, and an endpoint at the end
-abbrev pub chain_below : Path → ℕ → Endpoint → Board
-chain_below above zero d = function_at (above ++ part 0 0 ∷ []) (endpoint d) ∷ []
-chain_below above (suc n) d =
-    function_at (above ++ part 0 0 ∷ []) (bridge memory_bridge) ∷ chain_below (above ++ part 0 0 ∷ []) n d
-
-abbrev pub chain : ℕ → Endpoint → Board
-chain n d = chain_below [] n d

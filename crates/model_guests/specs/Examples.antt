@@ -3,11 +3,9 @@
 --     second_world      the functions of the first guest at other places, beside other functions
 --     demo_world      one endpoint without regions, and one guest
 --     wide_world      an endpoint with a region of each kind and each field of the header declared, and one guest
---     deep_world, high_world      a bridge behind a bridge; a region in the last unit below 4 GB
---     chain_world      fifteen bridges, each behind the one before
 use Rattle.std.specs.Prelude.{List, [], ◌∷◌, ℕ, true, false, ◌^◌, ◌++◌, Some, None, codes}
 use Rattle.model_registers.specs.{Cell.{Cell, constant}, Declarations.{io_kind, mem32, mem64, Endpoint, Bridge}, Apertures.Apertures}
-use Rattle.model_board.specs.{Paths.Path, Board.{endpoint, bridge, Board}, Examples.{part, function_at, aperture, plain, first_endpoint, third_endpoint, main_bridge, main_board, main_board_with, main_apertures, memory_bridge, memory_of, chain}}
+use Rattle.model_board.specs.{Paths.Path, Board.{endpoint, bridge, Board}, Examples.{part, function_at, aperture, plain, first_endpoint, third_endpoint, main_bridge, main_board, main_board_with, main_apertures}}
 use Rattle.model_guests.specs.World.{Guest, World}
 
 abbrev pub on_bus_0 : ℕ → Path
@@ -40,13 +38,6 @@ second_world = record {
   apertures = main_apertures;
   guests = record { name = codes "a"; slots = behind 4 5 ∷ on_bus_0 0 ∷ [] }
       ∷ record { name = codes "b"; slots = [] } ∷ [];
-}
-
--- with a bridge and an endpoint behind the bridge
-abbrev pub deep_world : World
-deep_world = record main_world {
-  board = main_board ++ function_at (behind 2 3) (bridge memory_bridge)
-      ∷ function_at (part 2 0 ∷ part 3 0 ∷ part 1 0 ∷ []) (endpoint (plain 6 0 4 [])) ∷ [];
 }
 
 -- ---- one endpoint
@@ -97,12 +88,3 @@ wide_world = record {
 
 abbrev pub bare : Board → World
 bare b = record { board = b; apertures = main_apertures; guests = [] }
-
--- an endpoint with an interrupt at the end of a path of sixteen parts
-abbrev pub chain_world : World
-chain_world = bare (chain 15 (plain 6 0 1 []))
-
-abbrev pub high_world : World
-high_world = record (bare (chain 1 (memory_of 0x100000))) {
-  apertures = record main_apertures { mem = aperture 0xfff00000 0xffffffff };
-}

@@ -1,6 +1,6 @@
 //! Where a function stands.
 ghost use Rattle.std.specs.{Prelude.{◌≡◌, ◌&&◌, not, IsTrue, ◌+◌, ◌<◌, [], ◌∷◌, ◌++◌, length, refl}, Ordering.{is_lt, is_eq, as_partial_cmp}, Cmp.{po, partial_equiv_from_equiv}};
-ghost use Rattle.model_board.specs.Paths.{part_eq, part_before, path_eq, path_before, leads_to, parent, same_device, function_zero, last_part, IsPath};
+ghost use Rattle.model_board.specs.Paths.{part_eq, part_before, path_eq, path_before, leads_to, parent, function_zero, last_part, IsPath};
 ghost use Rattle.paths.specs.{PathOrders.path_cmp, PathLaws.{paths_equal, paths_ordered, paths_tied}};
 
 use arrayvec::ArrayVec;
@@ -217,15 +217,6 @@ impl Path {
                 }
             }
         }
-    }
-
-    /// Whether the other path is that of another function in the same device.
-    pub fn shares_device(&self, other: &Path) -> bool
-        ensures { result ≡ (same_device other.now self.now && not (path_eq other.now self.now)) }
-    {
-        is_same(other.parent(), self.parent())
-            && other.last().device() == self.last().device()
-            && other != self
     }
 
     /// Whether this path is a proper beginning of the other.

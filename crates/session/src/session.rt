@@ -102,34 +102,6 @@ impl Session {
         }
     }
 
-    /// The board, where firmware drives it; else the session again.
-    pub fn into_board(self) -> Result<Board, Session>
-        ensures board { IfOk result (λ b. self ≡ driven b) }
-        ensures kept { IfErr result (λ x. x ≡ self) }
-        ensures given { IfErr result IsGiven }
-    {
-        let Session { alloc, stage } = self;
-        match stage {
-            Stage::Driven(board) => Ok(board),
-            Stage::Given(monitor) => Err(Session::of(alloc, monitor)),
-            Stage::Between => unreachable!(),
-        }
-    }
-
-    /// The guests with their board, where they have it; else the session again.
-    pub fn into_monitor(self) -> Result<Monitor, Session>
-        ensures machine { IfOk result (λ m. self ≡ given m) }
-        ensures kept { IfErr result (λ x. x ≡ self) }
-        ensures driven { IfErr result IsDriven }
-    {
-        let Session { alloc, stage } = self;
-        match stage {
-            Stage::Driven(board) => Err(Session::over(alloc, board)),
-            Stage::Given(monitor) => Ok(monitor),
-            Stage::Between => unreachable!(),
-        }
-    }
-
     /// Hands the board to its guests as it stands, whoever set it up, as [`Board::hand_over`] does; where they have
     /// it, nothing changes. Refused are a problem that the audit tells (207), a closed region of a given function
     /// (206), and lack of memory (299): then the board stays as it was.
