@@ -32,7 +32,7 @@
 
 /* The version of this header and of the library that comes with it, as a text and as a number that
  * increases from version to version. */
-#define PCIGUEST_VERSION "0.4.0"
+#define PCIGUEST_VERSION "0.4.0-dev"
 #define PCIGUEST_VERSION_NUMBER 400 /* 10000 * major + 100 * minor + patch */
 
 #ifdef __cplusplus

@@ -171,7 +171,7 @@ holds 'the demo' same <("$top/pciguest" demo < "$top/boards/demo.script") outsid
 holds 'a report' same "$room/report" outside bin/pciguest list boards/main.toml
 if command -v python3 > /dev/null; then
   told='import ctypes; n = ctypes.CDLL("lib/libpciguest.so.0").pciguest_version(); print(f"{n // 10000}.{n // 100 % 100}.{n % 100}")'
-  holds 'the version that the library tells' same "$(sed -n 's/^pciguest //p' VERSION)" outside "$(command -v python3)" -c "$told"
+  holds 'the version that the library tells' same "$(sed -n 's/^pciguest \([0-9.]*\).*/\1/p' VERSION)" outside "$(command -v python3)" -c "$told"
 else
   skips 'the version that the library tells' 'no Python 3' python3
 fi

@@ -6,7 +6,7 @@ import ctypes
 from ctypes import POINTER, c_bool, c_char, c_char_p, c_size_t, c_uint8, c_uint32, c_uint64, c_void_p
 from typing import Any, Dict, Tuple
 
-VERSION = "0.4.0"
+VERSION = "0.4.0-dev"
 VERSION_NUMBER = 400
 
 CONFIG = 0

@@ -86,7 +86,7 @@ class Header(unittest.TestCase):
         for file in ("python/pyproject.toml", "rust/Cargo.toml", "rust/sys/Cargo.toml"):
             told = re.search(r'^version = "(.*)"', (TOP / "library" / file).read_text(), re.MULTILINE).group(1)
             self.assertEqual(told, version, file)
-        major, minor, patch = map(int, version.split("."))
+        major, minor, patch = map(int, version.split("-")[0].split("."))
         self.assertEqual(_calls.VERSION_NUMBER, 10000 * major + 100 * minor + patch)
         self.assertEqual(pciguest.version(), _calls.VERSION_NUMBER)
 

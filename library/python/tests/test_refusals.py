@@ -34,7 +34,7 @@ class Refused(unittest.TestCase):
         self.assertEqual([problem.line for problem in problems], [13, 19, 25, 31])
         self.assertTrue(problems[0].text.startswith('endpoint[1].at = "01.0": is no path'))
         pool = self.raised(Machine, (REFUSED / "io_pool.toml").read_bytes())
-        self.assertEqual((pool.number, [problem.line for problem in pool.problems]), (203, [None, 14, 32, None, None]))
+        self.assertEqual((pool.number, [problem.line for problem in pool.problems]), (203, [None]))
 
     def test_a_board_of_firmware(self):
         self.assertEqual(self.raised(Board, "x = 1").number, 102)

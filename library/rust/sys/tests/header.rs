@@ -15,10 +15,14 @@ fn version_is_that_of_the_header() {
 #[test]
 fn the_library_is_of_that_version_too() {
     let part = |text: &str| text.parse::<u32>().expect("a number");
-    let parts: Vec<_> = env!("CARGO_PKG_VERSION").split('.').map(part).collect();
+    let (major, minor, patch) = (
+        part(env!("CARGO_PKG_VERSION_MAJOR")),
+        part(env!("CARGO_PKG_VERSION_MINOR")),
+        part(env!("CARGO_PKG_VERSION_PATCH")),
+    );
     // SAFETY: it takes nothing.
     let version = unsafe { pciguest_sys::pciguest_version() };
-    assert_eq!(version, 10000 * parts[0] + 100 * parts[1] + parts[2]);
+    assert_eq!(version, 10000 * major + 100 * minor + patch);
 }
 
 /// A machine is made, asked and freed as in C.
