@@ -13,7 +13,7 @@ INSTALL := PREFIX='$(PREFIX)' DESTDIR='$(DESTDIR)' LIBDIR='$(LIBDIR)' tools/inst
 BOARD := boards/main.toml
 
 .PHONY: demo list lspci has-lspci has-qemu has-kvm has-firmware has-kit has-peers gate test edits build library install \
-  uninstall dist wheel cargo deb deb-test bench bench-peers hostile fuzz qemu kvm firmware kit corpus peers page browse outside try try-page quick clean
+  uninstall dist wheel cargo deb deb-test bench bench-peers hostile fuzz qemu kvm firmware kit corpus peers page browse site outside try try-page quick clean
 
 # Proves and builds the program, and runs a script over the demo board.
 demo: build
@@ -55,7 +55,7 @@ test:
 
 # All that stands outside the gate, whole. A part whose packages are missing here is skipped, and they are named.
 outside: pciguest library/libpciguest.a
-	@tests/parts.py --outside hostile fuzz firmware kit peers qemu kvm page browse bench
+	@tests/parts.py --outside hostile fuzz firmware kit peers qemu kvm page browse site bench
 
 # Wrong bodies beside those of the gate, each of which the check of its crate must refuse: all, or those of some crates,
 # as in make edits CRATES='monitor headers'. A large crate takes minutes.
@@ -249,6 +249,12 @@ browse: page
 	@page/tests/offline pciguest.html $(wildcard pciguest-*-x86_64-linux.tar.gz)
 	@page/tests/browse pciguest.html page/out
 
+# A folder that a web server can serve as it is: site, with the page that is built, the documents with a search, the manuals, and the
+# references of the library for C, Rust and Python. Nothing is proved for it. It takes Debian's packages, which it names where they are
+# missing; what can't be made is left out.
+site:
+	@made=0; tools/site site || made=$$?; [ ! -d site ] || tests/site.py site; exit $$made
+
 # The program compiled once, with checks, and asked what the tests ask: a minute, and nothing is proved.
 # make quick ONLY=moves.rows asks only that in whose name these words stand.
 ONLY :=
@@ -268,5 +274,5 @@ try:
 
 clean:
 	rm -rf crates/*/out page/out library/rust/target corpus pciguest pciguest.html library/libpciguest.a library/libpciguest.so.0
-	rm -rf packages pciguest-*-x86_64-linux.tar.gz pciguest-unproved library/unproved
+	rm -rf site packages pciguest-*-x86_64-linux.tar.gz pciguest-unproved library/unproved
 	@for example in qemu kvm; do $(MAKE) --no-print-directory -C examples/$$example clean; done
