@@ -30,27 +30,27 @@ function facts_of_function(one) {
   return [found, ...(one.kind === 'bridge' ? facts_of_bridge(one) : one.all_regions.map(region => fact_of_region(one, region)))];
 }
 
-// What guests open, each region by its name.
-const name_of_open = one => `guest ${one.owner.guest}, slot ${one.owner.slot} ${one.region.name}`;
-const facts_of_open = open => (open ?? []).map(one => fact(one.of, name_of_open(one), range_of(one), one));
+// Where guests have placed their regions, each by its name.
+const name_of_placed = one => `guest ${one.owner.guest}, slot ${one.owner.slot} ${one.region.name}`;
+const facts_of_placed = placed => (placed ?? []).map(one => fact(one.of, name_of_placed(one), `${one.open ? '' : 'disabled, '}${range_of(one)}`, one));
 
 const text_of_regions = regions => (regions ?? []).map(one => `${one.first} ${one.last ?? ''} ${one.open}`).join();
 const is_as = (old, fresh) => old === fresh || (old.place === fresh.place && old.lost === fresh.lost && String(old.buses) === String(fresh.buses)
   && text_of_regions(old.all_regions) === text_of_regions(fresh.all_regions) && text_of_regions(old.all_windows) === text_of_regions(fresh.all_windows));
 
 // The facts of both moments that may differ: those of functions of firmware's board that are no longer as they were, of functions that have
-// another guest, and all that guests open.
+// another guest, and all that guests have placed.
 function doubtful(before, after) {
   const driven = (before.driven ?? []).flatMap((old, nth) => (after.driven === null || is_as(old, after.driven[nth]) ? [] : [[old, after.driven[nth]]]));
   const moved = after.functions.filter(({ path }) => String(owner_in_words(before.owners.get(path))) !== owner_in_words(after.owners.get(path)));
   const of = (moment, nth) => [...driven.flatMap(pair => facts_of_function(pair[nth])),
-    ...moved.map(one => fact(one, 'assigned to', owner_in_words(moment.owners.get(one.path)))), ...facts_of_open(moment.open)];
+    ...moved.map(one => fact(one, 'assigned to', owner_in_words(moment.owners.get(one.path)))), ...facts_of_placed(moment.placed)];
   return [of(before, 0), of(after, 1)].map(all => new Map(all.map(one => [`${one.path} ${one.name}`, one])));
 }
 
 // What is different in the later of two moments: { changes, came, gone }. A change has a function, a name, its words before and after, and the
 // places that its registers named and name, or null. A moment has what firmware's registers say of functions or null, its problems, who has which
-// function, and what guests open or null.
+// function, and what guests have placed or null.
 export function changes_between(before, after) {
   const [old, fresh] = doubtful(before, after), changes = [];
   for (const key of new Set([...old.keys(), ...fresh.keys()])) {

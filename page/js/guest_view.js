@@ -1,8 +1,10 @@
-// Each guest's own addresses beside the board's: what its registers open now, and where on the board that stands.
+// Each guest's own addresses beside the board's: what its registers open now, and where on the board that stands. What its Command disables
+// is drawn in dashes where its registers put it.
 
 import { hex, size_in_words } from './report.js';
 import { badge, make, mark_of } from './marks.js';
-import { before_box, region_box, svg, ticks } from './bars.js';
+import { before_box, ghost_box, region_box, svg, ticks } from './bars.js';
+import { open_among } from './guest_map.js';
 import { question_of } from './why.js';
 
 const BAR = 20, LINKS = 36, EDGE = 18;
@@ -39,6 +41,9 @@ const on_board = ({ region }) => ({ first: region.first, last: region.first + re
 const in_words = one => `guest ${one.owner.guest}, slot ${one.owner.slot} ${one.region.name}: ${hex(one.first)} to ${hex(one.last)}, `
   + `on the board ${hex(one.region.first)} to ${hex(on_board(one).last)} (${one.of.place}, ${size_in_words(one.region.size)})`;
 
+const alone_in_words = one => `guest ${one.owner.guest}, slot ${one.owner.slot} ${one.region.name}: ${hex(one.first)} to ${hex(one.last)}, ${size_in_words(one.region.size)}`;
+const shut_in_words = one => `${alone_in_words(one)}, disabled by Command`;
+
 const name_of = ({ owner, region }) => `${owner.guest} ${owner.slot} ${region.name}`;
 
 // Where spans begin, and then where they end.
@@ -47,7 +52,7 @@ const ends_of = (spans, scale) => spans.map(({ first }) => ({ x: scale.at(first)
 
 // A guest's bar above, the board's below, and a band from each region to its place. A click on the guest's bar asks at its address.
 // What the last line moved stood in an edge of dashes.
-function picture(those, all, were, scales, marks, width, { tell, ask }) {
+function picture({ those, shut, all, were }, scales, marks, width, { tell, ask }) {
   const top = EDGE, below = top + BAR + LINKS;
   const picture = svg('svg', { height: below + BAR + EDGE, width, class: 'map', role: 'group', 'aria-label': 'What this guest enables, and where it is on the board; Enter asks at the start of a region' });
   for (const y of [top, below]) picture.append(svg('rect', { x: 0, y, width, height: BAR, class: 'well' }));
@@ -56,17 +61,27 @@ function picture(those, all, were, scales, marks, width, { tell, ask }) {
     picture.append(svg('rect', { x, y: below, width: scales.board.at(last + 1n) - x, height: BAR, class: 'window' }));
   }
   for (const one of those.slice().reverse()) picture.append(joined(one, scales, marks, top, below, { tell, ask }));
+  for (const one of shut) picture.append(ghost_of(one, those, scales.guest, top));
   for (const { was, now } of were) {
-    const x = scales.guest.at(was.first);
-    picture.append(before_box(x, scales.guest.at(was.last + 1n) - x, top, BAR, in_words(was)));
+    const x = was && scales.guest.at(was.first);
+    if (was && was.first !== now?.first) picture.append(before_box(x, scales.guest.at(was.last + 1n) - x, top, BAR, alone_in_words(was)));
     if (now) picture.querySelector(`[data-one="${name_of(now)}"]`)?.classList.add('changed');
   }
-  picture.append(...ticks(ends_of(those, scales.guest), width, top, 1, -1), ...ticks(ends_of(those.map(on_board), scales.board), width, below + BAR, 1, 1));
+  picture.append(...ticks(ends_of([...those, ...shut], scales.guest), width, top, 1, -1), ...ticks(ends_of(those.map(on_board), scales.board), width, below + BAR, 1, 1));
   picture.addEventListener('click', event => {
     const box = picture.getBoundingClientRect(), y = event.clientY - box.top, address = scales.guest.address_at((event.clientX - box.left) / box.width * width);
     if (top <= y && y < top + BAR && address !== null) ask(address, event.target.closest('.joined')?.dataset.one);
   });
   return picture;
+}
+
+// A region that Command disables, with its name where no region is open.
+function ghost_of(one, those, scale, top) {
+  const x = scale.at(one.first), is_free = those.every(({ first, last }) => last < one.first || one.last < first);
+  const all = ghost_box(x, scale.at(one.last + 1n) - x, top, BAR, is_free ? [`slot ${one.owner.slot} ${one.region.name}`, one.region.name] : [], BAR, ' shut');
+  all.dataset.one = name_of(one);
+  all.append(svg('title', {}, shut_in_words(one)));
+  return all;
 }
 
 function joined(one, scales, marks, top, below, { tell, ask }) {
@@ -92,7 +107,7 @@ function table_of(all, marks) {
     const row = make('tr', ''), guest = make('td', '');
     row.dataset.path = one.of.path;
     guest.append(badge(mark_of(one.owner, marks)), one.owner.guest);
-    row.append(guest, ...[one.owner.slot, `${one.region.name} ${one.region.kind}`, `${hex(one.first)} to ${hex(one.last)}`,
+    row.append(guest, ...[one.owner.slot, `${one.region.name} ${one.region.kind}`, `${hex(one.first)} to ${hex(one.last)}${one.open ? '' : ', disabled'}`,
       `${hex(one.region.first)} to ${hex(on_board(one).last)}, ${one.of.place}`, size_in_words(one.region.size)].map(text => make('td', '', text)));
     [...row.children].forEach((cell, nth) => { cell.dataset.name = names[nth]; });
     return row;
@@ -148,27 +163,30 @@ export class GuestMaps {
     this.question.ask(question_of(guest, space, hex(address)), this.place_of(guest, space), back);
   }
 
-  figure(space, all, marks, told, changes) {
-    const width = Math.max(this.width(), 240), figure = make('div', 'space'), were = changes.filter(({ was }) => was?.owner && was.space === space);
-    const scales = { guest: scale_of([...all, ...were.map(one => one.was)], width), board: scale_of(all.map(on_board), width) };
+  figure(space, placed, marks, told, changes) {
+    const width = Math.max(this.width(), 240), figure = make('div', 'space'), all = open_among(placed);
+    const were = changes.filter(({ was, now }) => (was ?? now)?.owner && (was ?? now).space === space);
+    const scales = { guest: scale_of([...placed, ...were.flatMap(one => one.was ?? [])], width), board: scale_of(all.map(on_board), width) };
     figure.append(make('div', 'title', `${SPACES[space]}: in the order of addresses; gaps and sizes are not to scale`));
     const tell = one => { told.textContent = one === null ? '' : in_words(one); this.light(one?.of.path ?? null); };
-    for (const guest of new Set(all.map(one => one.owner.guest))) {
-      const line = make('div', 'whose');
+    for (const guest of new Set(placed.map(one => one.owner.guest))) {
+      const line = make('div', 'whose'), own = placed.filter(one => one.owner.guest === guest), shut = own.filter(one => !one.open);
       line.append(badge(marks.get(guest)), `guest ${guest} above, the board below`);
       const ask = (address, name) => this.ask(guest, space, address, name);
-      figure.append(line, picture(all.filter(one => one.owner.guest === guest), all, were.filter(({ was }) => was.owner.guest === guest), scales, marks, width, { tell, ask }), this.place_of(guest, space));
+      const drawn = { those: open_among(own), shut, all, were: were.filter(({ was, now }) => (was ?? now).owner.guest === guest) };
+      figure.append(line, picture(drawn, scales, marks, width, { tell, ask }), this.place_of(guest, space));
     }
     return figure;
   }
 
-  // `open` is what guests have open, and `changes` what the last line changed.
-  draw(open, owners, marks, changes) {
-    const all = open.slice().sort((a, b) => [...marks.keys()].indexOf(a.owner.guest) - [...marks.keys()].indexOf(b.owner.guest));
-    const now = all.map(in_words).join('\n') + this.width() + [...owners.keys()] + changes.map(one => `${one.name} ${one.before}`);
+  // `placed` is where guests put their regions, and `changes` what the last line changed.
+  draw(placed, owners, marks, changes) {
+    const all = placed.slice().sort((a, b) => [...marks.keys()].indexOf(a.owner.guest) - [...marks.keys()].indexOf(b.owner.guest));
+    const now = all.map(one => (one.open ? in_words : shut_in_words)(one)).join('\n') + this.width() + [...owners.keys()] + changes.map(one => `${one.name} ${one.before}`);
     if (now === this.seen && all.length > 0) return;
     this.seen = now;
-    this.into.replaceChildren(...(all.length === 0 ? [hint(owners)] : this.figures_of(all, owners, marks, changes)));
+    const empty = open_among(all).length === 0 ? [hint(owners)] : [], figures = all.length === 0 ? [] : this.figures_of(all, owners, marks, changes);
+    this.into.replaceChildren(...empty, ...figures);
     this.below.replaceChildren(...[...this.places.values()].filter(one => one.firstChild !== null && !this.into.contains(one)));
   }
 
@@ -180,6 +198,7 @@ export class GuestMaps {
     const scroll = make('div', 'scroll few');
     scroll.tabIndex = 0;
     scroll.append(table_of(all, marks));
-    return [...figures, ...shut_of(all, owners, marks), told, scroll];
+    const open = open_among(all);
+    return [...figures, ...(open.length === 0 ? [] : shut_of(open, owners, marks)), told, scroll];
   }
 }

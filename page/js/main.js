@@ -11,7 +11,7 @@ import { patterns } from './bars.js';
 import { Board, LARGE } from './board_view.js';
 import { Addresses } from './address_view.js';
 import { GuestMaps } from './guest_view.js';
-import { all_open } from './guest_map.js';
+import { all_placed, open_among } from './guest_map.js';
 import { Console } from './console.js';
 import { ScriptBox } from './script_box.js';
 import { Registers } from './registers.js';
@@ -83,7 +83,7 @@ const way = new WayView(part, { still, find: sent_now, way_of: found => way_of(f
 function known() {
   if (answers() === null) return null;
   const those = functions_now();
-  const open_of = who => all_open(answers(), those, owners).filter(one => one.owner.guest === who);
+  const open_of = who => open_among(all_placed(answers(), those, owners)).filter(one => one.owner.guest === who);
   return { as: speaking(), guests: guests(), functions: those, owners, places: who => places_on(who === 'host' ? those : open_of(who)) };
 }
 
@@ -189,14 +189,14 @@ function show_moment({ held: answering, owners: those, now }, count) {
 function sent_now() {
   const line = question.asked?.call === null ? question.asked.line : moments.last.line;
   if (line === null || answers() === null) return null;
-  const those = functions_now(), open = speaking() === 'guests' ? moments.open() ?? all_open(answers(), those, owners) : [];
+  const those = functions_now(), open = speaking() === 'guests' ? open_among(moments.placed() ?? all_placed(answers(), those, owners)) : [];
   return sent_by(line, () => answers().number('host ir 0xcf8 4')) ?? sent_by_guest(line, open, (guest, slot) => path_in(owners, { guest, slot }), those);
 }
 
 const functions_now = () => (as === 'firmware' ? firmware.now?.functions ?? [] : functions);
 
 function draw_guests(held, those) {
-  maps.draw(moments.open() ?? all_open(held, those, owners), owners, marks, moments.last.changes);
+  maps.draw(moments.placed() ?? all_placed(held, those, owners), owners, marks, moments.last.changes);
   guest_registers.draw(held, those, owners);
 }
 

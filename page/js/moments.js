@@ -20,8 +20,8 @@ export class Moments {
 
   is_past() { return this.steps.is_past(); }
 
-  // What guests have open at the moment that is shown, or null where that isn't known.
-  open() { return (this.is_past() ? this.replay.watch : this.watch).before?.open ?? null; }
+  // Where guests have placed their regions at the moment that is shown, or null where that isn't known.
+  placed() { return (this.is_past() ? this.replay.watch : this.watch).before?.placed ?? null; }
 
   // What the last line changed, and whether that is past.
   about() { return { ...this.last, is_past: this.is_past() }; }

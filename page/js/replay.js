@@ -2,7 +2,7 @@
 
 import { AtReset } from './at_reset.js';
 import { asked_of, keeping_latch } from './asked.js';
-import { all_open } from './guest_map.js';
+import { all_placed } from './guest_map.js';
 import { NOTHING_CHANGED, Watch } from './changes.js';
 
 // The line by which firmware gives its board to the guests of the file.
@@ -23,7 +23,7 @@ export const owners_in = (held, functions) => new Map(held.seats().flatMap((owne
 export function moment_of({ held, functions, owners, now }) {
   const given = now === null || now.given;
   return { driven: now?.functions ?? null, problems: now?.problems ?? [], functions: now?.functions ?? functions, owners: new Map(owners),
-    open: given ? all_open(held, now?.functions ?? functions, owners) : null };
+    placed: given ? all_placed(held, now?.functions ?? functions, owners) : null };
 }
 
 export class Replay {

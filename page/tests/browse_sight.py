@@ -95,6 +95,28 @@ def what_is_disabled_is_dashed(browser, page):
     browser.run('localStorage.clear()')
 
 
+GHOSTS = "[...document.querySelectorAll('#maps .ghost title')].map(one => one.textContent)"
+MARKED = "['.ghost', '.ghost.changed', '.joined', '.joined.changed', '.was-at'].map(find => document.querySelectorAll(`#maps ${find}`).length)"
+
+
+def what_a_guest_disables_is_dashed(browser, page):
+    browser.open(f'{page}#board=main', 1280, 720)
+    holds('what a guest never placed is not drawn', browser.run(GHOSTS) == [] and 'Nothing is enabled' in text_of(browser, 'maps'), browser.run(GHOSTS))
+    type_line(browser, 'a cw 0 0x14 4 0x80000000')
+    told = 'guest a, slot 0 bar1: 0x80000000 to 0x80000fff, 4 KB, disabled by Command'
+    holds('what a guest placed and disabled is drawn in dashes', browser.run(GHOSTS) == [told] and browser.run(MARKED) == [1, 1, 0, 0, 0], [browser.run(GHOSTS), browser.run(MARKED)])
+    holds('and the page still says how to enable it', 'Nothing is enabled' in text_of(browser, 'maps'), text_of(browser, 'maps'))
+    type_line(browser, 'a cw 0 0x14 4 0x90000000')
+    holds('it moves with its base', '0x90000000 to 0x90000fff' in browser.run(GHOSTS)[0] and browser.run(MARKED) == [1, 1, 0, 0, 1], [browser.run(GHOSTS), browser.run(MARKED)])
+    changed = text_of(browser, 'changes')
+    holds('which is told', 'disabled, 0x80000000 to 0x80000fff' in changed and 'disabled, 0x90000000 to 0x90000fff' in changed, changed)
+    type_line(browser, 'a cw 0 4 2 2')
+    holds("the guest's Command makes it a region at the same place", browser.run(MARKED) == [0, 0, 1, 1, 0], browser.run(MARKED))
+    type_line(browser, 'a cw 0 4 2 0')
+    holds('and back', browser.run(MARKED) == [1, 1, 0, 0, 0], browser.run(MARKED))
+    browser.run('localStorage.clear()')
+
+
 def nothing_jumps(browser, page, lessons):
     scripts = [(f'lesson={name}', lines) for name, lines in lessons if '/' not in name] \
         + [('board=main&as=firmware', lines_in(TOP / 'boards/bridge.script')), ('board=server', lines_in(TOP / 'boards/server.script'))]
@@ -128,4 +150,5 @@ def all_is_seen(browser, page, tasks, solutions):
     one_area_scrolls(browser, page, [one for one in lessons if one[0] in ('read', 'window', 'ready', 'neighbour', 'wide')])
     every_line_moves_something(browser, page, lessons)
     what_is_disabled_is_dashed(browser, page)
+    what_a_guest_disables_is_dashed(browser, page)
     nothing_jumps(browser, page, lessons)
