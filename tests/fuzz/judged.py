@@ -35,7 +35,7 @@ def remark(label, entry, key, words, *others):
     """A line as that of a problem, without the number of a fault."""
     told = problem(entry, key, words, 102)
     text = label + told.text.removesuffix(" (102 key)") + "".join(f": {other.name}" for other in others)
-    return Problem(text, told.table, told.outer, [(other.table, "io") for other in others], told.entry, key, words, 0)
+    return Problem(text, told.table, told.outer, [(other.table, "io") for other in others], 0)
 
 
 def warning(entry, key, words):

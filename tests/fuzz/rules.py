@@ -1,5 +1,5 @@
-"""The rules of a board file, by docs/board-file.md: the first check that a file fails, all that breaks it, and what breaks
-a later one and needn't wait."""
+"""The rules of a board file, by docs/board-file.md: the first check that a file fails, and all that breaks it or a check
+that is made together with it: those of keys, those of values, and that of patterns."""
 import re
 import tomllib
 from dataclasses import dataclass
@@ -28,14 +28,11 @@ SIZES = {"io": (4, 256), "mem32": (16, 1 << 31), "mem32p": (16, 1 << 31), "mem64
 @dataclass
 class Problem:
     """What a line says, the table with a header that it is about, and the key of that table; the same places of the
-    other entries that it names; and the entry, its key, what is wrong, and the number of the check."""
+    other entries that it names; and the number of the check."""
     text: str
     table: tuple
     outer: str
     others: list
-    entry: str
-    key: str
-    words: str
     number: int
 
 
@@ -111,7 +108,7 @@ def problem(entry, key, words, number, *others):
     beside = ": " + " takes a register of ".join(other.name for other in others) if others else ""
     text = f"{place}{shown}{owner}: {words}{beside} ({number} {WORDS[number]})"
     named = [(other.table, other.outer or key) for other in others]
-    return Problem(text, entry.table, entry.outer or key, named, entry.name, key, words, number)
+    return Problem(text, entry.table, entry.outer or key, named, number)
 
 
 FORMS = {"host": "a table, its header in brackets", "slots": "texts in brackets, each in quotes",
@@ -404,73 +401,19 @@ CHECKS = [(102, key_problems), (103, unknown_keys), (104, number_problems), (108
           (110, slot_problems), (111, aperture_problems), (112, mask_problems)]
 
 
-def range_of(value):
-    """The two addresses of an aperture, 0 for what is none."""
-    two = value if isinstance(value, list) and len(value) == 2 else [0, 0]
-    return [one if is_integer(one) else 0 for one in two]
-
-
-def read(kind, values):
-    """A table as later checks read it, whatever stands there: of a number that is none 0, of a list what has its type."""
-    said = {key: value for key, value in values.items() if isinstance(value, str) and key in TEXTS}
-    for key in NEEDED[kind] + OPTIONAL[kind]:
-        value = values.get(key)
-        if kind == "host":
-            said |= {key: range_of(value)} if key in values or key != "pref" else {}
-        elif key == "host":
-            said |= {key: read(key, value)} if isinstance(value, dict) else {}
-        elif key in {"endpoint", "bridge", "guest", "bar", "config"}:
-            said[key] = [read(key, one) for one in tables(values, key)]
-        elif key == "slots":
-            said[key] = [one for one in value if isinstance(one, str)] if isinstance(value, list) else []
-        elif (kind, key) in CHOICES:
-            said[key] = value if has_form(kind, key, value) else "io"
-        elif key not in TEXTS and (key in values or key in NEEDED[kind]):
-            said[key] = value if is_integer(value) else 0
-    return said
-
-
-ASKS = {"is the path of an earlier function": "functions", "leads through": "functions", "is in a device": "functions",
-        "is no path of an endpoint": "functions", "is the name of": "guests", "is in an earlier slot": "guests",
-        "not each region": "parts", "overlaps": "parts"}
-
-
-def holders(name):
-    """The lists in which an entry stands: the entry that has each, and its key."""
-    parts = [part.split("[")[0] for part in name.split(".")]
-    return [] if name == "file" else [("file", parts[0])] + [(name.split(".")[0], part) for part in parts[1:]]
-
-
-def keeps_from(earlier, later):
-    """Whether an earlier problem keeps a rule from being asked."""
-    if earlier.entry == later.entry:
-        return True
-    is_of_form = earlier.number == 102
-    if is_of_form and (earlier.entry, earlier.key) in holders(later.entry):
-        return True
-    asks = next((asked for words, asked in ASKS.items() if later.words.startswith(words)), None)
-    is_of_lists = earlier.number in {102, 103} and earlier.entry == "file"
-    if asks == "functions":
-        return is_of_lists or earlier.key == "at"
-    if asks == "guests":
-        return is_of_lists or earlier.key in {"name", "slots"}
-    return asks == "parts" and earlier.entry.split(".")[0] == later.entry.split(".")[0]
-
-
 def all_faults(text):
-    """The number of the first check that a file fails with all that breaks it and what breaks later ones and needn't
-    wait, or 0 with nothing."""
+    """The number of the first check that a file fails, and all that breaks it or a check that is made together with it, or 0
+    with nothing."""
     try:
         document = tomllib.loads(text)
     except tomllib.TOMLDecodeError:
         return 101, []
-    every, said, found = list(entries(document)), list(entries(read("", document))), []
-    for number, check in CHECKS:
-        if number == 112 and found:
-            break  # patterns are asked by their own check alone
-        problems = list(check(every if number < 104 else said))
-        found += [one for one in problems if number == 103 or not any(keeps_from(other, one) for other in found)]
-    return (found[0].number if found else 0), found
+    every = list(entries(document))
+    for checks in [CHECKS[:2], CHECKS[2:-1], CHECKS[-1:]]:
+        found = [one for _, check in checks for one in check(every)]
+        if found:
+            return found[0].number, found
+    return 0, []
 
 
 def place_of(number):

@@ -1,3 +1,1 @@
-pub mod Takers
-pub mod ToldCauses
-pub mod Added
+pub mod Checks

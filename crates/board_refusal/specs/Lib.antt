@@ -1,15 +1,1 @@
-pub mod Spoiling
-pub mod AllProblems
-pub mod RuleWords
-pub mod EntryValues
-pub mod KeyCauses
-pub mod SizeCauses
-pub mod ApertureCauses
-pub mod PathCauses
-pub mod PatternCauses
-pub mod RegisterCauses
-pub mod Others
-pub mod Causes
-pub mod ProblemLines
 pub mod Telling
-pub mod CauseLaws

@@ -1,63 +1,27 @@
 -- What is told of a board file that is refused.
---     IsRefusalText style name bytes fault text      a line for each of its problems, by their lines in the file; or one
---                                                    line, where the bytes are no document
---     problem_of, found_in      the problem that is told
---     IsTold text ms f told      its place, where it is known, is that of its value, and so are those of the other entries
---     IsByLine found told      the same problems, in the order of their lines
---     IsByCheck found told      the same problems, in the order of their checks
-use Rattle.std.specs.{Prelude.{◌≡◌, ◌≤◌, ◌⊎◌, ℕ, List, length, map, option_map, Option, Some, None, IfSome, IsUtf8, unwrap_or, IsPermutation}, List.Sorted.{IsNonDecreasingBy, IsStableByKey}, Ordering.nat_cmp}
-use Rattle.toml.specs.{Data.Members, Parse.parse_document}
+--     HasPlace text ms t      its place, where it is known, is that of its value, and so are those of the other entries
+--     ArePlaced text ms problems told      these problems with their places, in the order of their lines
+--     AreOfCheck text ms check told      all that break a rule of a check
+--     phase fault      the checks that are made together with that of the fault
+--     AreProblems text ms fault told      all that break a rule of these, check after check
+--     IsPlaceIn bytes p      a part of the text, with its line
+use Rattle.std.specs.{Prelude.{◌≡◌, ◌≤◌, ℕ, List, [], ◌∷◌, ◌++◌, length, map, option_map, IfSome, unwrap_or, IsPermutation}, List.Sorted.{IsNonDecreasingBy, IsStableByKey}, Ordering.nat_cmp}
+use Rattle.toml.specs.Data.{Members}
 use Rattle.lists.specs.Elements.{Each}
-use Rattle.board_file.specs.{declared.{fault.BoardFault.BoardFault, finding.Breach.Breach}, Entries.{File, file}, Problems.{Found, found_of}, RuleFaults.fault_of}
-use Rattle.diagnostics.specs.{declared.{text_place.TextPlace.TextPlace, style.Style.Style}, LineNumbers.line_of, EntryPlaces.{IsPlaceOf, entry_of}}
-use Rattle.board_refusal.specs.{AllProblems.{all_problems, rank}, declared.placed_breach.PlacedBreach.PlacedBreach, Others.other_of, RegisterCauses.taker_of, ProblemLines.{unread_text, lines_text}}
+use Rattle.board_file.specs.{declared.{fault.BoardFault.BoardFault, finding.Breach.Breach}, Problems.found_of, KeyProblems.problems_of, Meaning.file_checks}
+use Rattle.diagnostics.specs.{declared.text_place.TextPlace.TextPlace, LineNumbers.line_of, EntryPlaces.IsPlaceOf}
+use Rattle.board_refusal.specs.declared.placed_breach.PlacedBreach.{PlacedBreach}
+use Rattle.board_file.specs.declared.fault.BoardFault.TheVariants as fault
+
+-- ---- places
 
 abbrev pub problem_of : PlacedBreach → Breach
 problem_of t = t.problem
 
-abbrev pub found_in : PlacedBreach → Found
-found_in t = found_of t.problem
-
--- what is told beside a problem
-pub record IsTold (text : List ℕ) (ms : Members) (f : File) (t : PlacedBreach) : Type 0 where
-  pub place : IfSome t.place (IsPlaceOf text ms t.problem.entry t.problem.key.now)
-  pub taker : option_map entry_of t.taker ≡ taker_of f t.problem.entry t.problem.rule
-  pub taker_place : IfSome t.taker (λ o. IfSome o.place (IsPlaceOf text ms o.entry t.problem.key.now))
-  pub other : option_map entry_of t.other ≡ other_of f t.problem.entry t.problem.rule
-  pub other_place : IfSome t.other (λ o. IfSome o.place (IsPlaceOf text ms o.entry t.problem.key.now))
-
--- the line of a problem, or 0 where none is known
-abbrev pub line_or_zero : PlacedBreach → ℕ
-line_or_zero t = unwrap_or (option_map (λ p. p.line) t.place) 0
-
--- those without a line come first, and those of one line keep their order
-pub record IsByLine (found told : List PlacedBreach) : Type 0 where
-  pub are_same : IsPermutation found told
-  pub in_order : IsNonDecreasingBy line_or_zero told
-  pub is_stable : IsStableByKey line_or_zero nat_cmp found told
-
--- the place of the check that a problem is of
-abbrev pub rank_of : PlacedBreach → ℕ
-rank_of t = rank (fault_of t.problem.rule)
-
--- check after check, each in the order that it had
-pub record IsByCheck (found told : List PlacedBreach) : Type 0 where
-  pub are_same : IsPermutation found told
-  pub in_order : IsNonDecreasingBy rank_of told
-  pub is_stable : IsStableByKey rank_of nat_cmp found told
-
--- all problems that can be asked, first those of the fault, check after check and in each in the order of their lines
-pub record IsRefusal (style : Style) (name bytes : List ℕ) (fault : BoardFault) (text : List ℕ) : Type 0 where
-  pub document : Members
-  pub parsed : parse_document bytes ≡ Some document
-  pub found : List PlacedBreach
-  pub are_all : map found_in found ≡ all_problems document fault
-  pub have_places : Each (IsTold bytes document (file document)) found
-  pub by_line : List PlacedBreach
-  pub has_lines : IsByLine found by_line
-  pub told : List PlacedBreach
-  pub in_order : IsByCheck by_line told
-  pub is_text : text ≡ lines_text style name document bytes fault told
+pub record HasPlace (text : List ℕ) (ms : Members) (t : PlacedBreach) : Type 0 where
+  pub own : IfSome t.place (IsPlaceOf text ms t.problem.entry t.problem.key.now)
+  pub taker : IfSome t.taker (λ o. IfSome o.place (IsPlaceOf text ms o.entry t.problem.key.now))
+  pub other : IfSome t.other (λ o. IfSome o.place (IsPlaceOf text ms o.entry t.problem.key.now))
 
 -- a part of the text, with its line
 pub record IsPlaceIn (bytes : List ℕ) (p : TextPlace) : Type 0 where
@@ -65,15 +29,46 @@ pub record IsPlaceIn (bytes : List ℕ) (p : TextPlace) : Type 0 where
   pub ends : p.end ≤ length bytes
   pub is_line : p.line ≡ line_of p.start bytes
 
--- bytes that are no document have no entries; the place is that at which they were given up, and the reason is the
--- reader's
-pub record IsUnread (style : Style) (name bytes : List ℕ) (fault : BoardFault) (text : List ℕ) : Type 0 where
-  pub no_document : IsUtf8 bytes → parse_document bytes ≡ None
-  pub place : Option TextPlace
-  pub within : IfSome place (IsPlaceIn bytes)
-  pub reason : List ℕ
-  pub is_text : text ≡ unread_text style name bytes place reason fault
+-- ---- the order of lines
 
-abbrev pub IsRefusalText : Style → (name bytes : List ℕ) → BoardFault → List ℕ → Type 0
-IsRefusalText style name bytes fault text =
-    IsUnread style name bytes fault text ⊎ IsRefusal style name bytes fault text
+-- the line of a problem, or 0 where none is known
+abbrev pub line_or_zero : PlacedBreach → ℕ
+line_or_zero t = unwrap_or (option_map (λ p. p.line) t.place) 0
+
+-- those without a line come first, and those of one line keep the order of the file's entries
+pub record ArePlaced (text : List ℕ) (ms : Members) (problems : List Breach) (told : List PlacedBreach) : Type 0 where
+  pub found : List PlacedBreach
+  pub are_all : map problem_of found ≡ problems
+  pub have_places : Each (HasPlace text ms) found
+  pub are_same : IsPermutation found told
+  pub in_order : IsNonDecreasingBy line_or_zero told
+  pub is_stable : IsStableByKey line_or_zero nat_cmp found told
+
+-- ---- all that is wrong
+
+pub record AreOfCheck (text : List ℕ) (ms : Members) (check : BoardFault) (told : List PlacedBreach) : Type 0 where
+  pub problems : List Breach
+  pub are_all : map found_of problems ≡ problems_of ms check
+  pub are_placed : ArePlaced text ms problems told
+
+-- a list of two parts
+pub record AreBoth (First Rest : List PlacedBreach → Type 0) (told : List PlacedBreach) : Type 0 where
+  pub front : List PlacedBreach
+  pub back : List PlacedBreach
+  pub are_all : told ≡ front ++ back
+  pub first : First front
+  pub rest : Rest back
+
+abbrev pub AreOfChecks : List ℕ → Members → List BoardFault → List PlacedBreach → Type 0
+AreOfChecks text ms [] told = told ≡ []
+AreOfChecks text ms (f ∷ fs) told = AreBoth (AreOfCheck text ms f) (AreOfChecks text ms fs) told
+
+-- keys, and then values; patterns are judged last, since their lengths go by those of blocks
+abbrev pub phase : BoardFault → List BoardFault
+phase fault.Key = fault.Key ∷ fault.UnknownKey ∷ []
+phase fault.UnknownKey = fault.Key ∷ fault.UnknownKey ∷ []
+phase fault.CellMasks = fault.CellMasks ∷ []
+phase _ = file_checks
+
+abbrev pub AreProblems : List ℕ → Members → BoardFault → List PlacedBreach → Type 0
+AreProblems text ms fault told = AreOfChecks text ms (phase fault) told

@@ -1,24 +1,18 @@
 //! Layer: files. Below: diagnostics. Above: board_told.
 //!
-//! What is told of a board file that is refused: a line for each entry that breaks its first failing check, or a
-//! later one that waits for none of these, with its line in the file, and why.
+//! What is told of a board file that is refused: a line for each entry that breaks a rule, with its line in the file,
+//! and why. While keys are wrong, nothing is said about values.
 #![tactic(auto)]
 
-mod aperture_causes;
 mod causes;
-mod entry_values;
-mod every_check;
 mod key_causes;
-pub mod laws;
 mod others;
 mod path_causes;
-mod pattern_causes;
 mod placed_breach;
-mod problem_lines;
+mod problems;
 mod refusals;
-mod register_causes;
-mod rule_words;
-mod size_causes;
-mod spoiling;
+mod value_causes;
 
+pub use placed_breach::PlacedBreach;
+pub use problems::placed_problems;
 pub use refusals::{refusal_text, unread_text};

@@ -1,11 +1,9 @@
 //! Problems with their places, and with the other entries that are told of beside them.
-ghost use Rattle.std.specs.Prelude.{◌≡◌, IfOk, map};
+ghost use Rattle.std.specs.Prelude.{◌≡◌, IfOk};
 ghost use Rattle.toml.specs.View.{table_view};
-ghost use Rattle.lists.specs.Elements.{Each};
-ghost use Rattle.board_refusal.specs.Telling.{problem_of, IsTold};
+ghost use Rattle.board_refusal.specs.Telling.{HasPlace, line_or_zero, ArePlaced};
 
-use crate::others::other_of;
-use crate::register_causes::taker_of;
+use crate::others::{other_of, taker_of};
 use board_file::Breach;
 use board_file::entries::FileEntries;
 use diagnostics::{Other, Places, TextPlace, place_of, with_place};
@@ -18,19 +16,20 @@ pub struct PlacedBreach<'a> {
     pub place: Option<TextPlace>,
     /// The region without registers of its own, where the problem is that.
     pub taker: Option<Other>,
+    /// The other entry that has what this one asks for itself.
     pub other: Option<Other>,
 }
 
 /// A problem with its place.
-fn tell<'a>(
+fn placed<'a>(
     alloc: Global,
     places: &Places<'_>,
     file: &FileEntries<'_>,
     problem: &Breach<'a>,
 ) -> Result<PlacedBreach<'a>, AllocError>
     ensures same { IfOk result (λ t. t.problem ≡ problem.now) }
-    ensures told { IfOk result
-        (IsTold places.now.text.now (table_view places.now.document.now) file.now) }
+    ensures place { IfOk result
+        (HasPlace places.now.text.now (table_view places.now.document.now)) }
 {
     let place = place_of(alloc, places, problem.entry, problem.key)?;
     let taker = taker_of(file, problem.entry, problem.rule);
@@ -45,20 +44,31 @@ fn tell<'a>(
     })
 }
 
-/// The problems with their places.
+/// The line of a problem, or 0 where none is known.
+fn line_or_zero(told: &PlacedBreach<'_>) -> usize
+    ensures { result ≡ line_or_zero told.now }
+{
+    match told.place {
+        Some(place) => place.line,
+        None => 0,
+    }
+}
+
+/// The problems with their places, in the order of their lines. Those without a line come first, and those of one line
+/// keep their order.
 pub(crate) fn with_places<'a>(
     alloc: Global,
     places: &Places<'_>,
     file: &FileEntries<'_>,
     problems: &[Breach<'a>],
 ) -> Result<Vec<PlacedBreach<'a>>, AllocError>
-    ensures same { IfOk result (λ v. map problem_of v.items ≡ problems.now) }
-    ensures told { IfOk result (λ v.
-        Each (IsTold places.now.text.now (table_view places.now.document.now) file.now) v.items) }
+    ensures { IfOk result (λ v.
+        ArePlaced places.now.text.now (table_view places.now.document.now) problems.now v.items) }
 {
     let mut all = Vec::new(alloc);
     'problems: for problem in problems {
-        all.push(tell(alloc, places, file, problem)?)?;
+        all.push(placed(alloc, places, file, problem)?)?;
     }
+    all.sort_by_key(|one| line_or_zero(one))?;
     Ok(all)
 }

@@ -1,16 +1,62 @@
 //! What is told of a board file that is refused.
-ghost use Rattle.std.specs.Prelude.{◌≡◌, IfOk, IfSome, IsUtf8, OnOk, None, string_bytes};
-ghost use Rattle.toml.specs.{Errors.IsWithin, Parse.parse_document};
-ghost use Rattle.board_file.specs.{Sources.IsRead, declared.fault.BoardFault.TheVariants.NotToml};
-ghost use Rattle.board_refusal.specs.Telling.{IsRefusal, IsUnread, IsPlaceIn, IsByLine, IsByCheck, line_or_zero, rank_of};
+ghost use Rattle.std.specs.Prelude.{IfSome};
+ghost use Rattle.toml.specs.Errors.{IsWithin};
+ghost use Rattle.board_refusal.specs.Telling.{IsPlaceIn};
 
-use crate::every_check::{all_problems, rank};
-use crate::placed_breach::{PlacedBreach, with_places};
-use crate::problem_lines::{push_lines, push_unread};
+use crate::causes::{push_cause, rule_words};
+use crate::placed_breach::PlacedBreach;
+use crate::problems::placed_problems;
 use board_file::{BoardFault, Source};
-use diagnostics::{Places, Style, Telling, TextPlace, line_of};
+use diagnostics::{
+    Head, LineNumber, Style, Telling, TextPlace, line_of, push_below, push_shown_line,
+};
 use std::alloc::{AllocError, Global};
 use toml::de::Error;
+
+/// Appends what is told of a problem: the entry with its place, what is wrong and why, and below it the line of the file.
+fn push_problem(
+    alloc: Global,
+    text: &mut String,
+    telling: Telling<'_>,
+    source: &Source<'_>,
+    told: &PlacedBreach<'_>,
+) -> Result<(), AllocError> {
+    let problem = told.problem;
+    let fault = problem.rule.fault();
+    let head = Head {
+        telling,
+        label: "",
+        bytes: source.bytes,
+        document: source.document,
+        entry: problem.entry,
+        key: problem.key,
+        place: told.place,
+    };
+    write!(text, "{head}: {}", rule_words(problem.rule))?;
+    push_cause(alloc, text, source, told)?;
+    writeln!(text, " ({} {fault})", fault.number())?;
+    push_below(alloc, text, &head)
+}
+
+/// What is told of a board file that is refused with this fault: a line for each of its problems, and how many there
+/// are. `name` is what the file is called. With excerpts the line of the file stands below each, where it is known.
+pub fn refusal_text(
+    alloc: Global,
+    style: Style,
+    name: &str,
+    source: &Source<'_>,
+    fault: BoardFault,
+) -> Result<String, AllocError> {
+    let problems = placed_problems(alloc, source, fault)?;
+    let mut text = String::new(alloc);
+    for problem in &problems {
+        push_problem(alloc, &mut text, Telling { style, name }, source, problem)?;
+    }
+    let count = problems.len();
+    let noun = if count == 1 { "problem" } else { "problems" };
+    writeln!(text, "{count} {noun}")?;
+    Ok(text)
+}
 
 /// The place at which the bytes were given up.
 fn place_of_error(bytes: &[u8], error: &Error) -> Option<TextPlace>
@@ -27,67 +73,6 @@ fn place_of_error(bytes: &[u8], error: &Error) -> Option<TextPlace>
     }
 }
 
-/// The line of a problem, or 0 where none is known.
-fn line_or_zero(told: &PlacedBreach<'_>) -> usize
-    ensures { result ≡ line_or_zero told.now }
-{
-    match told.place {
-        Some(place) => place.line,
-        None => 0,
-    }
-}
-
-/// Puts the problems in the order of their lines. Those without a line come first, and those of one line
-/// keep their order.
-fn sort_by_line(told: &mut Vec<PlacedBreach<'_>>) -> Result<(), AllocError>
-    ensures { OnOk result (IsByLine told.old.items told.new.items) }
-{
-    told.sort_by_key(|one| line_or_zero(one))?;
-    Ok(())
-}
-
-/// The place of the check that a problem is of.
-fn rank_of(told: &PlacedBreach<'_>) -> usize
-    ensures { result ≡ rank_of told.now }
-{
-    rank(told.problem.rule.fault())
-}
-
-/// Puts the problems in the order of their checks. Those of one check keep their order.
-fn sort_by_check(told: &mut Vec<PlacedBreach<'_>>) -> Result<(), AllocError>
-    ensures { OnOk result (IsByCheck told.old.items told.new.items) }
-{
-    told.sort_by_key(|one| rank_of(one))?;
-    Ok(())
-}
-
-/// What is told of a board file that is refused with this fault: a line for each entry that breaks a
-/// rule with this fault, and then for those that break a rule of a later check and wait for no earlier
-/// problem; check after check, in each in the order of their lines in the file. It is one line where none
-/// is known. `name` is what the file is called. With excerpts the line of the file stands below each, where it
-/// is known.
-pub fn refusal_text(
-    alloc: Global,
-    style: Style,
-    name: &str,
-    source: &Source<'_>,
-    fault: BoardFault,
-) -> Result<String, AllocError>
-    requires { IsRead source.now }
-    ensures { IfOk result (λ t.
-        IsRefusal style name.now source.now.bytes.now fault (string_bytes t)) }
-{
-    let problems = all_problems(alloc, source, fault)?;
-    let places = Places::new(alloc, source.bytes, source.document)?;
-    let mut told = with_places(alloc, &places, &source.file, &problems)?;
-    sort_by_line(&mut told)?;
-    sort_by_check(&mut told)?;
-    let mut text = String::new(alloc);
-    let telling = Telling { style, name };
-    push_lines(alloc, &mut text, &telling, source, fault, &told)?;
-    Ok(text)
-}
-
 /// What is told of bytes that are no document: one line with the reader's reason, and with excerpts below it the line at
 /// which the bytes were given up. `name` is what the file is called.
 pub fn unread_text(
@@ -97,13 +82,18 @@ pub fn unread_text(
     bytes: &[u8],
     error: &Error,
 ) -> Result<String, AllocError>
-    requires within { IsWithin bytes.now error.now }
-    requires no_document { IsUtf8 bytes.now → parse_document bytes.now ≡ None }
-    ensures { IfOk result (λ t. IsUnread style name.now bytes.now NotToml (string_bytes t)) }
+    requires { IsWithin bytes.now error.now }
 {
     let place = place_of_error(bytes, error);
+    let line = LineNumber(place);
+    let reason = error.message();
+    let fault = BoardFault::NotToml;
     let mut text = String::new(alloc);
-    let telling = Telling { style, name };
-    push_unread(alloc, &mut text, &telling, bytes, place, error.message())?;
+    writeln!(
+        text,
+        "{name}{line}: refused: {reason} ({} {fault})",
+        fault.number()
+    )?;
+    push_shown_line(alloc, &mut text, style, bytes, true, place)?;
     Ok(text)
 }
