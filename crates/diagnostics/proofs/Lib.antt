@@ -3,5 +3,4 @@ pub mod InOrder
 pub mod Confirmed
 pub mod LongerWays
 pub mod LaterLines
-pub mod Ends
 pub mod MarkTexts

@@ -5,10 +5,9 @@
 --     way_told ms entry key      the way to the value at a key of an entry, or where it has none to the entry
 --     IsPlaceOf      the place of a value at the end of this way, or inside the value there, which was confirmed
 --     entry_of      the entry that is told of beside another
---     other_text, beside_text      such an entry with its line, and the same after a colon
-use Rattle.std.specs.Prelude.{◌≡◌, ℕ, codes, decimal, List, [], ◌∷◌, ◌++◌, map, Option, Some, None, is_some, if◌then◌else◌}
+use Rattle.std.specs.Prelude.{◌≡◌, ℕ, codes, List, [], ◌∷◌, ◌++◌, map, is_some, if◌then◌else◌}
 use Rattle.toml.specs.Data.{Members}
-use Rattle.diagnostics.specs.{declared.{steps.Step.{Step, TheVariants.{Key, Index}}, text_place.TextPlace.TextPlace, entry_places.Other.Other}, Places.IsPlaceWithin, EntryTexts.entry_text}
+use Rattle.diagnostics.specs.{declared.{steps.Step.{Step, TheVariants.{Key, Index}}, text_place.TextPlace.TextPlace, entry_places.Other.Other}, Places.IsPlaceWithin}
 use Rattle.board_file.specs.{declared.entry.Entry.Entry, Tables.value_at}
 use Rattle.board_file.specs.declared.entry.Entry.TheVariants as entry
 
@@ -47,15 +46,3 @@ pub record IsPlaceOf (text : List ℕ) (ms : Members) (e : Entry) (key : List �
 
 abbrev pub entry_of : Other → Entry
 entry_of o = o.entry
-
-abbrev pub in_line_text : Option TextPlace → List ℕ
-in_line_text None = []
-in_line_text (Some p) = codes " in line " ++ decimal p.line
-
--- ENTRY in line LINE
-abbrev pub other_text : Other → List ℕ
-other_text o = entry_text o.entry ++ in_line_text o.place
-
-abbrev pub beside_text : Option Other → List ℕ
-beside_text None = []
-beside_text (Some o) = codes ": " ++ other_text o

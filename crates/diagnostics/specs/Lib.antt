@@ -3,11 +3,4 @@ pub mod Ways
 pub mod Marks
 pub mod Shapes
 pub mod Places
-pub mod LineParts
-pub mod Characters
-pub mod Excerpts
-pub mod Shown
-pub mod EntryTexts
-pub mod Integers
 pub mod EntryPlaces
-pub mod Heads

@@ -1,7 +1,7 @@
 //! The places of entries, with their lines.
-ghost use Rattle.std.specs.Prelude.{◌≡◌, IfOk, IfSome, Some, map, option_map};
+ghost use Rattle.std.specs.Prelude.{◌≡◌, IfOk, IfSome, map, option_map};
 ghost use Rattle.toml.specs.View.{table_view};
-ghost use Rattle.diagnostics.specs.EntryPlaces.{turn, way_of, way_to, entry_of, other_text, beside_text, IsPlaceOf};
+ghost use Rattle.diagnostics.specs.EntryPlaces.{turn, way_of, way_to, entry_of, IsPlaceOf};
 
 use crate::confirmation::Places;
 use crate::entry_texts::EntryText;
@@ -21,8 +21,6 @@ pub struct Other {
 }
 
 impl fmt::Display for Other {
-    ghost output = { λ o. Some (other_text o) };
-
     fn fmt<W: fmt::Write>(&self, f: &mut fmt::Formatter<W>) -> fmt::Result {
         let entry = EntryText(self.entry);
         match self.place {
@@ -37,8 +35,6 @@ impl fmt::Display for Other {
 pub struct Beside(pub Option<Other>);
 
 impl fmt::Display for Beside {
-    ghost output = { λ b. Some (beside_text b.0) };
-
     fn fmt<W: fmt::Write>(&self, f: &mut fmt::Formatter<W>) -> fmt::Result {
         match self.0 {
             Some(other) => write!(f, ": {other}"),

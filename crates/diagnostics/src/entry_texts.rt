@@ -1,6 +1,4 @@
 //! How entries are shown.
-ghost use Rattle.std.specs.Prelude.{Some};
-ghost use Rattle.diagnostics.specs.EntryTexts.{entry_text};
 
 use board_file::Entry;
 use std::fmt;
@@ -10,8 +8,6 @@ use std::fmt;
 pub(crate) struct EntryText(pub(crate) Entry);
 
 impl fmt::Display for EntryText {
-    ghost output = { λ e. Some (entry_text e.0) };
-
     fn fmt<W: fmt::Write>(&self, f: &mut fmt::Formatter<W>) -> fmt::Result {
         match self.0 {
             Entry::File => write!(f, "file"),

@@ -1,87 +1,87 @@
-//! A line with its number, and a mark below a part of it.
-ghost use Rattle.std.specs.Prelude.{◌≡◌, ◌-◌, OnOk, decimal, map};
-ghost use Rattle.lists.specs.Texts.{Adds};
-ghost use Rattle.toml.specs.View.{table_view};
-ghost use Rattle.diagnostics.specs.{Characters.blank, Excerpts.{cut_front, marked_part, line_row, mark_row, excerpt, shown_text, below_text}};
+//! A line of the file with its number, and marks below a value in it.
 
-use crate::characters::{push_blanks, push_marks};
-use crate::cuts::{MOST, push_back, push_front};
 use crate::heads::Head;
-use crate::line_parts::{first_bytes, line_after, line_before};
 use crate::style::Style;
 use crate::text_place::TextPlace;
 use board_file::tables::value_at;
 use std::alloc::{AllocError, Global};
 
-/// The bytes of a place that are shown in its line.
-fn marked_part(text: &[u8], place: TextPlace) -> &[u8]
-    ensures { result.now ≡ marked_part text.now place }
-{
-    let line = first_bytes(line_after(text, place.start), MOST);
-    first_bytes(line, place.end.saturating_sub(place.start))
+/// So many bytes of a line are shown before a place, and as many from it on.
+const MOST: usize = 60;
+
+/// The first bytes, or all.
+fn front(bytes: &[u8], count: usize) -> &[u8] {
+    &bytes[..count.min(bytes.len())]
 }
 
-/// Appends blanks in place of a number.
-fn push_no_number(alloc: Global, shown: &mut String, number: usize) -> Result<(), AllocError>
-    ensures { OnOk result (Adds shown.old shown.new (map blank (decimal number))) }
-{
-    let mut digits = String::new(alloc);
-    write!(&mut digits, "{number}")?;
-    push_blanks(shown, digits.as_bytes())
+/// The bytes from an offset on.
+fn from(bytes: &[u8], offset: usize) -> &[u8] {
+    &bytes[offset.min(bytes.len())..]
 }
 
-/// Appends blanks in place of what stands before a place.
-fn push_no_front(alloc: Global, shown: &mut String, before: &[u8]) -> Result<(), AllocError>
-    ensures { OnOk result (Adds shown.old shown.new (map blank (cut_front before.now))) }
-{
-    let mut front = String::new(alloc);
-    push_front(&mut front, before)?;
-    push_blanks(shown, front.as_bytes())
+/// The character that is shown for a byte: `?` at the first byte of one that isn't ASCII, none at its later ones.
+fn character(byte: u8) -> Option<char> {
+    match byte {
+        b'\t' | b' '..=b'~' => Some(char::from(byte)),
+        128..=191 => None,
+        _ => Some('?'),
+    }
 }
 
-/// Appends the line in which a place begins, after its number.
-fn push_line(shown: &mut String, text: &[u8], place: TextPlace) -> Result<(), AllocError>
-    ensures { OnOk result (Adds shown.old shown.new (line_row text.now place)) }
-{
-    let line = place.line;
-    write!(shown, " {line} | ")?;
-    push_front(shown, line_before(text, place.start))?;
-    push_back(shown, line_after(text, place.start))?;
-    shown.push_str("\n")
+/// Appends the characters of some bytes.
+fn push_characters(text: &mut String, bytes: &[u8]) -> Result<(), AllocError> {
+    for byte in bytes {
+        if let Some(shown) = character(*byte) {
+            text.push(shown)?;
+        }
+    }
+    Ok(())
 }
 
-/// Appends marks below a place.
-fn push_mark_row(
-    alloc: Global,
-    shown: &mut String,
-    text: &[u8],
-    place: TextPlace,
-) -> Result<(), AllocError>
-    ensures { OnOk result (Adds shown.old shown.new (mark_row text.now place)) }
-{
-    shown.push_str(" ")?;
-    push_no_number(alloc, shown, place.line)?;
-    shown.push_str(" | ")?;
-    push_no_front(alloc, shown, line_before(text, place.start))?;
-    push_marks(shown, marked_part(text, place))?;
-    shown.push_str("\n")
+/// Appends blanks below what is shown, and tabs below tabs.
+fn push_blanks(text: &mut String, shown: &str) -> Result<(), AllocError> {
+    for byte in shown.as_bytes() {
+        text.push(if *byte == b'\t' { '\t' } else { ' ' })?;
+    }
+    Ok(())
 }
 
-/// Appends the line in which a place begins, after its number, with marks below the place, as far as it
-/// stands in the line and is shown.
-fn push_excerpt(
-    alloc: Global,
-    shown: &mut String,
-    text: &[u8],
-    place: TextPlace,
-) -> Result<(), AllocError>
-    ensures { OnOk result (Adds shown.old shown.new (excerpt text.now place)) }
-{
-    push_line(shown, text, place)?;
-    push_mark_row(alloc, shown, text, place)
+/// Appends a mark for each character of some bytes, and at least one.
+fn push_marks(text: &mut String, bytes: &[u8]) -> Result<(), AllocError> {
+    text.push('^')?;
+    for byte in from(bytes, 1) {
+        if character(*byte).is_some() {
+            text.push('^')?;
+        }
+    }
+    Ok(())
 }
 
-/// Appends the line of the file at a place, where that is known and lines are shown, with a mark below the value where
+/// What stands before an offset in its line, as it is shown.
+fn shown_before(alloc: Global, text: &[u8], offset: usize) -> Result<String, AllocError> {
+    let mut shown = String::new(alloc);
+    let before = front(text, offset);
+    let line = match before.iter().rposition(|byte| *byte == b'\n') {
+        Some(feed) => from(before, feed + 1),
+        None => before,
+    };
+    if line.len() > MOST {
+        shown.push_str("...")?;
+    }
+    push_characters(&mut shown, from(line, line.len().saturating_sub(MOST)))?;
+    Ok(shown)
+}
+
+/// What stands in the line of an offset from it on.
+fn line_after(text: &[u8], offset: usize) -> &[u8] {
+    let after = from(text, offset);
+    match after.iter().position(|byte| matches!(*byte, b'\n' | b'\r')) {
+        Some(end) => front(after, end),
+        None => after,
+    }
+}
+
+/// Appends the line of the file at a place, where that is known and lines are shown, with marks below the value where
 /// there is one.
 pub fn push_shown_line(
     alloc: Global,
@@ -90,26 +90,30 @@ pub fn push_shown_line(
     text: &[u8],
     has_value: bool,
     place: Option<TextPlace>,
-) -> Result<(), AllocError>
-    ensures { OnOk result (Adds shown.old shown.new (shown_text style text.now has_value place)) }
-{
-    match (style, place) {
-        (Style::WithExcerpts, Some(place)) => {
-            if has_value {
-                push_excerpt(alloc, shown, text, place)
-            } else {
-                push_line(shown, text, place)
-            }
-        }
-        _ => Ok(()),
+) -> Result<(), AllocError> {
+    let (Style::WithExcerpts, Some(place)) = (style, place) else {
+        return Ok(());
+    };
+    let number = format!(in alloc; "{}", place.line)?;
+    let before = shown_before(alloc, text, place.start)?;
+    let after = line_after(text, place.start);
+    write!(shown, " {number} | {before}")?;
+    push_characters(shown, front(after, MOST))?;
+    shown.push_str(if after.len() > MOST { "...\n" } else { "\n" })?;
+    if has_value {
+        shown.push(' ')?;
+        push_blanks(shown, &number)?;
+        shown.push_str(" | ")?;
+        push_blanks(shown, &before)?;
+        let len = place.end.saturating_sub(place.start);
+        push_marks(shown, front(after, len.min(MOST)))?;
+        shown.push('\n')?;
     }
+    Ok(())
 }
 
 /// The same below what begins with a head.
-pub fn push_below(alloc: Global, shown: &mut String, head: &Head<'_>) -> Result<(), AllocError>
-    ensures { let h = head.now in OnOk result (Adds shown.old shown.new
-        (below_text h.telling.style (table_view h.document.now) h.bytes.now h.entry h.key.now h.place)) }
-{
+pub fn push_below(alloc: Global, shown: &mut String, head: &Head<'_>) -> Result<(), AllocError> {
     let has_value = value_at(head.document, head.entry, head.key).is_some();
     push_shown_line(
         alloc,

@@ -4,17 +4,13 @@
 //! of the file with a mark below a value.
 #![tactic(auto)]
 
-mod characters;
 mod confirmation;
-mod cuts;
 mod descent;
 mod entry_places;
 mod entry_texts;
 mod excerpts;
 mod heads;
-mod integers;
 mod line_numbers;
-mod line_parts;
 mod marking;
 mod scanning;
 mod shapes;
