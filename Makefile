@@ -132,16 +132,15 @@ hostile: pciguest library/libpciguest.a
 	@for part in streams surroundings sizes; do python3 tests/hostile/$$part.py ./pciguest; done
 	@python3 tests/hostile/images.py
 
-# The rows of tests/rows, answered by the lone guests too; the regions of guests, through the monitor and at their places on
-# the board; and random boards and scripts, answered by the program, by the lone guests and by a second hand in Python:
-# about a million lines. Then board files with mistakes, and what a check says of them; random register
-# states, what an audit says of them, whether they are ready, and why things find what they find; and ten thousand guests
-# and a thousand machines that the library saves and loads elsewhere. make fuzz SEED=.. begins with another board.
+# The rows of tests/rows, answered by the lone guests too; and random boards and scripts, answered by the program, by the
+# lone guests and by a second hand in Python: about a million lines. Then board files with mistakes, and what a check says
+# of them; random register states, what an audit says of them, whether they are ready, and why things find what they find;
+# and ten thousand guests and a thousand machines that the library saves and loads elsewhere. make fuzz SEED=.. begins with
+# another board.
 SEED := 1
 fuzz: pciguest library/libpciguest.so.0
-	@$(PROVE) test_lone_guest bench_accesses
+	@$(PROVE) test_lone_guest
 	@tests/cases.py ./pciguest crates/test_lone_guest/out/test_lone_guest
-	@tests/landings.sh crates/bench_accesses/out/bench_accesses
 	@python3 tests/fuzz/fuzz.py ./pciguest --lone crates/test_lone_guest/out/test_lone_guest --boards 850 --seed $(SEED)
 	@python3 tests/fuzz/mistakes.py ./pciguest --files 3000 --seed $(SEED)
 	@python3 tests/fuzz/audit.py ./pciguest --states 2000 --seed $(SEED)

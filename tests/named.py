@@ -4,7 +4,9 @@ file explains its lines.
 
 A test's words must not be in a comment only. In a file of rows they are in a row, or are the whole head of a section that has
 rows; in Rust and Rattle they name a function below #[test]; in Python a method `test_..` of a case, or something that is defined
-and used; and in bash they are in a line that holds something, or in any line if they are a file of the tests."""
+and used; and in bash they are in a line that holds something, or in any line if they are a file of the tests.
+
+Lines below '# retired' are of tests that are gone: each ends with what shows the same now, or with what is given up."""
 import ast
 import pathlib
 import re
@@ -12,6 +14,8 @@ import re
 TOP = pathlib.Path(__file__).resolve().parent.parent
 LIST = TOP / "tests/named.txt"
 TWINS = ("crates/*/must-fail/*.twin", "tests/edits/*/*.twin")
+# the line above those of tests that are gone
+RETIRED = "# retired"
 # a goal of a check
 GOAL = re.compile(r"[\w-]+")
 # a line of bash that counts a test, perhaps in a loop
@@ -73,14 +77,16 @@ def lost(row):
 
 def problems():
     head, *lines = LIST.read_text(encoding="utf-8").rstrip("\n").split("\n")
-    rows = [it for it in lines if not it.startswith("#")]
+    end = lines.index(RETIRED) if RETIRED in lines else len(lines)
+    rows, retired = ([it for it in part if not it.startswith("#")] for part in (lines[:end], lines[end:]))
     yield from filter(None, map(lost, rows))
+    yield from (f"retired, without what shows it now: {it}" for it in retired if it.count(" | ") < 3)
     listed = {it.split(" | ")[0] for it in rows}
     for form in ("crates/*/must-fail/*.edit", *TWINS):
         found = {str(it.relative_to(TOP)) for it in TOP.glob(form)}
         yield from (f"not listed: {it}" for it in sorted(found - listed))
         yield from (f"no edit beside it: {it}" for it in sorted(found) if not (TOP / it).with_suffix(".edit").is_file())
-    if len({*rows}) < int(re.search(r": (\d+) lines", head)[1]):
+    if len({*rows, *retired}) < int(re.search(r": (\d+) lines", head)[1]):
         yield "lines are gone"
 
 

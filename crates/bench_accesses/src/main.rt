@@ -1,9 +1,7 @@
-//! Layer: tests. Below: simulation.
+//! Layer: tests. Below: monitor, board_file.
 //!
 //! What one access of a board and one event of a guest cost: `bench_accesses BOARD` prints it as a row of
 //! numbers, in nanoseconds, and with no word it prints nothing.
-//! `bench_accesses landings BOARD` compares each access of a guest to its regions with an access to the place where
-//! set-up put the region, and prints how many differ.
 #![tactic(auto)]
 
 ghost use Rattle.std.specs.Prelude.{◌≡◌, length, IfSome};
@@ -11,12 +9,10 @@ ghost use Rattle.model_guests.specs.World.{HasLawfulGuests};
 ghost use Rattle.monitor.specs.Beginnings.{world_of};
 
 mod events;
-mod landings;
 mod row;
 mod target;
 
 use crate::events::measure_events;
-use crate::landings::land;
 use crate::row::measure;
 use crate::target::last_target;
 use board_file::read_board;
@@ -78,16 +74,13 @@ fn measure_guest(rt: &(impl Clock + Print), alloc: Global, board: &[u8]) -> Opti
     measure_events(rt, &mut monitor, slots as u8).ok()
 }
 
-/// Measures over the board file that the first word names, or tells of the landings of the second. None where the board has no region of
-/// memory or no guest, or can't be set up.
+/// Measures over the board file that the word names. None where the board has no region of memory or no guest, or
+/// can't be set up.
 fn serve(rt: &(impl AllocGlobal + Clock + Env + Files + Print)) -> Option<()> {
     let alloc = rt.alloc();
     let words: Vec<String> = env::args(rt).ok()?.collect(alloc).ok()?;
     if words.len() < 2 {
         return Some(());
-    }
-    if words[1].as_str() == "landings" && words.len() > 2 {
-        return land(rt, words[2].as_str());
     }
     let board = bytes_of(rt, alloc, words[1].as_str())?;
     let (ready, _guests) = ready_of(alloc, &board)?;

@@ -5,34 +5,6 @@ use std::test::Fail;
 use streams::{BufferedWriter, Writer, write_all};
 use test_fakes::FakeWriter;
 
-/// Behind a buffer of 10 bytes a writer that takes 4 bytes a call fails once, at each of its calls in
-/// turn, and would go on: it is asked for nothing more.
-#[test]
-fn nothing_is_written_after_a_failure(rt: HostRuntime) -> Result<(), Fail> {
-    let text = b"abcdefghijklmnopqrstuvwxy".as_slice();
-    let ends = [0, 4, 8, 10, 14, 18, 20, 24, 25];
-    for failing in 0..9u32 {
-        let fake = FakeWriter::<32>::new(4, Some(failing));
-        let mut writer = BufferedWriter::with_capacity(rt.alloc(), 10, fake)?;
-        let written = write_all(&mut writer, text);
-        assert_eq!(rt; written.is_err(), failing < 6, "call {failing}");
-        if written.is_ok() {
-            assert!(rt; writer.flush().is_err(), "call {failing}");
-        }
-        assert!(rt; writer.flush().is_err(), "call {failing}");
-        assert!(rt; writer.write(b"z").is_err(), "call {failing}");
-        assert!(rt; writer.flush().is_err(), "call {failing}");
-        let end = ends[failing as usize];
-        assert_eq!(rt; writer.get_ref().bytes(), &text[..end], "call {failing}");
-        assert_eq!(rt;
-            writer.get_ref().flushed(),
-            b"".as_slice(),
-            "call {failing}"
-        );
-    }
-    Ok(())
-}
-
 /// What is kept back is written when there is no room for more, and at a flush.
 #[test]
 fn bytes_are_kept_back(rt: HostRuntime) -> Result<(), Fail> {

@@ -1,125 +1,37 @@
-use diagnostics::Places;
+//! Values of every writing have a place in the text of a document.
 use diagnostics::Step::{self, Index, Key};
+use diagnostics::{Places, TextPlace};
+
+/// The place of the value at the end of a way, and the first place there or inside that value.
+fn places(
+    rt: &HostRuntime,
+    text: &str,
+    way: &[Step<'_>],
+) -> Option<(Option<TextPlace>, Option<TextPlace>)> {
+    let alloc = rt.alloc();
+    let bytes = text.as_bytes();
+    let document = toml::table_from_slice(alloc, bytes).ok()?;
+    let places = Places::new(alloc, bytes, &document).ok()?;
+    Some((places.place(way), places.place_within(alloc, way).ok()?))
+}
 
 /// The line of the value at the end of a way, or 0.
 fn line(rt: &HostRuntime, text: &str, way: &[Step<'_>]) -> usize {
-    let alloc = rt.alloc();
-    let bytes = text.as_bytes();
-    let Ok(document) = toml::table_from_slice(alloc, bytes) else {
-        return 0;
-    };
-    let Ok(places) = Places::new(alloc, bytes, &document) else {
-        return 0;
-    };
-    match places.place(way) {
-        Some(place) => place.line,
-        None => 0,
-    }
+    let (place, _) = places(rt, text, way).unwrap_or((None, None));
+    place.map_or(0, |it| it.line)
 }
 
-/// The line of the value at the end of a way or inside the value there, or 0.
+/// The line of the value at the end of a way or of the first one inside it, or 0.
 fn line_within(rt: &HostRuntime, text: &str, way: &[Step<'_>]) -> usize {
-    let alloc = rt.alloc();
-    let bytes = text.as_bytes();
-    let Ok(document) = toml::table_from_slice(alloc, bytes) else {
-        return 0;
-    };
-    let Ok(places) = Places::new(alloc, bytes, &document) else {
-        return 0;
-    };
-    match places.place_within(alloc, way) {
-        Ok(Some(place)) => place.line,
-        _ => 0,
-    }
+    let (_, within) = places(rt, text, way).unwrap_or((None, None));
+    within.map_or(0, |it| it.line)
 }
 
 /// Whether the value at the end of a way is written so in its place.
 fn is_at(rt: &HostRuntime, text: &str, way: &[Step<'_>], written: &str) -> bool {
-    let alloc = rt.alloc();
-    let bytes = text.as_bytes();
-    let Ok(document) = toml::table_from_slice(alloc, bytes) else {
-        return false;
-    };
-    let Ok(places) = Places::new(alloc, bytes, &document) else {
-        return false;
-    };
-    match places.place(way) {
-        Some(place) => bytes.get(place.start..place.end) == Some(written.as_bytes()),
-        None => false,
-    }
-}
-
-const BOARD: &str = r#"# faults of every writing
-[host]
-io = [0x1000, 0xffff]   # a # in a comment "
-mem = [0xc0000000, 0xdfffffff]
-
-[[endpoint]]
-at = "1.0"
-vendor = 0x1234
-bar = [
-  { index = 0, kind = "io", size = 32 },   # ]
-]
-
-[[endpoint]]
-at = "a # = [ \" 3.0"
-device.sub = 7
-vendor = 0x1ffff
-
-[[endpoint]]
-at = """
-two
-lines"""
-vendor = 1
-bar = [
-  { index = 0, kind = "mem32", size = 4096 },
-
-  { index = 1,
-    kind = "mem32",
-    size = 4097, },
-  { size = 16 },
-]
-"#;
-
-#[test]
-fn tables_by_headers(rt: HostRuntime) {
-    let vendor = |i| line(&rt, BOARD, &[Key("endpoint"), Index(i), Key("vendor")]);
-    assert_eq!(rt; vendor(0), 8);
-    assert_eq!(rt; vendor(1), 16);
-    assert_eq!(rt; vendor(2), 22);
-    assert_eq!(rt; vendor(3), 0);
-}
-
-#[test]
-fn inline_tables_over_lines(rt: HostRuntime) {
-    let bar = |i, j, key| {
-        let way = [Key("endpoint"), Index(i), Key("bar"), Index(j), Key(key)];
-        line(&rt, BOARD, &way)
-    };
-    assert_eq!(rt; bar(0, 0, "size"), 10);
-    assert_eq!(rt; bar(2, 0, "kind"), 24);
-    assert_eq!(rt; bar(2, 1, "index"), 26);
-    assert_eq!(rt; bar(2, 1, "kind"), 27);
-    assert_eq!(rt; bar(2, 1, "size"), 28);
-    assert_eq!(rt; bar(2, 2, "size"), 29);
-    assert_eq!(rt; bar(2, 3, "size"), 0);
-}
-
-#[test]
-fn texts_arrays_and_dotted_keys(rt: HostRuntime) {
-    assert_eq!(rt; line(&rt, BOARD, &[Key("host"), Key("io"), Index(1)]), 3);
-    assert_eq!(rt; line(&rt, BOARD, &[Key("host"), Key("mem"), Index(0)]), 4);
-    assert_eq!(rt; line(&rt, BOARD, &[Key("host"), Key("mem"), Index(2)]), 0);
-    assert_eq!(rt;
-        line(&rt, BOARD, &[Key("endpoint"), Index(1), Key("at")]),
-        14
-    );
-    assert_eq!(rt;
-        line(&rt, BOARD, &[Key("endpoint"), Index(2), Key("at")]),
-        19
-    );
-    let sub = [Key("endpoint"), Index(1), Key("device"), Key("sub")];
-    assert_eq!(rt; line(&rt, BOARD, &sub), 15);
+    let (place, _) = places(rt, text, way).unwrap_or((None, None));
+    let found = place.and_then(|it| text.as_bytes().get(it.start..it.end));
+    found == Some(written.as_bytes())
 }
 
 /// Comments, a byte order mark, carriage returns and quotes of every kind.
@@ -148,11 +60,26 @@ fn quotes_of_every_kind(rt: HostRuntime) {
     assert_eq!(rt; at(&[Key("a")]), 0);
 }
 
+/// A comment, a text over lines, and a number after a text with signs of other writings.
+const BOARD: &str = r#"# faults of every writing
+[host]
+mem = [0xc0000000, 0xdfffffff]   # a # in a comment "
+
+[[endpoint]]
+at = "a # = [ \" 3.0"
+vendor = 0x1ffff
+
+[[endpoint]]
+at = """
+two
+lines"""
+"#;
+
 #[test]
 fn places_of_every_writing(rt: HostRuntime) {
-    let vendor = [Key("endpoint"), Index(1), Key("vendor")];
+    let vendor = [Key("endpoint"), Index(0), Key("vendor")];
     assert!(rt; is_at(&rt, BOARD, &vendor, "0x1ffff"));
-    let at = [Key("endpoint"), Index(2), Key("at")];
+    let at = [Key("endpoint"), Index(1), Key("at")];
     assert!(rt; is_at(&rt, BOARD, &at, "\"\"\"\ntwo\nlines\"\"\""));
     let mem = [Key("host"), Key("mem"), Index(1)];
     assert!(rt; is_at(&rt, BOARD, &mem, "0xdfffffff"));
@@ -234,13 +161,4 @@ fn first_in_arrays(rt: HostRuntime) {
     assert_eq!(rt; within(&[Key("endpoint"), Index(0), Key("config")]), 0);
     assert_eq!(rt; within(&[Key("lists"), Key("deep")]), 26);
     assert_eq!(rt; within(&[Key("lists"), Key("deeper")]), 28);
-}
-
-#[test]
-fn scalars_and_missing_keys_within(rt: HostRuntime) {
-    let within = |way: &[Step<'_>]| line_within(&rt, PARTS, way);
-    assert_eq!(rt; within(&[Key("endpoint"), Index(0), Key("at")]), 12);
-    assert_eq!(rt; within(&[Key("host"), Key("mem"), Index(1)]), 3);
-    assert_eq!(rt; within(&[Key("endpoint"), Index(0), Key("device")]), 0);
-    assert_eq!(rt; within(&[Key("endpoint"), Index(2)]), 0);
 }
