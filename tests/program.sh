@@ -503,6 +503,15 @@ hints '702 board file' "cannot read 'nothing.toml': no such file" list nothing.t
 hints '702 board file' "cannot read '': no such file" run ''
 hints '702 board file' "cannot read '.': it is a folder" check .
 hints '702 board file' "cannot read 'board.toml/x': a part of the path is no folder" firmware board.toml/x
+ln -s loop.toml loop.toml
+hints '702 board file' "cannot read 'loop.toml': too many links" audit loop.toml
+long=$(printf 'n%.0s' {1..256})
+hints '702 board file' "cannot read '$long': a name is too long" ready "$long"
+python3 -c "import socket; socket.socket(socket.AF_UNIX).bind('socket.toml')"
+hints '702 board file' "cannot read 'socket.toml': the system refuses it" check socket.toml
+: > locked.toml
+chmod 0 locked.toml
+[ -r locked.toml ] || hints '702 board file' "cannot read 'locked.toml': permission denied" list locked.toml
 hints '101 not TOML' 'see: pciguest check ff.toml' list ff.toml
 hints '102 key' 'see: pciguest check empty.toml' audit empty.toml
 hints '204 memory pool' "see: pciguest check $boards/refused/memory_pool.toml" run "$boards/refused/memory_pool.toml"

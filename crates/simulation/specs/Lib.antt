@@ -6,4 +6,3 @@ pub mod Checking
 pub mod Running
 pub mod Serving
 pub mod Choices
-pub mod Hints

@@ -1,6 +1,5 @@
 //! Board files.
-ghost use Rattle.std.specs.{Prelude.{◌≡◌, IfErr, IfSome, string_bytes}, declared.io.ErrorKind.ErrorKind};
-ghost use Rattle.simulation.specs.Hints.{file_hint};
+ghost use Rattle.std.specs.Prelude.{◌≡◌, IfErr};
 
 use crate::hints::file_hint;
 use board_told::Fault;
@@ -34,15 +33,13 @@ pub fn board_bytes(rt: &impl Files, alloc: Global, path: &str) -> Result<Vec<u8>
 }
 
 /// The same, and where it fails the line that tells why, if there is memory for it.
-pub fn board_or_hint(rt: &impl Files, alloc: Global, path: &str) -> Result<Vec<u8>, Option<String>>
-    ensures { IfErr result (λ hint. IfSome hint (λ t.
-        (why : ErrorKind) × (string_bytes t ≡ file_hint path.now why))) }
-{
+pub fn board_or_hint(
+    rt: &impl Files,
+    alloc: Global,
+    path: &str,
+) -> Result<Vec<u8>, Option<String>> {
     match file_bytes(rt, alloc, path) {
         Ok(bytes) => Ok(bytes),
-        Err(why) => match file_hint(alloc, path, why) {
-            Ok(hint) => Err(Some(hint)),
-            Err(_) => Err(None),
-        },
+        Err(why) => Err(file_hint(alloc, path, why).ok()),
     }
 }
