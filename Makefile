@@ -217,8 +217,11 @@ library/libpciguest.a library/libpciguest.so.0:
 
 # A page that runs the proved code in a browser: pciguest.html. Node or Chromium compares what the page answers with the
 # program and the library for C; where neither is there, that is said, and not compared.
-EXPORTS := $(addprefix pciguest_raw_,new free guest guest_count guest_name function region why why_json report report_json check \
-  run_line save load save_all load_all board_new board_free board_run_line board_audit board_ready_json board_why_json board_function)
+PROVED := $(addprefix pciguest_raw_,new free guest guest_count guest_name count function slot region why why_json report report_json check \
+  run_line host_read save load give take board_new board_free board_anew board_guests board_write board_run_line board_audit \
+  board_ready_json board_why_json board_function)
+# what JavaScript calls: the proved calls, and those of library/machines.c over them
+EXPORTS := $(PROVED) pciguest_raw_save_all pciguest_raw_load_all
 page: pciguest
 	@$(MAKE) --no-print-directory library
 	@$(MAKE) --no-print-directory page/out/pciguest.wasm
@@ -227,7 +230,7 @@ page: pciguest
 	@echo 'pciguest.html: open it in a browser'
 
 # The module is made once for each library that is built, of the LLVM module that its build leaves.
-page/out/pciguest.wasm: crates/pciguest_c/out/libpciguest_c.a page/build/wasm page/build/heap.c Makefile
+page/out/pciguest.wasm: crates/pciguest_c/out/libpciguest_c.a page/build/wasm page/build/heap.c library/machines.c Makefile
 	@mkdir -p page/out
 	@page/build/wasm crates/pciguest_c/out/pciguest_c.bc $@ $(EXPORTS)
 
@@ -236,7 +239,7 @@ page/out/pciguest.wasm: crates/pciguest_c/out/libpciguest_c.a page/build/wasm pa
 try-page:
 	@echo 'This run proves nothing: it only compiles the library for the page. `make page` proves it first.'
 	@mkdir -p page/out
-	@tools/unproved page/out/unproved.ll $(EXPORTS)
+	@tools/unproved page/out/unproved.ll $(PROVED)
 	@page/build/wasm page/out/unproved.ll page/out/unproved.wasm $(EXPORTS)
 	@page/build/assemble page/out/unproved.wasm page/out/unproved.html 'Nothing here is proved: this page was built by make try-page.'
 	@echo 'page/out/unproved.html: open it in a browser'

@@ -19,7 +19,7 @@ int main(int argc, char **argv)
     FILE *file = argc == 2 || argc == 3 ? fopen(argv[1], "rb") : NULL;
     uint32_t few = argc == 3 ? (uint32_t)atoi(argv[2]) : 0, value = 0, faults = 0;
     size_t length, written = 0, problems = 0;
-    uint64_t changes = 0;
+    uint64_t changes = 0, wide = 0;
     char reply[PCIGUEST_REPLY] = {0}, text[1024] = {0};
     struct pciguest_region region = {0};
     struct pciguest_hit hit = {0};
@@ -42,8 +42,8 @@ int main(int argc, char **argv)
     COST("read CONFIG_DATA", 1000000, pciguest_read(&machine, 0, PCIGUEST_IO, 0, 0xcfc, 4, &value));
     COST("raise a bit of Status", 1000000, pciguest_raise(&machine, 0, 0, PCIGUEST_RAISE_CONFIG, 7, 0x80));
     COST("reset a function", 1000000, pciguest_reset(&machine, 0, 0));
-    COST("read a byte as the device", 1000000, pciguest_device_read(&machine, 0, 0, 1, 0x10, &value));
-    COST("write a byte as the device", 1000000, pciguest_device_write(&machine, 0, 0, 1, 0x10, (uint8_t)i));
+    COST("read a byte as the device", 1000000, pciguest_device_read_wide(&machine, 0, 0, 1, 0x10, 1, &wide));
+    COST("write a byte as the device", 1000000, pciguest_device_write_wide(&machine, 0, 0, 1, 0x10, 1, (uint8_t)i));
     pciguest_write(&machine, 0, PCIGUEST_CONFIG, 0, 0x14, 4, 0xc0100000);
     pciguest_write(&machine, 0, PCIGUEST_CONFIG, 0, 4, 2, 2);
     COST("tell where a region stands", 1000000, pciguest_region(&machine, 0, 0, 1, &region));

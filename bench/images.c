@@ -21,7 +21,7 @@ int main(int argc, char **argv)
     fclose(file);
     if (pciguest_new(&machine, board, length))
         return 1;
-    COST("tell how long a guest's image is", 30, pciguest_image_size(&machine, 0, &size));
+    COST("tell how long a guest's image is", 30, pciguest_save(&machine, 0, NULL, 0, &size) != PCIGUEST_ARGUMENT);
     COST("save a guest", 30, pciguest_save(&machine, 0, image, sizeof image, &size));
     COST("load a guest", 30, pciguest_load(&machine, 0, image, size));
     COST("reset a guest", 30, pciguest_reset_guest(&machine, 0));

@@ -242,20 +242,6 @@ uint32_t pciguest_reset_guest(struct pciguest *machine, size_t guest)
     return answer;
 }
 
-uint32_t pciguest_image_size(struct pciguest *machine, size_t guest, size_t *size)
-{
-    struct pciguest held_machine;
-    uint32_t answer;
-
-    if (!machine || !size)
-        return PCIGUEST_ARGUMENT;
-    if (!TAKE(machine, held_machine))
-        return PCIGUEST_BUSY;
-    answer = pciguest_raw_image_size(&held_machine, guest, size);
-    PUT_BACK(machine, held_machine);
-    return answer;
-}
-
 uint32_t pciguest_save(struct pciguest *machine, size_t guest, void *image, size_t room, size_t *needed)
 {
     struct pciguest held_machine;
@@ -285,19 +271,18 @@ uint32_t pciguest_load(struct pciguest *machine, size_t guest, const void *image
     return answer;
 }
 
-uint32_t pciguest_image_fault(struct pciguest *machine, size_t guest, const void *image, size_t length, char *text,
-                              size_t room, size_t *needed)
+uint32_t pciguest_image_fault(struct pciguest *machine, size_t guest, const void *image, size_t length, uint64_t *slot,
+                              size_t *offset)
 {
     struct pciguest held_machine;
-    uint8_t none;
     uint32_t answer;
 
-    if (!machine || (!image && length) || (!text && room) || !needed)
+    if (!machine || (!image && length) || !slot || !offset)
         return PCIGUEST_ARGUMENT;
     if (!TAKE(machine, held_machine))
         return PCIGUEST_BUSY;
     answer = pciguest_raw_image_fault(&held_machine, guest, image ? (const uint8_t *)image : (const uint8_t *)"",
-                                      length, text ? (uint8_t *)text : &none, room, needed);
+                                      length, slot, offset);
     PUT_BACK(machine, held_machine);
     return answer;
 }
@@ -369,36 +354,6 @@ uint32_t pciguest_take(struct pciguest *machine, size_t guest, uint64_t slot)
     if (!TAKE(machine, held_machine))
         return PCIGUEST_BUSY;
     answer = pciguest_raw_take(&held_machine, guest, slot);
-    PUT_BACK(machine, held_machine);
-    return answer;
-}
-
-uint32_t pciguest_device_read(struct pciguest *machine, size_t guest, uint64_t slot, uint32_t part, uint64_t offset,
-                              uint32_t *value)
-{
-    struct pciguest held_machine;
-    uint32_t answer;
-
-    if (!machine || !value)
-        return PCIGUEST_ARGUMENT;
-    if (!TAKE(machine, held_machine))
-        return PCIGUEST_BUSY;
-    answer = pciguest_raw_device_read(&held_machine, guest, slot, part, offset, value);
-    PUT_BACK(machine, held_machine);
-    return answer;
-}
-
-uint32_t pciguest_device_write(struct pciguest *machine, size_t guest, uint64_t slot, uint32_t part, uint64_t offset,
-                               uint8_t value)
-{
-    struct pciguest held_machine;
-    uint32_t answer;
-
-    if (!machine)
-        return PCIGUEST_ARGUMENT;
-    if (!TAKE(machine, held_machine))
-        return PCIGUEST_BUSY;
-    answer = pciguest_raw_device_write(&held_machine, guest, slot, part, offset, value);
     PUT_BACK(machine, held_machine);
     return answer;
 }
@@ -622,17 +577,6 @@ uint32_t pciguest_check(const void *board, size_t length, char *text, size_t roo
     return answer;
 }
 
-uint32_t pciguest_words(uint32_t number, char *text, size_t room, size_t *needed)
-{
-    uint8_t none;
-    uint32_t answer;
-
-    if ((!text && room) || !needed)
-        return PCIGUEST_ARGUMENT;
-    answer = pciguest_raw_words(number, text ? (uint8_t *)text : &none, room, needed);
-    return answer;
-}
-
 uint32_t pciguest_board_new(struct pciguest_board *board, const void *file, size_t length)
 {
     struct pciguest_board held_board;
@@ -808,37 +752,6 @@ uint32_t pciguest_board_why_json(struct pciguest_board *board, uint32_t space, u
         return PCIGUEST_BUSY;
     answer = pciguest_raw_board_why_json(&held_board, space, bus, device, function, place,
                                          text ? (uint8_t *)text : &none, room, needed);
-    PUT_BACK(board, held_board);
-    return answer;
-}
-
-uint32_t pciguest_board_problems(struct pciguest_board *board, struct pciguest_problem *problems, size_t room,
-                                 size_t *count)
-{
-    struct pciguest_board held_board;
-    struct pciguest_problem none;
-    uint32_t answer;
-
-    if (!board || (!problems && room) || !count)
-        return PCIGUEST_ARGUMENT;
-    if (!TAKE(board, held_board))
-        return PCIGUEST_BUSY;
-    answer = pciguest_raw_board_problems(&held_board, problems ? problems : &none, room, count);
-    PUT_BACK(board, held_board);
-    return answer;
-}
-
-uint32_t pciguest_board_lacks(struct pciguest_board *board, struct pciguest_problem *lacks, size_t room, size_t *count)
-{
-    struct pciguest_board held_board;
-    struct pciguest_problem none;
-    uint32_t answer;
-
-    if (!board || (!lacks && room) || !count)
-        return PCIGUEST_ARGUMENT;
-    if (!TAKE(board, held_board))
-        return PCIGUEST_BUSY;
-    answer = pciguest_raw_board_lacks(&held_board, lacks ? lacks : &none, room, count);
     PUT_BACK(board, held_board);
     return answer;
 }

@@ -9,8 +9,8 @@
  * compute a result; and pciguest_free and pciguest_board_free, which return nothing.
  *
  * Errors. A call that returns an error has changed nothing and stored nothing, with two exceptions.
- * If the buffer for a text, an image or rows is too small, the call still stores the required
- * length or number of rows, provided that its comment says so. And pciguest_check writes its text.
+ * If the buffer for a text or an image is too small, the call still stores the required length,
+ * provided that its comment says so. And pciguest_check writes its text.
  * Any call can return the following errors, so comments list them only where their order matters:
  * 901, the struct is empty (not returned by calls that fill or free it); 902, a pointer is null (a
  * pointer to bytes or to a buffer may be null if its length is 0); 909, another call is running on
@@ -178,47 +178,6 @@ struct pciguest_board_function {
     uint64_t reserved[PCIGUEST_ROOM];  /* 0 */
 };
 
-/* The kinds of problems in the registers of a board and, from CLOSED on, the kinds of lacks: what
- * an operating system would still have to do.
- * NOT_FORWARDED: a bridge doesn't forward some byte of an open region.
- * CONTENDED: two regions or bridges answer the same address on one bus.
- * NOT_FOUND: no configuration cycle reaches the function.
- * CLOSED: Command doesn't enable the region's space.
- * OUTSIDE: some address of an open region is outside the apertures.
- * PREFETCHED: a bridge prefetches from an open region that isn't prefetchable.
- * OTHER_PRIMARY: a bridge's Primary Bus Number isn't the number of the bus that it is on. */
-enum pciguest_problem_kind {
-    PCIGUEST_NOT_FORWARDED = 1,
-    PCIGUEST_CONTENDED = 2,
-    PCIGUEST_NOT_FOUND = 3,
-    PCIGUEST_CLOSED = 4,
-    PCIGUEST_OUTSIDE = 5,
-    PCIGUEST_PREFETCHED = 6,
-    PCIGUEST_OTHER_PRIMARY = 7
-};
-
-/* Describes one problem in the registers of a board, like one line of its audit, or one lack, like
- * one line of `host ready`. `address` is the lowest address that isn't forwarded, that both
- * responders answer, that is outside the apertures, or that is prefetched. For NOT_FOUND, `bus`,
- * `device` and `function` are the numbers at which no cycle reaches the function; for
- * OTHER_PRIMARY, `bus` is the number of the bus that the bridge is on. */
-struct pciguest_problem {
-    uint32_t kind;                /* of enum pciguest_problem_kind */
-    uint32_t space;               /* PCIGUEST_IO or PCIGUEST_MEMORY, or 0 if neither applies */
-    uint64_t address;             /* as above; 0 for other kinds */
-    uint8_t path[PCIGUEST_PATH];  /* of the function, as in struct pciguest_function */
-    size_t path_length;           /* in bytes, without a terminating 0 */
-    uint32_t bar;                 /* the register of its region, 0 to 5; 6 if no region is named */
-    uint8_t other[PCIGUEST_PATH]; /* path: bridge, other responder, or what is reached instead */
-    size_t other_length;          /* 0 if there is no such path */
-    uint32_t other_bar;           /* the register of its region, 0 to 5; 6 if no region is named */
-    uint32_t bus;                 /* as above; 0 for other kinds */
-    uint32_t device;              /* as above; 0 for other kinds */
-    uint32_t function;            /* as above; 0 for other kinds */
-    uint32_t primary;             /* OTHER_PRIMARY: the bridge's Primary Bus Number; else 0 */
-    uint64_t reserved[PCIGUEST_ROOM]; /* 0 */
-};
-
 /* Gives the upper limits that hold for every board and machine. */
 struct pciguest_limits {
     uint64_t guest_image; /* in bytes: no guest's image is larger */
@@ -232,9 +191,8 @@ struct pciguest_limits {
 };
 
 /* Buffer sizes in bytes. PCIGUEST_REPLY: what pciguest_run_line and pciguest_board_run_line require
- * for a reply. PCIGUEST_WORDS, PCIGUEST_GUEST_NAME: enough for every text of pciguest_words and
- * every name of pciguest_guest_name. */
-enum { PCIGUEST_REPLY = 48, PCIGUEST_WORDS = 20, PCIGUEST_GUEST_NAME = 16 };
+ * for a reply. PCIGUEST_GUEST_NAME: enough for every name of pciguest_guest_name. */
+enum { PCIGUEST_REPLY = 48, PCIGUEST_GUEST_NAME = 16 };
 
 /* The error numbers that calls return, each with its text; docs/errors.md explains them. 101 to
  * 112: the board file is refused. 199, 299: out of memory. 201 to 205: the board can't be set up.
@@ -300,9 +258,9 @@ enum pciguest_told {
  * PCIGUEST_VERSION_NUMBER, which is the version of the header. Since 0.4.0. */
 uint32_t pciguest_version(void);
 
-/* Returns the text of an error number, the same text that pciguest_words writes, terminated by a 0.
- * The text is valid as long as the library is loaded. It is empty for a number without a meaning,
- * such as 0. Since 0.4.0. */
+/* Returns the text of an error number, terminated by a 0. The number can be one that a call returns,
+ * or one that appears in a reply or in the program's output. The text is valid as long as the
+ * library is loaded. It is empty for a number without a meaning, such as 0. Since 0.4.0. */
 const char *pciguest_strerror(uint32_t number);
 
 /* Stores the upper limits that hold for every board and machine. Needs no machine. Since 0.4.0. */
@@ -447,18 +405,14 @@ uint32_t pciguest_reset(struct pciguest *machine, size_t guest, uint64_t slot);
  * Returns 0 on success; 902 if there is no such guest. Since 0.4.0. */
 uint32_t pciguest_reset_guest(struct pciguest *machine, size_t guest);
 
-/* Stores the size in bytes of the image that pciguest_save would write for a guest now. The size
- * stays the same as long as the guest has the same functions in the same slots: the guest's
- * accesses, its devices, resets and loads don't change it. Allocates no memory and changes nothing.
- * Returns 0 on success; 902 if there is no such guest. Since 0.4.0. */
-uint32_t pciguest_image_size(struct pciguest *machine, size_t guest, size_t *size);
-
 /* Saves a guest: writes its image, and stores the length of the image in `needed`. The image
  * contains everything that the guest holds: its CONFIG_ADDRESS and, for each of its 32 slots, the
  * declaration of the function and the contents of its registers, as the guest sees them. It
  * contains nothing about the board, about other guests, or about where the guest's functions are.
- * docs/image-format.md describes the bytes. The rest of the buffer stays unchanged. Allocates no
- * memory, and doesn't change the machine.
+ * docs/image-format.md describes the bytes. The rest of the buffer stays unchanged. To get only the
+ * length, pass a null pointer and 0; the call then returns 902. The length stays the same as long as
+ * the guest has the same functions in the same slots: the guest's accesses, its devices, resets and
+ * loads don't change it. Allocates no memory, and doesn't change the machine.
  * Returns 0 on success; 902 if the buffer is too small (nothing is written, only the length is
  * stored), or if there is no such guest (nothing is stored). Since 0.4.0. */
 uint32_t pciguest_save(struct pciguest *machine, size_t guest, void *image, size_t room,
@@ -475,19 +429,15 @@ uint32_t pciguest_save(struct pciguest *machine, size_t guest, void *image, size
  * The first byte that fails decides between 905, 906 and 908. Since 0.4.0. */
 uint32_t pciguest_load(struct pciguest *machine, size_t guest, const void *image, size_t length);
 
-/* Explains why pciguest_load refuses an image for this guest with 906: writes the first difference,
- * such as `slot 0: bar0 size 0x1000, here 0x2000`, and stores the length of the text in `needed`.
- * The text isn't terminated by a 0. It names the first slot whose function differs and, in that
- * slot, the first field that is declared differently. The field is named by its key in a board
- * file, after `barN` for a region or `config 0xNN` for a block of configuration space. The key is
- * followed by the field's value in the image and its value here. A kind is written as its number in
- * docs/image-format.md. The field `filled` is 1 if the slot has a function. Without a key, `bar`
- * and `config` are counts. If pciguest_load would not return 906, the text is empty and the length
- * is 0. The text depends only on the image and on the guest's own functions. Changes nothing.
- * Returns 0 on success; 902 if the buffer is too small (only the length is stored), or if there is
- * no such guest; 299 if memory runs out. Since 0.4.0. */
+/* Reports where an image that pciguest_load refuses with 906 or 908 stops fitting the guest: stores
+ * in `offset` the offset of the first byte that fails, and in `slot` the slot, 0 to 31, whose part
+ * of the image this byte is in, or 32 if it is in front of the slots. For any other image, including
+ * one that fits, stores 32 and the length of the image. docs/image-format.md says which field is at
+ * an offset. The answer depends only on the image and on the guest's own functions. Allocates no
+ * memory and changes nothing.
+ * Returns 0 on success; 902 if there is no such guest. Since 0.4.0. */
 uint32_t pciguest_image_fault(struct pciguest *machine, size_t guest, const void *image,
-                              size_t length, char *text, size_t room, size_t *needed);
+                              size_t length, uint64_t *slot, size_t *offset);
 
 /* Stores the size in bytes of the image that pciguest_save_all would write for the whole machine
  * now. The size stays the same as long as the guests have the same functions in the same slots.
@@ -496,22 +446,26 @@ uint32_t pciguest_image_size_all(struct pciguest *machine, size_t *size);
 
 /* Saves the whole machine: writes its image, and stores the length of the image in `needed`. The
  * image says which guest has which function of the board in which slot, and what each guest holds.
- * It also contains the state of the board as the host reads it, without the guests' changes to
- * functions in slots. docs/image-format.md describes the bytes. The rest of the buffer stays
- * unchanged. Allocates no memory, and doesn't change the machine.
+ * It also identifies the board, the way it is set up, and its guests. docs/image-format.md describes
+ * the bytes. The rest of the buffer stays unchanged. Allocates no memory, and doesn't change the
+ * machine.
  * Returns 0 on success; 902 if the buffer is too small (nothing is written, only the length is
  * stored). Since 0.4.0. */
 uint32_t pciguest_save_all(struct pciguest *machine, void *image, size_t room, size_t *needed);
 
 /* Loads an image into the whole machine. Each slot then has the function that it had in the saved
- * machine, and each guest holds what it held there. The board must be equal to the saved machine's
- * board and set up in the same way, and the guests must have the same names in the same order. It
- * doesn't matter where the guests' functions are now, or what the guests hold. The count that
- * pciguest_changed stores increases for each guest. Allocates no memory. No script line does this.
+ * machine, and each guest holds what it held there. The board must have the same functions at the
+ * same places, set up in the same way, and the guests must have the same names in the same order. It
+ * doesn't matter where the guests' functions are now, or what the guests hold. The call takes every
+ * function from its guest, as pciguest_take does, and then assigns and loads, as pciguest_give and
+ * pciguest_load do; before that, it does the same on a second machine, which it frees at the end. So
+ * an image that is refused changes nothing. The count that pciguest_changed stores increases for
+ * each guest. No script line does this.
  * Returns 0 on success; 907 if the board, its guests or its set-up differ; 906 if a slot would get
  * something that can't be assigned to it, or a function is declared differently; 908 if the image,
  * or a guest's image in it, has another version of the format; 905 if the bytes are not the image
- * of a machine. The first byte that fails decides between these numbers. Since 0.4.0. */
+ * of a machine; 299 if memory runs out. docs/image-format.md says which of these is checked first.
+ * Since 0.4.0. */
 uint32_t pciguest_load_all(struct pciguest *machine, const void *image, size_t length);
 
 /* Assigns a function of the board that no guest has to an empty slot of a guest. The function is
@@ -530,25 +484,6 @@ uint32_t pciguest_give(struct pciguest *machine, const char *path, size_t length
  * Returns 0 on success; 303 if the slot is above 31; 601 if the slot is empty; 902 if there is no
  * such guest. Since 0.4.0. */
 uint32_t pciguest_take(struct pciguest *machine, size_t guest, uint64_t slot);
-
-/* Reads one byte of the function in a guest's slot, from the device's side. The byte can be in a
- * region or in configuration space; in configuration space, a device can read only the two bytes of
- * Status (06h, 07h) and its own registers (40h to FFh). A byte without a register reads as 0.
- * Changes nothing.
- * Returns 0 on success; 303 if the slot is above 31, or the device has no such byte; 601 if the
- * slot is empty; 902 if there is no such guest, or the part is above 6. Since 0.3.0. */
-uint32_t pciguest_device_read(struct pciguest *machine, size_t guest, uint64_t slot, uint32_t part,
-                              uint64_t offset, uint32_t *value);
-
-/* Writes one byte of the function in a guest's slot, from the device's side. The byte can be in a
- * region or in configuration space; in configuration space, a device can write only the two bytes
- * of Status (06h, 07h) and its own registers (40h to FFh). The byte takes the value no matter which
- * bits the guest can change, and the guest can change the same bits afterwards. If there is no
- * register, nothing changes. No script line does this.
- * Returns 0 on success; 303 if the slot is above 31, or the device has no such byte; 601 if the
- * slot is empty; 902 if there is no such guest, or the part is above 6. Since 0.3.0. */
-uint32_t pciguest_device_write(struct pciguest *machine, size_t guest, uint64_t slot, uint32_t part,
-                               uint64_t offset, uint8_t value);
 
 /* Reads 1 to 8 bytes of the function in a guest's slot, from the device's side, at any offset
  * within one part. The part is a region or configuration space; in configuration space, a device
@@ -693,14 +628,6 @@ uint32_t pciguest_report_json(const void *board, size_t length, char *text, size
  * buffer is too small (nothing is written, only the length is stored). */
 uint32_t pciguest_check(const void *board, size_t length, char *text, size_t room, size_t *needed);
 
-/* Writes the text of an error number, and stores the length of the text in `needed`. The number can
- * be one that a call returns, or one that appears in a reply or in the program's output. The text
- * isn't terminated by a 0. A number without a meaning, such as 0, has no text, and the length is 0.
- * A buffer of PCIGUEST_WORDS bytes is always large enough. Needs no machine.
- * Returns 0 on success; 902 if the buffer is too small (nothing is written, only the length is
- * stored). */
-uint32_t pciguest_words(uint32_t number, char *text, size_t room, size_t *needed);
-
 /* Creates a board at reset from the bytes of a board file, for your own firmware to drive: no bus
  * number or address is assigned, and every function is off. The guests that the file declares are
  * checked, but no function is assigned to them.
@@ -824,22 +751,6 @@ uint32_t pciguest_board_ready_json(struct pciguest_board *board, char *text, siz
 uint32_t pciguest_board_why_json(struct pciguest_board *board, uint32_t space, uint8_t bus,
                                  uint8_t device, uint8_t function, uint64_t place, char *text,
                                  size_t room, size_t *needed);
-
-/* Writes one row for each problem that pciguest_board_audit reports, in the same order, and stores
- * the number of problems in `count`. The buffer size, `room`, is counted in rows. The board stays
- * unchanged.
- * Returns 0 on success; 902 if the buffer is too small (only the number of problems is stored); 299
- * if memory runs out. Since 0.4.0. */
-uint32_t pciguest_board_problems(struct pciguest_board *board, struct pciguest_problem *problems,
-                                 size_t room, size_t *count);
-
-/* Writes one row for each lack that pciguest_board_ready reports, in the same order, and stores the
- * number of lacks in `count`. The buffer size, `room`, is counted in rows. The board stays
- * unchanged.
- * Returns 0 on success; 902 if the buffer is too small (only the number of lacks is stored); 299 if
- * memory runs out. Since 0.4.0. */
-uint32_t pciguest_board_lacks(struct pciguest_board *board, struct pciguest_problem *lacks,
-                              size_t room, size_t *count);
 
 /* Sets up a board that is at reset, in place of your own firmware, and assigns its functions to the
  * guests that its file declares. The resulting machine is the one that pciguest_new makes from the

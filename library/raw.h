@@ -1,5 +1,5 @@
-/* The calls of the proved library. They take no null pointer, a line without its line feed, and one call at a time.
- * tools/bindings writes this file from library/pciguest.h. */
+/* The calls of the proved library, and those of library/machines.c over them: for images of whole machines. They take no null
+ * pointer, a line without its line feed, and one call at a time. tools/bindings writes this file from library/pciguest.h. */
 #ifndef RAW_H
 #define RAW_H
 
@@ -26,20 +26,15 @@ uint32_t pciguest_raw_host_read(struct pciguest *machine, uint32_t space, uint8_
 uint32_t pciguest_raw_move(struct pciguest *machine, size_t from, uint64_t slot, size_t to, uint64_t target);
 uint32_t pciguest_raw_reset(struct pciguest *machine, size_t guest, uint64_t slot);
 uint32_t pciguest_raw_reset_guest(struct pciguest *machine, size_t guest);
-uint32_t pciguest_raw_image_size(struct pciguest *machine, size_t guest, size_t *size);
 uint32_t pciguest_raw_save(struct pciguest *machine, size_t guest, uint8_t *image, size_t room, size_t *needed);
 uint32_t pciguest_raw_load(struct pciguest *machine, size_t guest, const uint8_t *image, size_t length);
 uint32_t pciguest_raw_image_fault(struct pciguest *machine, size_t guest, const uint8_t *image, size_t length,
-                                  uint8_t *text, size_t room, size_t *needed);
+                                  uint64_t *slot, size_t *offset);
 uint32_t pciguest_raw_image_size_all(struct pciguest *machine, size_t *size);
 uint32_t pciguest_raw_save_all(struct pciguest *machine, uint8_t *image, size_t room, size_t *needed);
 uint32_t pciguest_raw_load_all(struct pciguest *machine, const uint8_t *image, size_t length);
 uint32_t pciguest_raw_give(struct pciguest *machine, const uint8_t *path, size_t length, size_t guest, uint64_t slot);
 uint32_t pciguest_raw_take(struct pciguest *machine, size_t guest, uint64_t slot);
-uint32_t pciguest_raw_device_read(struct pciguest *machine, size_t guest, uint64_t slot, uint32_t part, uint64_t offset,
-                                  uint32_t *value);
-uint32_t pciguest_raw_device_write(struct pciguest *machine, size_t guest, uint64_t slot, uint32_t part,
-                                   uint64_t offset, uint8_t value);
 uint32_t pciguest_raw_device_read_wide(struct pciguest *machine, size_t guest, uint64_t slot, uint32_t part,
                                        uint64_t offset, uint32_t width, uint64_t *value);
 uint32_t pciguest_raw_device_write_wide(struct pciguest *machine, size_t guest, uint64_t slot, uint32_t part,
@@ -63,7 +58,6 @@ uint32_t pciguest_raw_run_line(struct pciguest *machine, const uint8_t *line, si
 uint32_t pciguest_raw_report(const uint8_t *board, size_t length, uint8_t *text, size_t room, size_t *needed);
 uint32_t pciguest_raw_report_json(const uint8_t *board, size_t length, uint8_t *text, size_t room, size_t *needed);
 uint32_t pciguest_raw_check(const uint8_t *board, size_t length, uint8_t *text, size_t room, size_t *needed);
-uint32_t pciguest_raw_words(uint32_t number, uint8_t *text, size_t room, size_t *needed);
 uint32_t pciguest_raw_board_new(struct pciguest_board *board, const uint8_t *file, size_t length);
 void pciguest_raw_board_free(struct pciguest_board *board);
 uint32_t pciguest_raw_board_read(struct pciguest_board *board, uint32_t space, uint8_t bus, uint8_t device,
@@ -85,10 +79,6 @@ uint32_t pciguest_raw_board_ready_json(struct pciguest_board *board, uint8_t *te
                                        size_t *count);
 uint32_t pciguest_raw_board_why_json(struct pciguest_board *board, uint32_t space, uint8_t bus, uint8_t device,
                                      uint8_t function, uint64_t place, uint8_t *text, size_t room, size_t *needed);
-uint32_t pciguest_raw_board_problems(struct pciguest_board *board, struct pciguest_problem *problems, size_t room,
-                                     size_t *count);
-uint32_t pciguest_raw_board_lacks(struct pciguest_board *board, struct pciguest_problem *lacks, size_t room,
-                                  size_t *count);
 uint32_t pciguest_raw_set_up(struct pciguest_board *board, struct pciguest *machine);
 uint32_t pciguest_raw_board_guests(struct pciguest_board *board, struct pciguest *machine);
 

@@ -23,7 +23,7 @@ int main(int argc, char **argv)
     pciguest_write(&here, 0, PCIGUEST_CONFIG, 0, 4, 2, 2);
     pciguest_write(&here, 0, PCIGUEST_MEMORY, 0, 0x80000010, 4, 0x12345678);
 
-    if (pciguest_save(&here, 0, image, sizeof image, &size)) /* save; pciguest_image_size tells the room */
+    if (pciguest_save(&here, 0, image, sizeof image, &size)) /* with NULL and 0 it tells the room */
         return 1;
     pciguest_reset_guest(&here, 0); /* nothing of it is left .. */
     pciguest_read(&here, 0, PCIGUEST_MEMORY, 0, 0x80000010, 4, &value);

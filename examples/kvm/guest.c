@@ -24,15 +24,15 @@ static void expect(uint32_t number, const char *what)
 
 uint8_t board_cell(struct machine *machine, uint64_t slot, uint32_t part, uint64_t offset)
 {
-    uint32_t value = 0;
+    uint64_t value = 0;
 
-    expect(pciguest_device_read(&machine->board->guests, machine->guest, slot, part, offset, &value), "a device's cell");
+    expect(pciguest_device_read_wide(&machine->board->guests, machine->guest, slot, part, offset, 1, &value), "a device's cell");
     return (uint8_t)value;
 }
 
 void board_set_cell(struct machine *machine, uint64_t slot, uint32_t part, uint64_t offset, uint8_t value)
 {
-    expect(pciguest_device_write(&machine->board->guests, machine->guest, slot, part, offset, value), "a device's cell");
+    expect(pciguest_device_write_wide(&machine->board->guests, machine->guest, slot, part, offset, 1, value), "a device's cell");
 }
 
 /* Finds the guest of the machine's name, and what stands behind its functions. */

@@ -112,7 +112,7 @@ void machine_save(struct machine *machine, const char *path)
     get_model(machine, state);
     state->clock.flags = 0; /* the machine's clock stood still meanwhile */
     memcpy(state->console, machine->console.own, CELLS);
-    needed(pciguest_image_size(guests, machine->guest, &length) ? -1 : 0, "the size of an image");
+    (void)pciguest_save(guests, machine->guest, NULL, 0, &length); /* how long the image is */
     image = malloc(length);
     needed(pciguest_save(guests, machine->guest, image, length, &length) ? -1 : 0, "an image");
     state->image_length = length;

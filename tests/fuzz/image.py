@@ -64,19 +64,23 @@ def image_of(guest):
 
 
 class Part:
-    """Bytes of an image that stand one after the other: the number by which others are refused, and the bits that have to
-    be as they are here."""
+    """Bytes of an image that stand one after the other: the number by which others are refused, the bits that have to be as
+    they are here, and the slot that they are of."""
 
-    def __init__(self, number, wanted, fixed=None):
-        self.number, self.size = number, len(wanted)
+    def __init__(self, number, wanted, fixed=None, slot=None):
+        self.number, self.size, self.slot = number, len(wanted), slot
         fixed = b"\xff" * len(wanted) if fixed is None else fixed
         self.fixed = int.from_bytes(fixed, "little")
         self.wanted = int.from_bytes(wanted, "little") & self.fixed
 
+    def differing(self, image):
+        """The bits of these bytes that are others than here."""
+        low = (1 << 8 * min(len(image), self.size)) - 1
+        return (int.from_bytes(image, "little") & self.fixed ^ self.wanted) & low
+
     def refuses(self, image):
         """The number by which these bytes are refused, or 0."""
-        low = (1 << 8 * min(len(image), self.size)) - 1
-        if (int.from_bytes(image, "little") & self.fixed ^ self.wanted) & low:
+        if self.differing(image):
             return self.number
         return IMAGE if len(image) < self.size else 0
 
@@ -96,11 +100,11 @@ def parts(guest):
     yield Part(IMAGE, le(MAGIC, 4))
     yield Part(OTHER_VERSION, le(VERSION, 4))
     yield Part(IMAGE, bytes(4), le(~LATCH & 0xFFFFFFFF, 4))
-    for function in guest.slots:
+    for slot, function in enumerate(guest.slots):
         if function is None:
-            yield Part(OTHERS, b"\0")
+            yield Part(OTHERS, b"\0", slot=slot)
         else:
-            yield Part(OTHERS, b"\1" + declaration(function))
+            yield Part(OTHERS, b"\1" + declaration(function), slot=slot)
             yield values_of(function)
 
 
@@ -113,6 +117,19 @@ def fault(guest, image):
             return number
         at += part.size
     return 0 if at == len(image) else IMAGE
+
+
+def stop(guest, image):
+    """Where bytes stop fitting that a guest refuses as those of another guest or version: the slot, or None before the slots,
+    and the offset. None of other bytes."""
+    if fault(guest, image) not in (OTHERS, OTHER_VERSION):
+        return None
+    at = 0
+    for part in parts(guest):
+        bits = part.differing(image[at:at + part.size])
+        if bits:
+            return part.slot, at + ((bits & -bits).bit_length() - 1) // 8
+        at += part.size
 
 
 def load(guest, image):

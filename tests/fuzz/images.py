@@ -145,6 +145,8 @@ class Fuzz:
             before = mine.save()
             image = self.changed_image(guest, before, images)
             wanted = second_hand.fault(guest, image)
+            stop = mine.image_fault(image)
+            self.same("where an image stops fitting", stop and tuple(stop[:2]), second_hand.stop(guest, image))
             self.same("why an image is refused", refused(mine.load, image), wanted)
             if wanted:
                 self.refused[wanted] += 1

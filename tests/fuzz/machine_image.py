@@ -1,16 +1,13 @@
 """Images of whole machines as docs/image-format.md has them, by a second hand: written, judged and read, over the second
 hand's own worlds."""
 import image as second_hand
-from board import Endpoint
-from guests import OWN_COPIES
+from board import Endpoint, path_text
 from image import IMAGE, OTHERS, OTHER_VERSION, Part, le
 
 MAGIC, VERSION, BOARDS = 0x4D494350, 1, 907
-IO, PREF = ["none", "16", "32"], ["none", "32", "64"]
-LATCH = le(0, 4)  # the host's address latch, which no line of a script writes
-BRIDGE = [*range(0x00, 0x0F), *range(0x18, 0x1C), 0x1E, 0x1F, 0x3C, *range(0x20, 0x24)]
-WINDOWS = {("io", "16"): [0x1C, 0x1D], ("io", "32"): [0x1C, 0x1D, *range(0x30, 0x34)],
-           ("pref", "32"): [*range(0x24, 0x28)], ("pref", "64"): [*range(0x24, 0x30)]}
+# bytes of a header that say nothing of how a function is set up: Status, and Secondary Status of a bridge; and of an endpoint
+# what its guest's driver writes
+OF_NO_SET_UP = {True: (0x06, 0x07, 0x0C, 0x0D, 0x3C), False: (0x06, 0x07, 0x1E, 0x1F)}
 
 
 class Fault(Exception):
@@ -19,59 +16,36 @@ class Fault(Exception):
 
 # ---- written
 
-def path_bytes(path):
-    return le(len(path), 1) + bytes(part for pair in path for part in pair)
+def text_bytes(text):
+    return le(len(text), 1) + text
 
 
-def board_bytes(world):
-    """The board, and how many guests there are."""
+def function_bytes(world, function):
+    """A function of the board, and how it is set up."""
+    is_endpoint = isinstance(function, Endpoint)
+    seen = world.seen_endpoint if is_endpoint else world.seen_bridge
+    header = bytes(0 if off in OF_NO_SET_UP[is_endpoint] else seen(function, off) for off in range(0x40))
+    sizes = {bar.index: bar.size for bar in function.bars} if is_endpoint else {}
+    return text_bytes(path_text(function.path).encode()) + header + b"".join(le(sizes.get(bar, 0), 8) for bar in range(6))
+
+
+def front_bytes(world):
+    """What stands behind the version: the board, and its guests."""
     functions = world.layout.board.functions
-    told = le(len(functions), 4)
-    for function in functions:
-        told += path_bytes(function.path)
-        if isinstance(function, Endpoint):
-            told += b"\0" + second_hand.declaration(world.functions[function.path])
-        else:
-            values = function.values
-            told += b"\1" + le(values["vendor"], 2) + le(values["device"], 2) + le(values.get("revision", 0), 1)
-            told += bytes([IO.index(function.io), PREF.index(function.pref)])
-    return told + le(len(world.guests), 2)
-
-
-def seen_in_place(world, endpoint):
-    """What guests have copies of, by its place among the cells of an endpoint: the board has its own."""
-    places = list(second_hand.HEADER)
-    for off, count, _ in endpoint.config:
-        places += range(off, off + count)
-    for bar in sorted(endpoint.bars, key=lambda bar: bar.index):
-        places += range(0x10 + 4 * bar.index, 0x10 + 4 * bar.index + (8 if bar.kind.startswith("mem64") else 4))
-        places += [None] * bar.block
-    return {at: world.seen_endpoint(endpoint, off) for at, off in enumerate(places) if off in OWN_COPIES}
-
-
-def held_bytes(world):
-    """What the handoff holds of each function: an endpoint is at reset, but for what guests have copies of."""
-    told = b""
-    for function in world.layout.board.functions:
-        if isinstance(function, Endpoint):
-            seen, cells = seen_in_place(world, function), second_hand.held(world.functions[function.path])
-            told += bytes(seen.get(at, 0 if cell is None else cell.reset) for at, (cell, _) in enumerate(cells))
-            continue
-        offsets = BRIDGE + WINDOWS.get(("io", function.io), []) + WINDOWS.get(("pref", function.pref), [])
-        told += bytes(world.seen_bridge(function, off) for off in offsets)
-    return told
+    told = le(len(functions), 4) + b"".join(function_bytes(world, each) for each in functions)
+    return told + le(len(world.guests), 4) + b"".join(text_bytes(name) for name in world.guests)
 
 
 def pieces(world):
     """The bytes of a world's image, each with what it is of."""
     yield "header", le(MAGIC, 4) + le(VERSION, 4)
-    yield "board", board_bytes(world)
-    for name, guest in world.guests.items():
-        yield "name", le(len(name), 1) + name
+    yield "front", front_bytes(world)
+    for guest in world.guests.values():
         for function in guest.slots:
-            yield "seat", b"\0" if function is None else b"\1" + path_bytes(function.endpoint.path)
-        yield "guest", second_hand.image_of(guest)
-    yield "handoff", held_bytes(world) + LATCH
+            yield "seat", text_bytes(b"" if function is None else path_text(function.endpoint.path).encode())
+        image = second_hand.image_of(guest)
+        yield "size", le(len(image), 4)
+        yield "guest", image
 
 
 def image_of(world):
@@ -81,17 +55,17 @@ def image_of(world):
 # ---- judged and read
 
 class Seated:
-    """A guest's slots as an image has them, and where in its bytes the guest's own image stands."""
+    """A guest's slots as an image has them, and the guest's own image in it."""
 
-    def __init__(self, slots):
-        self.slots, self.image = slots, b""
+    def __init__(self, slots, image):
+        self.slots, self.image = slots, image
 
 
 class Reader:
-    """Bytes that are read from front to back; the first that fails decides."""
+    """Bytes that are read from front to back."""
 
     def __init__(self, world, image):
-        self.world, self.image, self.at, self.taken = world, image, 0, set()
+        self.world, self.image, self.at = world, image, 0
 
     def skip(self, part):
         number = part.refuses(self.image[self.at:self.at + part.size])
@@ -105,39 +79,35 @@ class Reader:
         self.at += count
         return self.image[self.at - count:self.at]
 
-    def slot(self):
-        """The function that a slot is to get, or None."""
-        tag = self.take(1)[0]
-        if tag > 1:
-            raise Fault(IMAGE)
-        if tag == 0:
-            return None
-        parts = self.take(2 * self.take(1)[0])
-        path = tuple(zip(parts[::2], parts[1::2]))
-        if path not in self.world.functions or path in self.taken:
-            raise Fault(OTHERS)
-        self.taken.add(path)
-        return self.world.functions[path]
-
-    def guest(self, name):
-        self.skip(Part(BOARDS, le(len(name), 1) + name))
-        seated = Seated([self.slot() for _ in range(32)])
-        begin = self.at
-        for part in second_hand.parts(seated):
-            self.skip(part)
-        seated.image = self.image[begin:self.at]
-        return seated
+    def counted(self, width):
+        """Bytes that follow their own number."""
+        return self.take(int.from_bytes(self.take(width), "little"))
 
     def guests(self):
-        """The guests of an image that isn't refused."""
+        """The guests of an image that isn't refused: the front is compared, and the lengths behind it are right, before a
+        guest is looked at."""
         self.skip(Part(IMAGE, le(MAGIC, 4)))
         self.skip(Part(OTHER_VERSION, le(VERSION, 4)))
-        self.skip(Part(BOARDS, board_bytes(self.world)))
-        guests = [self.guest(name) for name in self.world.guests]
-        self.skip(Part(BOARDS, held_bytes(self.world) + LATCH))
+        self.skip(Part(BOARDS, front_bytes(self.world)))
+        found = [([self.counted(1) for _ in range(32)], self.counted(4)) for _ in self.world.guests]
         if self.at < len(self.image):
             raise Fault(IMAGE)
-        return guests
+        places = {path_text(path).encode(): function for path, function in self.world.functions.items()}
+        return [self.seated(places, paths, image) for paths, image in found]
+
+    @staticmethod
+    def seated(places, paths, image):
+        """A guest with the functions at these paths, each of which leaves the places that are left, and its image."""
+        slots = []
+        for path in paths:
+            if path and path not in places:
+                raise Fault(OTHERS)
+            slots.append(places.pop(path) if path else None)
+        seated = Seated(slots, image)
+        number = second_hand.fault(seated, image)
+        if number:
+            raise Fault(number)
+        return seated
 
 
 def fault(world, image):

@@ -99,7 +99,7 @@ class Machines(Fuzz):
     def changed_value(self, world, image):
         """An image with something else in one of its parts."""
         told = list(second_hand.pieces(world))
-        kind = self.rng.choice(["header", "board", "name", "seat", "seat", "guest", "guest", "handoff"])
+        kind = self.rng.choice(["header", "front", "seat", "seat", "size", "guest", "guest"])
         index = self.rng.choice([at for at, piece in enumerate(told) if piece[0] == kind])
         piece = bytearray(told[index][1])
         at = self.rng.randrange(len(piece))

@@ -49,8 +49,6 @@ static void without_a_board(void)
     IS(pciguest_board_audit_json(&none, reply, sizeof reply, &count, &count), 901);
     IS(pciguest_board_ready_json(&none, reply, sizeof reply, &count, &count), 901);
     IS(pciguest_board_why_json(&none, PCIGUEST_IO, 0, 0, 0, 0, reply, sizeof reply, &count), 901);
-    IS(pciguest_board_problems(&none, NULL, 0, &count), 901);
-    IS(pciguest_board_lacks(&none, NULL, 0, &count), 901);
     IS(pciguest_set_up(&none, &machine), 901);
     IS(pciguest_board_guests(&none, &machine), 901);
     pciguest_board_free(&none);
@@ -85,12 +83,6 @@ static void null_pointers(struct pciguest_board *board)
     IS(pciguest_board_count(board, NULL), 902);
     IS(pciguest_board_function(NULL, 0, &told), 902);
     IS(pciguest_board_function(board, 0, NULL), 902);
-    IS(pciguest_board_problems(NULL, NULL, 0, &count), 902);
-    IS(pciguest_board_problems(board, NULL, 1, &count), 902);
-    IS(pciguest_board_problems(board, NULL, 0, NULL), 902);
-    IS(pciguest_board_lacks(NULL, NULL, 0, &count), 902);
-    IS(pciguest_board_lacks(board, NULL, 1, &count), 902);
-    IS(pciguest_board_lacks(board, NULL, 0, NULL), 902);
     IS(pciguest_board_audit(NULL, reply, sizeof reply, &count, &count), 902);
     IS(pciguest_board_audit(board, NULL, 1, &count, &count), 902);
     IS(pciguest_board_audit(board, reply, sizeof reply, NULL, &count), 902);
@@ -181,45 +173,6 @@ static void set_ups(struct pciguest_board *board)
     pciguest_free(&other);
 }
 
-/* One row for each line of an audit: its kind, who it is about and with whom, and the address, if it has one. */
-static void problem_is(const struct pciguest_problem *row, const char *line)
-{
-    static const char *const kinds[] = {"", "%s bar%u at 0x%llx", "", "%s: a cycle for 00:%02u.0"};
-    char begin[128], path[PCIGUEST_PATH + 1] = {0}, other[PCIGUEST_PATH + 1] = {0};
-
-    memcpy(path, row->path, row->path_length);
-    memcpy(other, row->other, row->other_length);
-    if (row->kind == PCIGUEST_NOT_FOUND)
-        snprintf(begin, sizeof begin, kinds[row->kind], path, row->device);
-    else
-        snprintf(begin, sizeof begin, kinds[row->kind], path, row->bar, (unsigned long long)row->address);
-    IS(strncmp(line + strlen("audit: "), begin, strlen(begin)), 0);
-    IS(strstr(line, row->other_length ? other : "nothing") != NULL, 1);
-    IS(row->space, row->kind == PCIGUEST_NOT_FOUND ? 0 : PCIGUEST_MEMORY);
-    IS(row->other_bar, 6);
-}
-
-static void problems_are(struct pciguest_board *board, const char *lines, size_t problems)
-{
-    struct pciguest_problem rows[4];
-    size_t count = 9;
-
-    memset(rows, '?', sizeof rows);
-    if (problems != 0) {
-        IS(pciguest_board_problems(board, rows, problems - 1, &count), 902);
-        IS(count, problems);
-        IS(rows[0].path[0], '?');
-        IS(pciguest_board_problems(board, NULL, 0, &count), 902);
-    }
-    IS(pciguest_board_problems(board, rows, 4, &count), 0);
-    IS(count, problems);
-    IS(rows[count].path[0], '?');
-    for (size_t i = 0; i < count; i++) {
-        problem_is(&rows[i], lines);
-        lines = strchr(lines, '\n') + 1;
-    }
-}
-
 /* A call that writes what it finds on a board, and tells how much. */
 typedef uint32_t survey(struct pciguest_board *board, char *text, size_t room, size_t *needed, size_t *count);
 
@@ -244,7 +197,6 @@ static void audit_is(struct pciguest_board *board, const char *wanted, const cha
 {
     text_is(pciguest_board_audit, board, wanted, problems);
     text_is(pciguest_board_audit_json, board, json, problems);
-    problems_are(board, wanted, problems);
 }
 
 /* Each allocation of a survey fails in turn: nothing is told, and no memory is lost. */
@@ -261,25 +213,6 @@ static void survey_without_memory(survey *call, struct pciguest_board *board)
         fault = call(board, text, sizeof text, &needed, &count);
         calls_left = -1;
         IS(fault == 0 || (fault == 299 && needed == 8 && count == 9 && strcmp(text, "unchanged") == 0), 1);
-        IS((uint64_t)blocks, (uint64_t)kept);
-    }
-}
-
-/* The same of rows. */
-static void rows_without_memory(uint32_t (*call)(struct pciguest_board *, struct pciguest_problem *, size_t, size_t *),
-                                struct pciguest_board *board)
-{
-    uint32_t fault = 299;
-    long kept = blocks;
-
-    for (long left = 1; fault == 299; left++) {
-        struct pciguest_problem rows[8] = {{.kind = 9}};
-        size_t count = 9;
-
-        calls_left = left;
-        fault = call(board, rows, 8, &count);
-        calls_left = -1;
-        IS(fault == 0 ? count < 9 && rows[0].kind != 9 : fault == 299 && count == 9 && rows[0].kind == 9, 1);
         IS((uint64_t)blocks, (uint64_t)kept);
     }
 }
@@ -312,41 +245,7 @@ static void audits(void)
              "\"path\":\"2.0/1.0\",\"size\":16777216,\"space\":\"mem\"},\"type\":\"not forwarded\"}]}\n", 1);
     survey_without_memory(pciguest_board_audit, &board);
     survey_without_memory(pciguest_board_audit_json, &board);
-    rows_without_memory(pciguest_board_problems, &board);
     pciguest_board_free(&board);
-}
-
-/* A row for each line that tells what is lacking, from the first one on. */
-static void lacks_are(struct pciguest_board *board, const char *lines, size_t lacks)
-{
-    static const char *const ends[] = {" is closed", ": 0x%llx is outside the apertures", " prefetches 0x%llx", ""};
-    struct pciguest_problem rows[8];
-    size_t count = 9;
-
-    memset(rows, '?', sizeof rows);
-    IS(pciguest_board_lacks(board, rows, lacks - 1, &count), 902);
-    IS(count, lacks);
-    IS(rows[0].path[0], '?');
-    IS(pciguest_board_lacks(board, rows, 8, &count), 0);
-    IS(count, lacks);
-    IS(rows[count].path[0], '?');
-    for (size_t i = 0; i < count; i++, lines = strchr(lines, '\n') + 1) {
-        char begin[128], end[64], path[PCIGUEST_PATH + 1] = {0}, other[PCIGUEST_PATH + 1] = {0};
-        uint32_t kind = rows[i].kind - PCIGUEST_CLOSED, is_primary = rows[i].kind == PCIGUEST_OTHER_PRIMARY;
-
-        memcpy(path, rows[i].path, rows[i].path_length);
-        memcpy(other, rows[i].other, rows[i].other_length);
-        IS(kind < 4, 1);
-        if (is_primary)
-            snprintf(begin, sizeof begin, "%s: Primary is %02x on bus %02x", path, rows[i].primary, rows[i].bus);
-        else
-            snprintf(begin, sizeof begin, "%s bar%u at ", path, rows[i].bar);
-        snprintf(end, sizeof end, ends[kind], (unsigned long long)rows[i].address);
-        IS(strncmp(lines + strlen("ready: "), begin, strlen(begin)), 0);
-        IS(strstr(lines, end) != NULL && strstr(lines, other) != NULL, 1);
-        IS(rows[i].other_length != 0, rows[i].kind == PCIGUEST_PREFETCHED);
-        IS(rows[i].space == 0, is_primary);
-    }
 }
 
 /* A region outside the apertures, one that its bridge prefetches, one that is closed, and a bridge with another Primary. */
@@ -358,17 +257,16 @@ static void lacking(void)
         "host cw 01:00.0 0x10 4 0xd0000000", "host cw 01:00.0 4 2 2",
     };
     struct pciguest_board board = PCIGUEST_BOARD_INIT;
-    char reply[PCIGUEST_REPLY], text[1024] = {0};
-    size_t written = 0, count = 0;
+    char reply[PCIGUEST_REPLY], wanted[1024] = {0};
+    size_t written = 0;
 
     IS(pciguest_board_new(&board, file, length), 0);
-    rows_without_memory(pciguest_board_lacks, &board);
     for (size_t i = 0; i < sizeof lines / sizeof *lines; i++) {
         IS(line(&board, lines[i], reply, &written), 0);
         IS(written == 9 && memcmp(reply, "host: ok\n", 9) == 0, 1);
     }
-    IS(pciguest_board_ready(&board, text, sizeof text - 1, &written, &count), 0);
-    lacks_are(&board, strstr(text, "ready: "), 6);
+    IS(pciguest_board_run_line(&board, "host ready", 10, wanted, sizeof wanted - 1, &written), 0);
+    text_is(pciguest_board_ready, &board, wanted, 6);
     pciguest_board_free(&board);
 }
 
@@ -387,7 +285,6 @@ static void readiness(void)
     if (sscanf(last, " %lu problem%*[s,] %lu lack", &problems, &lacks) != 2)
         lacks = strtoul(last, NULL, 10) - problems;
     text_is(pciguest_board_ready, &board, wanted, problems + lacks);
-    lacks_are(&board, strstr(wanted, "ready: "), lacks);
     survey_without_memory(pciguest_board_ready, &board);
     text_is(pciguest_board_ready_json, &board,
             "{\"lacks\":[" CLOSED_IN_JSON(0, "1.0", 32, "io") "," CLOSED_IN_JSON(1, "1.0", 4096, "mem") ","
@@ -560,9 +457,9 @@ static void access(struct pciguest_board *by_calls, struct pciguest_board *by_li
     uint32_t space = below(3), width = widths[below(6)], value = below(4) == 0 ? UINT32_MAX : below(1u << 31);
     uint8_t bus = (uint8_t)below(3), device = (uint8_t)below(4);
     uint64_t place = space == 0 ? below(66) * 4 + below(8) / 7 : below(64) * 4;
-    char text[80], reply[PCIGUEST_REPLY], wanted[PCIGUEST_REPLY] = "host: ok\n", words[PCIGUEST_WORDS];
+    char text[80], reply[PCIGUEST_REPLY], wanted[PCIGUEST_REPLY] = "host: ok\n";
     bool reads = below(3) == 0;
-    size_t written = 0, count = 0;
+    size_t written = 0;
     uint32_t number, at = space == 0 ? 0 : below(3);
 
     place = at == 1 ? 0xcf8 + below(8) : at == 2 ? 0xc0000000 + place : place;
@@ -575,8 +472,7 @@ static void access(struct pciguest_board *by_calls, struct pciguest_board *by_li
     number = reads ? pciguest_board_read(by_calls, space, bus, device, 0, place, width, &value)
                    : pciguest_board_write(by_calls, space, bus, device, 0, place, width, value);
     if (number != 0) {
-        IS(pciguest_words(number, words, sizeof words, &count), 0);
-        snprintf(wanted, sizeof wanted, "host: refused %u %.*s\n", number, (int)count, words);
+        snprintf(wanted, sizeof wanted, "host: refused %u %s\n", number, pciguest_strerror(number));
     } else if (reads) {
         snprintf(wanted, sizeof wanted, "host: 0x%0*x\n", (int)width * 2, value);
     }

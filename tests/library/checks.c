@@ -11,12 +11,7 @@
 /* The fault as the program tells it. */
 static int fault(uint32_t number)
 {
-    char words[PCIGUEST_WORDS] = {0};
-    size_t length = 0;
-
-    if (pciguest_words(number, words, sizeof words, &length) != 0 || length == 0)
-        return 3;
-    fprintf(stderr, "pciguest: fault %u %.*s\n", (unsigned)number, (int)length, words);
+    fprintf(stderr, "pciguest: fault %u %s\n", (unsigned)number, pciguest_strerror(number));
     return 1;
 }
 

@@ -9,6 +9,12 @@
 #include <stdio.h>
 #include <stdlib.h>
 
+/* a byte of a device, by the calls that programs of 0.3.0 make */
+uint32_t pciguest_raw_device_read(struct pciguest *machine, size_t guest, uint64_t slot, uint32_t part, uint64_t offset,
+                                  uint32_t *value);
+uint32_t pciguest_raw_device_write(struct pciguest *machine, size_t guest, uint64_t slot, uint32_t part, uint64_t offset,
+                                   uint8_t value);
+
 struct place {
     uint64_t slot, offset;
     uint32_t part, width;
@@ -45,7 +51,7 @@ static uint32_t read_bytes(struct pciguest *machine, struct place at, uint64_t *
     if (at.offset > UINT64_MAX - at.width)
         return 303;
     for (uint32_t done = 0; done < at.width; done++) {
-        uint32_t byte = 0, number = pciguest_device_read(machine, 0, at.slot, at.part, at.offset + done, &byte);
+        uint32_t byte = 0, number = pciguest_raw_device_read(machine, 0, at.slot, at.part, at.offset + done, &byte);
 
         if (number)
             return number;
@@ -61,7 +67,7 @@ static uint32_t write_bytes(struct pciguest *machine, struct place at, uint64_t 
     uint32_t number = read_bytes(machine, at, &before);
 
     for (uint32_t done = 0; number == 0 && done < at.width; done++)
-        number = pciguest_device_write(machine, 0, at.slot, at.part, at.offset + done, (uint8_t)(value >> 8 * done));
+        number = pciguest_raw_device_write(machine, 0, at.slot, at.part, at.offset + done, (uint8_t)(value >> 8 * done));
     return number;
 }
 
@@ -89,9 +95,9 @@ static bool are_same(struct pciguest *wide, struct pciguest *bytes)
         for (uint32_t part = 0; part < 7; part++)
             for (uint64_t offset = 0; offset < 4200; offset++) {
                 uint32_t one = 0, other = 0;
-                uint32_t number = pciguest_device_read(wide, 0, slot, part, offset, &one);
+                uint32_t number = pciguest_raw_device_read(wide, 0, slot, part, offset, &one);
 
-                if (number != pciguest_device_read(bytes, 0, slot, part, offset, &other) || one != other)
+                if (number != pciguest_raw_device_read(bytes, 0, slot, part, offset, &other) || one != other)
                     return false;
             }
     return true;

@@ -46,7 +46,7 @@ static void save(struct pciguest *machine, size_t guest, struct image *image)
     size_t needed = 0, again = 0;
 
     memset(image->bytes, 0x5a, ROOM);
-    IS(pciguest_image_size(machine, guest, &image->size), 0);
+    IS(pciguest_save(machine, guest, NULL, 0, &image->size), 902);
     IS(image->size > 0 && image->size <= ROOM, 1);
     IS(pciguest_save(machine, guest, image->bytes, image->size - 1, &needed), 902);
     IS(needed, image->size);
@@ -136,11 +136,11 @@ static struct region region(const struct at_slot *of, const struct image *image,
 /* The values of a region: its base address register, and the cells at its beginning. */
 static void compare_region(const struct at_slot *of, const struct image *image, size_t *at, const struct region *it)
 {
-    uint32_t value = 0;
+    uint64_t value = 0;
 
     compare_config(of, image, at, 0x10 + 4 * it->index, it->kind < 3 ? 4 : 8);
     for (uint64_t offset = 0; offset < it->cells; offset++) {
-        IS(pciguest_device_read(of->machine, of->guest, of->slot, it->index, offset, &value), 0);
+        IS(pciguest_device_read_wide(of->machine, of->guest, of->slot, it->index, offset, 1, &value), 0);
         IS(number(image, at, 1), value);
     }
 }

@@ -64,7 +64,7 @@ static size_t size_of(struct pciguest *machine, size_t guest)
 {
     size_t size = 0;
 
-    IS(pciguest_image_size(machine, guest, &size), 0);
+    IS(pciguest_save(machine, guest, NULL, 0, &size), 902);
     return size;
 }
 

@@ -78,7 +78,7 @@ static void migrate_guests(struct pciguest *from, struct pciguest *to)
     for (size_t guest = 0; guest < guests && !wrong; guest++) {
         uint8_t *image, *loaded;
 
-        IS(pciguest_image_size(from, guest, &size), 0);
+        IS(pciguest_save(from, guest, NULL, 0, &size), 902);
         image = calloc(1, size);
         loaded = calloc(1, size);
         if (!image || !loaded)

@@ -192,8 +192,8 @@ static void event(struct pciguest *machine, bool *touched)
         (void)pciguest_raise(machine, guest, slot, below(2) ? PCIGUEST_RAISE_CONFIG : 1, below(0x40), 0xff);
         return;
     case 3:
-        (void)pciguest_device_write(machine, guest, slot, below(2) ? PCIGUEST_RAISE_CONFIG : 1, below(0x100),
-                                    (uint8_t)below(256));
+        (void)pciguest_device_write_wide(machine, guest, slot, below(2) ? PCIGUEST_RAISE_CONFIG : 1, below(0x100), 1,
+                                         below(256));
         return;
     case 4:
         (void)pciguest_write(machine, guest, PCIGUEST_MEMORY, 0, below(4) << 20, 4, (uint32_t)below(1 << 20));

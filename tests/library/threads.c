@@ -78,16 +78,14 @@ static void ask_machine(void)
     BUSY(pciguest_move(&machine, 0, 0, 1, 7));
     BUSY(pciguest_reset(&machine, 0, 0));
     BUSY(pciguest_reset_guest(&machine, 0));
-    BUSY(pciguest_image_size(&machine, 0, &told));
     BUSY(pciguest_save(&machine, 0, text, sizeof text, &told));
     BUSY(pciguest_load(&machine, 0, text, sizeof text));
+    BUSY(pciguest_image_fault(&machine, 0, text, sizeof text, &wide, &told));
     BUSY(pciguest_image_size_all(&machine, &told));
     BUSY(pciguest_save_all(&machine, text, sizeof text, &told));
     BUSY(pciguest_load_all(&machine, text, sizeof text));
     BUSY(pciguest_give(&machine, "2.0/1.0", 7, 0, 7));
     BUSY(pciguest_take(&machine, 0, 0));
-    BUSY(pciguest_device_read(&machine, 0, 0, 1, 0, &value));
-    BUSY(pciguest_device_write(&machine, 0, 0, 1, 0, 1));
     BUSY(pciguest_device_read_wide(&machine, 0, 0, 1, 0, 8, &wide));
     BUSY(pciguest_device_write_wide(&machine, 0, 0, 1, 0, 8, 1));
     BUSY(pciguest_region_read(&machine, 0, 0, 1, 0, 8, &wide));
@@ -111,7 +109,6 @@ static void ask_board(void)
 {
     struct pciguest other = PCIGUEST_INIT;
     struct pciguest_board_function row = {0};
-    struct pciguest_problem problem = {0};
     char text[PCIGUEST_REPLY] = {0};
     uint32_t value = 7;
     size_t told = 7;
@@ -128,8 +125,6 @@ static void ask_board(void)
     BUSY(pciguest_board_audit_json(&board, text, sizeof text, &told, &told));
     BUSY(pciguest_board_ready_json(&board, text, sizeof text, &told, &told));
     BUSY(pciguest_board_why_json(&board, PCIGUEST_CONFIG, 0, 1, 0, 0, text, sizeof text, &told));
-    BUSY(pciguest_board_problems(&board, &problem, 1, &told));
-    BUSY(pciguest_board_lacks(&board, &problem, 1, &told));
     BUSY(pciguest_set_up(&board, &other));
     BUSY(pciguest_board_guests(&board, &other));
     IS(value == 7 && told == 7 && text[0] == 0 && other.live == 0, 1);

@@ -1,5 +1,6 @@
 """Every call of the library for C, over boards at their limits: each must succeed."""
 import ctypes
+import json
 import os
 import re
 import sys
@@ -44,14 +45,6 @@ class Library:
         self.ok(name, *arguments, text, len(text), byref(needed), *more)
         return text.raw
 
-    def rows(self, name, board, row):
-        """The rows that a call fills in. A first call asks how many there are."""
-        count = c_size_t()
-        self.ok(name, board, None, 0, byref(count), wanted=(declared.OK, declared.ARGUMENT))
-        rows = (row * count.value)()
-        self.ok(name, board, rows, len(rows), byref(count))
-        return rows
-
     def line(self, name, holder, line, room=declared.REPLY):
         reply, written = ctypes.create_string_buffer(room), c_size_t()
         self.ok(name, holder, line, len(line), reply, room, byref(written))
@@ -65,7 +58,6 @@ def without_a_machine(library, text):
     library.called |= {"version", "strerror"}
     library.tally.expect("pciguest_version", CALLS["version"]() == declared.VERSION_NUMBER)
     library.tally.expect("pciguest_strerror", CALLS["strerror"](101) == b"not TOML")
-    library.tally.expect("pciguest_words", library.text("words", 101) == b"not TOML")
     for name in ("report", "report_json", "check"):
         library.text(name, text, len(text))
 
@@ -80,8 +72,8 @@ def slot_calls(library, machine, guest, slot):
     library.ok("write_wide", *key, CONFIG, slot, 0x0C, 7, 0)
     library.number("read_wide", *key, CONFIG, slot, 1, 8, of=c_uint64)
     library.ok("raise", *key, slot, declared.RAISE_CONFIG, 7, 0)
-    library.ok("device_write", *key, slot, declared.RAISE_CONFIG, 0x40, 1)
-    library.number("device_read", *key, slot, declared.RAISE_CONFIG, 0x40, of=c_uint32)
+    library.ok("device_write_wide", *key, slot, declared.RAISE_CONFIG, 0x40, 1, 1)
+    library.number("device_read_wide", *key, slot, declared.RAISE_CONFIG, 0x40, 1, of=c_uint64)
     row = library.number("slot", *key, slot, of=declared.FunctionTold)
     for bar in range(declared.BARS):
         region = library.number("region", *key, slot, bar, of=declared.RegionTold)
@@ -114,12 +106,10 @@ def guest_calls(library, machine, guest, slots):
 
 
 def image_calls(library, key):
-    size, needed = library.number("image_size", *key), c_size_t()
-    image = ctypes.create_string_buffer(size)
-    library.ok("save", *key, image, size, byref(needed))
-    library.ok("load", *key, image.raw, size)
-    library.ok("image_fault", *key, image.raw, size, None, 0, byref(needed))
-    return size
+    image, slot, offset = library.text("save", *key), c_uint64(), c_size_t()
+    library.ok("load", *key, image, len(image))
+    library.ok("image_fault", *key, image, len(image), byref(slot), byref(offset))
+    return len(image)
 
 
 def machine_calls(library, machine, guests):
@@ -162,8 +152,8 @@ def questions(library, board, wanted):
         library.text(name, held, more=[byref(count)])
     for space, place in ((CONFIG, 0), (IO, 0x1000), (MEMORY, 0), (MEMORY, 0x80000000)):
         library.text("board_why_json", held, space, 0, 0, 0, place)
-    rows = [library.rows(f"board_{it}", held, declared.ProblemTold) for it in ("problems", "lacks")]
-    found = tuple(map(len, rows))
+    told = json.loads(library.text("board_ready_json", held, more=[byref(count)]))
+    found = len(told["problems"]), len(told["lacks"])
     library.tally.expect(f"{library.title}: problems and lacks", found == wanted, f"{found}, not {wanted}")
     room = len(ready) + 100
     library.tally.expect(f"{library.title}: host audit", library.line("board_run_line", held, b"host audit", room) == audit)

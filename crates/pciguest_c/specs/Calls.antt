@@ -1,8 +1,8 @@
 -- What C asks of a machine or of a board that firmware drives, as data, and what each call answers.
 --     Call, BoardCall      a call with what it is given; one of 1 to 8 bytes is a device's or, of a region, a guest's
---     Told      what a call tells, and what stands where it goes: nothing, a number, a row of some kind; a text, a line's reply or
---         a machine's image, which go to a buffer, and with it how many bytes that takes; a text with a count beside it; and rows,
---         with how many there are, or, where they stand before as after, how many of them moved
+--     Told      what a call tells, and what stands where it goes: nothing, a number, a row of some kind; a text, an image or a
+--         line's reply, which go to a buffer, and with it how many bytes that takes; a text with a count beside it; and rows that
+--         stand before as after, with how many of them moved
 --     Outcome      a call is refused, or is done, with what is told and the session after it
 --     reading r, doing r, telling f r      the outcome of a reply, which tells what was read, or nothing; and of an answer
 --     where_lawful, where_guest m guest, of_guest m guest      902 where a value is none that is lawful, and where the machine
@@ -10,24 +10,22 @@
 --     outcome c m, board_outcome c b      what becomes of a call of a machine, and of a board
 --     Answer      the number that is answered, the session after it, and what then stands where the answer goes
 --     settled s old o      the answer of an outcome: a refusal tells and changes nothing, and 902 is answered where a buffer has
---         less room than a text, an image or rows take, whose length alone is told, or than a reply may
+--         less room than a text or an image takes, whose length alone is told, or than a reply may
 --     Answers c before after n old new, AnswersBoard ..      a call of a handle is answered so, and by 901 where nothing is held
 --     unless_out n o      an outcome; but where n is 299, memory ran out, and nothing is told or changed
 --     AnswersOrRunsOut c before after n old new, AnswersBoardOrRunsOut ..      the same of a call that takes memory
 --     AnswersLine line room before after n old new      the same of a line of a session, which takes memory where it asks for more
 --         than a reply, and has no less room than a reply may take
 --     AnswersLoad told R before after n      a load, after which the machine is one that R relates, or else by the number that is told of it
-use Rattle.std.specs.Prelude.{◌≡◌, ◌≢◌, ◌==◌, ℕ, List, map, IfNone, IfSome, slice_get, Bool, true, false, unwrap_or, if◌then◌else◌, nat_lt, nat_le, length, Option, None, Some, option_and_then, option_map, Result, Ok, Err}
-use Rattle.model_guests.specs.{Accesses.{Op, RaisePlace, Reply, Target, answered, done, refused, Event, access, raises, reads, writes}, DeviceEvents.{DeviceByte, DeviceEvent, resets, device_reads, device_writes}, Text.Text, Grammar.HostTarget, Lines.host_move, WorldNow.{move_reply, host_reply, board_state, line_output}, Calls.asks}
-use Rattle.model_findings.specs.{Problems.problems, Lacks.lacks}
+use Rattle.std.specs.Prelude.{◌≡◌, ◌≢◌, ◌==◌, ℕ, List, IfNone, IfSome, slice_get, Bool, true, false, unwrap_or, if◌then◌else◌, nat_lt, nat_le, length, Option, None, Some, option_and_then, option_map, Result, Ok, Err}
+use Rattle.model_guests.specs.{Accesses.{Op, RaisePlace, Reply, Target, answered, done, refused, Event, access, raises, reads, writes}, DeviceEvents.{DeviceByte, DeviceEvent, resets}, Text.Text, Grammar.HostTarget, Lines.host_move, WorldNow.{move_reply, host_reply, board_state, line_output}, Calls.asks}
 use Rattle.model_handoff.specs.{Actions.calls, Changes.{MachineNow, after_on_machine, after_line_on_machine}, Functions.function_nth, DrivenFunctions.driven_function_nth}
 use Rattle.model_lines.specs.{HostAccesses.HostAccess, Sessions.{DrivenNow, SessionNow, driven, given, after_board_access, session_output, after_session_line}}
 use Rattle.session.specs.Stages.{asks_for_more, board_in, machine_in}
 use Rattle.board_told.specs.{Telling.{told_by, counted_by}, declared.{listing.ReportForm.ReportForm, telling.Question.Question}}
 use Rattle.json_texts.specs.WhyValue.{host_why_json}
 use Rattle.monitor.specs.{ByIndex.name_nth, Moves.move_nth}
-use Rattle.machine_images.specs.SavedParts.{capped}
-use Rattle.pciguest_c.specs.{Told.{target_told, part_told, at_bus, host_target_told, reply_asked, after_asked, index_asked}, DevicesTold.{reply_at_device, after_at_device, wide_read, after_wide}, SeatingsTold.{gift_reply, after_gift, taking_reply, after_taking}, ImagesTold.{image_asked, fault_asked, after_restart, machine_image}, QueriesTold.{region_asked, region_told, hit_asked, hit_told}, MovesTold.{places_from, moved_count}, FunctionsTold.{function_told, slot_asked}, DrivenTold.driven_row, WhyTold.why_asked, ProblemsTold.{problem_row, lack_row}, TextsTold.at_front, Handles.{session_of, machine_of, board_of}, declared.{asking.Side.Side, handle.Handle.Handle, querying.{RegionTold.RegionTold, HitTold.HitTold}, function_row.FunctionTold.FunctionTold, driven_calls.DrivenRow.DrivenRow, problem_rows.ProblemRow.ProblemRow, moves.PlaceRow.PlaceRow}}
+use Rattle.pciguest_c.specs.{Told.{target_told, part_told, at_bus, host_target_told, reply_asked, after_asked, index_asked}, DevicesTold.{reply_at_device, after_at_device, wide_read, after_wide}, SeatingsTold.{gift_reply, after_gift, taking_reply, after_taking}, ImagesTold.{image_asked, after_restart}, QueriesTold.{region_asked, region_told, hit_asked, hit_told}, MovesTold.{places_from, moved_count}, FunctionsTold.{function_told, slot_asked}, DrivenTold.driven_row, WhyTold.why_asked, TextsTold.at_front, Handles.{session_of, machine_of, board_of}, declared.{asking.Side.Side, handle.Handle.Handle, querying.{RegionTold.RegionTold, HitTold.HitTold}, function_row.FunctionTold.FunctionTold, driven_calls.DrivenRow.DrivenRow, moves.PlaceRow.PlaceRow}}
 use Rattle.model_lines.specs.HostAccesses as board
 
 pub data Call : Type 0 where
@@ -40,8 +38,6 @@ pub data Call : Type 0 where
   take : (guest slot : ℕ) → Call
   reset : (guest slot : ℕ) → Call
   reset_guest : (guest : ℕ) → Call
-  device_read : (guest slot part offset : ℕ) → Call
-  device_write : (guest slot part offset value : ℕ) → Call
   read_wide : (side : Side) (guest slot part offset width : ℕ) → Call
   write_wide : (side : Side) (guest slot part offset width value : ℕ) → Call
   region : (guest slot register : ℕ) → Call
@@ -51,11 +47,7 @@ pub data Call : Type 0 where
   guest_named : (name : Text) → Call
   guest_count : Call
   guest_name : (guest : ℕ) → Call
-  image_size : (guest : ℕ) → Call
   save : (guest : ℕ) → Call
-  image_size_all : Call
-  save_all : Call
-  image_fault : (guest : ℕ) (image : Text) → Call
   function_count : Call
   function_at : (index : ℕ) → Call
   function_in : (guest slot : ℕ) → Call
@@ -68,7 +60,6 @@ pub data BoardCall : Type 0 where
   board_count : BoardCall
   board_function : (index : ℕ) → BoardCall
   board_survey : (question : Question) → BoardCall
-  board_findings : (of_lacks : Bool) → BoardCall
   board_why : (space bus device function place : ℕ) → BoardCall
 
 pub data Told : Type 0 where
@@ -80,12 +71,9 @@ pub data Told : Type 0 where
   a_driven : DrivenRow → Told
   text : Text → Told
   reply : Text → Told
-  image : Text → Told
   buffer : Text → ℕ → Told
   counted : Text → ℕ → Told
   counter : Text → ℕ → ℕ → Told
-  rows : List ProblemRow → Told
-  row_buffer : List ProblemRow → ℕ → Told
   places : List PlaceRow → Told
   place_buffer : List PlaceRow → ℕ → Told
 
@@ -153,21 +141,10 @@ unfoldable pub telling_why : ReportForm → MachineNow → ℕ → Option Target
 telling_why form m guest o =
     where_lawful (where_guest m guest o) (λ t. telling text (why_asked form m.world guest t) (given m))
 
-unfoldable pub telling_fault : MachineNow → ℕ → Text → Outcome
-telling_fault m guest bytes = of_guest m guest (tells (text (fault_asked m.world guest bytes)) (given m))
-
 -- as lines or as JSON
 unfoldable pub surveying : Question → DrivenNow → Outcome
 surveying q b =
     tells (counted (told_by q b.world.apertures b.state.functions) (counted_by q b.world.apertures b.state.functions)) (driven b)
-
--- what is wrong, or what is lacking
-abbrev pub found_rows : Bool → DrivenNow → List ProblemRow
-found_rows false b = map problem_row (problems b.state.functions)
-found_rows true b = map lack_row (lacks b.world.apertures b.state.functions)
-
-unfoldable pub finding : Bool → DrivenNow → Outcome
-finding of_lacks b = tells (rows (found_rows of_lacks b)) (driven b)
 
 unfoldable pub explaining : Option HostTarget → DrivenNow → Outcome
 explaining o b = where_lawful o (λ t. tells (text (host_why_json b.state t)) (driven b))
@@ -191,10 +168,6 @@ outcome (take guest slot) m =
     of_guest m guest (doing (taking_reply m.world guest slot) (given (after_taking m guest slot)))
 outcome (reset guest slot) m = of_guest m guest (device_asked m guest (resets slot))
 outcome (reset_guest guest) m = of_guest m guest (tells nothing (given (after_restart m guest)))
-outcome (device_read guest slot part offset) m = where_lawful (where_guest m guest (part_told part)) (λ p.
-    reading (reply_at_device m.world guest (device_reads (byte_at slot p offset))) (given m))
-outcome (device_write guest slot part offset value) m = where_lawful (where_guest m guest (part_told part)) (λ p.
-    device_asked m guest (device_writes (byte_at slot p offset) value))
 outcome (read_wide side guest slot part offset width) m = where_lawful (where_guest m guest (part_told part)) (λ p.
     telling number (wide_read side m.world guest (byte_at slot p offset) width) (given m))
 outcome (write_wide side guest slot part offset width value) m = where_lawful (where_guest m guest (part_told part)) (λ p.
@@ -209,11 +182,7 @@ outcome (moved guest ps) m = of_guest m guest (tells (places (places_from m.worl
 outcome (guest_named name) m = where_lawful (index_asked m.world name) (λ i. tells (number i) (given m))
 outcome guest_count m = tells (number (length m.world.guests)) (given m)
 outcome (guest_name guest) m = of_guest m guest (tells (text (name_nth m.world guest)) (given m))
-outcome (image_size guest) m = of_guest m guest (tells (number (length (image_asked m.world guest))) (given m))
 outcome (save guest) m = of_guest m guest (tells (text (image_asked m.world guest)) (given m))
-outcome image_size_all m = tells (number (capped (length (machine_image m.world)))) (given m)
-outcome save_all m = tells (image (machine_image m.world)) (given m)
-outcome (image_fault guest bytes) m = telling_fault m guest bytes
 outcome function_count m = tells (number (length (board_state m.world).functions)) (given m)
 outcome (function_at index) m = where_lawful (function_nth (board_state m.world) m.world.guests index) (λ f.
     tells (a_function (function_told m.world f)) (given m))
@@ -232,7 +201,6 @@ board_outcome board_count b = tells (number (length b.state.functions)) (driven 
 board_outcome (board_function index) b = where_lawful (driven_function_nth b.state index) (λ f.
     tells (a_driven (driven_row f)) (driven b))
 board_outcome (board_survey question) b = surveying question b
-board_outcome (board_findings of_lacks) b = finding of_lacks b
 board_outcome (board_why space bus device function place) b =
     explaining (host_target_told space (at_bus bus device function) place) b
 
@@ -241,26 +209,20 @@ board_outcome (board_why space bus device function place) b =
 abbrev pub fits : Told → Told → Bool
 fits (text t) (buffer out needed) = nat_le (length t) (length out)
 fits (reply t) (buffer out needed) = nat_le 48 (length out)
-fits (image t) (buffer out needed) = nat_le (length t) (length out)
 fits (counted t n) (counter out needed count) = nat_le (length t) (length out)
-fits (rows rs) (row_buffer out count) = nat_le (length rs) (length out)
 fits t old = true
 
 abbrev pub left : Told → Told → Told
 left nothing old = old
 left (text t) (buffer out needed) = buffer (at_front t out) (length t)
 left (reply t) (buffer out needed) = buffer (at_front t out) (length t)
-left (image t) (buffer out needed) = buffer (at_front t out) (capped (length t))
 left (counted t n) (counter out needed count) = counter (at_front t out) (length t) n
-left (rows rs) (row_buffer out count) = row_buffer (at_front rs out) (length rs)
 left (places ps) (place_buffer out count) = place_buffer ps (moved_count ps)
 left t old = t
 
 abbrev pub short : Told → Told → Told
 short (text t) (buffer out needed) = buffer out (length t)
-short (image t) (buffer out needed) = buffer out (capped (length t))
 short (counted t n) (counter out needed count) = counter out (length t) count
-short (rows rs) (row_buffer out count) = row_buffer out (length rs)
 short t old = old
 
 pub record Answer : Type 0 where

@@ -1,5 +1,4 @@
 pub mod Checks
-pub mod NumberWords
 pub mod Owning
 pub mod Told
 pub mod DevicesTold
@@ -10,7 +9,6 @@ pub mod LimitsTold
 pub mod InterruptsTold
 pub mod WhyTold
 pub mod FunctionsTold
-pub mod ProblemsTold
 pub mod DrivenTold
 pub mod Handles
 pub mod TextsTold

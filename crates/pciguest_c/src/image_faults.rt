@@ -1,47 +1,81 @@
-//! What C is told of images of other functions than a guest has.
-ghost use Rattle.std.specs.Prelude.{◌≡◌, IfOk, IfErr, string_bytes};
-ghost use Rattle.model_lines.specs.Sessions.{given};
-ghost use Rattle.pciguest_c.specs.Calls.{AnswersOrRunsOut, image_fault, telling_fault, text, buffer, refusal, tells, unless_out};
+//! Where an image stops fitting a guest.
+ghost use Rattle.std.specs.Prelude.{◌≡◌, ◌≢◌, ◌<◌, length};
+ghost use Rattle.session.specs.Stages.{machine_in};
+ghost use Rattle.board_told.specs.GuestFindings.{lone_asked};
+ghost use Rattle.pciguest_c.specs.{Handles.{session_of, machine_of}, ImagesTold.{IsStop, TellsStop}};
 
 use crate::asking::check_guest;
 use crate::handle::Handle;
-use crate::numbers::MEMORY;
-use crate::text_calls::tell;
-use images::difference_text;
+use crate::numbers::NO_MACHINE;
 use monitor::Monitor;
+use session::Session;
 use std::alloc::Global;
 
-/// What differs in bytes that a guest refuses as an image of other functions, or the number of why that isn't told.
-#[tactic(auto, unfolding(crate::specs::Calls::telling_fault))]
-fn fault_of(alloc: Global, machine: &Monitor, guest: usize, image: &[u8]) -> Result<String, u32>
-    ensures told { IfOk result (λ s.
-        telling_fault machine.now guest image.now
-        ≡ tells (text (string_bytes s)) (given machine.now)) }
-    ensures refused { IfErr result (λ n.
-        unless_out n (telling_fault machine.now guest image.now) ≡ refusal n) }
+/// In place of a slot where an image stops in none.
+const NO_SLOT: u64 = 32;
+
+/// Tells in which slot, and at which byte, an image that the guest refuses as one of other functions or of another version
+/// stops fitting it; or no slot, and how many bytes there are, of any other image.
+fn tell_stop(machine: &Monitor, guest: usize, image: &[u8], slot: &mut u64, offset: &mut usize)
+    requires { guest < length machine.now.world.guests }
+    ensures { IsStop (lone_asked machine.now.world guest) image.now slot.new offset.new }
 {
-    check_guest(machine, guest)?;
-    difference_text(alloc, machine.image_difference(guest, image)).map_err(|_| MEMORY)
+    match machine.image_stop(guest, image) {
+        Some(stop) => {
+            *slot = stop.slot as u64;
+            *offset = stop.offset;
+        }
+        None => {
+            *slot = NO_SLOT;
+            *offset = image.len();
+        }
+    }
 }
 
-/// Writes what differs in bytes that a guest refuses as an image of other functions (906) to the front of `out`, and tells
-/// how long the text is, also where `out` has less room than that: the first slot that is another one, and in it the first
-/// field that is declared otherwise, as it is in the bytes and here. Of other bytes there is no text.
+/// The same of a session, or 901 where no guests have its board, and 902 where there is no such guest.
+fn tell_stop_in(
+    session: &mut Session,
+    guest: usize,
+    image: &[u8],
+    slot: &mut u64,
+    offset: &mut usize,
+) -> u32
+    ensures told { TellsStop (machine_in session.old) guest image.now slot.new offset.new result }
+    ensures untold { result ≢ 0 → (slot.new ≡ slot.old) × (offset.new ≡ offset.old) }
+    ensures kept { session.new ≡ session.old }
+{
+    let Some(machine) = session.monitor() else {
+        return NO_MACHINE;
+    };
+    match check_guest(machine, guest) {
+        Ok(()) => {
+            tell_stop(machine, guest, image, slot, offset);
+            0
+        }
+        Err(number) => number,
+    }
+}
+
+/// Tells in which slot and at which byte an image stops fitting a guest, which refuses it as one of other functions (906) or
+/// of another version (908). Of any other image it tells slot 32, and how many bytes there are. Nothing changes, and no
+/// memory is taken.
 #[unsafe(no_mangle)]
 pub extern "C" fn pciguest_raw_image_fault(
     alloc: Global,
     handle: &mut Handle,
     guest: usize,
     image: &[u8],
-    out: &mut [u8],
-    needed: &mut usize,
+    slot: &mut u64,
+    offset: &mut usize,
 ) -> u32
-    ensures { AnswersOrRunsOut (image_fault guest image.now) handle.old handle.new result
-        (buffer out.old needed.old) (buffer out.new needed.new) }
+    ensures told { TellsStop (machine_of handle.old) guest image.now slot.new offset.new result }
+    ensures untold { result ≢ 0 → (slot.new ≡ slot.old) × (offset.new ≡ offset.old) }
+    ensures kept { session_of handle.new ≡ session_of handle.old }
 {
-    let answer = handle.ask_machine(alloc, |machine| fault_of(alloc, machine, guest, image));
-    match answer {
-        Ok(text) => tell(text.as_bytes(), out, needed),
-        Err(number) => number,
-    }
+    let Some(mut session) = handle.take(alloc) else {
+        return NO_MACHINE;
+    };
+    let number = tell_stop_in(&mut session, guest, image, slot, offset);
+    *handle = Handle::of(session);
+    number
 }

@@ -5,12 +5,12 @@
 #![tactic(auto)]
 
 mod asking;
+mod board_anew;
 mod board_calls;
 mod board_guests;
 mod board_life;
 mod board_set_up;
 mod device_bytes;
-mod device_calls;
 mod driven_calls;
 mod explaining;
 mod function_calls;
@@ -25,17 +25,12 @@ mod life;
 mod limits;
 mod line_calls;
 mod loading;
-mod loading_all;
 mod moves;
-mod number_words;
 mod numbers;
 mod owner;
-mod problem_calls;
-mod problem_rows;
 mod querying;
 mod resetting;
 mod saving;
-mod saving_all;
 mod seating;
 mod surveying;
 mod text;

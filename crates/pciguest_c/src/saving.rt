@@ -1,23 +1,22 @@
-//! Images of guests: how many bytes the image of a guest has, and its bytes.
+//! Images of guests.
 ghost use Rattle.std.specs.Prelude.{◌≡◌, ◌<◌, Some, IfSome, length};
-ghost use Rattle.model_images.specs.LoadedLaws.{IsTakenByAll};
 ghost use Rattle.session.specs.Stages.{machine_in};
-ghost use Rattle.board_told.specs.GuestFindings.{lone_asked};
-ghost use Rattle.pciguest_c.specs.{Handles.machine_of, Calls.{Answers, IsAnswer, answer, image_size, save, buffer, number}, ImagesTold.image_asked, TextsTold.IsTold};
+ghost use Rattle.pciguest_c.specs.{Handles.machine_of, Calls.{Answers, IsAnswer, answer, save, buffer}, ImagesTold.{image_asked, IsTakenAsSaved}, TextsTold.IsTold};
 
 use crate::asking::check_guest;
 use crate::handle::Handle;
-use crate::numbers::{ARGUMENT, NO_MACHINE, put_result};
+use crate::numbers::{ARGUMENT, NO_MACHINE};
 use monitor::Monitor;
 use session::Session;
 use std::alloc::Global;
 
 /// Puts the image of a guest at the front of a buffer, if that has room for it, and tells how long it is.
+#[tactic(auto, unfolding(crate::specs::ImagesTold::IsTakenAsSaved))]
 fn save(machine: &Monitor, guest: usize, out: &mut [u8], needed: &mut usize) -> u32
     requires { guest < length machine.now.world.guests }
     ensures image { IsTold (image_asked machine.now.world guest) out.old out.new result }
     ensures needed { needed.new ≡ length (image_asked machine.now.world guest) }
-    ensures taken { result ≡ 0 → IsTakenByAll (lone_asked machine.now.world guest) }
+    ensures taken { result ≡ 0 → IsTakenAsSaved machine.now guest }
 {
     let size = machine.image_size(guest);
     *needed = size;
@@ -33,7 +32,7 @@ fn save_in(session: &mut Session, guest: usize, out: &mut [u8], needed: &mut usi
     ensures saved { IsAnswer (answer (save guest) (Some session.old) (buffer out.old needed.old))
         (Some session.new) result (buffer out.new needed.new) }
     ensures taken { IfSome (machine_in session.old) (λ m.
-        result ≡ 0 → IsTakenByAll (lone_asked m.world guest)) }
+        result ≡ 0 → IsTakenAsSaved m guest) }
 {
     let Some(machine) = session.monitor() else {
         return NO_MACHINE;
@@ -42,24 +41,6 @@ fn save_in(session: &mut Session, guest: usize, out: &mut [u8], needed: &mut usi
         Ok(()) => save(machine, guest, out, needed),
         Err(number) => number,
     }
-}
-
-/// How many bytes the image of a guest has as it is now. Nothing changes, and no memory is taken.
-#[unsafe(no_mangle)]
-pub extern "C" fn pciguest_raw_image_size(
-    alloc: Global,
-    handle: &mut Handle,
-    guest: usize,
-    size: &mut usize,
-) -> u32
-    ensures { Answers (image_size guest) handle.old handle.new result
-        (number size.old) (number size.new) }
-{
-    let answer = handle.ask_machine(alloc, |machine| {
-        check_guest(machine, guest)?;
-        Ok(machine.image_size(guest))
-    });
-    put_result(answer, size)
 }
 
 /// Saves a guest: writes the bytes of its image to the front of `out`, and tells how many they are, also where
@@ -75,7 +56,7 @@ pub extern "C" fn pciguest_raw_save(
     ensures saved { Answers (save guest) handle.old handle.new result
         (buffer out.old needed.old) (buffer out.new needed.new) }
     ensures taken { IfSome (machine_of handle.old) (λ m.
-        result ≡ 0 → IsTakenByAll (lone_asked m.world guest)) }
+        result ≡ 0 → IsTakenAsSaved m guest) }
 {
     let Some(mut session) = handle.take(alloc) else {
         return NO_MACHINE;

@@ -1,9 +1,8 @@
 //! What C is told as text.
 ghost use Rattle.std.specs.Prelude.{◌≡◌, ◌≢◌, ◌<◌, ◌≤◌, ◌⊎◌, ℕ, length};
 ghost use Rattle.model_guests.specs.Text.{Text};
-ghost use Rattle.pciguest_c.specs.{Checks.{IsCheckOf, IsReportIn}, TextsTold.{IsTold, at_front}, NumberWords.words_of_number};
+ghost use Rattle.pciguest_c.specs.{Checks.{IsCheckOf, IsReportIn}, TextsTold.{IsTold, at_front}};
 
-use crate::number_words::words_of;
 use crate::numbers::ARGUMENT;
 use crate::text::{check_of, report_of};
 use board_told::ReportForm;
@@ -125,15 +124,4 @@ pub extern "C" fn pciguest_raw_check(
         }
         Err(number) => number,
     }
-}
-
-/// Writes the words of a number to the front of `out`, and tells how long they are, also where `out` has
-/// less room than that. A number that stands for nothing has no words.
-#[unsafe(no_mangle)]
-pub extern "C" fn pciguest_raw_words(number: u32, out: &mut [u8], needed: &mut usize) -> u32
-    ensures words { IsTold (words_of_number number) out.old out.new result }
-    ensures needed { needed.new ≡ length (words_of_number number) }
-    ensures enough { 20 ≤ length out.old → result ≡ 0 }
-{
-    tell(words_of(number), out, needed)
 }

@@ -44,16 +44,16 @@ what is proved of the library. This module itself is tested.
 """
 
 from ._board import Audit, Board, Readiness
-from ._board_problems import BoardLack, BoardProblem
 from ._calls import VERSION
 from ._declared import Register
 from ._devices import Device
 from ._differs import DeclaredOtherwise
 from ._functions import Bar, BoardFunction, Function, Interrupt, Window, Windows
+from ._image_fault import ImageFault
 from ._library import version
 from ._limits import Limits, limits
 from ._machine import Guest, Host, Machine
-from ._refusal import BoardRefusal, Problem, Refusal, strerror, words
+from ._refusal import BoardRefusal, Problem, Refusal, strerror
 from ._regions import Hit, Moved, Region
 from ._spaces import Functions, ReadableSpace, ReadableWide, Space, Wide
 from ._texts import Check, check, report, report_json
@@ -63,8 +63,6 @@ __all__ = [
     "Bar",
     "Board",
     "BoardFunction",
-    "BoardLack",
-    "BoardProblem",
     "BoardRefusal",
     "Check",
     "DeclaredOtherwise",
@@ -74,6 +72,7 @@ __all__ = [
     "Guest",
     "Hit",
     "Host",
+    "ImageFault",
     "Interrupt",
     "Limits",
     "Machine",
@@ -95,6 +94,5 @@ __all__ = [
     "report_json",
     "strerror",
     "version",
-    "words",
 ]
 __version__ = VERSION

@@ -5,10 +5,9 @@ from __future__ import annotations
 import os
 from ctypes import byref, c_size_t, c_uint32
 from pathlib import Path
-from typing import Iterator, List, NamedTuple, Optional, Tuple, Union
+from typing import Iterator, NamedTuple, Optional, Tuple, Union
 
-from ._board_problems import BoardLack, BoardProblem, board_lack_of, board_problem_of
-from ._calls import ARGUMENT, CONFIG, IO, MEMORY, BoardFunctionTold, BoardHandle, ProblemTold
+from ._calls import CONFIG, IO, MEMORY, BoardFunctionTold, BoardHandle
 from ._functions import BoardFunction, board_function_of
 from ._held import Held, as_bytes
 from ._library import CALLS, number, told
@@ -183,23 +182,6 @@ class Board(Held):
         at = number("bus", bus, 8), number("device", device, 8), number("function", function, 8), number("place", place, 64)
         return self._told("board_why_json", 1024, number_of_space(space), *at)
 
-    def problems(self) -> List[BoardProblem]:
-        """The problems of an audit, one by one, in the order of its lines. It is refused by 299 where memory is out.
-
-        >>> [(each.kind, each.path, each.number) for each in Board(BOARD).problems()]
-        [('not found', '2.0/0.0', (0, 0, 0)), ('not found', '2.0/1.0', (0, 1, 0))]
-        """
-        return [board_problem_of(told) for told in self._rows("board_problems")]
-
-    def lacks(self) -> List[BoardLack]:
-        """What is lacking until the board is ready, one by one, in the order of the lines of `ready`. It is refused by 299
-        where memory is out.
-
-        >>> [(each.kind, each.path, each.register) for each in Board(BOARD).lacks()][-1]
-        ('closed', '2.0/1.0', 0)
-        """
-        return [board_lack_of(told) for told in self._rows("board_lacks")]
-
     def set_up(self) -> Machine:
         """The machine that `Machine` makes of the same file: our own set-up, in place of firmware of one's own. The board
         has to be at reset, and stays as it is. It is refused by 904 where a write was done since reset, and else as a
@@ -229,18 +211,6 @@ class Board(Held):
             answer, text = told(1024, lambda *room: CALLS[call](byref(self._handle), *room, byref(count)))
         answered(answer)
         return text, count.value
-
-    def _rows(self, call: str) -> List[ProblemTold]:
-        room, count = 64, c_size_t(0)
-        with self._lock:
-            while True:
-                rows = (ProblemTold * room)()
-                answer = CALLS[call](byref(self._handle), rows, room, byref(count))
-                if answer != ARGUMENT or count.value <= room:
-                    break
-                room = count.value
-        answered(answer)
-        return rows[: count.value]
 
     def _space(self, space: int, bus: int, device: int, function: int) -> Space:
         def read(place: int, width: int) -> int:

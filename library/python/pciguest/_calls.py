@@ -22,16 +22,7 @@ BARS = 6
 WINDOWS = 3
 ROOM = 4
 
-NOT_FORWARDED = 1
-CONTENDED = 2
-NOT_FOUND = 3
-CLOSED = 4
-OUTSIDE = 5
-PREFETCHED = 6
-OTHER_PRIMARY = 7
-
 REPLY = 48
-WORDS = 20
 GUEST_NAME = 16
 
 OK = 0
@@ -261,44 +252,6 @@ class BoardFunctionTold(ctypes.Structure):
     ]
 
 
-class ProblemTold(ctypes.Structure):
-    """Describes one problem in the registers of a board, like one line of its audit, or one lack, like one line of
-    `host ready`. `address` is the lowest address that isn't forwarded, that both responders answer, that is outside the
-    apertures, or that is prefetched. For NOT_FOUND, `bus`, `device` and `function` are the numbers at which no cycle
-    reaches the function; for OTHER_PRIMARY, `bus` is the number of the bus that the bridge is on."""
-
-    _fields_ = [
-        # of enum pciguest_problem_kind
-        ("kind", c_uint32),
-        # PCIGUEST_IO or PCIGUEST_MEMORY, or 0 if neither applies
-        ("space", c_uint32),
-        # as above; 0 for other kinds
-        ("address", c_uint64),
-        # of the function, as in struct pciguest_function
-        ("path", c_uint8 * 80),
-        # in bytes, without a terminating 0
-        ("path_length", c_size_t),
-        # the register of its region, 0 to 5; 6 if no region is named
-        ("bar", c_uint32),
-        # path: bridge, other responder, or what is reached instead
-        ("other", c_uint8 * 80),
-        # 0 if there is no such path
-        ("other_length", c_size_t),
-        # the register of its region, 0 to 5; 6 if no region is named
-        ("other_bar", c_uint32),
-        # as above; 0 for other kinds
-        ("bus", c_uint32),
-        # as above; 0 for other kinds
-        ("device", c_uint32),
-        # as above; 0 for other kinds
-        ("function", c_uint32),
-        # OTHER_PRIMARY: the bridge's Primary Bus Number; else 0
-        ("primary", c_uint32),
-        # 0
-        ("reserved", c_uint64 * 4),
-    ]
-
-
 class LimitsTold(ctypes.Structure):
     """Gives the upper limits that hold for every board and machine."""
 
@@ -327,8 +280,9 @@ DECLARED: Dict[str, Tuple[Any, Tuple[Any, ...]]] = {
     # Returns the version of the library that is linked or loaded, in the same form as PCIGUEST_VERSION_NUMBER, which is
     # the version of the header. Since 0.4.0.
     "version": (c_uint32, ()),
-    # Returns the text of an error number, the same text that pciguest_words writes, terminated by a 0. The text is
-    # valid as long as the library is loaded. It is empty for a number without a meaning, such as 0. Since 0.4.0.
+    # Returns the text of an error number, terminated by a 0. The number can be one that a call returns, or one that
+    # appears in a reply or in the program's output. The text is valid as long as the library is loaded. It is empty for
+    # a number without a meaning, such as 0. Since 0.4.0.
     "strerror": (c_char_p, (c_uint32,)),
     # Stores the upper limits that hold for every board and machine. Needs no machine. Since 0.4.0.
     "limits": (c_uint32, (POINTER(LimitsTold),)),
@@ -420,16 +374,13 @@ DECLARED: Dict[str, Tuple[Any, Tuple[Any, ...]]] = {
     # The count that pciguest_changed stores increases by one. Allocates no memory. No script line does this.
     # Returns 0 on success; 902 if there is no such guest. Since 0.4.0.
     "reset_guest": (c_uint32, (POINTER(Handle), c_size_t)),
-    # Stores the size in bytes of the image that pciguest_save would write for a guest now. The size stays the same as
-    # long as the guest has the same functions in the same slots: the guest's accesses, its devices, resets and loads
-    # don't change it. Allocates no memory and changes nothing.
-    # Returns 0 on success; 902 if there is no such guest. Since 0.4.0.
-    "image_size": (c_uint32, (POINTER(Handle), c_size_t, POINTER(c_size_t))),
     # Saves a guest: writes its image, and stores the length of the image in `needed`. The image contains everything
     # that the guest holds: its CONFIG_ADDRESS and, for each of its 32 slots, the declaration of the function and the
     # contents of its registers, as the guest sees them. It contains nothing about the board, about other guests, or
     # about where the guest's functions are. docs/image-format.md describes the bytes. The rest of the buffer stays
-    # unchanged. Allocates no memory, and doesn't change the machine.
+    # unchanged. To get only the length, pass a null pointer and 0; the call then returns 902. The length stays the same
+    # as long as the guest has the same functions in the same slots: the guest's accesses, its devices, resets and loads
+    # don't change it. Allocates no memory, and doesn't change the machine.
     # Returns 0 on success; 902 if the buffer is too small (nothing is written, only the length is stored), or if there
     # is no such guest (nothing is stored). Since 0.4.0.
     "save": (c_uint32, (POINTER(Handle), c_size_t, c_void_p, c_size_t, POINTER(c_size_t))),
@@ -442,39 +393,34 @@ DECLARED: Dict[str, Tuple[Any, Tuple[Any, ...]]] = {
     # because a register can't hold its value; 902 if there is no such guest. The first byte that fails decides between
     # 905, 906 and 908. Since 0.4.0.
     "load": (c_uint32, (POINTER(Handle), c_size_t, c_char_p, c_size_t)),
-    # Explains why pciguest_load refuses an image for this guest with 906: writes the first difference, such as `slot 0:
-    # bar0 size 0x1000, here 0x2000`, and stores the length of the text in `needed`. The text isn't terminated by a 0.
-    # It names the first slot whose function differs and, in that slot, the first field that is declared differently.
-    # The field is named by its key in a board file, after `barN` for a region or `config 0xNN` for a block of
-    # configuration space. The key is followed by the field's value in the image and its value here. A kind is written
-    # as its number in docs/image-format.md. The field `filled` is 1 if the slot has a function. Without a key, `bar`
-    # and `config` are counts. If pciguest_load would not return 906, the text is empty and the length is 0. The text
-    # depends only on the image and on the guest's own functions. Changes nothing.
-    # Returns 0 on success; 902 if the buffer is too small (only the length is stored), or if there is no such guest;
-    # 299 if memory runs out. Since 0.4.0.
-    "image_fault": (
-        c_uint32,
-        (POINTER(Handle), c_size_t, c_char_p, c_size_t, POINTER(c_char), c_size_t, POINTER(c_size_t)),
-    ),
+    # Reports where an image that pciguest_load refuses with 906 or 908 stops fitting the guest: stores in `offset` the
+    # offset of the first byte that fails, and in `slot` the slot, 0 to 31, whose part of the image this byte is in, or
+    # 32 if it is in front of the slots. For any other image, including one that fits, stores 32 and the length of the
+    # image. docs/image-format.md says which field is at an offset. The answer depends only on the image and on the
+    # guest's own functions. Allocates no memory and changes nothing.
+    # Returns 0 on success; 902 if there is no such guest. Since 0.4.0.
+    "image_fault": (c_uint32, (POINTER(Handle), c_size_t, c_char_p, c_size_t, POINTER(c_uint64), POINTER(c_size_t))),
     # Stores the size in bytes of the image that pciguest_save_all would write for the whole machine now. The size stays
     # the same as long as the guests have the same functions in the same slots. Allocates no memory and changes nothing.
     # Since 0.4.0.
     "image_size_all": (c_uint32, (POINTER(Handle), POINTER(c_size_t))),
     # Saves the whole machine: writes its image, and stores the length of the image in `needed`. The image says which
-    # guest has which function of the board in which slot, and what each guest holds. It also contains the state of the
-    # board as the host reads it, without the guests' changes to functions in slots. docs/image-format.md describes the
-    # bytes. The rest of the buffer stays unchanged. Allocates no memory, and doesn't change the machine.
+    # guest has which function of the board in which slot, and what each guest holds. It also identifies the board, the
+    # way it is set up, and its guests. docs/image-format.md describes the bytes. The rest of the buffer stays
+    # unchanged. Allocates no memory, and doesn't change the machine.
     # Returns 0 on success; 902 if the buffer is too small (nothing is written, only the length is stored). Since 0.4.0.
     "save_all": (c_uint32, (POINTER(Handle), c_void_p, c_size_t, POINTER(c_size_t))),
     # Loads an image into the whole machine. Each slot then has the function that it had in the saved machine, and each
-    # guest holds what it held there. The board must be equal to the saved machine's board and set up in the same way,
+    # guest holds what it held there. The board must have the same functions at the same places, set up in the same way,
     # and the guests must have the same names in the same order. It doesn't matter where the guests' functions are now,
-    # or what the guests hold. The count that pciguest_changed stores increases for each guest. Allocates no memory. No
-    # script line does this.
+    # or what the guests hold. The call takes every function from its guest, as pciguest_take does, and then assigns and
+    # loads, as pciguest_give and pciguest_load do; before that, it does the same on a second machine, which it frees at
+    # the end. So an image that is refused changes nothing. The count that pciguest_changed stores increases for each
+    # guest. No script line does this.
     # Returns 0 on success; 907 if the board, its guests or its set-up differ; 906 if a slot would get something that
     # can't be assigned to it, or a function is declared differently; 908 if the image, or a guest's image in it, has
-    # another version of the format; 905 if the bytes are not the image of a machine. The first byte that fails decides
-    # between these numbers. Since 0.4.0.
+    # another version of the format; 905 if the bytes are not the image of a machine; 299 if memory runs out.
+    # docs/image-format.md says which of these is checked first. Since 0.4.0.
     "load_all": (c_uint32, (POINTER(Handle), c_char_p, c_size_t)),
     # Assigns a function of the board that no guest has to an empty slot of a guest. The function is then at reset, both
     # in the slot and on the board, with one exception: the registers of which guests have their own copies keep their
@@ -490,19 +436,6 @@ DECLARED: Dict[str, Tuple[Any, Tuple[Any, ...]]] = {
     # Returns 0 on success; 303 if the slot is above 31; 601 if the slot is empty; 902 if there is no such guest. Since
     # 0.4.0.
     "take": (c_uint32, (POINTER(Handle), c_size_t, c_uint64)),
-    # Reads one byte of the function in a guest's slot, from the device's side. The byte can be in a region or in
-    # configuration space; in configuration space, a device can read only the two bytes of Status (06h, 07h) and its own
-    # registers (40h to FFh). A byte without a register reads as 0. Changes nothing.
-    # Returns 0 on success; 303 if the slot is above 31, or the device has no such byte; 601 if the slot is empty; 902
-    # if there is no such guest, or the part is above 6. Since 0.3.0.
-    "device_read": (c_uint32, (POINTER(Handle), c_size_t, c_uint64, c_uint32, c_uint64, POINTER(c_uint32))),
-    # Writes one byte of the function in a guest's slot, from the device's side. The byte can be in a region or in
-    # configuration space; in configuration space, a device can write only the two bytes of Status (06h, 07h) and its
-    # own registers (40h to FFh). The byte takes the value no matter which bits the guest can change, and the guest can
-    # change the same bits afterwards. If there is no register, nothing changes. No script line does this.
-    # Returns 0 on success; 303 if the slot is above 31, or the device has no such byte; 601 if the slot is empty; 902
-    # if there is no such guest, or the part is above 6. Since 0.3.0.
-    "device_write": (c_uint32, (POINTER(Handle), c_size_t, c_uint64, c_uint32, c_uint64, c_uint8)),
     # Reads 1 to 8 bytes of the function in a guest's slot, from the device's side, at any offset within one part. The
     # part is a region or configuration space; in configuration space, a device can read only the two bytes of Status
     # (06h, 07h) and its own registers (40h to FFh). A byte without a register reads as 0. The byte at the lowest offset
@@ -616,12 +549,6 @@ DECLARED: Dict[str, Tuple[Any, Tuple[Any, ...]]] = {
     # 199 or 299 if memory runs out (nothing is written or stored); 902 if the buffer is too small (nothing is written,
     # only the length is stored).
     "check": (c_uint32, (c_char_p, c_size_t, POINTER(c_char), c_size_t, POINTER(c_size_t))),
-    # Writes the text of an error number, and stores the length of the text in `needed`. The number can be one that a
-    # call returns, or one that appears in a reply or in the program's output. The text isn't terminated by a 0. A
-    # number without a meaning, such as 0, has no text, and the length is 0. A buffer of PCIGUEST_WORDS bytes is always
-    # large enough. Needs no machine.
-    # Returns 0 on success; 902 if the buffer is too small (nothing is written, only the length is stored).
-    "words": (c_uint32, (c_uint32, POINTER(c_char), c_size_t, POINTER(c_size_t))),
     # Creates a board at reset from the bytes of a board file, for your own firmware to drive: no bus number or address
     # is assigned, and every function is off. The guests that the file declares are checked, but no function is assigned
     # to them.
@@ -732,16 +659,6 @@ DECLARED: Dict[str, Tuple[Any, Tuple[Any, ...]]] = {
         c_uint32,
         (POINTER(BoardHandle), c_uint32, c_uint8, c_uint8, c_uint8, c_uint64, POINTER(c_char), c_size_t, POINTER(c_size_t)),
     ),
-    # Writes one row for each problem that pciguest_board_audit reports, in the same order, and stores the number of
-    # problems in `count`. The buffer size, `room`, is counted in rows. The board stays unchanged.
-    # Returns 0 on success; 902 if the buffer is too small (only the number of problems is stored); 299 if memory runs
-    # out. Since 0.4.0.
-    "board_problems": (c_uint32, (POINTER(BoardHandle), POINTER(ProblemTold), c_size_t, POINTER(c_size_t))),
-    # Writes one row for each lack that pciguest_board_ready reports, in the same order, and stores the number of lacks
-    # in `count`. The buffer size, `room`, is counted in rows. The board stays unchanged.
-    # Returns 0 on success; 902 if the buffer is too small (only the number of lacks is stored); 299 if memory runs out.
-    # Since 0.4.0.
-    "board_lacks": (c_uint32, (POINTER(BoardHandle), POINTER(ProblemTold), c_size_t, POINTER(c_size_t))),
     # Sets up a board that is at reset, in place of your own firmware, and assigns its functions to the guests that its
     # file declares. The resulting machine is the one that pciguest_new makes from the same file. The board stays
     # unchanged.

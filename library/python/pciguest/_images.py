@@ -2,10 +2,13 @@
 
 from __future__ import annotations
 
-from ctypes import byref, c_size_t, create_string_buffer
-from typing import TYPE_CHECKING, Union
+from ctypes import byref, c_size_t, c_uint64, create_string_buffer
+from typing import TYPE_CHECKING, Optional, Union
 
 from ._held import Held
+from ._image_fault import ImageFault, fault_at
+from ._library import CALLS
+from ._refusal import answered
 
 if TYPE_CHECKING:
     from ._machine import Machine
@@ -32,8 +35,11 @@ class Saved:
         True
         True
         """
-        size = c_size_t(0)
-        self.machine._call("image_size", self.index, byref(size))
+        size, call = c_size_t(0), CALLS["save"]
+        with self.machine._lock:
+            answer = call(byref(self.machine._handle), self.index, None, 0, byref(size))
+        if not size.value:  # the library tells the size, since there is no room
+            answered(answer)
         return size.value
 
     def save(self) -> bytes:
@@ -83,19 +89,19 @@ class Saved:
             self.machine._call("load", self.index, told, len(told))
             self.machine._tell(lambda seat: seat[0] == self.index, lambda device: device.on_load())
 
-    def image_fault(self, image: Union[bytes, bytearray]) -> str:
-        """What differs in an image that `load` refuses by 906: the first slot of which it has another function, and the first
-        field that is declared otherwise there, as it is in the image and here. Of other bytes there is no text. It changes
-        nothing. 299: out of memory.
+    def image_fault(self, image: Union[bytes, bytearray]) -> Optional[ImageFault]:
+        """Where an image that `load` refuses by 906 or 908 stops fitting the guest: the slot, the byte, and which field that
+        byte is in. None for any other image. It changes nothing.
 
         >>> with Machine(BOARD) as machine:
         ...     image = machine.guest("a").save()
         >>> with Machine(BOARD.replace("size = 4096", "size = 8192")) as other:
-        ...     other.guest("a").image_fault(image)
-        'slot 0: bar1 size 0x1000, here 0x2000'
+        ...     print(other.guest("a").image_fault(image))
+        slot 0: the size of bar1
         """
-        told = bytes(image)
-        return self.machine._told("image_fault", 128, self.index, told, len(told))
+        told, slot, offset = bytes(image), c_uint64(0), c_size_t(0)
+        self.machine._call("image_fault", self.index, told, len(told), byref(slot), byref(offset))
+        return fault_at(told, slot.value, offset.value)
 
     def reset_guest(self) -> None:
         """Resets every function of the guest, each where it is, and the guest's own CONFIG_ADDRESS: nothing is carried

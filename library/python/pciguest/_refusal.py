@@ -4,8 +4,7 @@ from __future__ import annotations
 
 from typing import Callable, NamedTuple, Optional, Tuple, cast
 
-from ._calls import WORDS
-from ._library import CALLS, number, told
+from ._library import CALLS, number
 
 
 class Refusal(Exception):
@@ -20,7 +19,7 @@ class Refusal(Exception):
     def __init__(self, number: int) -> None:
         super().__init__(number)
         self.number = number
-        self.words = words(number)
+        self.words = strerror(number)
 
     def __str__(self) -> str:
         return f"{self.number} {self.words}"
@@ -54,19 +53,9 @@ class BoardRefusal(Refusal):
         return f"{super().__str__()}\n{self.text.rstrip()}"
 
 
-def words(refusal: int) -> str:
-    """The words of a number that a call answers, or that the program or a reply tells. One that stands for nothing has
-    none.
-
-    >>> words(602)
-    'slot taken'
-    """
-    asked = number("number", refusal, 32)
-    return told(WORDS, lambda text, room, needed: CALLS["words"](asked, text, room, needed))[1]
-
-
 def strerror(refusal: int) -> str:
-    """The same words, as `pciguest_strerror` of the library has them. A number that stands for nothing has the empty text.
+    """The words of a number that a call answers, or that the program or a reply tells. A number that stands for nothing
+    has the empty text.
 
     >>> strerror(602)
     'slot taken'

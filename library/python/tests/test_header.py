@@ -22,7 +22,6 @@ STRUCTS = {
     "pciguest_window": _calls.WindowTold,
     "pciguest_function": _calls.FunctionTold,
     "pciguest_board_function": _calls.BoardFunctionTold,
-    "pciguest_problem": _calls.ProblemTold,
     "pciguest_interrupt": _calls.InterruptTold,
     "pciguest_place": _calls.PlaceTold,
     "pciguest_limits": _calls.LimitsTold,

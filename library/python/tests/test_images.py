@@ -133,12 +133,13 @@ class Loads(Case):
             self.refused(905 if at < 4 else 908, self.a.load, image[:at] + bytes([image[at] ^ 0x10]) + image[at + 1 :])
         self.refused(906, self.a.load, other)
         self.assertEqual(self.a.save(), held)
-        self.assertEqual(self.a.image_fault(other), "slot 0: device 0x3, here 0x1")
-        for text in (image, held, image[:-1], image + b"\0"):
-            self.assertEqual(self.a.image_fault(text), "")
+        self.assertEqual(self.a.image_fault(other), (0, 15, "device"))
+        for text in (image, held, b"", b"PCIG", image[:-1], image + b"\0"):
+            self.assertIsNone(self.a.image_fault(text))
+        self.assertEqual(self.a.image_fault(b"PCIG\2"), (None, 4, "the version"))
         self.machine.move(self.a, 0, self.a, 5)
         self.refused(906, self.a.load, image)
-        self.assertEqual(self.a.image_fault(image), "slot 0: filled 0x1, here 0x0")
+        self.assertEqual(str(self.a.image_fault(image)), "slot 0: whether it is filled")
 
 
 class Machines(Case):
@@ -176,8 +177,9 @@ class Machines(Case):
         for text in (b"", b"PCIM", image[:-1], image + b"\0", own):
             self.refused(905, self.machine.load_all, text)
         self.refused(905, self.a.load, image)
-        at = image.index(b"\1a\1\1\1\0") + 4  # the name, and the path of the function in slot 0
-        self.refused(906, self.machine.load_all, image[:at] + b"\x09" + image[at + 1 :])
+        at = image.index(b"\1a\1b\0031.0") + 5  # the guests' names, and the path of the function in slot 0
+        for path in (b"9.0", b"2.0"):  # nothing, and a bridge
+            self.refused(906, self.machine.load_all, image[:at] + path + image[at + 3 :])
         self.assertEqual(self.machine.save_all(), held)
 
     def test_an_image_of_another_board_is_refused(self):

@@ -5,7 +5,7 @@ import json
 import unittest
 
 from boards import BOARDS, MAIN
-from pciguest import Machine, Refusal, Register, check, report, report_json, strerror, words
+from pciguest import Machine, Refusal, Register, check, report, report_json, strerror
 
 
 def load_tests(loader, tests, pattern):
@@ -54,13 +54,11 @@ class Texts(unittest.TestCase):
             self.assertEqual([each["path"] for each in told["functions"]], paths)
 
     def test_words(self):
-        self.assertEqual(sum(words(each) != "" for each in range(1000)), 45)
-        self.assertEqual(words(205), "prefetchable pool")
+        self.assertEqual(sum(strerror(each) != "" for each in range(1000)), 45)
+        self.assertEqual(strerror(205), "prefetchable pool")
         last = ["image", "other functions", "other board", "image version", "busy"]
-        self.assertEqual([words(each) for each in range(905, 910)], last)
-        self.assertEqual(words(0xFFFFFFFF), "")
-        for each in (*range(1000), 0xFFFFFFFF):
-            self.assertEqual(strerror(each), words(each))
+        self.assertEqual([strerror(each) for each in range(905, 910)], last)
+        self.assertEqual(strerror(0xFFFFFFFF), "")
         with self.assertRaises(ValueError):
             strerror(-1)
 

@@ -1,7 +1,7 @@
 //! A board that firmware of one's own drives, from reset on.
 
 use crate::error::{answered, Error};
-use crate::function::{BoardFunction, BoardLack, BoardProblem};
+use crate::function::BoardFunction;
 use crate::machine::Machine;
 use crate::place::HostAt;
 use crate::prelude::*;
@@ -28,10 +28,9 @@ pub struct Readiness {
     pub lacks: usize,
 }
 
-/// A call that tells a text and how much it counts, and one that tells rows.
+/// A call that tells a text and how much it counts.
 type TextCall =
     unsafe extern "C" fn(*mut BoardHandle, *mut u8, usize, *mut usize, *mut usize) -> u32;
-type RowsCall = unsafe extern "C" fn(*mut BoardHandle, *mut raw::Problem, usize, *mut usize) -> u32;
 
 /// A board that firmware of one's own drives, from reset on: it gives out the numbers of buses and the addresses of
 /// regions. What it holds is freed when it is dropped.
@@ -348,58 +347,6 @@ impl Board {
             call(&mut self.handle, text, room, needed, &mut count)
         });
         answered(number).map(|()| (text, count))
-    }
-
-    /// The problems of an [audit](Board::audit), one by one, in the order of its lines.
-    ///
-    /// # Errors
-    ///
-    /// Out of memory alone.
-    ///
-    /// ```
-    /// # const BOARD: &str = include_str!("board.toml");
-    /// assert!(pciguest::Board::new(BOARD)?.problems()?.is_empty());
-    /// # Ok::<(), pciguest::Error>(())
-    /// ```
-    pub fn problems(&mut self) -> Result<Vec<BoardProblem>, Error> {
-        let rows = self.rows(raw::pciguest_board_problems)?;
-        Ok(rows.iter().map(BoardProblem::of).collect())
-    }
-
-    /// What is lacking until the board is [ready](Board::ready), one by one, in the order of its lines.
-    ///
-    /// # Errors
-    ///
-    /// Out of memory alone.
-    ///
-    /// ```
-    /// # const BOARD: &str = include_str!("board.toml");
-    /// use pciguest::{BoardLack, Space};
-    ///
-    /// let closed = BoardLack::Closed { path: "1.0".to_owned(), register: 0, space: Space::Memory };
-    /// assert_eq!(pciguest::Board::new(BOARD)?.lacks()?, [closed]);
-    /// # Ok::<(), pciguest::Error>(())
-    /// ```
-    pub fn lacks(&mut self) -> Result<Vec<BoardLack>, Error> {
-        let rows = self.rows(raw::pciguest_board_lacks)?;
-        Ok(rows.iter().map(BoardLack::of).collect())
-    }
-
-    fn rows(&mut self, call: RowsCall) -> Result<Vec<raw::Problem>, Error> {
-        let mut rows = Vec::new();
-        let mut count = 64;
-        loop {
-            rows.resize_with(count, raw::Problem::default);
-            // SAFETY: there are as many rows as is said, and nothing overlaps.
-            let answer = answered(unsafe {
-                call(&mut self.handle, rows.as_mut_ptr(), rows.len(), &mut count)
-            });
-            if answer.is_ok() || count <= rows.len() {
-                answer?;
-                rows.truncate(count);
-                return Ok(rows);
-            }
-        }
     }
 
     /// The machine that [`Machine::new`] makes of the same file: our own set-up, in place of firmware of one's own. The

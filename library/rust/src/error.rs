@@ -1,40 +1,23 @@
 //! Refusals: a number and its words.
 
-use crate::raw::{pciguest_words, WORDS};
+use crate::text::strerror;
 use core::fmt;
 
 /// The number of a refusal, with the words that the program has for it.
 #[derive(Clone, Copy, PartialEq, Eq)]
 pub struct Refusal {
     number: u32,
-    text: [u8; WORDS],
-    length: usize,
 }
 
 impl Refusal {
-    fn of(number: u32) -> Refusal {
-        let mut text = [0; WORDS];
-        let mut length = 0;
-        // SAFETY: `text` has as many bytes as is said, and neither overlaps `length`.
-        let answer = unsafe { pciguest_words(number, text.as_mut_ptr(), text.len(), &mut length) };
-        if answer != 0 || length > text.len() {
-            length = 0;
-        }
-        Refusal {
-            number,
-            text,
-            length,
-        }
-    }
-
     /// The number.
     pub fn number(&self) -> u32 {
         self.number
     }
 
     /// The words of the number, as `misaligned` for 301. A number that stands for nothing has none.
-    pub fn words(&self) -> &str {
-        core::str::from_utf8(&self.text[..self.length]).unwrap_or_default()
+    pub fn words(&self) -> &'static str {
+        strerror(self.number)
     }
 }
 
@@ -102,7 +85,7 @@ pub enum Error {
 
 impl Error {
     fn of(number: u32) -> Error {
-        let refusal = Refusal::of(number);
+        let refusal = Refusal { number };
         match number {
             199 | 299 => Error::Memory(refusal),
             101..=112 => Error::BoardFile(refusal),

@@ -1,11 +1,11 @@
 //! What a guest alone holds, and what a whole machine is, as bytes that outlive the machine.
 
 use crate::error::{answered, Error};
+use crate::image_fault::ImageFault;
 use crate::machine::Machine;
 use crate::place::Guest;
 use crate::prelude::*;
 use crate::raw;
-use crate::text::told;
 
 impl Machine {
     /// How many bytes the image of a guest has, which [`Machine::save`] gives. It stays as long as the guest has the same
@@ -23,10 +23,15 @@ impl Machine {
     /// # Ok::<(), pciguest::Error>(())
     /// ```
     pub fn image_size(&mut self, guest: Guest) -> Result<usize, Error> {
-        let mut size = 0;
-        // SAFETY: `size` is a place of its own.
-        answered(unsafe { raw::pciguest_image_size(&mut self.handle, guest.index(), &mut size) })?;
-        Ok(size)
+        let (mut size, mut none) = (0, 0);
+        // SAFETY: no byte is written where there is room for none, and `size` is a place of its own.
+        let number = unsafe {
+            raw::pciguest_save(&mut self.handle, guest.index(), &mut none, 0, &mut size)
+        };
+        if size > 0 {
+            return Ok(size); // the library told the size, since there is no room
+        }
+        answered(number).map(|()| size)
     }
 
     /// Saves a guest: its image, which is all that the guest holds. That is its CONFIG_ADDRESS, and of each of its 32 slots
@@ -99,44 +104,41 @@ impl Machine {
         Ok(())
     }
 
-    /// What differs in an image that [`Machine::load_image`] refuses by 906: the first slot of which it has another function, and
-    /// the first field that is declared otherwise there, as it is in the image and here. Of other bytes there is no text. It
-    /// changes nothing.
-    ///
-    /// # Errors
-    ///
-    /// 902: there is no such guest. 299: out of memory.
+    /// Where an image that [`Machine::load_image`] refuses by 906 or 908 stops fitting the guest: the slot, the byte, and which
+    /// field that byte is in. None for any other image. It changes nothing. 902: there is no such guest.
     ///
     /// ```
     /// # const BOARD: &str = include_str!("board.toml");
     /// let mut machine = pciguest::Machine::new(BOARD)?;
     /// let a = machine.guest("a")?;
     /// let image = machine.save(a)?;
+    /// assert_eq!(machine.image_fault(a, &image)?, None);
     ///
     /// let mut other = pciguest::Machine::new(BOARD.replace("size = 4096", "size = 8192"))?;
     /// assert_eq!(other.load_image(a, &image).unwrap_err().to_string(), "906 other functions");
-    /// assert_eq!(other.image_fault(a, &image)?, "slot 0: bar0 size 0x1000, here 0x2000");
+    /// let fault = other.image_fault(a, &image)?.unwrap();
+    /// assert_eq!(fault.to_string(), "slot 0: the size of bar0");
     /// # Ok::<(), pciguest::Error>(())
     /// ```
     pub fn image_fault(
         &mut self,
         guest: Guest,
         image: impl AsRef<[u8]>,
-    ) -> Result<String, Error> {
+    ) -> Result<Option<ImageFault>, Error> {
         let image = image.as_ref();
-        // SAFETY: the image and the text have as many bytes as is said, and nothing overlaps.
-        let (number, text) = told(128, |text, room, needed| unsafe {
+        let (mut slot, mut offset) = (0, 0);
+        // SAFETY: the image has as many bytes as is said, and nothing overlaps.
+        answered(unsafe {
             raw::pciguest_image_fault(
                 &mut self.handle,
                 guest.index(),
                 image.as_ptr(),
                 image.len(),
-                text,
-                room,
-                needed,
+                &mut slot,
+                &mut offset,
             )
-        });
-        answered(number).map(|()| text)
+        })?;
+        Ok(ImageFault::at(image, slot, offset))
     }
 
     /// How many bytes the image of the whole machine has, which [`Machine::save_all`] gives. It stays as long as guests have the

@@ -70,6 +70,7 @@ mod differs;
 mod error;
 mod function;
 mod image;
+mod image_fault;
 mod limits;
 mod lines;
 #[cfg(feature = "std")]
@@ -91,13 +92,14 @@ pub use device::{DeviceModel, Registers};
 pub use differs::Difference;
 pub use error::{Error, Refusal};
 pub use function::{
-    Bar, BoardFunction, BoardLack, BoardProblem, Function, Functions, Interrupt, Ranges, Window,
+    Bar, BoardFunction, Function, Functions, Interrupt, Ranges, Window,
 };
+pub use image_fault::ImageFault;
 pub use limits::{limits, Limits};
 pub use machine::Machine;
 pub use moved::{Moved, Places};
 pub use place::{At, Guest, Hit, HostAt, Part, Region, Space};
-pub use text::{check, report, report_json, strerror, version, words, Check};
+pub use text::{check, report, report_json, strerror, version, Check};
 
 #[cfg(feature = "std")]
 pub use load::LoadError;

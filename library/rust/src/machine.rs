@@ -439,19 +439,8 @@ impl Machine {
         part: Part,
         offset: u64,
     ) -> Result<u8, Error> {
-        let mut value = 0;
-        // SAFETY: `value` is a place of its own.
-        answered(unsafe {
-            raw::pciguest_device_read(
-                &mut self.handle,
-                guest.index(),
-                slot,
-                part.number(),
-                offset,
-                &mut value,
-            )
-        })?;
-        Ok(value as u8)
+        self.device_read_wide(guest, slot, part, offset, 1)
+            .map(|value| value as u8)
     }
 
     /// Writes such a byte as its device does: it takes the value, whatever a guest's writes may change of it, and
@@ -475,17 +464,7 @@ impl Machine {
         offset: u64,
         value: u8,
     ) -> Result<(), Error> {
-        // SAFETY: no pointer but the handle is passed.
-        answered(unsafe {
-            raw::pciguest_device_write(
-                &mut self.handle,
-                guest.index(),
-                slot,
-                part.number(),
-                offset,
-                value,
-            )
-        })
+        self.device_write_wide(guest, slot, part, offset, 1, value.into())
     }
 
     /// Reads 1 to 8 bytes of the function in a guest's slot, as its device does: at any offset, all of one part, the byte

@@ -4,7 +4,7 @@ use crate::error::{answered, Error};
 use crate::prelude::*;
 use crate::raw::{
     pciguest_check, pciguest_report, pciguest_report_json, pciguest_strerror, pciguest_version,
-    pciguest_words, ARGUMENT, REPLY, WORDS,
+    ARGUMENT, REPLY,
 };
 use core::ffi::CStr;
 
@@ -81,23 +81,8 @@ pub fn check(board: impl AsRef<[u8]>) -> Result<Check, Error> {
     }
 }
 
-/// The words of a number that a call answers, or that the program or a reply tells. One that stands for nothing has
-/// none.
-///
-/// ```
-/// assert_eq!(pciguest::words(602), "slot taken");
-/// assert_eq!(pciguest::words(0), "");
-/// ```
-pub fn words(number: u32) -> String {
-    // SAFETY: the text has as many bytes as is said, and nothing overlaps.
-    told(WORDS, |text, room, needed| unsafe {
-        pciguest_words(number, text, room, needed)
-    })
-    .1
-}
-
-/// The words of a number, as [`words`] has them, as a text that is there as long as the program runs. A number that stands
-/// for nothing has the empty text.
+/// The words of a number that a call answers, or that the program or a reply tells. A number that stands for nothing has
+/// the empty text.
 ///
 /// ```
 /// assert_eq!(pciguest::strerror(602), "slot taken");

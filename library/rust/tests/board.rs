@@ -1,6 +1,6 @@
 //! Firmware on `boards/main.toml`, by calls, and what is refused.
 
-use pciguest::{Board, BoardLack, BoardProblem, Error, HostAt, Machine, Ranges, Space};
+use pciguest::{Board, Error, HostAt, Machine, Ranges};
 use std::thread;
 
 const BOARD: &str = include_str!("../../../boards/main.toml");
@@ -71,77 +71,6 @@ fn functions_are_told_as_the_registers_stand() -> Result<(), Error> {
     };
     assert_eq!(regions[0].map(|region| region.first), Some(0xc000_0000));
     assert_eq!(number(board.function(4)), 902);
-    Ok(())
-}
-
-#[test]
-fn problems_are_told_one_by_one() -> Result<(), Error> {
-    let mut board = Board::new(BOARD)?;
-    let lost = |path: &str, device| BoardProblem::NotFound {
-        path: path.to_owned(),
-        number: (0, device, 0),
-        instead: (device == 1).then(|| "1.0".to_owned()),
-    };
-    assert_eq!(board.problems()?, [lost("2.0/0.0", 0), lost("2.0/1.0", 1)]);
-    board.write(config(0, 2, 0x18), 4, 0x0001_0100)?;
-    assert_eq!(board.problems()?, []);
-    board.write(config(1, 1, 0x10), 4, 0xc000_0000)?;
-    board.write(config(1, 1, 4), 2, 2)?;
-    let region = BoardProblem::NotForwarded {
-        path: "2.0/1.0".to_owned(),
-        register: 0,
-        bridge: "2.0".to_owned(),
-        space: Space::Memory,
-        address: 0xc000_0000,
-    };
-    assert_eq!(board.problems()?, [region]);
-    let mut largest = Board::new(LARGEST)?;
-    assert_eq!(largest.problems()?.len(), largest.audit()?.problems);
-    Ok(())
-}
-
-#[test]
-fn lacks_are_told_one_by_one() -> Result<(), Error> {
-    let mut board = Board::new(BOARD)?;
-    board.write(config(0, 2, 0x18), 4, 0x0001_0107)?;
-    board.write(config(0, 1, 0x14), 4, 0x8000_0000)?;
-    board.write(config(0, 1, 4), 2, 2)?;
-    board.write(config(0, 2, 0x20), 4, 0x0000_fff0)?; // its memory window shut
-    board.write(config(0, 2, 0x24), 4, 0xd000_d000)?;
-    board.write(config(0, 2, 4), 2, 2)?;
-    board.write(config(1, 0, 0x10), 4, 0xd000_0000)?;
-    board.write(config(1, 0, 4), 2, 2)?;
-    let closed = |path: &str, register, space| BoardLack::Closed {
-        path: path.to_owned(),
-        register,
-        space,
-    };
-    let told = [
-        closed("1.0", 0, Space::Io),
-        closed("2.0/0.0", 1, Space::Io),
-        closed("2.0/1.0", 0, Space::Memory),
-        BoardLack::Outside {
-            path: "1.0".to_owned(),
-            register: 1,
-            space: Space::Memory,
-            address: 0x8000_0000,
-        },
-        BoardLack::Prefetched {
-            path: "2.0/0.0".to_owned(),
-            register: 0,
-            bridge: "2.0".to_owned(),
-            address: 0xd000_0000,
-        },
-        BoardLack::OtherPrimary {
-            path: "2.0".to_owned(),
-            primary: 7,
-            bus: 0,
-        },
-    ];
-    assert_eq!(board.lacks()?, told);
-    let mut largest = Board::new(LARGEST)?;
-    let ready = largest.ready()?.lacks - largest.audit()?.problems;
-    assert_eq!(largest.lacks()?.len(), ready);
     Ok(())
 }
 

@@ -212,13 +212,22 @@ fn bytes_that_are_no_image_for_a_guest_are_refused() -> Result<(), Error> {
         assert_eq!(number(machine.load_image(a, changed)), if at < 4 { 905 } else { 908 });
     }
     assert_eq!(machine.save(a)?, held);
-    assert_eq!(machine.image_fault(a, &other)?, "slot 0: device 0x3, here 0x1");
-    for bytes in [&image[..], &held, &image[..image.len() - 1], &longer] {
-        assert_eq!(machine.image_fault(a, bytes)?, "");
+    let mut stops = |bytes: &[u8]| -> Result<_, Error> {
+        let fault = machine.image_fault(a, bytes)?;
+        Ok(fault.map(|it| (it.slot, it.offset, it.field)))
+    };
+    let at = |slot, offset, field: &str| Some((slot, offset, field.to_owned()));
+    assert_eq!(stops(&other)?, at(Some(0), 15, "device"));
+    assert_eq!(stops(&image)?, None);
+    assert_eq!(stops(&held)?, None);
+    assert_eq!(stops(b"PCIG\x02")?, at(None, 4, "the version"));
+    for bytes in [&b"PCIG"[..], &image[..image.len() - 1], &longer] {
+        assert_eq!(stops(bytes)?, None); // by 905
     }
     machine.move_function(a, 0, a, 5)?;
     assert_eq!(number(machine.load_image(a, &image)), 906);
-    assert_eq!(machine.image_fault(a, &image)?, "slot 0: filled 0x1, here 0x0");
+    let fault = machine.image_fault(a, &image)?.unwrap();
+    assert_eq!(fault.to_string(), "slot 0: whether it is filled");
     assert_eq!(number(machine.image_fault(Guest::of_index(2), &image)), 902);
     assert_eq!(number(machine.load_image(Guest::of_index(2), &image)), 902);
     Ok(())
@@ -291,14 +300,16 @@ fn bytes_that_are_no_image_for_a_machine_are_refused() -> Result<(), Error> {
         assert!(matches!(machine.load_all(bytes), Err(Error::Image(_))));
     }
     assert_eq!(number(machine.load_image(a, &image)), 905);
-    let seat = b"\x01a\x01\x01\x01\x00"; // the name, and the path of the function in slot 0
+    let seat = b"\x01a\x01b\x031.0"; // the guests' names, and the path of the function in slot 0
     let at = image.windows(seat.len()).position(|it| it == seat);
-    let mut elsewhere = image.clone();
-    elsewhere[at.expect("the first guest") + 4] = 9;
-    assert!(matches!(
-        machine.load_all(elsewhere),
-        Err(Error::OtherFunctions(_))
-    ));
+    for device in [b'9', b'2'] {
+        let mut elsewhere = image.clone();
+        elsewhere[at.expect("the first guest") + 5] = device; // nothing stands there, or a bridge
+        assert!(matches!(
+            machine.load_all(elsewhere),
+            Err(Error::OtherFunctions(_))
+        ));
+    }
     assert_eq!(machine.save_all()?, held);
     let others = [
         BOARD.replace("\"b\"", "\"c\""),

@@ -1,0 +1,62 @@
+//! The board of a machine made anew, at reset, for C: a second machine is made of it, on which a load is tried.
+ghost use Rattle.std.specs.Prelude.{◌≡◌, Some};
+ghost use Rattle.session.specs.Stages.{machine_in};
+ghost use Rattle.pciguest_c.specs.{Handles.{session_of, machine_of}, Handovers.IsMadeAnew};
+
+use crate::handle::Handle;
+use crate::numbers::{IN_USE, MEMORY, NO_MACHINE};
+use monitor::Monitor;
+use session::{Board, Session};
+use std::alloc::Global;
+
+/// Puts the board of a machine, at reset, into a handle that holds nothing.
+fn make_anew(alloc: Global, machine: &Monitor, board: &mut Handle) -> u32
+    ensures { let before = session_of board.old in
+        IsMadeAnew (Some machine.now) before (session_of board.new) result }
+{
+    if board.is_live() {
+        return IN_USE;
+    }
+    let Ok(made) = Board::of_machine(alloc, machine) else {
+        return MEMORY;
+    };
+    match Box::new(alloc, Session::over(alloc, made)) {
+        Ok(session) => {
+            *board = Handle::of(session);
+            0
+        }
+        Err(_) => MEMORY,
+    }
+}
+
+/// The same of a session, or 901 where no guests have its board.
+fn make_anew_in(alloc: Global, session: &mut Session, board: &mut Handle) -> u32
+    ensures made { let before = session_of board.old in
+        IsMadeAnew (machine_in session.old) before (session_of board.new) result }
+    ensures kept { session.new ≡ session.old }
+{
+    match session.monitor() {
+        Some(machine) => make_anew(alloc, machine, board),
+        None => NO_MACHINE,
+    }
+}
+
+/// Makes the board of a machine anew, at reset, with guests of the same names, which have no slots. The machine stays as it is.
+/// A refusal is out of memory (299), or 903 where the handle of the board holds one already.
+#[unsafe(no_mangle)]
+pub extern "C" fn pciguest_raw_board_anew(
+    alloc: Global,
+    handle: &mut Handle,
+    board: &mut Handle,
+) -> u32
+    ensures made { let before = session_of board.old in
+        IsMadeAnew (machine_of handle.old) before (session_of board.new) result }
+    ensures kept { session_of handle.new ≡ session_of handle.old }
+{
+    let Some(mut session) = handle.take(alloc) else {
+        return NO_MACHINE;
+    };
+    let number = make_anew_in(alloc, &mut session, board);
+    *handle = Handle::of(session);
+    number
+}

@@ -1,0 +1,94 @@
+"""Where an image stops fitting a guest, and which field that is, by docs/image-format.md."""
+
+from __future__ import annotations
+
+from typing import Iterator, NamedTuple, Optional, Tuple
+
+#: the fields of a function in front of its regions: their keys in a board file, and how many bytes they have
+IDENTITY = {
+    "vendor": 2,
+    "device": 2,
+    "revision": 1,
+    "class": 3,
+    "subvendor": 2,
+    "subsystem": 2,
+    "pin": 1,
+    "min_gnt": 1,
+    "max_lat": 1,
+    "status": 2,
+}
+# a field, and how many bytes it has
+Field = Tuple[str, int]
+
+
+class ImageFault(NamedTuple):
+    """Where an image stops fitting a guest that refuses it by 906 or 908."""
+
+    #: the slot whose part of the image it is in, or None in front of the slots
+    slot: Optional[int]
+    #: the offset in the image of the first byte that doesn't fit
+    offset: int
+    #: the field that the byte is in, as 'the size of bar0'
+    field: str
+
+    def __str__(self) -> str:
+        return self.field if self.slot is None else f"slot {self.slot}: {self.field}"
+
+
+def fault_at(image: bytes, slot: int, offset: int) -> Optional[ImageFault]:
+    """The fault at a byte of an image, if there is such a byte."""
+    fields = _Fields(image)
+    for name, width in fields.image() if offset < len(image) else ():
+        if fields.at + width > offset:
+            return ImageFault(slot if slot < 32 else None, offset, name)
+        fields.at += width
+    return None
+
+
+class _Fields:
+    """The fields of an image, one after the other. Whoever goes through them moves `at` past each."""
+
+    def __init__(self, image: bytes) -> None:
+        self._image, self.at = image, 0
+
+    def _before(self, width: int) -> int:
+        """The number in the field that was passed last."""
+        return int.from_bytes(self._image[self.at - width : self.at], "little")
+
+    def image(self) -> Iterator[Field]:
+        for name in ("the format's name", "the version", "CONFIG_ADDRESS"):
+            yield name, 4
+        for _ in range(32):
+            yield "whether it is filled", 1
+            if self._before(1):
+                yield from self._function()
+
+    def _function(self) -> Iterator[Field]:
+        yield from IDENTITY.items()
+        values = 0x0F + 4 + 4  # in the header
+        yield "how many regions there are", 1
+        for _ in range(self._before(1)):
+            yield "the register of a region", 1
+            index = self._before(1)
+            yield f"the kind of bar{index}", 1
+            values += 4 if self._before(1) < 3 else 8
+            yield f"the size of bar{index}", 8
+            yield f"the block of bar{index}", 2
+            count = self._before(2)
+            yield from _cells(0, count, f"bar{index}")
+            values += count
+        yield "how many blocks there are", 1
+        for _ in range(self._before(1)):
+            yield "the offset of a block", 1
+            first = self._before(1)
+            yield f"the size of the block at {first:#x}", 1
+            count = self._before(1)
+            yield from _cells(first, count, "configuration space")
+            values += count
+        yield "the values", values
+
+
+def _cells(first: int, count: int, of: str) -> Iterator[Field]:
+    """What is declared of register bytes."""
+    places = range(first, first + count)
+    return ((f"{pattern} of byte {at:#x} of {of}", 1) for at in places for pattern in ("reset", "rw", "w1c"))
