@@ -375,6 +375,59 @@ timeout 60 "$program" run "$boards/main.toml" < marked.script > out 2> err; stat
 echo 'pciguest: line 1: word 0 begins with a byte order mark' > wanted.err
 wanted=0
 tell 'run, a script that begins with a byte order mark'
+
+# ---- why a line has no form: each kind of word that is missing or wrong, by rows 'LINE -> REASON'
+# reasons COMMAND: it tells these reasons of these lines, and nothing else
+reasons() {
+  cat > reasons.rows
+  sed 's/ -> .*//' reasons.rows > reasons.script
+  timeout 60 "$program" "$1" "$boards/main.toml" < reasons.script > told 2> err; status=$?
+  : > out; : > wanted.out; wanted=0
+  awk -F ' -> ' '{ print "pciguest: line " NR ": " $2 }' reasons.rows > wanted.err
+  tell "$1, each reason for which a line has no form"
+}
+reasons run << 'END'
+a -> word 1 is missing: what to do
+a CR 0 0 4 -> word 1: CR is none of cr, cw, ir, iw, mr, mw and raise
+a cr -> word 2 is missing: the slot
+a cr s -> word 2: s is no number below 2^64
+a cr 0 -> word 3 is missing: the offset
+a cr 0 0 -> word 4 is missing: the width
+a cr 0 0 4 w -> word 5: w is a word too many
+a cw 0 0 4 -> word 5 is missing: the value
+a cw 0 0 4 -1 -> word 5: -1 is no number below 2^32
+a ir -> word 2 is missing: the port
+a iw 0 4 1 2 3 4 5 6 -> word 5: 2 is a word too many
+a mr -> word 2 is missing: the address
+a mw 0 4 abcdefghijklmnopqrstuvwxyz0123456789 -> word 4: abcdefghijklmnopqrstuvwxyz012345 is no number below 2^32
+a raise 0 -> word 3 is missing: the part
+a raise 0 bar6 0 1 -> word 3: bar6 is none of cfg and bar0 to bar5
+a raise 0 cfg 0 -> word 5 is missing: the mask
+a raise 0 cfg 0 256 -> word 5: 256 is no number below 2^8
+END
+reasons run << 'END'
+host -> word 1 is missing: what to do
+host cw 00:01.0 0 4 1 -> word 1: cw is none of cr, ir, mr and move
+host cr -> word 2 is missing: the function
+host cr 1.0 0 4 -> word 2: 1.0 is no number BB:DD.F
+host ir 0 4 4 -> word 4: 4 is a word too many
+host mr 0 -> word 3 is missing: the width
+host move -> word 2 is missing: the guest
+host move a 0 z 1 -> word 4: z is no guest
+END
+reasons firmware << 'END'
+host -> word 1 is missing: what to do
+host move a 0 b 1 -> word 1: move is none of cr, cw, ir, iw, mr, mw, why, audit, ready and guests
+host cw 00:01.0 0 4 -> word 5 is missing: the value
+host iw 0 4 v -> word 4: v is no number below 2^32
+host mw 0 -> word 3 is missing: the width
+host why -> word 2 is missing: the space
+host why pref 0 -> word 2: pref is none of mem, io and cfg
+host why mem -> word 3 is missing: the place
+host why cfg 0 -> word 3: 0 is no place in that space
+host why io 0 4 -> word 4: 4 is a word too many
+host guests a -> word 2: a is a word too many
+END
 head -c 201 /dev/zero | tr '\0' '\r' > returns
 echo '?: refused 403 long line' > wanted.out
 ends_with 'run, a line of 201 returns' run "$boards/main.toml" < returns

@@ -7,4 +7,3 @@ pub mod Faults
 pub mod Pieces
 pub mod Runs
 pub mod Refusals
-pub mod Reasons

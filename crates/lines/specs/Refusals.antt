@@ -1,21 +1,18 @@
--- Whether a run refused a line, and why lines have none of the forms.
+-- Whether a run refused a line, and which lines have none of the forms.
 --     refuses p refusal s ls      one of the lines is refused, by some number
---     with_bad reason x, with_refused guests line n x, with_line guests line refused x      what is seen after one more line
---         that is told of, that is refused, and that is any
---     seen_along p refusal speakers s ls x      what is seen after these lines
---     watched p refusal speakers      what answers lines, and what is seen of them, as a protocol
---     IsWatched p refusal speakers s at result      what a run did, and what was seen of its lines
-use Rattle.std.specs.{Prelude.{◌≡◌, ◌+◌, ◌%◌, ◌^◌, ◌++◌, ◌&&◌, ◌||◌, ◌==◌, ℕ, Bool, true, false, not, length, List, [], ◌∷◌, Option, None, Some, Result, IfOk, is_some, if◌then◌else◌}, Option.{ForSome, option_map_or}}
+--     is_marked line      a line begins with a byte order mark
+--     with_bad x, with_refused line n x, with_line line refused x      what is seen after one more line that is told of, that
+--         is refused, and that is any
+--     seen_along p refusal s ls x      what is seen after these lines
+--     watched p refusal      what answers lines, and what is seen of them, as a protocol
+--     IsWatched p refusal s at result      what a run did, and what was seen of its lines
+use Rattle.std.specs.{Prelude.{◌≡◌, ◌+◌, ◌%◌, ◌^◌, ◌++◌, ◌&&◌, ◌||◌, ◌==◌, ℕ, Bool, true, false, not, length, List, [], ◌∷◌, Option, None, Some, Result, IfOk, is_some, if◌then◌else◌}, Option.ForSome}
 use Rattle.model_guests.specs.{Text.{Text, lines}, Grammar.is_long, LineRuns.Protocol}
-use Rattle.lines.specs.{Reasons.{is_marked, reason_of}, declared.{reasons.Reason.Reason, runs.RunFault.RunFault, watching.{BadLine.BadLine, Seen.Seen, Watched.Watched}}, Runs.{Ends, Runs}}
+use Rattle.lines.specs.{declared.{runs.RunFault.RunFault, watching.{Seen.Seen, Watched.Watched}}, Runs.{Ends, Runs}}
 
 -- the number by which each line is refused, if it is
 abbrev pub Refusal : Type 0 → Type 0
 Refusal S = S → Text → Option ℕ
-
--- the names of the guests whose lines these are; none, where they are firmware's
-abbrev pub Speakers : Type 0 → Type 0
-Speakers S = S → Option (List Text)
 
 abbrev pub refuses : {S : Type 0} → Protocol S → Refusal S → S → List Text → Bool
 refuses p refusal s [] = false
@@ -23,54 +20,49 @@ refuses p refusal s (line ∷ more) = is_some (refusal s line) || refuses p refu
 
 -- ---- what is seen of lines
 
+-- that of UTF-8
+abbrev pub is_marked : Text → Bool
+is_marked (a ∷ b ∷ c ∷ line) = a == 0xEF && b == 0xBB && c == 0xBF
+is_marked _ = false
+
 abbrev pub none_seen : Seen
 none_seen = record { refused = false; lines = 0; bad = 0; first = record { items = [] } }
 
--- the first twenty are told
-abbrev pub with_first : ℕ → Option Reason → List BadLine → List BadLine
-with_first n reason first =
-    if length first == 20 then first
-    else option_map_or (λ r. first ++ (record { line = n; reason = r }) ∷ []) reason first
-
-abbrev pub with_bad : Option Reason → Seen → Seen
-with_bad reason x = record {
+-- the first twenty are told of, each by its number
+abbrev pub with_bad : Seen → Seen
+with_bad x = record {
   refused = x.refused;
   lines = x.lines;
   bad = (x.bad + 1) % 2 ^ 64;
-  first = record { items = with_first x.lines reason x.first.items };
+  first = record { items = if length x.first.items == 20 then x.first.items else x.first.items ++ x.lines ∷ [] };
 }
 
 -- told of are lines of 401, and those that are refused and begin with a byte order mark, but for long ones
-abbrev pub with_refused : Option (List Text) → Text → ℕ → Seen → Seen
-with_refused guests line n x =
+abbrev pub with_refused : Text → ℕ → Seen → Seen
+with_refused line n x =
     let seen : Seen = record x { refused = true } in
-    if (n == 401 || is_marked line) && not (is_long line) then with_bad (reason_of guests line) seen else seen
+    if (n == 401 || is_marked line) && not (is_long line) then with_bad seen else seen
 
-abbrev pub with_line : Option (List Text) → Text → Option ℕ → Seen → Seen
-with_line guests line None x = record x { lines = (x.lines + 1) % 2 ^ 64 }
-with_line guests line (Some n) x = with_refused guests line n (record x { lines = (x.lines + 1) % 2 ^ 64 })
+abbrev pub with_line : Text → Option ℕ → Seen → Seen
+with_line line None x = record x { lines = (x.lines + 1) % 2 ^ 64 }
+with_line line (Some n) x = with_refused line n (record x { lines = (x.lines + 1) % 2 ^ 64 })
 
-abbrev pub seen_along : {S : Type 0} → Protocol S → Refusal S → Speakers S → S → List Text → Seen → Seen
-seen_along p refusal speakers s [] x = x
-seen_along p refusal speakers s (line ∷ more) x =
-    seen_along p refusal speakers (p.next s line) more (with_line (speakers (p.next s line)) line (refusal s line) x)
+abbrev pub seen_along : {S : Type 0} → Protocol S → Refusal S → S → List Text → Seen → Seen
+seen_along p refusal s [] x = x
+seen_along p refusal s (line ∷ more) x = seen_along p refusal (p.next s line) more (with_line line (refusal s line) x)
 
 -- ---- a run that is watched
 
-abbrev pub watched : {S : Type 0} → Protocol S → Refusal S → Speakers S → Protocol (Watched S)
-watched p refusal speakers = record {
+abbrev pub watched : {S : Type 0} → Protocol S → Refusal S → Protocol (Watched S)
+watched p refusal = record {
   writes = λ w line. p.writes w.server line;
-  next = λ w line. record {
-    server = p.next w.server line;
-    seen = with_line (speakers (p.next w.server line)) line (refusal w.server line) w.seen;
-  };
+  next = λ w line. record { server = p.next w.server line; seen = with_line line (refusal w.server line) w.seen };
 }
 
-pub record IsWatched {S : Type 0} (p : Protocol S) (refusal : Refusal S) (speakers : Speakers S) (s : S) (at : Ends)
-    (result : Result (S × Seen) RunFault) : Type 0 where
+pub record IsWatched {S : Type 0} (p : Protocol S) (refusal : Refusal S) (s : S) (at : Ends) (result : Result (S × Seen) RunFault)
+    : Type 0 where
   pub end : S
   pub runs : Runs p s end at result
   pub left : IfOk result (λ x. x.0 ≡ end)
   pub refused : IfOk result (λ x. ForSome at.script (λ script. x.1.refused ≡ refuses p refusal s (lines script)))
-  pub seen :
-      IfOk result (λ x. ForSome at.script (λ script. x.1 ≡ seen_along p refusal speakers s (lines script) none_seen))
+  pub seen : IfOk result (λ x. ForSome at.script (λ script. x.1 ≡ seen_along p refusal s (lines script) none_seen))

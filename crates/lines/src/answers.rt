@@ -1,7 +1,7 @@
 //! What answers lines.
-ghost use Rattle.std.specs.Prelude.{◌≡◌, ◌++◌, ℕ, List, [], Option, None, Some, option_map, string_bytes, IfOk, OnOk, OnErr};
+ghost use Rattle.std.specs.Prelude.{◌≡◌, ◌++◌, ℕ, [], Option, None, Some, option_map, string_bytes, IfOk, OnOk, OnErr};
 ghost use Rattle.model_guests.specs.{Text.Text, LineRuns.Protocol};
-ghost use Rattle.lines.specs.{Lines.texts, Pieces.{IsBefore, with_more}};
+ghost use Rattle.lines.specs.Pieces.{IsBefore, with_more};
 
 use crate::replies::LineText;
 use accesses::Names;
@@ -47,9 +47,6 @@ pub trait Answers<L> {
     /// The number by which each line is refused, if it is.
     ghost refusal: { Self → Text → Option ℕ };
 
-    /// The names of the guests whose lines these are; none, where they are firmware's.
-    ghost speakers: { Self → Option (List Text) };
-
     /// Whether some line of the language takes memory, so that it may be out.
     ghost TakesMemory: { Type 0 };
 
@@ -70,6 +67,5 @@ pub trait Answers<L> {
         ensures memory { OnErr result TakesMemory };
 
     /// The names of the guests whose lines these are; none, where they are firmware's.
-    fn guests(&self) -> Option<&Names>
-        ensures { option_map (λ names. texts names.now) result ≡ speakers self.now };
+    fn guests(&self) -> Option<&Names>;
 }

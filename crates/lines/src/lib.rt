@@ -23,7 +23,7 @@ mod words;
 pub use answers::{Answer, Answers};
 pub use firmware_line::{FirmwareWhat, firmware_meaning};
 pub use line::{LONGEST_LINE, Line, What, Who, line_meaning, parse_line};
-pub use reasons::{Reason, Role, Speaker, Wrong, reason_of};
+pub use reasons::{Reason, Role, Speaker, Wrong};
 pub use replies::{LONGEST_REPLY, LineText, line_text, push_line, push_named};
 pub use requests::{HostRequest, WhyAsked};
 pub use runs::{RunFault, run};

@@ -1,14 +1,13 @@
 //! Why a line has none of the forms: the first of its words that does not fit.
-ghost use Rattle.std.specs.Prelude.{◌≡◌, ◌+◌, ◌<◌, ◌≤◌, ◌^◌, [], length, map, take, option_map};
-ghost use Rattle.model_lines.specs.Requests.{request_of_word};
-ghost use Rattle.lines.specs.{Lines.texts, Reasons.{roles_after, is_space, fits, reason_at, first_wrong, wrong_in, is_marked, reason_of}};
+ghost use Rattle.std.specs.Prelude.{◌≡◌};
+ghost use Rattle.lines.specs.Refusals.{is_marked};
 
 use crate::cursor::name_word;
 use crate::firmware_line::value;
 use crate::forms::{bus_address, mask, place};
 use crate::line::is_guest;
 use crate::numbers::number_of;
-use crate::requests::{request_of_word, why_place};
+use crate::requests::why_place;
 use crate::words::first_words;
 use accesses::Names;
 use arrayvec::ArrayVec;
@@ -69,98 +68,41 @@ pub struct Reason {
     pub word: ArrayVec<u8, 32>,
 }
 
-/// At most 32 bytes at the beginning of a word.
-fn beginning(word: &[u8]) -> &[u8]
-    ensures beginning { result.now ≡ take 32 word.now }
-    ensures short { length result.now ≤ 32 }
-{
-    if word.len() > 32 { &word[..32] } else { word }
-}
-
-/// The reason at a word.
-fn reason_at(at: usize, wrong: Wrong, word: &[u8]) -> Reason
-    ensures { result ≡ reason_at at wrong word.now }
-{
-    let mut told = ArrayVec::new();
-    let _ = told.try_extend_from_slice(beginning(word));
-    Reason {
-        at,
-        wrong,
-        word: told,
+impl Reason {
+    fn new(at: usize, wrong: Wrong, word: &[u8]) -> Reason {
+        let mut beginning = ArrayVec::new();
+        let _ = beginning.try_extend_from_slice(&word[..word.len().min(32)]);
+        Reason {
+            at,
+            wrong,
+            word: beginning,
+        }
     }
 }
 
-/// What follows a word after a guest's name.
-fn roles_of_guest(verb: &[u8]) -> Option<&'static [Role]>
-    ensures { option_map (λ rs. rs.now) result ≡ roles_after Speaker.Guest verb.now }
-{
-    match verb {
-        b"cr" => Some(&[Role::Slot, Role::Offset, Role::Width]),
-        b"cw" => Some(&[Role::Slot, Role::Offset, Role::Width, Role::Value]),
-        b"ir" => Some(&[Role::Port, Role::Width]),
-        b"iw" => Some(&[Role::Port, Role::Width, Role::Value]),
-        b"mr" => Some(&[Role::Address, Role::Width]),
-        b"mw" => Some(&[Role::Address, Role::Width, Role::Value]),
-        b"raise" => Some(&[Role::Slot, Role::Part, Role::Offset, Role::Mask]),
+/// What follows the word after a speaker's name.
+fn roles_after(speaker: Speaker, verb: &[u8]) -> Option<&'static [Role]> {
+    use Role::{Address, Function, Mask, Offset, Part, Place, Port, Slot, Space, Value, Width};
+    use Speaker::{Firmware, Guest, Host};
+    match (speaker, verb) {
+        (Guest, b"cr") => Some(&[Slot, Offset, Width]),
+        (Guest, b"cw") => Some(&[Slot, Offset, Width, Value]),
+        (Guest, b"raise") => Some(&[Slot, Part, Offset, Mask]),
+        (_, b"cr") => Some(&[Function, Offset, Width]),
+        (Firmware, b"cw") => Some(&[Function, Offset, Width, Value]),
+        (_, b"ir") => Some(&[Port, Width]),
+        (_, b"mr") => Some(&[Address, Width]),
+        (Guest | Firmware, b"iw") => Some(&[Port, Width, Value]),
+        (Guest | Firmware, b"mw") => Some(&[Address, Width, Value]),
+        (Host, b"move") => Some(&[Role::Guest, Slot, Role::Guest, Slot]),
+        (Firmware, b"why") => Some(&[Space, Place]),
+        (Firmware, b"audit" | b"ready" | b"guests") => Some(&[]),
         _ => None,
-    }
-}
-
-/// What follows a word after `host`, where guests have the board.
-fn roles_of_host(verb: &[u8]) -> Option<&'static [Role]>
-    ensures { option_map (λ rs. rs.now) result ≡ roles_after Speaker.Host verb.now }
-{
-    match verb {
-        b"cr" => Some(&[Role::Function, Role::Offset, Role::Width]),
-        b"ir" => Some(&[Role::Port, Role::Width]),
-        b"mr" => Some(&[Role::Address, Role::Width]),
-        b"move" => Some(&[Role::Guest, Role::Slot, Role::Guest, Role::Slot]),
-        _ => None,
-    }
-}
-
-/// What follows the one word of a question after `host`, which is nothing.
-fn roles_of_question(verb: &[u8]) -> Option<&'static [Role]>
-    ensures { option_map (λ rs. rs.now) result
-        ≡ option_map (λ _. []) (request_of_word verb.now) }
-{
-    if request_of_word(verb).is_some() {
-        Some(&[])
-    } else {
-        None
-    }
-}
-
-/// What follows a word after `host`, where firmware drives the board.
-fn roles_of_firmware(verb: &[u8]) -> Option<&'static [Role]>
-    ensures { option_map (λ rs. rs.now) result ≡ roles_after Speaker.Firmware verb.now }
-{
-    match verb {
-        b"cr" => Some(&[Role::Function, Role::Offset, Role::Width]),
-        b"cw" => Some(&[Role::Function, Role::Offset, Role::Width, Role::Value]),
-        b"ir" => Some(&[Role::Port, Role::Width]),
-        b"iw" => Some(&[Role::Port, Role::Width, Role::Value]),
-        b"mr" => Some(&[Role::Address, Role::Width]),
-        b"mw" => Some(&[Role::Address, Role::Width, Role::Value]),
-        b"why" => Some(&[Role::Space, Role::Place]),
-        _ => roles_of_question(verb),
-    }
-}
-
-/// Whether a word is a space's.
-fn is_space(word: &[u8]) -> bool
-    ensures { result ≡ is_space word.now }
-{
-    match word {
-        b"mem" | b"io" | b"cfg" => true,
-        _ => false,
     }
 }
 
 /// Whether a word is what it has to be, after the word before it.
-fn fits(role: Role, names: &Names, before: &[u8], word: &[u8]) -> bool
-    ensures { result ≡ fits role (texts names.now) before.now word.now }
-{
+fn fits(role: Role, names: &Names, before: &[u8], word: &[u8]) -> bool {
     match role {
         Role::Verb(_) => false,
         Role::Function => bus_address(word).is_some(),
@@ -170,58 +112,32 @@ fn fits(role: Role, names: &Names, before: &[u8], word: &[u8]) -> bool
         Role::Value => value(word).is_some(),
         Role::Mask => mask(word).is_some(),
         Role::Part => place(word).is_some(),
-        Role::Space => is_space(word),
+        Role::Space => matches!(word, b"mem" | b"io" | b"cfg"),
         Role::Place => why_place(before, word).is_some(),
         Role::Guest => is_guest(word, names),
     }
 }
 
-/// What is wrong first in the words after one, of which the first has this number, by what they have to be.
-fn first_wrong(
-    at: usize,
-    roles: &[Role],
-    names: &Names,
-    before: &[u8],
-    words: &[&[u8]],
-) -> Option<Reason>
-    requires { at + length words.now < 2 ^ 64 }
-    ensures { result
-        ≡ first_wrong at roles.now (texts names.now) before.now (map (λ w. w.now) words.now) }
-{
-    match roles {
-        [] => match words {
-            [] => None,
-            [word, ..] => Some(reason_at(at, Wrong::TooMany, word)),
-        },
-        [role, roles @ ..] => match words {
-            [] => Some(reason_at(at, Wrong::Missing(*role), &[])),
-            [word, words @ ..] => {
-                if !fits(*role, names, before, word) {
-                    return Some(reason_at(at, Wrong::Unfit(*role), word));
-                }
-                first_wrong(at + 1, roles, names, word, words)
-            }
-        },
-    }
-}
-
 /// What is wrong first in the words after a name.
-fn wrong_in(speaker: Speaker, names: &Names, words: &[&[u8]]) -> Option<Reason>
-    requires { length words.now < 2 ^ 62 }
-    ensures { result ≡ wrong_in speaker (texts names.now) (map (λ w. w.now) words.now) }
-{
+fn wrong_in(speaker: Speaker, names: &Names, words: &[&[u8]]) -> Reason {
     let [verb, words @ ..] = words else {
-        return Some(reason_at(1, Wrong::Missing(Role::Verb(speaker)), &[]));
+        return Reason::new(1, Wrong::Missing(Role::Verb(speaker)), &[]);
     };
-    let roles = match speaker {
-        Speaker::Guest => roles_of_guest(verb),
-        Speaker::Host => roles_of_host(verb),
-        Speaker::Firmware => roles_of_firmware(verb),
+    let Some(roles) = roles_after(speaker, verb) else {
+        return Reason::new(1, Wrong::Unfit(Role::Verb(speaker)), verb);
     };
-    match roles {
-        Some(roles) => first_wrong(2, roles, names, verb, words),
-        None => Some(reason_at(1, Wrong::Unfit(Role::Verb(speaker)), verb)),
+    let mut before = *verb;
+    for (i, role) in roles.iter().enumerate() {
+        let Some(word) = words.get(i) else {
+            return Reason::new(i + 2, Wrong::Missing(*role), &[]);
+        };
+        if !fits(*role, names, before, word) {
+            return Reason::new(i + 2, Wrong::Unfit(*role), word);
+        }
+        before = *word;
     }
+    let word = words.get(roles.len()).copied().unwrap_or(&[]);
+    Reason::new(roles.len() + 2, Wrong::TooMany, word)
 }
 
 /// Whether a line begins with the byte order mark of UTF-8.
@@ -234,16 +150,13 @@ pub(crate) fn is_marked(line: &[u8]) -> bool
     }
 }
 
-/// Why a line has none of the forms of guests of these names and of their host, or of firmware's if there are none;
-/// nothing where it has one. Of a line that begins with a byte order mark it is that it does. No form has more than
-/// seven words after the name.
-pub fn reason_of(guests: Option<&Names>, line: &[u8]) -> Option<Reason>
-    ensures { result ≡ reason_of (option_map (λ names. texts names.now) guests.entry) line.now }
-{
+/// Why a line has none of the forms of guests of these names and of their host, or of firmware's if there are none. Of
+/// a line that begins with a byte order mark it is that it does. No form has more than seven words after the name.
+pub(crate) fn reason_of(guests: Option<&Names>, line: &[u8]) -> Reason {
     if is_marked(line) {
-        return Some(reason_at(0, Wrong::Marked, &[]));
+        return Reason::new(0, Wrong::Marked, &[]);
     }
-    let (name, rest) = name_word(line)?;
+    let (name, rest) = name_word(line).unwrap_or((&[], &[]));
     let words = first_words(rest);
     match guests {
         None => wrong_in(Speaker::Firmware, &Names::new(), words.as_slice()),

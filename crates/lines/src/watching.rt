@@ -1,7 +1,7 @@
 //! Runs of lines of which it is told whether one was refused, and why those were that have none of the forms.
-ghost use Rattle.std.specs.Prelude.{◌≡◌, ◌+◌, ◌-◌, ◌%◌, ◌^◌, ◌<◌, ◌⊎◌, ◌++◌, option_map, IsErrOf};
+ghost use Rattle.std.specs.Prelude.{◌≡◌, ◌+◌, ◌-◌, ◌%◌, ◌^◌, ◌<◌, ◌⊎◌, ◌++◌, IsErrOf};
 ghost use Rattle.model_guests.specs.Text.{Text};
-ghost use Rattle.lines.specs.{Faults.{read_failures_of, write_failures_of}, Lines.texts, Pieces.IsBefore, Reasons.reason_of, Refusals.{none_seen, with_bad, with_refused, with_line, watched, IsWatched}, Runs.ends};
+ghost use Rattle.lines.specs.{Faults.{read_failures_of, write_failures_of}, Pieces.IsBefore, Refusals.{none_seen, with_bad, with_refused, with_line, watched, IsWatched}, Runs.ends};
 
 use crate::answers::{Answer, Answers};
 use crate::line::LONGEST_LINE;
@@ -11,14 +11,23 @@ use crate::runs::{RunFault, run};
 use accesses::Names;
 use arrayvec::ArrayVec;
 use std::alloc::AllocError;
+use std::marker::Model;
 use streams::{Reader, Writer};
 
 /// A refused line that has none of the forms, or begins with a byte order mark.
 #[derive(Drop)]
 pub struct BadLine {
-    /// Its number, where 1 is the first line's.
+    /// Its number, where 1 is the first line's. Contracts see it alone.
     pub line: u64,
     pub reason: Reason,
+}
+
+impl Model for BadLine {
+    ghost use Rattle.std.specs.Prelude.{ℕ};
+
+    ghost Value = { ℕ };
+
+    ghost view = { λ b. b.line };
 }
 
 impl Default for BadLine {
@@ -62,28 +71,23 @@ impl Seen {
 
     /// Sees one more bad line, of guests of these names or of firmware.
     fn push_bad(&mut self, guests: Option<&Names>, line: &[u8])
-        ensures { self.new ≡ with_bad
-            (reason_of (option_map (λ names. texts names.now) guests.entry) line.now) self.old }
+        ensures { self.new ≡ with_bad self.old }
     {
         self.bad = self.bad.wrapping_add(1);
         if self.first.is_full() {
             return;
         }
-        let line_number = self.lines;
-        if let Some(reason) = reason_of(guests, line) {
-            self.first.push(BadLine {
-                line: line_number,
-                reason,
-            });
-        }
+        self.first.push(BadLine {
+            line: self.lines,
+            reason: reason_of(guests, line),
+        });
     }
 
     /// Sees that the last line is refused, by which number. If `long`, more bytes of it came before.
     #[inline(never)]
     fn push_refused(&mut self, guests: Option<&Names>, long: bool, line: &[u8], number: u16)
-        ensures { let names = option_map (λ names. texts names.now) guests.entry in
-            (before : Text) → IsBefore long before →
-            self.new ≡ with_refused names (before ++ line.now) number self.old }
+        ensures { (before : Text) → IsBefore long before →
+            self.new ≡ with_refused (before ++ line.now) number self.old }
     {
         self.refused = true;
         if !long && line.len() <= LONGEST_LINE && (number == 401 || is_marked(line)) {
@@ -95,9 +99,8 @@ impl Seen {
     /// compiled into the loop over lines, of which few are refused.
     #[inline(always)]
     fn push(&mut self, guests: Option<&Names>, long: bool, line: &[u8], refused: Option<u16>)
-        ensures { let names = option_map (λ names. texts names.now) guests.entry in
-            (before : Text) → IsBefore long before →
-            self.new ≡ with_line names (before ++ line.now) refused self.old }
+        ensures { (before : Text) → IsBefore long before →
+            self.new ≡ with_line (before ++ line.now) refused self.old }
     {
         self.lines = self.lines.wrapping_add(1);
         if let Some(number) = refused {
@@ -114,11 +117,9 @@ pub(crate) struct Watched<S> {
 }
 
 impl<L, S: Answers<L>> Answers<L> for Watched<S> {
-    ghost protocol = { watched S.protocol S.refusal S.speakers };
+    ghost protocol = { watched S.protocol S.refusal };
 
     ghost refusal = { λ w line. S.refusal w.server line };
-
-    ghost speakers = { λ w. S.speakers w.server };
 
     ghost TakesMemory = { S.TakesMemory };
 
@@ -151,7 +152,7 @@ pub fn run_watched<L, S: Answers<L> + Drop, R: Reader, W: Writer>(
     requires writer_has_room { W.failures writer.old < 2 ^ 64 - 1 }
     ensures reads { R.failures reader.new ≡ R.failures reader.old + read_failures_of result }
     ensures writes { W.failures writer.new ≡ W.failures writer.old + write_failures_of result }
-    ensures runs { IsWatched S.protocol S.refusal S.speakers server
+    ensures runs { IsWatched S.protocol S.refusal server
         (ends (R.rest reader.old) (R.rest reader.new)
         (W.written writer.old) (W.written writer.new) (W.flushed writer.new)) result }
     ensures lacking_flushed { IsErrOf result RunFault.Memory →

@@ -1,5 +1,5 @@
 //! What a line does and writes.
-ghost use Rattle.std.specs.Prelude.{◌≡◌, ◌<◌, ◌++◌, ◌∷◌, [], Some, length, option_map, MatchOption, IfSome};
+ghost use Rattle.std.specs.Prelude.{◌≡◌, ◌<◌, ◌++◌, ◌∷◌, [], length, option_map, MatchOption, IfSome};
 ghost use Rattle.model_guests.specs.{Text.Text, Replies.line_text, WorldNow.{names_now, written_by, line_output}, Calls.asks};
 ghost use Rattle.model_handoff.specs.{Actions.calls, Changes.{after_on_machine, after_line_on_machine, machine_protocol}};
 ghost use Rattle.accesses.specs.{Accesses.reply_of, Replies.IsShown};
@@ -125,8 +125,6 @@ impl Answers<Script> for Monitor {
     ghost protocol = { machine_protocol };
 
     ghost refusal = { refusal_on_machine };
-
-    ghost speakers = { λ m. Some (names_now m.world) };
 
     ghost TakesMemory = { ⊥ };
 

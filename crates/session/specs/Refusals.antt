@@ -2,10 +2,9 @@
 --     refusal_by s m      that of a line of firmware of this meaning
 --     handover_refusal f      that of a handover, by what stands in its way
 --     refusal_in x line      that of a line
---     speakers_in x      the names of the guests whose lines these are; none, where they are firmware's
-use Rattle.std.specs.{Prelude.{ℕ, List, Option, None, Some}, Option.option_map_or}
+use Rattle.std.specs.{Prelude.{ℕ, Option, None, Some}, Option.option_map_or}
 use Rattle.model_board.specs.State.{State}
-use Rattle.model_guests.specs.{Text.{Text}, WorldNow.{names_now}}
+use Rattle.model_guests.specs.Text.{Text}
 use Rattle.model_handoff.specs.Regions.{HandoffFault, in_disorder, closed_region, first_fault}
 use Rattle.model_lines.specs.{HostAccesses.answer, FirmwareLines.{Meaning, nothing, asked, bad, meaning}, Requests.{HostRequest, for_guests, request}, Sessions.{DrivenNow, SessionNow, driven, given}}
 use Rattle.script.specs.Refusals.{refusal_of}
@@ -32,7 +31,3 @@ driven_refusal b line = option_map_or (request_refusal b) (request line) (refusa
 abbrev pub refusal_in : SessionNow → Text → Option ℕ
 refusal_in (driven b) line = driven_refusal b line
 refusal_in (given m) line = script.refusal_in m.world line
-
-abbrev pub speakers_in : SessionNow → Option (List Text)
-speakers_in (driven b) = None
-speakers_in (given m) = Some (names_now m.world)

@@ -6,7 +6,7 @@ ghost use Rattle.findings.specs.Findings.{problem_of, lack_of};
 ghost use Rattle.model_lines.specs.Sessions.{driven, given, at_reset, session_functions, session_protocol, session_output, after_session_line};
 ghost use Rattle.lines.specs.Pieces.{IsBefore, with_more};
 ghost use Rattle.board_file.specs.{declared.fault.BoardFault.TheVariants.Memory, Faults.number_of as file_number};
-ghost use Rattle.session.specs.{Files.{Declares, Refuses}, Boards.{IsHandedOverAs, IsRefusalOf}, Refusals.{refusal_in, speakers_in}, Stages.{board_in, machine_in, asks_for_more, IsDriven, IsGiven}};
+ghost use Rattle.session.specs.{Files.{Declares, Refuses}, Boards.{IsHandedOverAs, IsRefusalOf}, Refusals.refusal_in, Stages.{board_in, machine_in, asks_for_more, IsDriven, IsGiven}};
 
 use crate::asking::meant;
 use crate::board::Board;
@@ -256,8 +256,6 @@ impl Answers<SessionLines> for Session {
     ghost protocol = { session_protocol };
 
     ghost refusal = { refusal_in };
-
-    ghost speakers = { speakers_in };
 
     ghost TakesMemory = { ⊤ };
 

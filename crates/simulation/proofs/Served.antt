@@ -11,7 +11,7 @@ use Rattle.model_registers.specs.Apertures.{Apertures}
 use Rattle.model_guests.specs.{Text.{Text, lines}, World.{World, IsLawfulWorld}}
 use Rattle.model_lines.{specs.Sessions.{SessionNow, driven, at_reset, session_functions, session_protocol}, proofs.HandoverLines.isolated_sessions}
 use Rattle.lines.{specs.{declared.{runs.RunFault.RunFault, watching.Seen.Seen}, Refusals.{refuses, none_seen, seen_along, IsWatched}, Runs.{Ends, ends, Runs}}, proofs.Parts.{same_end, same_error}}
-use Rattle.session.specs.{Files.Declares, Refusals.{refusal_in, speakers_in}}
+use Rattle.session.specs.{Files.Declares, Refusals.refusal_in}
 use Rattle.board_told.specs.{declared.{fault.Fault.{Fault, TheVariants.{SetUp, Write, NotInOrder, NotReady, RefusedLine}}, telling.Question.{Question, TheVariants.{Audit, Ready}}}, Faults.of_run}
 use Rattle.simulation.{specs.{Faults.{IsOfFile, IsToldLast, OnFile}, Serving.{at_first, session_text, left_after, told, counted, last_fault, HasEnded, IsSession, IsServed, Serves, IsOfAnswer, IsOfServing}}, proofs.Begun.runs_from}
 use Rattle.lines.specs.declared.runs.RunFault.TheVariants as run
@@ -31,7 +31,7 @@ session_over board x end at r begun ran = record {
 }
 
 pub stopped : (q : Option Question) (strict : Bool) (seen : Seen) (board : Text) (x : SessionNow) (at : Ends) (e : RunFault) → IsBegun board x
-    → IsWatched session_protocol refusal_in speakers_in x at (Err e) → Serves {T = Unit {0}} q strict seen board at (Err (of_run e))
+    → IsWatched session_protocol refusal_in x at (Err e) → Serves {T = Unit {0}} q strict seen board at (Err (of_run e))
 stopped q strict seen board x at e begun w =
     by_fault e (session_over board x w.end at (Err e) begun (same_error (SessionNow × Seen) (Unit {0}) session_protocol x w.end at e w.runs))
   where
@@ -47,16 +47,16 @@ pub record IsLeft (board : Text) (at : Ends) (a : Apertures) (y : SessionNow × 
   pub left : y.0 ≡ session.end
   pub apertures : a ≡ session.world.apertures
   pub refused : ForSome at.script (λ s. y.1.refused ≡ refuses session_protocol refusal_in (at_first session.world) (lines s))
-  pub seen : ForSome at.script (λ s. y.1 ≡ seen_along session_protocol refusal_in speakers_in (at_first session.world) (lines s) none_seen)
+  pub seen : ForSome at.script (λ s. y.1 ≡ seen_along session_protocol refusal_in (at_first session.world) (lines s) none_seen)
 
 pub left_by : (board : Text) (x : SessionNow) (at : Ends) (a : Apertures) (y : SessionNow × Seen) (begun : IsBegun board x) → a ≡ begun.0.apertures
-    → IsWatched session_protocol refusal_in speakers_in x at (Ok y) → IsLeft board at a y
+    → IsWatched session_protocol refusal_in x at (Ok y) → IsLeft board at a y
 left_by board x at a y begun same w = record {
   session = session_over board x w.end at (Ok tt) begun (same_end (SessionNow × Seen) (Unit {0}) session_protocol x w.end at y tt w.runs);
   left = w.left;
   apertures = same;
   refused = λ s known. w.refused s known ∙ ap (λ z. refuses session_protocol refusal_in z (lines s)) begun.3;
-  seen = λ s known. w.seen s known ∙ ap (λ z. seen_along session_protocol refusal_in speakers_in z (lines s) none_seen) begun.3;
+  seen = λ s known. w.seen s known ∙ ap (λ z. seen_along session_protocol refusal_in z (lines s) none_seen) begun.3;
 }
 
 -- what is told and counted of the session that was left is so of the one after the lines

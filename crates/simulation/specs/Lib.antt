@@ -1,7 +1,6 @@
 pub mod Faults
 pub mod Demo
 pub mod Listing
-pub mod BadLines
 pub mod Checking
 pub mod Running
 pub mod Serving

@@ -3,9 +3,8 @@
 --     HasRun strict refused seen board at      all lines were read, and what they write was written and flushed; if `strict`,
 --         this is whether one was refused, and this was seen of them
 --     RunsAs strict seen board at result      what was done, by how it ended: if `strict`, a refused line is a fault
---     speakers_in w      the guests of a world, whose lines these are
-use Rattle.std.specs.{Prelude.{◌≡◌, ◌&&◌, Bool, true, false, List, Option, Some, Result, Ok, Err, IsTrue}, Option.ForSome}
-use Rattle.model_guests.specs.{Text.{Text, lines}, Grammar.has_name, World.{World, names}, WorldNow.{WorldNow, names_now, world_protocol}}
+use Rattle.std.specs.{Prelude.{◌≡◌, ◌&&◌, Bool, true, false, Result, Ok, Err, IsTrue}, Option.ForSome}
+use Rattle.model_guests.specs.{Text.{Text, lines}, Grammar.has_name, World.{World, names}, WorldNow.{WorldNow, world_protocol}}
 use Rattle.model_handoff.specs.AfterSetUp.{world_at_first, IsIsolated}
 use Rattle.lines.specs.{declared.{runs.RunFault.RunFault, watching.Seen.Seen}, Runs.{Ends, Runs}, Refusals.{refuses, none_seen, seen_along}}
 use Rattle.session.specs.Files.{IsSetUp}
@@ -22,14 +21,11 @@ pub record IsRun {T : Type 0} (board : Text) (at : Ends) (result : Result T RunF
   pub runs : Runs world_protocol (world_at_first world) end at result
   pub isolated : (name script : Text) → IsTrue (has_name (names world) name) → IsIsolated world name script
 
-abbrev pub speakers_in : WorldNow → Option (List Text)
-speakers_in w = Some (names_now w)
-
 pub record HasRun (strict refused : Bool) (seen : Seen) (board : Text) (at : Ends) : Type 0 where
   pub run : IsRun {T = Unit {0}} board at (Ok tt)
   pub answers : ForSome at.script (λ s. (strict && refuses world_protocol refusal_in (world_at_first run.world) (lines s)) ≡ refused)
   pub watched :
-      ForSome at.script (λ s. seen ≡ seen_along world_protocol refusal_in speakers_in (world_at_first run.world) (lines s) none_seen)
+      ForSome at.script (λ s. seen ≡ seen_along world_protocol refusal_in (world_at_first run.world) (lines s) none_seen)
 
 abbrev pub RunsAs : {T : Type 0} → Bool → Seen → Text → Ends → Result T Fault → Type 0
 RunsAs strict seen board at (Ok x) = HasRun strict false seen board at

@@ -23,7 +23,7 @@ use Rattle.model_board.specs.State.{BoardFunction}
 use Rattle.model_guests.specs.{Text.{Text, lines}, World.World, LineRuns.{output, after_lines}}
 use Rattle.model_lines.specs.{Sessions.{SessionNow, driven, at_reset, session_protocol, session_functions}, SessionLaws.IsolatedFrom}
 use Rattle.lines.specs.{declared.{runs.RunFault.RunFault, watching.Seen.Seen}, Refusals.{refuses, none_seen, seen_along}, Runs.{Ends, Runs}}
-use Rattle.session.specs.{Files.Declares, Refusals.{refusal_in, speakers_in}}
+use Rattle.session.specs.{Files.Declares, Refusals.refusal_in}
 use Rattle.board_told.specs.{Telling.{told_by, counted_by}, declared.{fault.Fault.{Fault, TheVariants.{SetUp, Read, Write, NotInOrder, NotReady, RefusedLine}}, telling.Question.{Question, TheVariants.{Audit, Ready}}}}
 use Rattle.simulation.specs.Faults.{IsOfSession}
 use Rattle.lines.specs.declared.runs.RunFault.TheVariants as run
@@ -99,7 +99,7 @@ pub record IsServed (q : Option Question) (strict : Bool) (last : Option Fault) 
   pub told : IsTold q board at
   pub fault : ForSome at.script (λ s. fault_after q strict told.world (lines s) ≡ last)
   pub watched :
-      ForSome at.script (λ s. seen ≡ seen_along session_protocol refusal_in speakers_in (at_first told.world) (lines s) none_seen)
+      ForSome at.script (λ s. seen ≡ seen_along session_protocol refusal_in (at_first told.world) (lines s) none_seen)
 
 -- A write or flush fails among the lines or in the text after them. Memory is out for a line, or for that text once all
 -- ran.

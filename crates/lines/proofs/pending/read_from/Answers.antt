@@ -1,4 +1,4 @@
-use Rattle.std.proofs.Common.{◌-◌, arith}
+use Rattle.std.proofs.Common.{arith}
 use Rattle.lines.proofs.Buffers.{read_behind}
 use Rattle.lines.proofs.pending.read_from.Goals as goal
 

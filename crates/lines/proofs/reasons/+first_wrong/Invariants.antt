@@ -1,5 +1,0 @@
-use Rattle.std.proofs.Common.{length}
-use Rattle.lines.proofs.reasons.+first_wrong.Given as goal
-
-abbrev pub decreases-first_wrong : goal.decreases-first_wrong
-decreases-first_wrong l = length l.roles.now
