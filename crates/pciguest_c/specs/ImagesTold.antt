@@ -7,7 +7,7 @@
 --     after_restart m guest      the machine after this guest was put to reset
 --     load_number w guest bytes      0, or the number of why bytes can't be loaded into the guest
 --     load_asked m guest bytes      the same, or 902 where the machine has no such guest
-use Rattle.std.specs.Prelude.{◌≡◌, ◌≢◌, ◌≤◌, ◌<◌, ℕ, true, false, if◌then◌else◌, length, nat_lt, unwrap_or, Option, IfNone, IfSome}
+use Rattle.std.specs.Prelude.{◌≡◌, ◌≤◌, ◌<◌, ℕ, true, false, if◌then◌else◌, length, nat_lt, unwrap_or, Option, IfNone, IfSome}
 use Rattle.model_guests.specs.{Text.Text, Lone.LoneGuest, Guests.lone_of, WorldNow.WorldNow}
 use Rattle.model_handoff.specs.Changes.{MachineNow}
 use Rattle.model_images.specs.{Images.image_of_guest, Requests.restarts, RequestLaws.after_request_on_machine, ImageBytes.image_bytes, LoadedBytes.load_fault, SavedLaws.IsTakenByEach, Stops.{StopsAt, stop_slot, is_told}}

@@ -142,9 +142,8 @@ class SavedMachine(Held):
 
     def save_all(self) -> bytes:
         """Saves the whole machine: its image, which is who has which function of the board in which slot, what each guest
-        holds, and the board as the host reads it, but for what guests made of functions in slots. docs/image-format.md has
-        the bytes. `Guest.save_state` has what a `Device` keeps beside its
-        registers. The machine stays as it is.
+        holds, and which board that is, set up how, with which guests. docs/image-format.md has the bytes.
+        `Guest.save_state` has what a `Device` keeps beside its registers. The machine stays as it is.
 
         >>> with Machine(BOARD) as machine:
         ...     machine.save_all()[:8]  # the format, and its version
@@ -164,7 +163,7 @@ class SavedMachine(Held):
 
         905: the bytes are no image of a machine. 906: a slot is to get what no guest can be given there, or a function is
         declared otherwise. 907: the board, its guests or how it is set up are others. 908: the image, or one of a guest in
-        it, is of another version of the format. Of these, what the first byte that fails tells.
+        it, is of another version of the format. 299: memory is out. docs/image-format.md says what is looked at first.
 
         >>> with Machine(BOARD) as machine:
         ...     a = machine.guest("a")

@@ -160,8 +160,8 @@ impl Machine {
     }
 
     /// Saves the whole machine: its image, which is who has which function of the board in which slot, what each guest holds,
-    /// and the board as the host reads it, but for what guests made of functions in slots. `docs/image-format.md` has
-    /// the bytes, and [`Machine::save_state`] what a device keeps beside its registers. The machine stays as it is.
+    /// and which board that is, set up how, with which guests. `docs/image-format.md` has the bytes, and
+    /// [`Machine::save_state`] what a device keeps beside its registers. The machine stays as it is.
     ///
     /// ```
     /// # const BOARD: &str = include_str!("board.toml");
@@ -196,7 +196,7 @@ impl Machine {
     ///
     /// 905: the bytes are no image of a machine. 906: a slot is to get what no guest can be given there, or a function is
     /// declared otherwise. 907: the board, its guests or how it is set up are others. 908: the image, or one of a guest in
-    /// it, is of another version of the format. Of these, what the first byte that fails tells.
+    /// it, is of another version of the format. 299: memory is out. `docs/image-format.md` says what is looked at first.
     ///
     /// ```
     /// # const BOARD: &str = include_str!("board.toml");
