@@ -1,7 +1,7 @@
 -- Each layout reads what it writes, and nothing else.
 use Rattle.std.{proofs.{Common.{◌≡◌, ◌<◌, ℕ, zero, suc, Bool, true, List, [], ◌∷◌, ◌++◌, length, Some, Option, refl, sym, ap, ◌∙◌, subst, append_assoc, append-nil, arith}, lemmas.{Bool.{and_from, eqb-true}, Option.same_Some}}, specs.Prelude.{flat_map, nat_le, option_and_then, IsTrue}}
 use Rattle.lists.proofs.{EachLemmas.each_append, Tests.{left_true, right_true}}
-use Rattle.model_images.{specs.{Layouts.{Layout, Parsed, parsed, number, checked, through, paired, parse_next, followed, both, exactly, fit_times, before, parse_times, repeated, counted, fit_each, bytes_each, parse_each, for_each, first_of, at_most_one, optional, fits_either, bytes_either, parse_either, OneOf, either, if_no_rest, whole}, ByteLaws.{AreBytes, Spells, IsLayout}}, proofs.{Options.{from_next, from_map}, Numbers.number_is}}
+use Rattle.model_images.{specs.{Layouts.{Layout, Parsed, parsed, number, checked, through, paired, parse_next, followed, both, exactly, fit_times, before, parse_times, repeated, counted, first_of, at_most_one, optional, if_no_rest, whole}, ByteLaws.{AreBytes, Spells, IsLayout}}, proofs.{Options.{from_next, from_map}, Numbers.number_is}}
 
 -- ---- values that pass, and values seen as others
 
@@ -75,44 +75,6 @@ module _ {A : Type 0} (L : Layout A) (l : IsLayout L) where
   optional_is =
       through_is short (checked_is (counted 1 L) (counted_is 1) (λ xs. nat_le (length xs) 1)) first_of at_most_one one_back
       (λ xs h. one_same xs (right_true ((counted 1 L).fits xs) (nat_le (length xs) 1) h))
-
--- ---- a value for each of many
-
-module _ {A B : Type 0} (L : A → Layout B) (l : (x : A) → IsLayout (L x)) where
-  each_bytes : (xs : List A) (ys : List B) → AreBytes (bytes_each L xs ys)
-  each_bytes [] ys = tt
-  each_bytes (x ∷ xs) [] = tt
-  each_bytes (x ∷ xs) (y ∷ ys) = each_append (λ b. b < 256) ((L x).bytes y) (bytes_each L xs ys) ((l x).are_bytes y) (each_bytes xs ys)
-
-  each_again : (xs : List A) (ys : List B) (rest : List ℕ) → fit_each L xs ys ≡ true → parse_each L xs (bytes_each L xs ys ++ rest) ≡ Some (parsed ys rest)
-  each_again [] [] rest h = refl
-  each_again (x ∷ xs) (y ∷ ys) rest h = grind (arith, append_assoc, left_true, right_true, each_again xs ys rest)
-  each_again xs ys rest h = cc
-
-  each_more : (x : A) (xs : List A) (bs : List ℕ) (q : Parsed B) (r : Parsed (List B)) → Spells (L x) bs q → Spells (for_each L xs) q.rest r → Spells (for_each L (x ∷ xs)) bs (before q.value r)
-  each_more x xs bs q r s t = grind (arith, and_from, append_assoc)
-
-  each_spells : (xs : List A) (bs : List ℕ) (p : Parsed (List B)) → parse_each L xs bs ≡ Some p → Spells (for_each L xs) bs p
-  each_spells [] bs p h = subst (Spells (for_each L []) bs) (same_Some (parsed [] bs) p h) (record { fits = refl; bytes = refl })
-  each_spells (x ∷ xs) bs p h = grind (arith, from_next, from_map, each_more x xs bs, each_spells xs)
-
-  pub for_each_is : (xs : List A) → IsLayout (for_each L xs)
-  for_each_is xs = record { are_bytes = each_bytes xs; again = each_again xs; spells = each_spells xs }
-
--- ---- a value of two kinds
-
-module _ {A B : Type 0} (L : Layout A) (M : Layout B) (l : IsLayout L) (m : IsLayout M) where
-  either_bytes : (x : OneOf A B) → AreBytes (bytes_either L M x)
-  either_bytes x = grind arith
-
-  either_again : (x : OneOf A B) (rest : List ℕ) → fits_either L M x ≡ true → parse_either L M (bytes_either L M x ++ rest) ≡ Some (parsed x rest)
-  either_again x rest h = grind arith
-
-  either_spells : (bs : List ℕ) (p : Parsed (OneOf A B)) → parse_either L M bs ≡ Some p → Spells (either L M) bs p
-  either_spells bs p h = grind (arith, from_map, eqb-true)
-
-  pub either_is : IsLayout (either L M)
-  either_is = record { are_bytes = either_bytes; again = either_again; spells = either_spells }
 
 -- ---- all the bytes
 

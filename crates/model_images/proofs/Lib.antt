@@ -8,10 +8,6 @@ pub mod Steps
 pub mod KeptFunctions
 pub mod Fitting
 pub mod Counts
-pub mod Machines
-mod Emptying
-pub mod Filling
-pub mod MachineLoads
 mod ImageExamples
 pub mod Options
 pub mod Numbers
@@ -21,18 +17,7 @@ pub mod ImageBytes
 pub mod Savable
 pub mod LoadedBytes
 pub mod TakenBytes
-pub mod FrontBytes
-pub mod MachineBytes
-pub mod ReadMachines
-pub mod SeatedPaths
-pub mod TakenMachines
+mod Stops
 mod ByteCells
-mod FittingMachines
-mod SavableMachines
-mod DecidedMachines
-mod SavedMachines
-mod SavedWorlds
-mod FewFunctions
-pub mod WritableWorlds
-mod Differences
+pub mod SavedWorlds
 mod ByteExamples

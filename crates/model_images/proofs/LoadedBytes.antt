@@ -3,7 +3,7 @@ use Rattle.std.{proofs.{Common.{◌≡◌, ◌⊎◌, inl, inr, ℕ, zero, suc, 
 use Rattle.lists.{specs.Elements.Each, proofs.Tests.{left_true, right_true}}
 use Rattle.model_registers.specs.{Registers.File, ConfigAddress.latched, EndpointTable.endpoint_reset, Decoding.Function}
 use Rattle.model_guests.specs.{Slots.Slots, Lone.LoneGuest}
-use Rattle.model_images.{specs.{Images.{SavedFunction, Image, image_of_lone, fit_cells, Fits, FitsSlot, FitSlots}, FitLaws.HoldsFitting, Layouts.{Layout, le_bytes, number, fit_times, optional}, ImageBytes.{endpoint_layout, function_layout, declaration_bytes, image_bytes}, ByteLaws.{IsLayout, HasBytes, HoldsSavable, IsSavableGuest}, LoadedBytes.{Left, then_read, after_version, after_beginning, after_bytes, after_values, after_slot, after_slots_front, at_end, after_slots, after_number, after_latch, after_image_front, after_image, fault_of, load_fault}, LoadedLaws.{AlikeAccepted, ImagesDecided, IsOfOthers}, TakenBytes.{HoldsDeclared, IsDeclaredGuest}}, proofs.{Fitting.saved_slots, Numbers.number_again, ImageLayouts.endpoint_is, ImageBytes.{read_are_bytes, parts_of, FunctionParts, function_parts, slot_fits}, Savable.{endpoint_fits, guests_have_bytes}}}
+use Rattle.model_images.{specs.{Images.{SavedFunction, Image, image_of_lone, fit_cells, Fits, FitsSlot, FitSlots}, FitLaws.HoldsFitting, Layouts.{Layout, le_bytes, number, fit_times, optional}, ImageBytes.{endpoint_layout, function_layout, declaration_bytes, image_bytes}, ByteLaws.{IsLayout, HasBytes, HoldsSavable, IsSavableGuest}, LoadedBytes.{Left, then_read, after_version, after_beginning, after_bytes, after_values, after_slot, after_slots, after_number, after_latch, after_image, fault_of, load_fault}, LoadedLaws.{AlikeAccepted, ImagesDecided, IsOfOthers}, TakenBytes.{HoldsDeclared, IsDeclaredGuest}}, proofs.{Fitting.saved_slots, Numbers.number_again, ImageLayouts.endpoint_is, ImageBytes.{read_are_bytes, parts_of, FunctionParts, function_parts, slot_fits}, Savable.{endpoint_fits, guests_have_bytes}}}
 
 -- ---- bytes that are compared
 
@@ -104,43 +104,30 @@ fitting_slot s f rest h k = absurd k
 abbrev pub slots_bytes : List (Option SavedFunction) → List ℕ
 slots_bytes ss = flat_map slot_bytes ss
 
-slots_decided : (n : ℕ) (ss : List (Option SavedFunction)) (fs : Slots) (rest : List ℕ) → fit_times (optional function_layout).fits n ss ≡ true → length fs ≡ n → Each HoldsDeclared fs
-    → FitSlots ss fs ⊎ (after_slots_front fs (slots_bytes ss ++ rest) ≡ Err 906)
-slots_decided n [] [] rest h count all = inl tt
-slots_decided (suc n) (s ∷ ss) (f ∷ fs) rest h count all = grind (arith, append_assoc, slot_decided, left_true, right_true, fitting_slot, slots_decided n ss fs rest)
-slots_decided n ss fs rest h count all = grind arith
+slots_decided : (n : ℕ) (ss : List (Option SavedFunction)) (fs : Slots) → fit_times (optional function_layout).fits n ss ≡ true → length fs ≡ n → Each HoldsDeclared fs
+    → FitSlots ss fs ⊎ (after_slots fs (slots_bytes ss) ≡ Err 906)
+slots_decided n [] [] h count all = inl tt
+slots_decided (suc n) (s ∷ ss) (f ∷ fs) h count all = grind (arith, slot_decided, left_true, right_true, fitting_slot, slots_decided n ss fs)
+slots_decided n ss fs h count all = grind arith
 
-fitting_slots : (n : ℕ) (ss : List (Option SavedFunction)) (fs : Slots) (rest : List ℕ) → fit_times (optional function_layout).fits n ss ≡ true → FitSlots ss fs
-    → after_slots_front fs (slots_bytes ss ++ rest) ≡ Ok rest
-fitting_slots n [] [] rest h k = refl
-fitting_slots (suc n) (s ∷ ss) (f ∷ fs) rest h k = grind (arith, append_assoc, fitting_slot, left_true, right_true, fitting_slots n ss fs rest)
-fitting_slots n ss fs rest h k = grind arith
+fitting_slots : (n : ℕ) (ss : List (Option SavedFunction)) (fs : Slots) → fit_times (optional function_layout).fits n ss ≡ true → FitSlots ss fs → after_slots fs (slots_bytes ss) ≡ Ok []
+fitting_slots n [] [] h k = refl
+fitting_slots (suc n) (s ∷ ss) (f ∷ fs) h k = grind (arith, fitting_slot, left_true, right_true, fitting_slots n ss fs)
+fitting_slots n ss fs h k = grind arith
 
 -- ---- an image
 
 pub latch_taken : (n : ℕ) (rest : List ℕ) → (number 4).fits n ≡ true → latched n ≡ n → after_latch (le_bytes 4 n ++ rest) ≡ Ok rest
 latch_taken n rest fits same = ap after_number (number_again 4 n rest (ltb-true n (256 ^ 4) fits)) ∙ grind arith
 
-pub fitting_front : (g : LoneGuest) (i : Image) → HasBytes i → Fits i g → (rest : List ℕ) → after_image_front g (image_bytes i ++ rest) ≡ Ok rest
-fitting_front g i has fits rest =
-    let parts = parts_of i has in
-    ap (then_read (after_slots_front g.slots)) (latch_taken i.latch (slots_bytes i.slots ++ rest) parts.latch_fits parts.latched) ∙ fitting_slots 32 i.slots g.slots rest parts.slots fits.slots
-
--- what doesn't fit is refused as another guest's
-pub front_decided : (g : LoneGuest) → IsDeclaredGuest g → (i : Image) → HasBytes i → (rest : List ℕ) → Fits i g ⊎ (after_image_front g (image_bytes i ++ rest) ≡ Err 906)
-front_decided g declared i has rest = grind (arith, slots_decided 32 i.slots g.slots rest, parts_of i has, latch_taken i.latch (slots_bytes i.slots ++ rest))
-
--- nothing follows
-pub slots_end : (fs : Slots) (bytes : List ℕ) → after_slots fs bytes ≡ then_read at_end (after_slots_front fs bytes)
-slots_end [] bytes = refl
-slots_end (f ∷ fs) bytes = grind (arith, slots_end fs)
-
-pub image_ends : (g : LoneGuest) (bytes : List ℕ) → after_image g bytes ≡ then_read at_end (after_image_front g bytes)
-image_ends g bytes = grind (arith, slots_end)
-
 pub fitting_accepted : (g : LoneGuest) (i : Image) → HasBytes i → Fits i g → load_fault g (image_bytes i) ≡ None
 fitting_accepted g i has fits =
-    ap fault_of (image_ends g (image_bytes i) ∙ ap (λ (bs : List ℕ). then_read at_end (after_image_front g bs)) (sym (append-nil (image_bytes i))) ∙ ap (then_read at_end) (fitting_front g i has fits []))
+    let parts = parts_of i has in
+    ap fault_of (ap (then_read (after_slots g.slots)) (latch_taken i.latch (slots_bytes i.slots) parts.latch_fits parts.latched) ∙ fitting_slots 32 i.slots g.slots parts.slots fits.slots)
+
+-- what doesn't fit is refused as another guest's
+image_decided : (g : LoneGuest) → IsDeclaredGuest g → (i : Image) → HasBytes i → Fits i g ⊎ (after_image g (image_bytes i) ≡ Err 906)
+image_decided g declared i has = grind (arith, slots_decided 32 i.slots g.slots, parts_of i has, latch_taken i.latch (slots_bytes i.slots))
 
 savable_declared : (fs : Slots) → Each HoldsSavable fs → Each HoldsDeclared fs
 savable_declared [] h = tt
@@ -150,7 +137,7 @@ pub savable_is_declared : (g : LoneGuest) → IsSavableGuest g → IsDeclaredGue
 savable_is_declared g h = record { count = h.count; functions = savable_declared g.slots h.functions }
 
 pub images_decided : ImagesDecided
-images_decided g savable bytes i h = of (front_decided g (savable_is_declared g savable) i spelled.1 [])
+images_decided g savable bytes i h = of (image_decided g (savable_is_declared g savable) i spelled.1)
   where
     spelled : (bytes ≡ image_bytes i) × HasBytes i
     spelled = read_are_bytes bytes i h
@@ -158,11 +145,10 @@ images_decided g savable bytes i h = of (front_decided g (savable_is_declared g 
     accepted : Fits i g → load_fault g bytes ≡ None
     accepted k = ap (load_fault g) spelled.0 ∙ fitting_accepted g i spelled.1 k
 
-    of : Fits i g ⊎ (after_image_front g (image_bytes i ++ []) ≡ Err 906) → ((load_fault g bytes ≡ None) × Fits i g) ⊎ IsOfOthers g bytes i
+    of : Fits i g ⊎ (after_image g (image_bytes i) ≡ Err 906) → ((load_fault g bytes ≡ None) × Fits i g) ⊎ IsOfOthers g bytes i
     of (inl fits) = inl (accepted fits, fits)
     of (inr m) =
-        let refused : load_fault g bytes ≡ Some 906 =
-        ap fault_of (image_ends g bytes ∙ ap (λ (bs : List ℕ). then_read at_end (after_image_front g bs)) (spelled.0 ∙ sym (append-nil (image_bytes i))) ∙ ap (then_read at_end) m) in
+        let refused : load_fault g bytes ≡ Some 906 = ap fault_of (ap (after_image g) spelled.0 ∙ m) in
         inr (record { refused = refused; not_fitting = λ k. let none = accepted k in cc })
 
 pub savable_fits : (fs : Slots) → Each HoldsSavable fs → Each HoldsFitting fs

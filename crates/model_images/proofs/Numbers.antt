@@ -1,5 +1,5 @@
 -- Numbers of so many bytes are read as they are written, and no other bytes are.
-use Rattle.std.{proofs.{Common.{◌≡◌, ℕ, zero, suc, ◌/◌, ◌^◌, ◌<◌, true, List, [], ◌∷◌, ◌++◌, Some, refl, sym, ap, subst, arith}, Math.Nat.pow-suc, lemmas.{Bool.{lt-ltb, ltb-true}, Option.same_Some}}, specs.Prelude.{flat_map, length}}
+use Rattle.std.{proofs.{Common.{◌≡◌, ℕ, zero, suc, ◌/◌, ◌^◌, ◌<◌, List, [], ◌∷◌, ◌++◌, Some, refl, sym, ap, subst, arith}, Math.Nat.pow-suc, lemmas.{Bool.{lt-ltb, ltb-true}, Option.same_Some}}, specs.Prelude.{flat_map, length}}
 use Rattle.model_images.{specs.{Layouts.{Parsed, parsed, le_bytes, raised_number, parse_number, number}, ByteLaws.{AreBytes, Spells, IsLayout}}, proofs.Options.from_map}
 
 pub number_bytes : (k n : ℕ) → AreBytes (le_bytes k n)

@@ -2,7 +2,7 @@
 --     ByteExamples      what they begin with, how they are read, and by which guests they are taken
 use Rattle.std.specs.Prelude.{[], ◌∷◌, ◌≡◌, ◌++◌, Some, None, codes, take, drop, length}
 use Rattle.model_guests.specs.{World.declarations, Lone.reset_guest, Examples.main_world}
-use Rattle.model_images.specs.{ImageExamples.{at_work, its_image}, ImageBytes.{image_bytes, image_of}, LoadedBytes.load_fault, Differences.fault_text}
+use Rattle.model_images.specs.{ImageExamples.{at_work, its_image}, ImageBytes.{image_bytes, image_of}, LoadedBytes.load_fault}
 
 pub record ByteExamples : Type 0 where
   pub many : length (image_bytes its_image) ≡ 500
@@ -11,8 +11,6 @@ pub record ByteExamples : Type 0 where
   pub read : image_of (image_bytes its_image) ≡ Some its_image
   pub taken : load_fault (reset_guest (declarations main_world (codes "a"))) (image_bytes its_image) ≡ None
   pub others : load_fault (reset_guest (declarations main_world (codes "b"))) (image_bytes its_image) ≡ Some 906
-  pub told : fault_text (reset_guest (declarations main_world (codes "b"))) (image_bytes its_image)
-      ≡ codes "slot 0: device 0x1, here 0x3"
   pub too_short : load_fault at_work (take 499 (image_bytes its_image)) ≡ Some 905
   pub too_long : load_fault at_work (image_bytes its_image ++ 0 ∷ []) ≡ Some 905
   pub other_version : load_fault at_work (take 4 (image_bytes its_image) ++ 2 ∷ drop 5 (image_bytes its_image)) ≡ Some 908

@@ -6,9 +6,7 @@
 --     followed L M, both L M      a value, then one of a layout that it decides; two values
 --     exactly k n      this number alone, in k bytes
 --     repeated n L, counted k L      n values; how many values there are, in k bytes, then these
---     for_each L xs      a value for each of these, by the layout that it decides
 --     optional L      a byte 0, or a byte 1 and a value
---     OneOf, either L M      a byte 0 and a value of the one, or a byte 1 and a value of the other
 --     whole L bytes      the value that all these bytes are
 use Rattle.std.specs.Prelude.{List, [], ◌∷◌, ℕ, zero, suc, ◌+◌, ◌*◌, ◌/◌, ◌%◌, ◌^◌, ◌++◌, Bool, true, false, ◌&&◌, ◌==◌, nat_lt, nat_le, if◌then◌else◌, length, flat_map, Option, Some, None, option_map, option_and_then}
 
@@ -112,27 +110,6 @@ repeated n L = record {
 abbrev pub counted : {A : Type 0} → ℕ → Layout A → Layout (List A)
 counted k L = through (λ x. x.1) (λ xs. (length xs, xs)) (followed (number k) (λ n. repeated n L))
 
--- ---- a value for each of many
-
-abbrev pub fit_each : {A B : Type 0} → (A → Layout B) → List A → List B → Bool
-fit_each L [] [] = true
-fit_each L [] (y ∷ ys) = false
-fit_each L (x ∷ xs) [] = false
-fit_each L (x ∷ xs) (y ∷ ys) = (L x).fits y && fit_each L xs ys
-
-abbrev pub bytes_each : {A B : Type 0} → (A → Layout B) → List A → List B → List ℕ
-bytes_each L [] ys = []
-bytes_each L (x ∷ xs) [] = []
-bytes_each L (x ∷ xs) (y ∷ ys) = (L x).bytes y ++ bytes_each L xs ys
-
-abbrev pub parse_each : {A B : Type 0} → (A → Layout B) → List A → List ℕ → Option (Parsed (List B))
-parse_each L [] bs = Some (parsed [] bs)
-parse_each L (x ∷ xs) bs =
-    option_and_then (λ (p : Parsed _). option_map (before p.value) (parse_each L xs p.rest)) ((L x).parse bs)
-
-abbrev pub for_each : {A B : Type 0} → (A → Layout B) → List A → Layout (List B)
-for_each L xs = record { fits = fit_each L xs; bytes = bytes_each L xs; parse = parse_each L xs }
-
 -- ---- a value or none, which are one value or none in a list
 
 abbrev pub first_of : {A : Type 0} → List A → Option A
@@ -145,29 +122,6 @@ at_most_one (Some x) = x ∷ []
 
 abbrev pub optional : {A : Type 0} → Layout A → Layout (Option A)
 optional L = through first_of at_most_one (checked (λ xs. nat_le (length xs) 1) (counted 1 L))
-
--- ---- a value of two kinds
-
-pub data OneOf (A B : Type 0) : Type 0 where
-  one : A → OneOf A B
-  other : B → OneOf A B
-
-abbrev pub fits_either : {A B : Type 0} → Layout A → Layout B → OneOf A B → Bool
-fits_either L M (one x) = L.fits x
-fits_either L M (other y) = M.fits y
-
-abbrev pub bytes_either : {A B : Type 0} → Layout A → Layout B → OneOf A B → List ℕ
-bytes_either L M (one x) = 0 ∷ L.bytes x
-bytes_either L M (other y) = 1 ∷ M.bytes y
-
-abbrev pub parse_either : {A B : Type 0} → Layout A → Layout B → List ℕ → Option (Parsed (OneOf A B))
-parse_either L M [] = None
-parse_either L M (b ∷ bs) =
-    if b == 0 then option_map (seen one) (L.parse bs)
-    else (if b == 1 then option_map (seen other) (M.parse bs) else None)
-
-abbrev pub either : {A B : Type 0} → Layout A → Layout B → Layout (OneOf A B)
-either L M = record { fits = fits_either L M; bytes = bytes_either L M; parse = parse_either L M }
 
 -- ---- all the bytes
 

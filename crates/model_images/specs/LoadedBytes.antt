@@ -3,9 +3,8 @@
 --     then_read next r      what `next` makes of the bytes that are left, if there was no refusal
 --     after_bytes k xs bytes      the bytes after these ones; where another byte stands, the refusal k
 --     after_values file bytes      the bytes after a value for each cell that the cell can hold
---     after_slot, after_slots_front, after_image_front      the bytes after those of a slot, of slots, and of an image
---                                                           of this guest, whatever follows
---     after_slots, after_image      the same where nothing follows
+--     after_slot      the bytes after those of a slot
+--     after_slots, after_image      the same of slots, and of an image of this guest, which nothing follows
 --     after_version v, after_beginning m v      the bytes after a version, and after what an image begins with
 --     load_fault g bytes      905 where the bytes are no image, 908 where they are one of another version, 906 where they
 --                             declare other functions
@@ -38,10 +37,6 @@ after_slot None bytes = after_bytes 906 (0 ∷ []) bytes
 after_slot (Some f) bytes =
     then_read (after_values (endpoint_reset f.decl false)) (after_bytes 906 (1 ∷ declaration_bytes f.decl) bytes)
 
-abbrev pub after_slots_front : Slots → List ℕ → Left
-after_slots_front [] bytes = Ok bytes
-after_slots_front (f ∷ fs) bytes = then_read (after_slots_front fs) (after_slot f bytes)
-
 -- no byte is left
 abbrev pub at_end : List ℕ → Left
 at_end [] = Ok []
@@ -67,10 +62,6 @@ after_version v bytes = after_bytes 908 (le_bytes 4 v) bytes
 -- what follows is read only where the version is this one
 abbrev pub after_beginning : ℕ → ℕ → List ℕ → Left
 after_beginning m v bytes = then_read (after_version v) (after_bytes 905 (le_bytes 4 m) bytes)
-
-abbrev pub after_image_front : LoneGuest → List ℕ → Left
-after_image_front g bytes =
-    then_read (after_slots_front g.slots) (then_read after_latch (after_beginning magic version bytes))
 
 abbrev pub after_image : LoneGuest → List ℕ → Left
 after_image g bytes = then_read (after_slots g.slots) (then_read after_latch (after_beginning magic version bytes))

@@ -1,24 +1,35 @@
 -- Laws of what is saved, whenever it is saved: guests can be saved along any requests, and what was saved of a guest is
 -- taken by each guest of equal declarations.
+--     CanBeDeclared, AreDeclared fs      a declaration that can be written; so are those of all functions of a board
+--     CanBeSaved w      so it is of a world's board, and each of its guests can be saved
 --     IsSavedAtFirst, CanBeSavedAtFirst      a lawful world can be saved at first, where the declarations of its board can
 --                                   be written
 --     IsWritableRequest, AreWritableRequests      requests whose images fit the guests that get them, and have bytes
 --     CanBeSavedAlong      along such requests it can be saved
---     WritableAtFirst, WritableAlong      and so can the whole machine, over a board that can be written
---     IsForAnother w from v to      a guest of a world that can be saved, and one of equal declarations, in this world or
---                                   another
---     IsTakenBy w from v to, TakesSavedGuest      the bytes that were saved of the first are taken by the second, which
---                                   then answers as the first would have, and no one else answers otherwise
+--     IsAlike w from v to      a guest of equal declarations, in this world or another
+--     IsTakenBy w from v to      the bytes that were saved of the first guest are taken by the second, which then answers as
+--                                   the first would have, and no one else answers otherwise
+--     IsTakenByEach w from, TakesSavedGuest      so they are by each guest of equal declarations
 --     SavesWhatWasTaken      what is saved of a guest after a load are the bytes that were loaded
 --     NoImageIsRefused      what is refused by 905 is no image
---     KeepsHandoff r      a request that neither gives a function nor takes one
---     TakesItsOwn      along such requests a machine takes what was saved of it, and is again what it was
 use Rattle.std.specs.{Prelude.{◌≡◌, ℕ, List, [], ◌∷◌, Some, None, IsFalse, IsSome, ⊤}, Str.bytes_eq}
 use Rattle.lists.specs.Elements.{Each}
-use Rattle.model_board.specs.{AtReset.board_at, State.State}
-use Rattle.model_guests.specs.{Text.Text, World.{World, HasLawfulGuests}, Lone.LoneGuest, Guests.{guest_named, lone_of}, WorldNow.{WorldNow, world_over}}
-use Rattle.model_handoff.specs.{Actions.{calls, gives, takes}, Handoffs.taken_over, Kept.IsLawfulOver}
-use Rattle.model_images.specs.{Images.{Image, image_of_guest, after_load, Fits}, Requests.{Request, acts, loads, restarts, after_request, after_requests, request_inputs}, LoadLaws.{copied, AnswersAlike}, FitLaws.declarations_of, MachineLaws.IsSavableWorld, ImageBytes.{image_bytes, image_of}, ByteLaws.{HasBytes, IsSavableGuest}, LoadedBytes.{load_fault, after_load_bytes}, LoadedLaws.IsFittingImage, LoadedMachineLaws.IsTaken, MachineByteLaws.{AreDeclared, AreWritable, CanBeSaved, IsWritableWorld}}
+use Rattle.model_board.specs.{Board.{Decl, endpoint, bridge}, State.{BoardFunction, State}}
+use Rattle.model_guests.specs.{Text.Text, World.World, Lone.LoneGuest, Guests.{GuestNow, guest_named, lone_of}, WorldNow.{WorldNow, world_over}}
+use Rattle.model_handoff.specs.{Handoffs.taken_over, Kept.IsLawfulOver}
+use Rattle.model_images.specs.{Images.{Image, image_of_guest, after_load, Fits}, Requests.{Request, acts, loads, restarts, after_request, after_requests, request_inputs}, LoadLaws.{copied, AnswersAlike}, FitLaws.declarations_of, ImageBytes.{image_bytes, image_of}, ByteLaws.{HasBytes, IsDeclared, IsSavableGuest}, LoadedBytes.{load_fault, after_load_bytes}, LoadedLaws.IsFittingImage}
+
+-- a lawful bridge can be written
+abbrev pub CanBeDeclared : Decl → Type 0
+CanBeDeclared (endpoint d) = IsDeclared d
+CanBeDeclared (bridge d) = ⊤
+
+abbrev pub AreDeclared : List BoardFunction → Type 0
+AreDeclared fs = Each (λ (f : BoardFunction). CanBeDeclared f.decl) fs
+
+pub record CanBeSaved (w : WorldNow) : Type 0 where
+  pub declared : AreDeclared w.handoff.functions
+  pub guests : Each (λ (g : GuestNow). IsSavableGuest g.lone) w.guests
 
 -- over a handoff, and over what guests get of one
 pub record IsSavedAtFirst (w : World) (s : State) : Type 0 where
@@ -46,21 +57,10 @@ abbrev pub CanBeSavedAlong : Type 0
 CanBeSavedAlong = (w : WorldNow) → IsLawfulOver w → CanBeSaved w → (requests : List Request)
     → AreWritableRequests w requests → CanBeSaved (after_requests w requests)
 
-abbrev pub WritableAtFirst : Type 0
-WritableAtFirst = (w : World) (s : State) → board_at s.functions ≡ w.board → AreWritable s.functions
-    → HasLawfulGuests w → IsLawfulOver (world_over w (taken_over w s)) → IsWritableWorld (world_over w (taken_over w s))
-
-abbrev pub WritableAlong : Type 0
-WritableAlong = (w : WorldNow) → IsLawfulOver w → IsWritableWorld w → (requests : List Request)
-    → AreWritableRequests w requests → IsWritableWorld (after_requests w requests)
-
 -- ---- what was saved of a guest
 
-pub record IsForAnother (w : WorldNow) (from : Text) (v : WorldNow) (to : Text) : Type 0 where
-  pub lawful : IsLawfulOver w
-  pub savable : CanBeSaved w
-  pub first : IsSome (guest_named w.guests from)
-  pub second : IsSome (guest_named v.guests to)
+pub record IsAlike (w : WorldNow) (from : Text) (v : WorldNow) (to : Text) : Type 0 where
+  pub there : IsSome (guest_named v.guests to)
   pub declarations : declarations_of (lone_of w.guests from) ≡ declarations_of (lone_of v.guests to)
 
 -- whatever others do, before and after
@@ -74,8 +74,12 @@ pub record IsTakenBy (w : WorldNow) (from : Text) (v : WorldNow) (to : Text) : T
       → (ones others : List Request) → request_inputs name v ones ≡ request_inputs name (copied from w to v) others
       → AnswersAlike v name ones (copied from w to v) name others
 
+abbrev pub IsTakenByEach : WorldNow → Text → Type 0
+IsTakenByEach w from = (v : WorldNow) (to : Text) → IsAlike w from v to → IsTakenBy w from v to
+
 abbrev pub TakesSavedGuest : Type 0
-TakesSavedGuest = (w v : WorldNow) (from to : Text) → IsForAnother w from v to → IsTakenBy w from v to
+TakesSavedGuest = (w : WorldNow) (from : Text) → IsLawfulOver w → CanBeSaved w → IsSome (guest_named w.guests from)
+    → IsTakenByEach w from
 
 -- ---- what was loaded
 
@@ -86,16 +90,3 @@ SavesWhatWasTaken = (w : WorldNow) (name : Text) → IsSome (guest_named w.guest
 abbrev pub NoImageIsRefused : Type 0
 NoImageIsRefused = (g : LoneGuest) → IsSavableGuest g → (bytes : List ℕ) → load_fault g bytes ≡ Some 905
     → image_of bytes ≡ None
-
--- ---- a machine
-
-abbrev pub KeepsHandoff : Request → Type 0
-KeepsHandoff (acts (calls c)) = ⊤
-KeepsHandoff (acts (gives g)) = ⊥
-KeepsHandoff (acts (takes n k)) = ⊥
-KeepsHandoff (loads n i) = ⊤
-KeepsHandoff (restarts n) = ⊤
-
-abbrev pub TakesItsOwn : Type 0
-TakesItsOwn = (w : WorldNow) → IsSavableWorld w → CanBeSaved w → (requests : List Request)
-    → Each KeepsHandoff requests → IsSavableWorld (after_requests w requests) → IsTaken w (after_requests w requests)
