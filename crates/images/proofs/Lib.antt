@@ -1,4 +1,3 @@
-pub mod ListedCells
 pub mod Puts
 pub mod Masks
 pub mod DeclaredBytes
@@ -9,10 +8,3 @@ pub mod Runs
 pub mod ShownValues
 pub mod ComparedFunctions
 pub mod IndexedDeclarations
-pub mod RowBytes
-pub mod Steps
-pub mod FoundParts
-pub mod HeldCells
-pub mod IndexedBytes
-pub mod SeatedFunctions
-mod ComparedFields

@@ -3,7 +3,6 @@ use Rattle.std.{proofs.{Common.{◌≡◌, ℕ, suc, ◌+◌, ◌-◌, ◌/◌, 
 use Rattle.lists.specs.Elements.{Each}
 use Rattle.model_registers.specs.{Cell.Cell, Registers.{Place, config, block, after, PlacedCell, File, field, cells_from}, Declarations.{Region, ConfigBlock, Endpoint}, EndpointTable.{base_cells, block_cells, header_cells, endpoint_reset}, DeviceBytes.is_device_byte}
 use Rattle.model_images.specs.{Images.can_hold, LoadedBytes.{then_read, after_values}}
-use Rattle.images.proofs.ListedCells.{endpoint_parts}
 use Rattle.model_registers.specs.EndpointTable as table
 
 values_both : (xs ys : File) (bytes : List ℕ) → after_values (xs ++ ys) bytes ≡ then_read (after_values ys) (after_values xs bytes)
@@ -108,6 +107,11 @@ base_ends r n bytes h = values_end n (base_cells r.index r.kind r.size 0) (cells
 
 -- ---- an endpoint
 
+-- three parts, as they are walked
+endpoint_parts : (d : Endpoint) (bs : List ConfigBlock) (rs : List Region) → bs ≡ d.blocks → rs ≡ d.regions
+    → endpoint_reset d false ≡ (header_cells d false 0 ++ flat_map block_cells bs) ++ flat_map region_reset rs
+endpoint_parts d bs rs blocks regions = rw (blocks, regions) refl
+
 module _ (d : Endpoint) (bs : List ConfigBlock) (rs : List Region) (blocks : bs ≡ d.blocks) (regions : rs ≡ d.regions) (bytes : List ℕ) where
   abbrev header : File
   header = header_cells d false 0
@@ -116,7 +120,7 @@ module _ (d : Endpoint) (bs : List ConfigBlock) (rs : List Region) (blocks : bs 
   front = header ++ flat_map block_cells bs
 
   in_parts : after_values (endpoint_reset d false) bytes ≡ after_values (front ++ flat_map region_reset rs) bytes
-  in_parts = ap (λ (file : File). after_values file bytes) (endpoint_parts d bs rs blocks regions).are
+  in_parts = ap (λ (file : File). after_values file bytes) (endpoint_parts d bs rs blocks regions)
 
   pub header_ends : (n : ℕ) → after_values header bytes ≡ Err n → after_values (endpoint_reset d false) bytes ≡ Err n
   header_ends n h = in_parts ∙ values_end n front (flat_map region_reset rs) bytes (values_end n header (flat_map block_cells bs) bytes h)

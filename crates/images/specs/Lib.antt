@@ -1,10 +1,4 @@
-pub mod Cells
 pub mod Faults
 pub mod Parts
 pub mod Puts
 pub mod Shown
-pub mod MachineFaults
-pub mod BoardBytes
-pub mod FoundPaths
-pub mod HeldLaws
-pub mod Differences

@@ -11,7 +11,7 @@ use config_bytes::Cell;
 use headers::{ConfigBlock, EndpointDecl, EndpointValues, Region};
 
 /// The bytes after these own ones, which have to stand there.
-pub fn after<'a>(own: &[u8], bytes: &'a [u8]) -> Result<&'a [u8], ImageFault>
+pub(crate) fn after<'a>(own: &[u8], bytes: &'a [u8]) -> Result<&'a [u8], ImageFault>
     ensures left { IfOk result (λ rest. after_bytes 906 own.now bytes.now ≡ Ok rest.now) }
     ensures refused { IfErr result (λ why.
         after_bytes 906 own.now bytes.now ≡ Err (number_of why)) }
@@ -137,7 +137,10 @@ fn after_parts<'a>(decl: &EndpointDecl, bytes: &'a [u8]) -> Result<&'a [u8], Ima
 /// The bytes after those of this very declaration, with which they have to begin. Refuses too few
 /// bytes, and those of another declaration.
 #[tactic(auto, using(crate::proofs::DeclaredBytes::declared_is))]
-pub fn after_declaration<'a>(decl: &EndpointDecl, bytes: &'a [u8]) -> Result<&'a [u8], ImageFault>
+pub(crate) fn after_declaration<'a>(
+    decl: &EndpointDecl,
+    bytes: &'a [u8],
+) -> Result<&'a [u8], ImageFault>
     ensures left { IfOk result (λ rest.
         after_bytes 906 (declaration_bytes decl.now) bytes.now ≡ Ok rest.now) }
     ensures refused { IfErr result (λ why.

@@ -5,7 +5,7 @@ ghost use Rattle.std.specs.Prelude.{◌≡◌, Some, slice_get};
 ghost use Rattle.lists.specs.Elements.{Each};
 ghost use Rattle.model_registers.specs.Cell.{IsCell};
 ghost use Rattle.model_board.specs.State.{BoardFunction};
-ghost use Rattle.model_images.specs.{ByteLaws.IsDeclared, MachineByteLaws.{AreDeclared, CanBeDeclared}};
+ghost use Rattle.model_images.specs.{ByteLaws.IsDeclared, SavedLaws.{AreDeclared, CanBeDeclared}};
 
 use config_bytes::are_cells;
 use headers::{ConfigBlock, EndpointDecl, Region};

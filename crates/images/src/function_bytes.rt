@@ -1,14 +1,20 @@
 //! A byte of a function as its guest has it: of the guest's own copies, or of the cells that the board holds.
 ghost use Rattle.std.specs.Prelude.{◌≡◌, ◌/◌, ◌*◌, ◌<◌, ◌%◌};
-ghost use Rattle.model_registers.specs.{Registers.{config, read}, ByteEnables.{enables_of, lanes}};
+ghost use Rattle.model_registers.specs.{OwnCopies.is_own, Registers.{config, read}, ByteEnables.{enables_of, lanes}};
 ghost use Rattle.headers.specs.{declared.place.Place.TheVariants.Cfg, Places.place_of};
 ghost use Rattle.images.specs.Shown.{shown_byte, source};
 
-use crate::cells::is_own;
 use bridge_forward::EndpointFn;
 use config_bytes::{enables_of, lowered};
 use guest_functions::VirtualFunction;
 use headers::Place;
+
+/// Whether guests have a copy of the byte: Command, header type and base address registers.
+fn is_own(off: u8) -> bool
+    ensures { result ≡ is_own (config off) }
+{
+    matches!(off, 0x04 | 0x05 | 0x0e | 0x10..=0x27)
+}
 
 /// A byte of configuration space in its word, whose other bytes are 0.
 fn word_of(endpoint: &EndpointFn, own: &VirtualFunction, off: u8) -> u32

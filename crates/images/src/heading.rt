@@ -37,7 +37,7 @@ fn of_version(fault: ImageFault) -> ImageFault
 }
 
 /// The bytes after the version of the format. Refuses too few bytes, and another version.
-pub fn after_version(version: u32, bytes: &[u8]) -> Result<&[u8], ImageFault>
+fn after_version(version: u32, bytes: &[u8]) -> Result<&[u8], ImageFault>
     ensures left { IfOk result (λ rest. after_version version bytes.now ≡ Ok rest.now) }
     ensures refused { IfErr result (λ why.
         after_version version bytes.now ≡ Err (number_of why)) }

@@ -30,7 +30,7 @@ fn three(number: u32) -> [u8; 3]
 }
 
 /// A number of 64 bits.
-pub(crate) fn eight(number: u64) -> [u8; 8]
+fn eight(number: u64) -> [u8; 8]
     ensures { result ≡ le_bytes 8 number }
 {
     let mut bytes = [0; 8];
@@ -39,14 +39,14 @@ pub(crate) fn eight(number: u64) -> [u8; 8]
 }
 
 /// The bits of a cell that a write sets.
-pub(crate) fn writable(cell: &Cell) -> u8
+fn writable(cell: &Cell) -> u8
     ensures { result ≡ cell.now.writable }
 {
     cell.with_value(0).written(0xff).value()
 }
 
 /// The bits of a cell that writing a one clears.
-pub(crate) fn clearable(cell: &Cell) -> u8
+fn clearable(cell: &Cell) -> u8
     ensures { result ≡ cell.now.clearable }
 {
     cell.with_value(0).raised(0xff).value()
@@ -62,7 +62,7 @@ pub(crate) fn cell_bytes(cell: &Cell) -> [u8; 3]
 }
 
 /// The number by which an image names a kind of region.
-pub(crate) fn kind_number(kind: Kind) -> u8
+fn kind_number(kind: Kind) -> u8
     ensures { result ≡ kind_number (kind_of kind) }
 {
     match kind {

@@ -1,13 +1,11 @@
 //! How many bytes declarations and their values have in an image.
 ghost use Rattle.std.specs.Prelude.{◌≡◌, ◌≤◌, false, flat_map, length};
 ghost use Rattle.lists.specs.Elements.{Each};
-ghost use Rattle.model_registers.specs.{DeclarationRules.IsConfigBlock, BridgeTable.bridge_reset, EndpointTable.{block_cells, endpoint_reset, region_cells}};
+ghost use Rattle.model_registers.specs.{DeclarationRules.IsConfigBlock, EndpointTable.{block_cells, endpoint_reset, region_cells}};
 ghost use Rattle.model_images.specs.ImageBytes.{declaration_bytes};
 ghost use Rattle.images.specs.Parts.{block_bytes, declared_bytes, region_bytes};
 
-use headers::{
-    BridgeDecl, ConfigBlock, EndpointDecl, IoDecode, PrefDecode, Region, register_width,
-};
+use headers::{ConfigBlock, EndpointDecl, Region, register_width};
 
 fn regions_size(regions: &[Region]) -> usize
     requires counts { Each (λ r. length r.cells ≤ 4096) regions.now }
@@ -95,22 +93,4 @@ pub fn values_size(decl: &EndpointDecl) -> usize
 {
     let values = decl.values();
     23 + blocks_cells(&values.config) + regions_cells(&values.bar)
-}
-
-/// How many cells a declared bridge has.
-pub fn bridge_values_size(decl: &BridgeDecl) -> usize
-    ensures size { result ≡ length (bridge_reset decl.now false) }
-    ensures bound { result ≤ 44 }
-{
-    let io = match decl.io() {
-        IoDecode::Unimplemented => 0,
-        IoDecode::Bits16 => 2,
-        IoDecode::Bits32 => 6,
-    };
-    let pref = match decl.pref() {
-        PrefDecode::Unimplemented => 0,
-        PrefDecode::Bits32 => 4,
-        PrefDecode::Bits64 => 12,
-    };
-    26 + io + pref
 }

@@ -116,7 +116,7 @@ fn after_regions<'a>(regions: &[Region], bytes: &'a [u8]) -> Result<&'a [u8], Im
 }
 
 /// The bytes after a value for each cell of an endpoint, all of which its cells can hold.
-pub fn after_values<'a>(decl: &EndpointDecl, bytes: &'a [u8]) -> Result<&'a [u8], ImageFault>
+pub(crate) fn after_values<'a>(decl: &EndpointDecl, bytes: &'a [u8]) -> Result<&'a [u8], ImageFault>
     ensures left { IfOk result (λ rest.
         after_values (endpoint_reset decl.now false) bytes.now ≡ Ok rest.now) }
     ensures refused { IfErr result (λ why.

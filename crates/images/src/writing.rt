@@ -101,7 +101,7 @@ fn put_declaration(out: &mut [u8], at: usize, decl: &EndpointDecl) -> usize
 
 /// Puts the bytes of a declaration into a buffer from an index on, and gives the index behind them.
 #[tactic(auto, using(crate::proofs::DeclaredBytes::declared_is))]
-pub fn write_declaration(decl: &EndpointDecl, out: &mut [u8], at: usize) -> usize
+pub(crate) fn write_declaration(decl: &EndpointDecl, out: &mut [u8], at: usize) -> usize
     requires { at + length (declaration_bytes decl.now) ≤ length out.old }
     ensures bytes { out.new ≡ put at (declaration_bytes decl.now) out.old }
     ensures end { result ≡ at + length (declaration_bytes decl.now) }

@@ -4,7 +4,7 @@ use Rattle.lists.proofs.Indices.{at_below}
 use Rattle.model_board.specs.Routing.{routing}
 use Rattle.model_guests.specs.{Text.Text, WorldNow.WorldNow}
 use Rattle.model_handoff.{specs.Changes.MachineNow, proofs.Keeping.keeps_routing}
-use Rattle.model_images.specs.MachineByteLaws.{IsWritableWorld}
+use Rattle.model_images.specs.SavedLaws.{CanBeSaved}
 use Rattle.host_bridge.specs.HostState.{HostState}
 use Rattle.monitor.{specs.{declared.guest.Guest.Guest, Keeping.{IsKept, IsSound}, Views.{machine_shown, world_shown}}, proofs.{Steps.{GuestAt, guests_within, kept_nth}, Shown.is_shown}}
 
@@ -14,8 +14,8 @@ module _ {h : HostState} {names : List Text} {gs : List Guest} (sound : IsSound 
   pub kept_in : IsKept now.world h names gs
   kept_in = subst (λ (m : MachineNow). IsKept m.world h names gs) view sound.kept
 
-  pub writable_in : IsWritableWorld now.world
-  writable_in = subst (λ (m : MachineNow). IsWritableWorld m.world) view sound.writable
+  pub savable_in : CanBeSaved now.world
+  savable_in = subst (λ (m : MachineNow). CanBeSaved m.world) view sound.savable
 
   pub inside_guests : (i : ℕ) → i < length now.world.guests → i < length gs
   inside_guests i inside = search (rules, guests_within, kept_in)

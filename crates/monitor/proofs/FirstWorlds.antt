@@ -1,12 +1,11 @@
 -- The world over a handoff that a monitor takes over, with its guests, is kept at first; what set-up leaves is a case.
-use Rattle.std.{proofs.Common.{◌≡◌, List, refl, sym, ap, ◌∙◌, subst, rules}, specs.Prelude.map}
+use Rattle.std.{proofs.Common.{◌≡◌, List, refl, sym, ap, ◌∙◌, subst, rules}, specs.Prelude.{IsTrue, map}}
 use Rattle.lists.specs.Elements.{Each}
-use Rattle.model_registers.specs.AccessLaws.{HoldsBytes}
-use Rattle.model_board.specs.{Routing.routing, State.{BoardFunction, State}}
+use Rattle.model_board.specs.{Routing.routing, State.State}
 use Rattle.model_set_up.specs.SetUp.{set_up_state}
-use Rattle.model_guests.specs.{Text.Text, World.{Guest as Declared, World, HasLawfulGuests}, Guests.{GuestsNow, guests_at_first}, WorldNow.world_over}
-use Rattle.model_handoff.{specs.{AfterSetUp.world_at_first, Handoffs.{IsHandoff, taken_over, with_given_reset}, Regions.CanBeGiven}, proofs.{Alike.{IsAlike, taken_alike, taken_lawful, taken_agrees, taken_shown}, First.first_is_reset, SetUpCase.{set_up_is_handoff, set_up_can_be_given}, SetUpLaws.set_up_at_first}}
-use Rattle.model_images.{specs.MachineByteLaws.{AreDeclared, IsWritableWorld}, proofs.{Machines.savable_at_first, WritableWorlds.writable_at_first}}
+use Rattle.model_guests.specs.{Text.Text, World.{Guest as Declared, World, HasLawfulGuests, is_name}, Guests.{GuestsNow, guests_at_first}, WorldNow.world_over}
+use Rattle.model_handoff.{specs.{AfterSetUp.world_at_first, Handoffs.{IsHandoff, taken_over, with_given_reset}, Kept.IsLawfulOver, Regions.CanBeGiven}, proofs.{Alike.{IsAlike, taken_alike, taken_lawful, taken_agrees, taken_shown}, First.first_is_reset, SetUpCase.{set_up_is_handoff, set_up_can_be_given}, SetUpLaws.set_up_at_first}}
+use Rattle.model_images.{specs.SavedLaws.{AreDeclared, CanBeSaved}, proofs.SavedWorlds.can_be_saved_at_first}
 use Rattle.host_bridge.specs.HostState.{HostState}
 use Rattle.window_packing.specs.Readies.{ReadyBoard, IsReady}
 use Rattle.monitor.{specs.{declared.guest.Guest.Guest, Keeping.{AreGuests, IsKept, IsSound}, Views.world_shown, Beginnings.{world_on, world_of}}, proofs.{Carried.guests_carried, Shown.{is_shown, is_sound}}}
@@ -29,9 +28,12 @@ module _ (h : HostState) (ds : List Declared) (handoff : IsHandoff h.state) (law
   alike : IsAlike s t
   alike = taken_alike w s handoff refl lawful
 
-  -- of what the board declares and holds
-  pub writable_over : AreDeclared s.functions → Each (λ (f : BoardFunction). HoldsBytes f.file) s.functions → IsWritableWorld (world_over w t)
-  writable_over declared bytes = writable_at_first w s refl (record { declared = declared; bytes = bytes }) lawful (savable_at_first w s handoff refl lawful can).lawful
+  taken_over_lawful : IsLawfulOver (world_over w t)
+  taken_over_lawful = taken_lawful w s handoff refl lawful can
+
+  -- of what the board declares
+  pub savable_over : AreDeclared s.functions → CanBeSaved (world_over w t)
+  savable_over declared = (can_be_saved_at_first w s declared).taken_over taken_over_lawful
 
   -- the host k that was taken over
   module _ (k : HostState) (taken : k ≡ record h { state = t }) where
@@ -42,8 +44,8 @@ module _ (h : HostState) (ds : List Declared) (handoff : IsHandoff h.state) (law
       pub kept_at_first : IsKept (world_over w t) k names kept_guests
       kept_at_first = search (rules, alike, guests_carried, taken_agrees, taken_lawful, taken_shown)
 
-      pub sound_at_first : IsWritableWorld (world_over w t) → IsSound k names kept_guests
-      sound_at_first writable = is_sound (world_over w t) k names kept_guests kept_at_first writable
+      pub sound_at_first : CanBeSaved (world_over w t) → IsSound k names kept_guests
+      sound_at_first savable = is_sound (world_over w t) k names kept_guests kept_at_first savable (subst (Each (λ n. IsTrue (is_name n))) (sym names_are) lawful.lawful_names)
 
       pub shown_at_first : world_shown k names kept_guests ≡ world_over w t
       shown_at_first = is_shown (world_over w t) k names kept_guests kept_at_first

@@ -12,13 +12,18 @@
 --     latch_kept, latch_read      the world after the latch is written, and what is written
 --     takes_named, image_fits      bytes that the guest of this name takes; they are an image of it
 --     loaded_is, keeps_lent, load_left, is_loaded      the guest by its name, and what the call leaves
-use Rattle.std.{proofs.{Common.{◌≡◌, ◌<◌, ◌+◌, ℕ, suc, true, false, List, length, take, drop, Some, None, Option, Ok, slice_get, slice_set, refl, sym, ap, ap₂, ◌∙◌, subst, arith}, lemmas.{Option.same_Some, List.drop-drop}}, specs.Prelude.{map, option_map, unwrap_or}}
+use Rattle.std.{proofs.{Common.{◌≡◌, ◌<◌, ◌+◌, ℕ, suc, true, false, List, [], ◌∷◌, length, take, drop, get_or, Fits, w8, Some, None, Option, Ok, slice_get, slice_set, refl, sym, ap, ap₂, ◌∙◌, subst, arith}, lemmas.{Option.same_Some, List.drop-drop}}, specs.Prelude.{map, option_map, unwrap_or}}
 use Rattle.model_registers.specs.{ConfigAddress.latched, EndpointTable.endpoint_reset, Decoding.Function}
 use Rattle.model_guests.specs.{Text.Text, Slots.{Slots, slot_at}, Lone.LoneGuest, Guests.{GuestsNow, lone_of}, WorldNow.WorldNow}
 use Rattle.model_handoff.specs.Changes.{MachineNow}
 use Rattle.model_images.{specs.{Images.{Image, restored, loaded, lone_of_image, after_load, at_reset}, ByteLaws.{AreBytes, IsSavableGuest}, LoadedBytes.{after_latch, load_fault}, LoadedLaws.IsFittingImage, TakenBytes.{values_begin, slot_size, taken_function, taken_slot, taken_image, le_number}}, proofs.{LoadedBytes.savable_is_declared, TakenBytes.{accepted_is_taken, image_is_taken, slots_are_taken}}}
 use Rattle.host_bridge.specs.HostState.{HostState}
 use Rattle.monitor.{specs.{declared.guest.{Held.Held, Guest.Guest}, ByIndex.{guest_nth, lone_nth, name_nth, with_lone_nth}, Configs.HoldsAt, Counts.{counted_nth, counts_of}, Keeping.{IsKept, IsSound}, Views.{machine_shown, slot_shown}, Loadings.{KeepsFunction, Becomes, IsLoadable, filled_with}, Loads.{AreLoadable, CanLoad, IsLoaded, KeepsWorld, Takes, slot_loaded, slots_loaded, value_span}}, proofs.{Landed.same_count, Steps.{GuestAt, kept_latch, lone_named, slot_empty, slot_nth, with_named, with_same}, Exchanges.holds_nth, Calls.{Leaves, leaves}, RestartSteps.{lone_set, none_set, requested, set_again}, SavedImages.{few_slots, lone_is}, LoadedSlots.{all_loaded, bytes_after, bytes_before, can_load, latch_there, loaded_lone, next_rest, one_more, reset_taken, reset_takes, reset_twice, rest_at, still_there}}}
+
+-- what code holds in bytes
+pub are_bytes : (xs : List ℕ) → ((i : ℕ) → Fits w8 (get_or xs i 0)) → AreBytes xs
+are_bytes [] h = tt
+are_bytes (x ∷ xs) h = let low : Fits w8 x = h 0 in (grind arith, are_bytes xs (λ i. h (suc i)))
 
 -- ---- a slot
 

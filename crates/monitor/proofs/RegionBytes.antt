@@ -1,7 +1,7 @@
 -- An access of one byte of a region by slot and register: the checks in their order, where it lands, and the machine after it.
 use Rattle.std.{proofs.{Common.{◌≡◌, ◌<◌, ℕ, Bool, true, false, cond, List, [], Some, None, Option, Ok, Err, refl, sym, ap, ◌∙◌, subst, arith}, lemmas.Bool.Decides.nat_tests}, specs.{Prelude.{nat_lt, option_map, Result}, Option.{option_map_or, ok_or}}}
 use Rattle.lists.{specs.Elements.IsIn, proofs.Indices.{found_at, index_in}}
-use Rattle.model_registers.specs.{OwnCopies.IsLawfulOwn, Declarations.Region, Decoding.{Function, is_open}}
+use Rattle.model_registers.specs.{OwnCopies.IsLawfulOwn, Declarations.Region, Decoding.{Function}}
 use Rattle.model_board.specs.{Paths.Path, State.State}
 use Rattle.model_guests.specs.{Accesses.{RaisePlace, in_config, in_region, Op, reads, writes, refused}, Slots.{slot_at, perform}, Lone.LoneGuest, Text.Text, WorldNow.WorldNow, DeviceEvents.DeviceByte}
 use Rattle.model_handoff.specs.{GuestRegions.{RegionNow, region_at, region_now}, RegionBytes.{opening, byte_opening, byte_reply, reply_there, after_there, register_of}, Changes.MachineNow}

@@ -1,11 +1,11 @@
 -- Of a world that is kept, what the host and the guests show is that world.
-use Rattle.std.{proofs.Common.{◌≡◌, ℕ, zero, suc, false, List, [], ◌∷◌, Some, None, Option, slice_get, refl, sym, ap, ap₂, ◌∙◌, subst, rules, arith}, specs.{Prelude.{map, option_map, MatchOption, ⊤}, Option.option_map_or}}
-use Rattle.lists.proofs.{Indices.{at_map, each_at, index_in, map_at}, Members.each_in}
+use Rattle.std.{proofs.Common.{◌≡◌, ℕ, zero, suc, false, List, [], ◌∷◌, Some, None, Option, slice_get, refl, sym, ap, ap₂, ◌∙◌, subst, rules, arith}, specs.{Prelude.{map, option_map, IsTrue, MatchOption, ⊤}, Option.option_map_or}}
+use Rattle.lists.{specs.Elements.Each, proofs.{Indices.{at_map, each_at, index_in, map_at}, Members.each_in}}
 use Rattle.model_registers.specs.{Registers.File, Declarations.Endpoint, DeclarationRules.IsLawfulEndpoint, EndpointTable.endpoint_reset, Decoding.Function, CopiedFiles.{agreed_file, places_of}}
 use Rattle.model_board.specs.{Paths.Path, Board.{endpoint, Board}, AtReset.board_at, Lawful.HasLawfulDecls, Ports.file_at, State.{BoardFunction, State}}
-use Rattle.model_guests.{specs.{Accesses.answered, Grammar.HostRead, HostReads.{host_fault, shown}, Text.Text, Slots.{Slots, slot_at}, Guests.{GuestNow, GuestsNow, guest_named, file_of}, WorldNow.{names_of, WorldNow, board_state, host_reply}, AgreedBoard.{agreed_function, state_over}, Seated.{IsSeatedAt, AreSeats, AreSeated}}, proofs.{DistinctPlaces.distinct_places, FoundFiles.same_places, CopiesNeverRise.declared_lawful, ViewedFiles.view_is_file, GuestsByName.{path_at, path_of, function_of, function_named}, KeptCopies.file_of_seat, DeclaredRows.declared_row, Along.by_index}}
+use Rattle.model_guests.{specs.{Accesses.answered, Grammar.HostRead, HostReads.{host_fault, shown}, Text.Text, World.is_name, Slots.{Slots, slot_at}, Guests.{GuestNow, GuestsNow, guest_named, file_of}, WorldNow.{names_of, WorldNow, board_state, host_reply}, AgreedBoard.{agreed_function, state_over}, Seated.{IsSeatedAt, AreSeats, AreSeated}}, proofs.{DistinctPlaces.distinct_places, FoundFiles.same_places, CopiesNeverRise.declared_lawful, ViewedFiles.view_is_file, GuestsByName.{path_at, path_of, function_of, function_named}, KeptCopies.file_of_seat, DeclaredRows.declared_row, Along.by_index}}
 use Rattle.model_handoff.{specs.{Handoffs.{IsHandoff, HasDeclaredShape}, ViewLaws.with_seated_reset}, proofs.{Standing.{endpoint_at, found, StandsAt, stands}, Views.reset_shown}}
-use Rattle.model_images.specs.MachineByteLaws.{IsWritableWorld}
+use Rattle.model_images.specs.SavedLaws.{CanBeSaved}
 use Rattle.host_bridge.specs.HostState.{HostState}
 use Rattle.monitor.specs.{declared.guest.{Held.Held, Guest.Guest}, Views.{function_shown, slot_shown, path_shown, guest_shown, guests_shown, handoff_shown, world_shown}, Keeping.{IsHeld, AreSlots, AreGuests, IsKept, IsSound}}
 
@@ -100,8 +100,8 @@ module _ (w : WorldNow) (h : HostState) (names : List Text) (gs : List Guest) (k
   pub is_shown : world_shown h names gs ≡ w
   is_shown = search (rules, all_shown, by_index, each_at, reset_shown, shown_as_handed)
 
-  pub is_sound : IsWritableWorld w → IsSound h names gs
-  is_sound writable = record { kept = subst (λ (v : WorldNow). IsKept v h names gs) (sym is_shown) kept; writable = subst IsWritableWorld (sym is_shown) writable }
+  pub is_sound : CanBeSaved w → Each (λ n. IsTrue (is_name n)) names → IsSound h names gs
+  is_sound can lawful = record { kept = subst (λ (v : WorldNow). IsKept v h names gs) (sym is_shown) kept; savable = subst CanBeSaved (sym is_shown) can; lawful_names = lawful }
 
 -- ---- what is asked of it
 

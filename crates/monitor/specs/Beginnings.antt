@@ -1,13 +1,14 @@
 -- Guests before they did anything, on the board of a host.
 --     world_on, world_of      the board of a host, or of a host that is set up, with guests
+--     with_no_slots name      a guest of this name, whose slots are empty
 --     declared_in      what a base address register opens
 --     IsStanding s i p f      the endpoint f at reset stands in row i of the board, at the path p
 --     AreSlotsAtFirst      a guest's slots, the first of them with the endpoints at these paths
-use Rattle.std.specs.Prelude.{ℕ, ◌-◌, ◌≡◌, false, List, ◌++◌, Option, Some, None, map, option_map, length, replicate, slice_get}
+use Rattle.std.specs.Prelude.{ℕ, ◌-◌, ◌≡◌, false, List, [], ◌++◌, Option, Some, None, map, option_map, length, replicate, slice_get}
 use Rattle.bars.specs.declared.region.BasedRegion.{BasedRegion}
 use Rattle.model_registers.specs.{Declarations.Bar, DeclarationRules.IsLawfulEndpoint, EndpointTable.endpoint_reset, Decoding.Function}
 use Rattle.model_board.specs.{Paths.Path, Board.endpoint, State.State, Ports.file_at}
-use Rattle.model_guests.specs.{World.{Guest, World, declared}, Slots.reset_slots}
+use Rattle.model_guests.specs.{Text.Text, World.{Guest, World, declared}, Slots.reset_slots}
 use Rattle.host_bridge.specs.HostState.{HostState}
 use Rattle.window_packing.specs.Readies.{ReadyBoard, board_below}
 use Rattle.monitor.specs.{declared.guest.Held.Held, Keeping.AreSlots}
@@ -17,6 +18,9 @@ world_on h guests = record { board = board_below h; apertures = h.apertures; gue
 
 abbrev pub world_of : ReadyBoard → List Guest → World
 world_of r guests = world_on r.host guests
+
+abbrev pub with_no_slots : Text → Guest
+with_no_slots name = record { name = name; slots = [] }
 
 abbrev pub declared_in : Option BasedRegion → Option Bar
 declared_in o = option_map (λ (r : BasedRegion). r.decl) o

@@ -2,13 +2,14 @@
 --     IsHeld      a function in a slot: its place on the board, its regions where the handoff has them, and the copies
 --     IsSlot, AreSlots, IsGuest, AreGuests      the same slot by slot, and guest by guest
 --     IsKept      the board is in the one state that agrees with the guests over the handoff
---     IsSound      a host and guests keep the world that they show, of which images can be written
-use Rattle.std.specs.Prelude.{List, [], ◌∷◌, ◌≡◌, Option, None, Some, ⊤, map, slice_get}
+--     IsSound      a host and guests keep the world that they show, whose guests can be saved and have lawful names
+use Rattle.std.specs.Prelude.{List, [], ◌∷◌, ◌≡◌, Option, None, Some, IsTrue, ⊤, map, slice_get}
+use Rattle.lists.specs.Elements.{Each}
 use Rattle.model_registers.specs.{EndpointTable.opened, OwnCopies.{HoldsOwn, bare}, Decoding.{Function, base_address}}
 use Rattle.model_board.specs.{Paths.Path, Board.endpoint, AtReset.board_at, Ports.file_at, State.State}
-use Rattle.model_guests.specs.{Text.Text, Slots.Slots, Guests.{GuestNow, GuestsNow}, WorldNow.{WorldNow, board_state}}
+use Rattle.model_guests.specs.{Text.Text, Slots.Slots, World.is_name, Guests.{GuestNow, GuestsNow}, WorldNow.{WorldNow, board_state}}
 use Rattle.model_handoff.specs.{Kept.IsLawfulOver, ViewLaws.with_seated_reset}
-use Rattle.model_images.specs.MachineByteLaws.{IsWritableWorld}
+use Rattle.model_images.specs.SavedLaws.{CanBeSaved}
 use Rattle.bars.specs.Slots.{bases_from}
 use Rattle.host_bridge.specs.HostState.{HostState}
 use Rattle.monitor.specs.{declared.guest.{Held.Held, Guest.Guest}, Views.world_shown}
@@ -51,4 +52,5 @@ pub record IsKept (w : WorldNow) (h : HostState) (names : List Text) (gs : List 
 
 pub record IsSound (h : HostState) (names : List Text) (gs : List Guest) : Type 0 where
   pub kept : IsKept (world_shown h names gs) h names gs
-  pub writable : IsWritableWorld (world_shown h names gs)
+  pub savable : CanBeSaved (world_shown h names gs)
+  pub lawful_names : Each (λ n. IsTrue (is_name n)) names

@@ -5,16 +5,14 @@
 --     IsEndpointAt      an endpoint stands at a path, and at an index
 --     has_index i gs      a slot of any guest has the function at an index
 --     is_closed_base, is_closed_slot      Command doesn't open the space of the region that begins at a register
---     is_open_now f      an endpoint, and Command opens the spaces of all its regions
 --     ComesIn      the function at the path, at reset, as it is kept in a slot
 --     MakesGift      what a gift is told in a world that is kept, and what comes into the slot where it is not refused
-use Rattle.std.specs.{Prelude.{ℕ, List, Bool, false, ◌≡◌, not, ◌&&◌, Option, None, Some, Result, Ok, Err, slice_get, ⊤}, List.list_any, Option.option_map_or}
+use Rattle.std.specs.{Prelude.{ℕ, List, Bool, false, ◌≡◌, not, Option, None, Some, Result, Ok, Err, slice_get, ⊤}, List.list_any, Option.option_map_or}
 use Rattle.bars.specs.declared.region.BasedRegion.{BasedRegion}
-use Rattle.model_registers.specs.{Declarations.Endpoint, EndpointTable.BaseAddress, Decoding.{command_word, opens_space, space_of}}
-use Rattle.model_board.specs.{Paths.Path, Board.{endpoint, is_bridge}, AtReset.board_at, Ports.file_at, State.{BoardFunction, State}}
+use Rattle.model_registers.specs.{Declarations.Endpoint, EndpointTable.BaseAddress, Decoding.{opens_space, space_of}}
+use Rattle.model_board.specs.{Paths.Path, Board.{endpoint}, AtReset.board_at, Ports.file_at, State.{State}}
 use Rattle.model_guests.specs.{Slots.reset_function, World.declared, WorldNow.WorldNow}
 use Rattle.model_handoff.specs.Giving.{Gift, give_fault}
-use Rattle.bridge_forward.specs.BasesNow.{bases_of}
 use Rattle.monitor.specs.{declared.{guest.{Held.Held, Guest.Guest}, withheld.Withheld.{Withheld, TheVariants.{PastSlots, NoEndpoint, HasGuest, SlotTaken, ClosedRegion}}}, ByIndex.name_nth, InSlots.is_at, Keeping.IsSlot}
 
 abbrev pub gift_nth : WorldNow → Path → ℕ → ℕ → Gift
@@ -48,11 +46,6 @@ is_closed_slot command o = option_map_or (λ (r : BasedRegion). not (opens_space
 abbrev pub ComesIn : WorldNow → Path → Result Held Withheld → Type 0
 ComesIn w p (Ok held) = IsSlot w.handoff (Some p) (reset_function (declared (board_at w.handoff.functions) p)) (Some held)
 ComesIn w p (Err why) = ⊤
-
--- an endpoint without such a space
-abbrev pub is_open_now : BoardFunction → Bool
-is_open_now f =
-    not (is_bridge f.decl) && not (list_any (is_closed_base (command_word f.file)) (bases_of f.decl f.file))
 
 pub record MakesGift (w : WorldNow) (p : Path) (i n : ℕ) (r : Result Held Withheld) : Type 0 where
   pub fault : fault_told r ≡ give_fault w (gift_nth w p i n)

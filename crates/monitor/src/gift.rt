@@ -6,7 +6,7 @@ ghost use Rattle.model_findings.specs.Orderly.{IsStateOfBoard};
 ghost use Rattle.model_guests.specs.{Text.Text, World.declared, WorldNow.WorldNow};
 ghost use Rattle.bars.specs.Kinds.{named_space};
 ghost use Rattle.bridge_forward.specs.BasesNow.{bases_of};
-ghost use Rattle.monitor.specs.{Keeping.IsKept, InSlots.is_at, Seatings.{IsEndpointAt, MakesGift, has_index, is_closed_base, is_closed_slot, is_open_now}};
+ghost use Rattle.monitor.specs.{Keeping.IsKept, InSlots.is_at, Seatings.{IsEndpointAt, MakesGift, has_index, is_closed_base, is_closed_slot}};
 
 use crate::beginning::held_of;
 use crate::guest::{Guest, Held};
@@ -47,7 +47,7 @@ fn has(guest: &Guest, index: usize) -> bool
 }
 
 /// Whether any guest has it.
-pub(crate) fn has_guest(guests: &[Guest], index: usize) -> bool
+fn has_guest(guests: &[Guest], index: usize) -> bool
     ensures { result ≡ has_index index guests.now }
 {
     guests.iter().any(|guest| has(guest, index))
@@ -87,14 +87,6 @@ fn has_closed(host: &Host, index: usize) -> bool
         Some(command) => any_closed(command, &placed),
         None => false,
     }
-}
-
-/// Whether an endpoint stands at an index, and Command closes the space of none of its regions.
-pub(crate) fn is_open(host: &Host, index: usize) -> bool
-    ensures { (f : BoardFunction) → slice_get host.now.state.functions index ≡ Some f
-        → result ≡ is_open_now f }
-{
-    host.endpoint_ref_nth(index).is_some() && !has_closed(host, index)
 }
 
 /// The function at a path as it would stand in a slot of a guest, or why it isn't given: the first check that

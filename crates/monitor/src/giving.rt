@@ -2,7 +2,7 @@
 ghost use Rattle.std.specs.Prelude.{◌≡◌, IfOk, IfErr};
 ghost use Rattle.model_guests.specs.{World.HasLawfulGuests, WorldNow.world_over};
 ghost use Rattle.model_handoff.specs.{AfterSetUp.world_at_first, Handoffs.{IsHandoff, taken_over}, Regions.CanBeGiven, Changes.BeginsIn};
-ghost use Rattle.model_images.specs.MachineByteLaws.{CanBeSaved};
+ghost use Rattle.model_images.specs.SavedLaws.{CanBeSaved};
 ghost use Rattle.monitor.specs.Beginnings.{world_on, world_of};
 
 use crate::beginning::{guests_of, names_of};
@@ -18,7 +18,7 @@ impl<R: Route + Drop> Engine<R> {
     /// Gives functions of a board that is in order to guests, over a route that fits the board. No region of
     /// theirs is closed. Each of them is reset first, but for what guests have copies of, and the address
     /// latch is cleared. Only where memory is out it refuses, and then it gives the board back as it was. That
-    /// the guests can be saved, and the machine, is seen of what the board declares and holds.
+    /// the guests can be saved is seen of what the board declares.
     pub fn over_by_route(
         alloc: Global,
         host: Host,
@@ -35,7 +35,6 @@ impl<R: Route + Drop> Engine<R> {
         ensures kept { IfErr result (λ h. h ≡ host) }
     {
         read_declarations(&host);
-        host.hold_bytes();
         let Ok(kept) = guests_of(alloc, &host, guests) else {
             return Err(host);
         };

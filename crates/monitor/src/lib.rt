@@ -1,4 +1,4 @@
-//! Layer: guests. Below: findings, claim_table, images, accesses. Above: machine_images, script.
+//! Layer: guests. Below: findings, claim_table, images, accesses. Above: script.
 //!
 //! The monitor, which gives functions of a board to guests.
 //!
@@ -22,7 +22,6 @@ mod closed;
 mod config;
 mod counting;
 mod device;
-mod differing;
 mod engine;
 mod functions;
 mod gift;
@@ -46,6 +45,7 @@ mod saving;
 mod seat;
 mod seating;
 mod standing;
+mod stopping;
 mod taking;
 mod withheld;
 
@@ -57,10 +57,11 @@ pub use engine::Engine;
 pub use findings::{Lack, Problem};
 pub use functions::FunctionNow;
 pub use handover::{HandoverFault, Refused, handover_words};
-pub use images::{ImageFault, SlotDifference};
+pub use images::ImageFault;
 pub use locating::Hit;
 pub use monitor::Monitor;
 pub use own_registers::OwnRegisters;
 pub use regions::GuestRegion;
 pub use seat::Seat;
+pub use stopping::ImageStop;
 pub use withheld::Withheld;

@@ -12,7 +12,7 @@ use crate::loading::load_function;
 use crate::restarting::restart;
 use crate::saving::{compare_image, slot_shown};
 use host_bridge::{Host, Route};
-use images::{ImageFault, after_latch, declaration_size, front, values_size};
+use images::{ImageFault, after_latch, declaration_size, values_size};
 use model_images::saved_guests_are_taken;
 
 /// The bytes behind so many, or none where they are fewer.
@@ -23,6 +23,16 @@ fn behind(bytes: &[u8], count: usize) -> &[u8]
         return &[];
     }
     &bytes[count..]
+}
+
+/// So many bytes at the front, or all where they are fewer.
+fn front(bytes: &[u8], count: usize) -> &[u8]
+    ensures { result.now ≡ take count bytes.now }
+{
+    if bytes.len() < count {
+        return bytes;
+    }
+    &bytes[..count]
 }
 
 /// How many bytes of a slot stand before its function's values, and how many values there are; None for an empty
@@ -111,8 +121,8 @@ fn load_image(host: &mut Host, guests: &mut [Guest], guest: usize, bytes: &[u8])
 }
 
 impl<R: Route> Engine<R> {
-    /// The same from bytes that the guest takes, as a comparison told.
-    pub fn load_taken(&mut self, guest: usize, bytes: &[u8])
+    /// Loads a guest from bytes that it takes, as a comparison told.
+    fn load_taken(&mut self, guest: usize, bytes: &[u8])
         requires there { guest < length self.old.world.guests }
         requires accepted { let g = lone_of self.old.world.guests (name_nth self.old.world guest) in
             load_fault g bytes.now ≡ None }

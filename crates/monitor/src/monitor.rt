@@ -2,7 +2,7 @@
 ghost use Rattle.std.specs.Prelude.{◌≡◌, IfOk, IfErr, None};
 ghost use Rattle.model_guests.specs.{World.HasLawfulGuests, WorldNow.world_over};
 ghost use Rattle.model_handoff.specs.{AfterSetUp.world_at_first, Handoffs.{IsHandoff, taken_over}, Regions.{CanBeGiven, first_fault}, Changes.BeginsIn};
-ghost use Rattle.model_images.specs.MachineByteLaws.{CanBeSaved};
+ghost use Rattle.model_images.specs.SavedLaws.{CanBeSaved};
 ghost use Rattle.bus_scan.specs.declared.fault.Fault.TheVariants.{Memory};
 ghost use Rattle.monitor.specs.{Beginnings.{world_on, world_of}, Handovers.IsFaultOf};
 

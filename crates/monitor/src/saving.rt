@@ -1,8 +1,7 @@
-//! Images of guests: how many bytes a guest's image has, writing it into a buffer, and whether bytes can be loaded
-//! into a guest. No call takes memory.
+//! Images of guests: how many bytes a guest's image has, writing it into a buffer, and comparing bytes with it. No call
+//! takes memory.
 ghost use Rattle.std.specs.Prelude.{◌≡◌, ◌≤◌, ◌<◌, ◌+◌, [], Ok, Err, IfErr, IfOk, length, map, option_map};
-ghost use Rattle.model_guests.specs.Guests.{lone_of};
-ghost use Rattle.model_images.specs.{Images.{image_of_guest, image_of_lone}, ImageBytes.image_bytes, LoadedLaws.IsTakenByAll, LoadedBytes.{after_image, after_slot, after_slots, load_fault}};
+ghost use Rattle.model_images.specs.{Images.{image_of_guest, image_of_lone}, ImageBytes.image_bytes, LoadedBytes.{after_image, after_slot, after_slots}, SavedLaws.IsTakenByEach};
 ghost use Rattle.images.specs.{Faults.number_of, Puts.put, Shown.seen};
 ghost use Rattle.monitor.specs.{ByIndex.name_nth, Views.slot_shown, ShownImages.{HasPlaces, HavePlaces, lone_shown, slot_image, slots_image}};
 
@@ -164,28 +163,17 @@ impl<R: Route> Engine<R> {
     }
 
     /// Saves a guest: puts the bytes of its image at the beginning of a buffer, which has room for them. What
-    /// stands behind them stays. Each guest of equal declarations takes these bytes, of whatever machine.
+    /// stands behind them stays. Each guest of equal declarations, of whatever machine, takes these bytes, and then
+    /// answers as this one would have.
     pub fn save(&self, guest: usize, out: &mut [u8])
         requires there { guest < length self.now.world.guests }
         requires room { let image = image_of_guest (name_nth self.now.world guest) self.now.world in
             length (image_bytes image) ≤ length out.old }
         ensures bytes { let image = image_of_guest (name_nth self.now.world guest) self.now.world in
             out.new ≡ put 0 (image_bytes image) out.old }
-        ensures taken { let name = name_nth self.now.world guest in
-            IsTakenByAll (lone_of self.now.world.guests name) }
+        ensures taken { IsTakenByEach self.now.world (name_nth self.now.world guest) }
     {
         let _ = &self.names;
         put_image(&self.host, &self.guests[guest], out)
-    }
-
-    /// Why bytes can't be loaded into a guest, if they can't: they are no image (905), or one of other functions
-    /// than the guest has in its slots (906). Of both, what the first byte that fails tells.
-    pub fn image_fault(&self, guest: usize, bytes: &[u8]) -> Option<ImageFault>
-        requires { guest < length self.now.world.guests }
-        ensures { let g = lone_of self.now.world.guests (name_nth self.now.world guest) in
-            option_map number_of result ≡ load_fault g bytes.now }
-    {
-        let _ = &self.names;
-        compare_image(&self.host, &self.guests[guest], bytes).err()
     }
 }

@@ -1,61 +1,52 @@
-//! The board on which guests' functions stand, to be read, and who has which of its functions.
-ghost use Rattle.std.specs.Prelude.{◌≡◌, ◌<◌, None, Some, length, slice_get, unwrap_or};
-ghost use Rattle.model_board.specs.{AtReset.board_at, State.BoardFunction};
-ghost use Rattle.model_guests.specs.{World.declared, WorldNow.board_state};
-ghost use Rattle.model_handoff.specs.{Handoffs.IsHandoff, ViewLaws.sits};
-ghost use Rattle.model_images.specs.{MachineByteLaws.IsWritableWorld, MachineLaws.IsSavableWorld, LoadedMachines.is_open_there};
-ghost use Rattle.monitor.specs.ByIndex.{guest_nth};
+//! The board on which guests' functions stand, to be read, and made anew.
+ghost use Rattle.std.specs.Prelude.{◌≡◌, ◌≤◌, IfOk, length, map};
+ghost use Rattle.model_board.specs.AtReset.{board_at, IsAtReset};
+ghost use Rattle.model_guests.specs.{World.IsLawfulWorld, WorldNow.{board_state, names_now}};
+ghost use Rattle.model_handoff.specs.Handoffs.{IsHandoff};
+ghost use Rattle.monitor.specs.{Beginnings.{with_no_slots, world_on}, Views.texts};
 
-use crate::config::held_in;
 use crate::engine::Engine;
-use crate::gift::{has_guest, is_open};
+use accesses::{GuestDecl, Names};
+use arrayvec::ArrayVec;
 use host_bridge::{Host, Route};
-use paths::Path;
+use std::alloc::{AllocError, Global};
+
+/// Guests of these names, whose slots are empty.
+fn with_no_slots(alloc: Global, names: &Names) -> Result<Vec<GuestDecl>, AllocError>
+    ensures guests { IfOk result (λ v. v.items ≡ map with_no_slots (texts names.now)) }
+    ensures few { IfOk result (λ v. length v.items ≤ 32) }
+{
+    let mut guests = Vec::with_capacity(alloc, names.len())?;
+    for name in names.as_slice() {
+        guests.push(GuestDecl {
+            name: *name,
+            slots: ArrayVec::new(),
+        })?;
+    }
+    Ok(guests)
+}
 
 impl<R: Route> Engine<R> {
     /// The board. Guests' functions stand on it as they are now, but for what guests have copies of.
     pub fn host(&self) -> &Host
         ensures state { result.now.state ≡ board_state self.now.world }
         ensures handoff { IsHandoff result.now.state }
-        ensures savable { IsSavableWorld self.now.world }
-        ensures writable { IsWritableWorld self.now.world }
-        ensures clear { self.now.world.handoff.latch ≡ 0 }
     {
         let _ = &self.names;
         &self.host
     }
 
-    /// The path of the function in a slot of a guest; none in an empty slot, and past the last one.
-    pub fn path_in(&self, guest: usize, slot: usize) -> Option<Path>
-        requires { guest < length self.now.world.guests }
-        ensures { result
-            ≡ unwrap_or (slice_get (guest_nth self.now.world guest).paths slot) None }
+    /// The same board at reset, made anew, and guests of the same names, whose slots are empty.
+    pub fn anew(&self, alloc: Global) -> Result<(Host, Vec<GuestDecl>), AllocError>
+        ensures board { let board = board_at (board_state self.now.world).functions in
+            IfOk result (λ r. board_at r.0.state.functions ≡ board) }
+        ensures at_reset { IfOk result (λ r. IsAtReset r.0.state) }
+        ensures guests { IfOk result (λ r.
+            r.1.items ≡ map with_no_slots (names_now self.now.world)) }
+        ensures lawful { IfOk result (λ r. IsLawfulWorld (world_on r.0 r.1.items)) }
     {
-        let _ = &self.names;
-        match held_in(&self.guests[guest].slots, slot) {
-            Some(held) => self.host.path_nth(held.index),
-            None => None,
-        }
-    }
-
-    /// Whether a guest has the function at an index in a slot.
-    pub fn has_guest(&self, index: usize) -> bool
-        ensures { (f : BoardFunction)
-            → slice_get (board_state self.now.world).functions index ≡ Some f
-            → result ≡ sits self.now.world.guests f.path }
-    {
-        let _ = &self.names;
-        has_guest(&self.guests, index)
-    }
-
-    /// Whether an endpoint stands at an index of whose regions none is closed.
-    pub fn is_open(&self, index: usize) -> bool
-        ensures { (f : BoardFunction)
-            → slice_get (board_state self.now.world).functions index ≡ Some f
-            → let s = self.now.world.handoff in
-            result ≡ is_open_there s f.path (declared (board_at s.functions) f.path) }
-    {
-        let _ = &self.names;
-        is_open(&self.host, index)
+        let host = self.host.at_reset(alloc)?;
+        let guests = with_no_slots(alloc, &self.names)?;
+        Ok((host, guests))
     }
 }

@@ -1,6 +1,6 @@
 use Rattle.std.proofs.Common.{arith}
 use Rattle.model_board.specs.State.{BoardFunction}
-use Rattle.model_images.specs.MachineByteLaws.{CanBeDeclared}
+use Rattle.model_images.specs.SavedLaws.{CanBeDeclared}
 use Rattle.images.proofs.IndexedDeclarations.{each_next, each_all}
 use Rattle.images.proofs.declarations.read_declarations.Goals as goal
 

@@ -1,5 +1,5 @@
 use Rattle.std.proofs.Common.{take}
-use Rattle.model_images.specs.MachineByteLaws.{AreDeclared}
+use Rattle.model_images.specs.SavedLaws.{AreDeclared}
 use Rattle.images.proofs.declarations.read_declarations.Given as goal
 
 abbrev pub invariant-loop-index : goal.invariant-loop-index

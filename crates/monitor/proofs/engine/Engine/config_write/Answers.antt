@@ -4,7 +4,7 @@ use Rattle.model_guests.specs.{Accesses.{configuration, writes}, Lone.at_target}
 use Rattle.model_handoff.specs.StayLaws.{any_tells}
 use Rattle.bridge_forward.specs.Lending.{endpoint_nth}
 use Rattle.host_bridge.specs.Landings.{IsReached}
-use Rattle.monitor.{specs.{declared.guest.Guest.Guest, Configs.HoldsAt, Counts.counted_nth}, proofs.{ConfigSteps.{config_changes, config_drops, config_quiet, config_written, written_lent}, Machines.{accessed, counts_lent, untouched}, Calls.{back_in, guest_in, inside_guests}, Steps.{empty_lent, slot_lent}, Exchanges.holds_nth, Reached.{endpoint_held, reached_held}, Writable.after_access_sound}}
+use Rattle.monitor.{specs.{declared.guest.Guest.Guest, Configs.HoldsAt, Counts.counted_nth}, proofs.{ConfigSteps.{config_changes, config_drops, config_quiet, config_written, written_lent}, Machines.{accessed, counts_lent, untouched}, Calls.{back_in, guest_in, inside_guests}, Steps.{empty_lent, slot_lent}, Exchanges.holds_nth, Reached.{endpoint_held, reached_held}, Savable.after_access_sound}}
 use Rattle.monitor.proofs.engine.Engine.config_write.Goals as goal
 
 pub index-requires : goal.index-requires

@@ -1,5 +1,5 @@
 use Rattle.std.proofs.Common.{refl, arith}
-use Rattle.monitor.{specs.DeviceBytes.device_byte, proofs.{Machines.{happens, refused_all, stood}, ResetSteps.{device_refused, nothing_changed}, DeviceSteps.{device_written, endpoint_reached, refused_there, write_left}, Calls.{guest_in, inside_guests}, Writable.after_action_sound}}
+use Rattle.monitor.{specs.DeviceBytes.device_byte, proofs.{Machines.{happens, refused_all, stood}, ResetSteps.{device_refused, nothing_changed}, DeviceSteps.{device_written, endpoint_reached, refused_there, write_left}, Calls.{guest_in, inside_guests}, Savable.after_action_sound}}
 use Rattle.model_guests.specs.DeviceEvents.{device_writes}
 use Rattle.monitor.proofs.engine.Engine.device_write.Goals as goal
 

@@ -1,5 +1,5 @@
 use Rattle.std.proofs.Common.{◌≡◌, ◌<◌, ◌∙◌, List, length, true, sym, subst}
-use Rattle.monitor.{specs.{declared.guest.Guest.Guest, ByIndex.name_nth, Counts.counted_nth, Moves.HasSlot, Seatings.gift_nth}, proofs.{Calls.{guest_at, inside_guests, kept_in}, Given.{board_kept, give_left, has_room, makes_gift, nothing_given}, Machines.{grew, is_counted, not_counted, refused_all}, Exchanges.exchange_lent, Writable.after_action_sound}}
+use Rattle.monitor.{specs.{declared.guest.Guest.Guest, ByIndex.name_nth, Counts.counted_nth, Moves.HasSlot, Seatings.gift_nth}, proofs.{Calls.{guest_at, inside_guests, kept_in}, Given.{board_kept, give_left, has_room, makes_gift, nothing_given}, Machines.{grew, is_counted, not_counted, refused_all}, Exchanges.exchange_lent, Savable.after_action_sound}}
 use Rattle.model_handoff.specs.{Actions.gives, Changes.after_on_machine}
 use Rattle.monitor.proofs.Ended.{Ends, ends}
 use Rattle.monitor.proofs.engine.Engine.give.Goals as goal

@@ -4,7 +4,7 @@ use Rattle.model_registers.specs.ConfigAddress.{latched}
 use Rattle.model_guests.specs.{Accesses.{answered, writes}, Lone.{own_latch, reply_at}}
 use Rattle.accesses.specs.Accesses.{op_of}
 use Rattle.config_bytes.specs.declared.op.Op.{Op}
-use Rattle.monitor.{specs.{declared.guest.Guest.Guest, ByIndex.lone_nth, Counts.{after_access_nth, counted_nth, counts_of}}, proofs.{Calls.{guest_in, inside_guests, kept_in}, Steps.kept_nth, PortSteps.{latch_lent, latch_written}, Counts.set_counted, Lands.latch_unchanged, Machines.{accessed, same_machine}, Writable.after_access_sound}}
+use Rattle.monitor.{specs.{declared.guest.Guest.Guest, ByIndex.lone_nth, Counts.{after_access_nth, counted_nth, counts_of}}, proofs.{Calls.{guest_in, inside_guests, kept_in}, Steps.kept_nth, PortSteps.{latch_lent, latch_written}, Counts.set_counted, Lands.latch_unchanged, Machines.{accessed, same_machine}, Savable.after_access_sound}}
 use Rattle.monitor.proofs.Ended.{Ends, ends}
 use Rattle.monitor.proofs.engine.Engine.latch_access.Goals as goal
 

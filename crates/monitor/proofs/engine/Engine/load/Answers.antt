@@ -1,6 +1,6 @@
 use Rattle.std.{proofs.Common.{◌∙◌, Some, Ok, Err, ap, sym, arith}, specs.Prelude.Result}
 use Rattle.images.specs.declared.fault.ImageFault.{ImageFault}
-use Rattle.monitor.proofs.{Calls.{guest_in, inside_guests}, SavedImages.fault_now, Writable.savable_nth}
+use Rattle.monitor.proofs.{Calls.{guest_in, inside_guests}, SavedImages.fault_now, Savable.savable_nth}
 use Rattle.monitor.proofs.engine.Engine.load.Goals as goal
 
 pub index-requires : goal.index-requires

@@ -1,7 +1,6 @@
 use Rattle.std.proofs.Common.{◌∙◌, List, true, subst, sym, arith}
 use Rattle.model_images.specs.{ByteLaws.AreBytes, Images.Image, TakenBytes.taken_image}
-use Rattle.images.proofs.FoundParts.{are_bytes}
-use Rattle.monitor.{specs.{declared.guest.Guest.Guest, ByIndex.{lone_nth, name_nth}, Counts.counted_nth, Loads.IsLoaded, Moves.HasSlot}, proofs.{Calls.{guest_at}, Exchanges.has_nth, LoadedWorlds.{image_fits, is_loaded, keeps_lent, load_left, takes_named}, Writable.{after_load_sound, savable_nth}}}
+use Rattle.monitor.{specs.{declared.guest.Guest.Guest, ByIndex.{lone_nth, name_nth}, Counts.counted_nth, Loads.IsLoaded, Moves.HasSlot}, proofs.{Calls.{guest_at}, Exchanges.has_nth, LoadedWorlds.{are_bytes, image_fits, is_loaded, keeps_lent, load_left, takes_named}, Savable.{after_load_sound, savable_nth}}}
 use Rattle.monitor.proofs.Ended.{Ends, ends}
 use Rattle.monitor.proofs.engine.Engine.load_taken.Goals as goal
 

@@ -1,7 +1,7 @@
 use Rattle.std.{proofs.Common.{◌∙◌, ◌&&◌, ◌||◌, ℕ, List, Option, not, ap, subst, arith, sym}, specs.{Prelude.is_some, Str.bytes_eq}}
 use Rattle.model_guests.specs.{Lines.host_move, Calls.asks}
 use Rattle.model_handoff.specs.Actions.{calls}
-use Rattle.monitor.{specs.{declared.guest.Guest.Guest, Configs.HoldsAt, ByIndex.name_nth, Counts.counted_both, Moves.{HasSlot, move_nth}}, proofs.{Calls.{back_in, guest_in, inside_guests}, Machines.{both_grew, counts_lent, refused_all}, MoveSteps.{fault_is, has_moved, holds_moved, move_done, move_left, move_refused, nothing_moved}, Exchanges.over_lent, Writable.after_action_sound}}
+use Rattle.monitor.{specs.{declared.guest.Guest.Guest, Configs.HoldsAt, ByIndex.name_nth, Counts.counted_both, Moves.{HasSlot, move_nth}}, proofs.{Calls.{back_in, guest_in, inside_guests}, Machines.{both_grew, counts_lent, refused_all}, MoveSteps.{fault_is, has_moved, holds_moved, move_done, move_left, move_refused, nothing_moved}, Exchanges.over_lent, Savable.after_action_sound}}
 use Rattle.monitor.proofs.engine.Engine.move_function.Goals as goal
 
 pub index-requires : goal.index-requires

@@ -1,7 +1,7 @@
 use Rattle.std.proofs.Common.{rules, subst, sym}
-use Rattle.monitor.{proofs.{Machines.begins_counted, FirstWorlds.{routing_on, sound_at_first, shown_at_first, writable_over}}, specs.{Beginnings.world_on, Views.texts}}
+use Rattle.monitor.{proofs.{Machines.begins_counted, FirstWorlds.{routing_on, sound_at_first, shown_at_first, savable_over}}, specs.{Beginnings.world_on, Views.texts}}
 use Rattle.model_handoff.specs.Handoffs.{taken_over}
-use Rattle.model_images.specs.MachineByteLaws.{CanBeSaved}
+use Rattle.model_images.specs.SavedLaws.{CanBeSaved}
 use Rattle.monitor.proofs.engine.Engine.over_by_route.Goals as goal
 
 pub of_parts-requires-clause-fits : goal.of_parts-requires-clause-fits
@@ -11,7 +11,7 @@ pub of_parts-requires-clause-sound : goal.of_parts-requires-clause-sound
 of_parts-requires-clause-sound g c =
     sound_at_first c.args.host c.args.guests.now c.requires.handoff c.requires.lawful c.requires.given c.take_over.new.host c.take_over.ensures
     (texts c.names_of.result) c.names_of.ensures c.in-Ok.kept.items c.in-Ok.ensures.kept
-    (writable_over c.args.host c.args.guests.now c.requires.handoff c.requires.lawful c.requires.given c.read_declarations.ensures c.hold_bytes.ensures)
+    (savable_over c.args.host c.args.guests.now c.requires.handoff c.requires.lawful c.requires.given c.read_declarations.ensures)
 
 pub returns-clause-made : goal.returns-clause-made
 returns-clause-made g c =
@@ -22,5 +22,5 @@ returns-clause-made g c =
 
 pub returns-clause-savable : goal.returns-clause-savable
 returns-clause-savable g c =
-    let can = writable_over c.args.host c.args.guests.now c.requires.handoff c.requires.lawful c.requires.given c.read_declarations.ensures c.hold_bytes.ensures in
-    subst CanBeSaved (sym (returns-clause-made g c).world) (record { declared = can.machine.known.compared.declared; guests = can.guests })
+    let can = savable_over c.args.host c.args.guests.now c.requires.handoff c.requires.lawful c.requires.given c.read_declarations.ensures in
+    subst CanBeSaved (sym (returns-clause-made g c).world) can

@@ -1,6 +1,6 @@
 use Rattle.std.proofs.Common.{◌∙◌, false, refl, sym, arith}
 use Rattle.model_guests.specs.Accesses.{raises}
-use Rattle.monitor.proofs.{Machines.{accessed, untouched}, RaiseSteps.{raise_of, no_place, nothing_raised, raise_done, raise_refused, raise_slot_refused, raise_written}, Reached.endpoint_held, Calls.{guest_in, inside_guests}, Steps.slot_lent, Writable.after_event_sound}
+use Rattle.monitor.proofs.{Machines.{accessed, untouched}, RaiseSteps.{raise_of, no_place, nothing_raised, raise_done, raise_refused, raise_slot_refused, raise_written}, Reached.endpoint_held, Calls.{guest_in, inside_guests}, Steps.slot_lent, Savable.after_event_sound}
 use Rattle.monitor.proofs.engine.Engine.raise_nth.Goals as goal
 
 pub index-requires : goal.index-requires

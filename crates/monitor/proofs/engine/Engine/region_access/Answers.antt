@@ -4,7 +4,7 @@ use Rattle.bars.specs.Kinds.{named_space}
 use Rattle.host_bridge.specs.HostState.{HostState}
 use Rattle.accesses.specs.Accesses.{op_of}
 use Rattle.config_bytes.specs.declared.op.Op.{Op}
-use Rattle.monitor.{specs.{Views.{machine_shown, texts}, ByIndex.lone_nth, Counts.after_access_nth, Reaches.target_in}, proofs.{RegionSteps.{after_nowhere, holds_landed, landing_at, region_written, reply_nowhere, reply_read}, Calls.{guest_in, inside_guests}, Lands.region_unchanged, Machines.{accessed, same_machine, untouched}, Writable.after_access_sound}}
+use Rattle.monitor.{specs.{Views.{machine_shown, texts}, ByIndex.lone_nth, Counts.after_access_nth, Reaches.target_in}, proofs.{RegionSteps.{after_nowhere, holds_landed, landing_at, region_written, reply_nowhere, reply_read}, Calls.{guest_in, inside_guests}, Lands.region_unchanged, Machines.{accessed, same_machine, untouched}, Savable.after_access_sound}}
 use Rattle.monitor.proofs.engine.Engine.region_access.Goals as goal
 
 pub index-requires : goal.index-requires

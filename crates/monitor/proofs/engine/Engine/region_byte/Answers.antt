@@ -4,7 +4,7 @@ use Rattle.model_guests.specs.{Accesses.{reads, writes}, Slots.Landing}
 use Rattle.model_handoff.specs.RegionBytes.{byte_reply, reply_there, after_there, register_of}
 use Rattle.config_bytes.specs.declared.op.Op.{Op}
 use Rattle.accesses.specs.Accesses.{op_of, part_of}
-use Rattle.monitor.{specs.{ByIndex.lone_nth, Counts.{after_byte_nth, after_nth}, DeviceBytes.device_byte}, proofs.{Calls.{guest_in, inside_guests}, Machines.{accessed, still_shown}, RegionBytes.{byte_refused, byte_closed, lands, opening_is, read_stays, slot_refused}, RegionSteps.{read_there, written_there}, Steps.slot_lent, Writable.after_write_sound}}
+use Rattle.monitor.{specs.{ByIndex.lone_nth, Counts.{after_byte_nth, after_nth}, DeviceBytes.device_byte}, proofs.{Calls.{guest_in, inside_guests}, Machines.{accessed, still_shown}, RegionBytes.{byte_refused, byte_closed, lands, opening_is, read_stays, slot_refused}, RegionSteps.{read_there, written_there}, Steps.slot_lent, Savable.after_write_sound}}
 use Rattle.monitor.proofs.engine.Engine.region_byte.Goals as goal
 
 pub index-requires : goal.index-requires

@@ -1,7 +1,7 @@
 use Rattle.std.proofs.Common.{◌≡◌, ◌∙◌, List, sym, subst, arith}
 use Rattle.model_guests.specs.DeviceEvents.{resets}
 use Rattle.model_handoff.specs.Changes.{after_on_machine}
-use Rattle.monitor.{specs.{declared.guest.Guest.Guest, ByIndex.name_nth, Configs.HoldsAt, Counts.{counted_both, counts_of}, Moves.HasSlot}, proofs.{Calls.{guest_in, inside_guests}, ResetSteps.{device_refused, nothing_changed, reset_done, reset_left}, Machines.{both_one, grew, happens, is_counted, not_counted, refused_all}, TakingSteps.{fault_named, may_take}, Steps.{fault_lent, slot_lent}, Exchanges.{has_nth, holds_nth, over_lent}, Writable.after_action_sound}}
+use Rattle.monitor.{specs.{declared.guest.Guest.Guest, ByIndex.name_nth, Configs.HoldsAt, Counts.{counted_both, counts_of}, Moves.HasSlot}, proofs.{Calls.{guest_in, inside_guests}, ResetSteps.{device_refused, nothing_changed, reset_done, reset_left}, Machines.{both_one, grew, happens, is_counted, not_counted, refused_all}, TakingSteps.{fault_named, may_take}, Steps.{fault_lent, slot_lent}, Exchanges.{has_nth, holds_nth, over_lent}, Savable.after_action_sound}}
 use Rattle.monitor.proofs.Ended.{Ends, ends}
 use Rattle.monitor.proofs.engine.Engine.reset.Goals as goal
 

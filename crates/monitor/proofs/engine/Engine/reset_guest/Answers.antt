@@ -1,7 +1,7 @@
 use Rattle.std.proofs.Common.{◌≡◌, ◌∙◌, List, true, refl, subst, sym, arith}
 use Rattle.model_guests.specs.WorldNow.{WorldNow}
 use Rattle.model_images.specs.{Requests.restarts, RequestLaws.after_request_on_machine}
-use Rattle.monitor.{specs.{declared.guest.Guest.Guest, ByIndex.name_nth, Counts.counted_nth, Keeping.IsKept, Moves.HasSlot, Views.texts}, proofs.{Calls.{guest_at, kept_in, leaves}, Exchanges.has_nth, RestartSteps.{restarted, restarted_is}, Writable.after_restart_sound}}
+use Rattle.monitor.{specs.{declared.guest.Guest.Guest, ByIndex.name_nth, Counts.counted_nth, Keeping.IsKept, Moves.HasSlot, Views.texts}, proofs.{Calls.{guest_at, kept_in, leaves}, Exchanges.has_nth, RestartSteps.{restarted, restarted_is}, Savable.after_restart_sound}}
 use Rattle.monitor.proofs.Ended.{Ends, ends}
 use Rattle.monitor.proofs.engine.Engine.reset_guest.Goals as goal
 

@@ -1,7 +1,7 @@
 use Rattle.std.proofs.Common.{◌≤◌, ◌∙◌, length, ap, sym, subst, arith}
-use Rattle.model_images.{specs.{Images.Image, ImageBytes.image_bytes}, proofs.LoadedBytes.taken_by_all}
+use Rattle.model_images.{specs.{Images.Image, ImageBytes.image_bytes}, proofs.SavedWorlds.takes_saved_guest}
 use Rattle.images.specs.Puts.{put}
-use Rattle.monitor.proofs.{Calls.{guest_in, inside_guests}, SavedImages.{image_is, places_kept}, Writable.savable_nth}
+use Rattle.monitor.{specs.ByIndex.name_nth, proofs.{Calls.{guest_in, inside_guests, kept_in, savable_in}, SavedImages.{image_is, places_kept}, Named.there_nth}}
 use Rattle.monitor.proofs.engine.Engine.save.Goals as goal
 
 pub index-requires : goal.index-requires
@@ -21,4 +21,6 @@ returns-clause-bytes g c =
     c.put_image.ensures ∙ ap (λ (i : Image). put 0 (image_bytes i) c.args.out.now) (sym (image_is at))
 
 pub returns-clause-taken : goal.returns-clause-taken
-returns-clause-taken g c = taken_by_all _ (savable_nth c.self.invariant.1 c.self.view_is c.args.guest c.requires.there)
+returns-clause-taken g c =
+    let kept = kept_in c.self.invariant.1 c.self.view_is in
+    takes_saved_guest c.args.self.now.world (name_nth c.args.self.now.world c.args.guest) kept.lawful (savable_in c.self.invariant.1 c.self.view_is) (there_nth kept c.args.guest c.requires.there)

@@ -1,6 +1,6 @@
 use Rattle.std.proofs.Common.{◌≡◌, ◌∙◌, List, true, sym, subst, arith}
 use Rattle.model_handoff.specs.{Actions.takes, Changes.after_on_machine}
-use Rattle.monitor.{specs.{declared.guest.Guest.Guest, ByIndex.name_nth, Counts.counted_nth, Moves.HasSlot}, proofs.{Machines.{grew, is_counted, not_counted, refused_all}, TakingSteps.{fault_named, may_take, nothing_taken, take_done, take_left, take_refused}, Calls.{guest_in, inside_guests}, Exchanges.{exchange_lent, has_nth}, Steps.{fault_lent, slot_lent}, Writable.after_action_sound}}
+use Rattle.monitor.{specs.{declared.guest.Guest.Guest, ByIndex.name_nth, Counts.counted_nth, Moves.HasSlot}, proofs.{Machines.{grew, is_counted, not_counted, refused_all}, TakingSteps.{fault_named, may_take, nothing_taken, take_done, take_left, take_refused}, Calls.{guest_in, inside_guests}, Exchanges.{exchange_lent, has_nth}, Steps.{fault_lent, slot_lent}, Savable.after_action_sound}}
 use Rattle.monitor.proofs.Ended.{Ends, ends}
 use Rattle.monitor.proofs.engine.Engine.take.Goals as goal
 

@@ -1,3 +1,0 @@
-pub mod SavedParts
-pub mod Judging
-pub mod Loading
