@@ -1,7 +1,7 @@
 """What a check with --all says of a board file that is accepted, by docs/board-file.md: how much of each aperture the board
 takes, what may be a mistake, and why its board can't be set up."""
 from board import Bar, Board, Bridge, Endpoint
-from placement import REFUSALS, UNITS, Layout, up
+from placement import REFUSALS, Layout, up
 from rules import Problem, entries, problem
 
 POOLS = {"io": "I/O pool", "mem": "memory pool", "pref": "prefetchable pool"}
@@ -60,36 +60,14 @@ def reasons(document, number):
     return found
 
 
-def regions_of(document, layout, pool):
-    """The regions of a pool, in the order of the file."""
-    return [entry for entry in entries(document) if entry.kind == "bar" and pool == layout.pool_of(
-        Endpoint(path_of(entry.owner), {}, [], []), Bar(0, entry.values["kind"], 0, 0, {}))]
-
-
-def may_be(host, pool, first, last):
-    """Whether a file may have this aperture for a pool, beside its others."""
-    other = host.get({"mem": "pref", "pref": "mem"}.get(pool))
-    meets = other is not None and first <= other[1] and other[0] <= last
-    limit = 0xFFFF if pool == "io" else 0xFFFFFFFF if pool == "mem" or first < 1 << 32 else (1 << 63) - 1
-    return last <= limit and not meets
-
-
-def costs(document, number):
-    """What is said of a board with a pool that doesn't fit: the first line, the largest regions, and the last lines."""
+def shortage(document, number):
+    """What is said of a board with a pool that doesn't fit."""
     pool = next(pool for pool, refusal in REFUSALS.items() if refusal == number)
     layout = Layout(board_of(document), is_placed=False)
     (end, alignment), (first, last) = layout.pack((), pool), document["host"][pool]
     at = up(first, alignment)
-    head = (f"the {POOLS[pool]} needs {end:#x} bytes from {at:#x} on, and its aperture has {max(0, last + 1 - at):#x}"
+    return (f"the {POOLS[pool]} needs {end:#x} bytes from {at:#x} on, and its aperture has {max(0, last + 1 - at):#x}"
             f" ({number} {POOLS[pool]})")
-    regions = regions_of(document, layout, pool)
-    largest = [remark("", entry, "size", f"is one of the largest of the {POOLS[pool]}, {entry.values['size']:#x} bytes")
-               for entry in sorted(regions, key=lambda entry: -entry.values["size"])[:5]]
-    gaps = end - sum(entry.values["size"] for entry in regions)
-    least = up(at + end, UNITS[pool]) - 1
-    fits = (f"the least aperture that fits is {first:#x} to {least:#x}" if may_be(document["host"], pool, first, least)
-            else f"no aperture from {first:#x} on fits")
-    return head, largest, [f"gaps take {gaps:#x} of them", fits]
 
 
 def warnings_of(document, layout):

@@ -21,7 +21,7 @@ except ImportError:
     sys.exit(0)
 
 from board import board_file, random_board
-from judged import costs, judged, reasons
+from judged import judged, reasons, shortage
 from rules import all_faults, place_of
 
 NUMBERS = [-1, 0, 1, 4, 5, 6, 17, 63, 64, 192, 255, 256, 3000, 4096, 4097, 0xF900, 0xFFFE, 0xFFFF, 0x10000,
@@ -211,11 +211,8 @@ def misfit_differs(lines, text, number, out):
     """What is wrong with what a check said of a board that can't be set up, if anything is."""
     first, *said = out.split("\n")[:-1]
     if number > 202:
-        head, largest, ends = costs(tomllib.loads(text), number)
-        told, wanted = [first, *said[len(largest):]], [f"board.toml: {line}" for line in [head, *ends]]
-        if told != wanted:
-            return f"{told}, not {wanted}"
-        return remarks_differ(lines, with_numbers(lines, said[:len(largest)]), largest)
+        wanted = [f"board.toml: {shortage(tomllib.loads(text), number)}"]
+        return None if [first, *said] == wanted else f"{[first, *said]}, not {wanted}"
     if not first.startswith(f"board.toml: cannot be set up ({number} "):
         return first
     return remarks_differ(lines, with_numbers(lines, said), reasons(tomllib.loads(text), number))

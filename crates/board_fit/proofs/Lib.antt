@@ -1,6 +1,3 @@
-pub mod BySize
-pub mod PoolsOfRegions
-pub mod LeastApertures
+pub mod BridgesAbove
 pub mod NamedReasons
-pub mod Needs
 pub mod PathSets

@@ -1,13 +1,8 @@
+pub mod PoolFits
 pub mod Warnings
 pub mod PathSets
 pub mod Misfits
 pub mod Remarks
-pub mod RemarkTexts
-pub mod PoolRegions
-pub mod Reaches
-pub mod LeastApertures
-pub mod Costs
-pub mod Shortages
-pub mod Fitting
+pub mod PlacedRemarks
 pub mod Verdicts
 pub mod ReasonLaws

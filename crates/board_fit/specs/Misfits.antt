@@ -34,7 +34,7 @@ closed_region i k (j, b) = remark.ClosedRegion i j k
 abbrev pub closed_bars : ℕ → ℕ → List Bar → List Remark
 closed_bars i k bars = map (closed_region i k) (filter (λ p. is_io p.1.kind) (enumerate_from 0 bars))
 
--- where there is such a bridge
+-- if there is such a bridge
 abbrev pub closed_by : ℕ → Option ℕ → List Bar → List Remark
 closed_by i o bars = option_map_or (λ k. closed_bars i k bars) o []
 

@@ -1,17 +1,15 @@
 -- What may be a mistake in a board file whose board can be set up, and is no fault.
 --     has_none_behind      of these functions none stands on the bus behind the bridge at a path
 --     is_given      one of the guests has the function at a path in a slot
---     is_wide      the aperture of a pool is more than ten times what the pool uses, and it uses something
+--     is_wide x      the aperture of a pool is more than ten times what the pool uses, and it uses something
 --     empty_bridges, endpoints_of_none (where the file has guests), guests_without_slots      all of which this is so, in order
---     all_wide_apertures, wide_apertures      the same of apertures; and so where all is warned of
---     warnings      what is warned of, in order
-use Rattle.std.specs.{Prelude.{ℕ, ◌+◌, ◌-◌, ◌*◌, ◌==◌, Bool, false, not, ◌&&◌, nat_lt, List, [], ◌∷◌, ◌++◌, filter, length, map, Option, Some, None, if◌then◌else◌}, List.{list_all, list_any, enumerate_from}}
-use Rattle.model_registers.specs.Apertures.{Aperture, Apertures}
-use Rattle.model_board.specs.{Board.Board, Paths.{Path, path_eq, parent}}
-use Rattle.model_set_up.specs.Pools.{aperture_of}
+--     all_wide_apertures xs, wide_apertures w xs      the same of apertures, by how pools fit them; and so if all is warned of
+--     warnings w f xs      what is warned of, in order
+use Rattle.std.specs.{Prelude.{ℕ, ◌*◌, ◌==◌, Bool, false, not, ◌&&◌, nat_lt, List, [], ◌++◌, filter, length, map, Option, Some, None, if◌then◌else◌}, List.{list_all, list_any, enumerate_from}}
+use Rattle.model_board.specs.Paths.{Path, path_eq, parent}
 use Rattle.board_file.specs.{Entries.{Endpoint, Bridge, Guest, File}, EntryRules.are_same_place, PathTexts.path_at}
-use Rattle.window_packing.specs.{declared.{pool.Pool.{Pool, TheVariants.{Io, Mem, Pref}}, pool_uses.PoolUse.PoolUse}, Plans.named_pool, Uses.told_use}
-use Rattle.board_fit.specs.declared.{remark.Remark.Remark, warned.Warned.Warned}
+use Rattle.window_packing.specs.declared.pool_uses.PoolUse.{PoolUse}
+use Rattle.board_fit.specs.declared.{pool_fit.PoolFit.PoolFit, remark.Remark.Remark, warned.Warned.Warned}
 use Rattle.board_fit.specs.declared.remark.Remark.TheVariants as remark
 use Rattle.board_fit.specs.declared.warned.Warned.TheVariants as warned
 
@@ -65,30 +63,29 @@ guests_without_slots gs =
 
 -- ---- apertures
 
--- an aperture has the addresses from its first to its last
-abbrev pub is_wide_use : Aperture → PoolUse → Bool
-is_wide_use a u = not (u.extent == 0) && nat_lt (u.extent * 10) (a.last + 1 - a.first)
+abbrev pub is_wide_use : ℕ → PoolUse → Bool
+is_wide_use size u = not (u.extent == 0) && nat_lt (u.extent * 10) size
 
-abbrev pub is_wide_for : Option Aperture → Option PoolUse → Bool
-is_wide_for (Some a) (Some u) = is_wide_use a u
-is_wide_for (Some a) None = false
+abbrev pub is_wide_for : Option ℕ → Option PoolUse → Bool
+is_wide_for (Some size) (Some u) = is_wide_use size u
+is_wide_for (Some size) None = false
 is_wide_for None u = false
 
-abbrev pub is_wide : Board → Apertures → Pool → Bool
-is_wide b a pool = is_wide_for (aperture_of a (named_pool pool)) (told_use b a (named_pool pool))
+abbrev pub is_wide : PoolFit → Bool
+is_wide x = is_wide_for x.size x.used
 
-abbrev pub wide_aperture : Board → Apertures → Pool → List Remark
-wide_aperture b a pool = if is_wide b a pool then remark.WideAperture pool ∷ [] else []
+abbrev pub wide_aperture : PoolFit → Remark
+wide_aperture x = remark.WideAperture x.pool
 
-abbrev pub all_wide_apertures : Board → Apertures → List Remark
-all_wide_apertures b a = wide_aperture b a Io ++ wide_aperture b a Mem ++ wide_aperture b a Pref
+abbrev pub all_wide_apertures : List PoolFit → List Remark
+all_wide_apertures xs = map wide_aperture (filter is_wide xs)
 
 -- on a small board wide apertures are no mistake
-abbrev pub wide_apertures : Warned → Board → Apertures → List Remark
-wide_apertures warned.Likely b a = []
-wide_apertures warned.All b a = all_wide_apertures b a
+abbrev pub wide_apertures : Warned → List PoolFit → List Remark
+wide_apertures warned.Likely xs = []
+wide_apertures warned.All xs = all_wide_apertures xs
 
 -- ---- all
 
-abbrev pub warnings : Warned → File → Board → Apertures → List Remark
-warnings w f b a = empty_bridges f ++ endpoints_of_none f ++ guests_without_slots f.guests ++ wide_apertures w b a
+abbrev pub warnings : Warned → File → List PoolFit → List Remark
+warnings w f xs = empty_bridges f ++ endpoints_of_none f ++ guests_without_slots f.guests ++ wide_apertures w xs

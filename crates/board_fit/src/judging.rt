@@ -1,106 +1,118 @@
-//! Whether a board fits its apertures, and what is said of it.
-ghost use Rattle.std.specs.Prelude.{◌≡◌, ◌≢◌, ◌⊎◌, None, Some, IfOk, IfErr, string_bytes};
+//! Judges a board: whether it can be set up, how its pools fit, and what to remark.
+ghost use Rattle.std.specs.Prelude.{◌≡◌, ◌≢◌, ◌⊎◌, None, Some, IfOk, IfErr, map};
+ghost use Rattle.toml.specs.View.{table_view};
+ghost use Rattle.lists.specs.Elements.{Each};
 ghost use Rattle.model_registers.specs.DeclarationRules.{first_broken};
 ghost use Rattle.model_board.specs.{Board.Board, AtReset.IsAtReset};
 ghost use Rattle.model_set_up.specs.{FunctionTable.board_in, SetUpWrites.set_up_rules};
 ghost use Rattle.bus_scan.specs.{Faults.number_of, SizedTables.IsTableOf, declared.fault.Fault.TheVariants.Memory};
 ghost use Rattle.window_packing.specs.Readies.{board_below};
-ghost use Rattle.board_file.specs.Sources.{IsRead};
-ghost use Rattle.board_fit.specs.{Shortages.IsNeedOf, Verdicts.{IsFitText, IsMisfit, IsMisfitText, IsVerdict}};
+ghost use Rattle.board_fit.specs.{PlacedRemarks.{remark_of, IsPlacedRemark}, PoolFits.pool_fits, Verdicts.{remarks_of, IsVerdict}};
 
-use crate::costs::costs_text;
-use crate::fitting::fit_text;
-use crate::remark_texts::{reasons_text, warnings_text};
-use crate::shortage::{Shortage, find_shortage, refusal_line};
+use crate::misfit::reasons;
+use crate::placed_remark::{PlacedRemark, with_places};
+use crate::pool_fit::{PoolFit, pool_fits};
+use crate::remark::Remark;
 use crate::warned::Warned;
+use crate::warnings::warnings;
 use board_file::Source;
+use board_file::entries::FileEntries;
 use bus_scan::{Fault, FunctionTable};
-use diagnostics::{Style, Telling};
+use diagnostics::Places;
 use headers::Apertures;
 use host_bridge::Host;
 use std::alloc::{AllocError, Global};
 use window_packing::{enumerate, plan};
 
-/// What is said of a board, and the fault for which it can't be set up, if there is one.
+/// The verdict on a board.
 #[derive(Drop)]
 pub struct Verdict {
-    pub text: String,
+    /// The first rule of set-up that the board breaks, if it breaks one.
     pub fault: Option<Fault>,
+    /// How pools fit their apertures: all pools if the board can be set up, or the one that doesn't fit, if that is the
+    /// fault.
+    pub fits: Vec<PoolFit>,
+    /// What may be a mistake in the file if the board can be set up, or the entries that cause the fault.
+    pub remarks: Vec<PlacedRemark>,
 }
 
-/// Of a board that can be set up: how it fits, and what may be a mistake in its file.
-fn accept(
+/// The remarks on a file, by the fault of its board, or by how the pools fit.
+fn remarks(
     alloc: Global,
-    telling: &Telling<'_>,
+    warned: Warned,
+    file: &FileEntries<'_>,
+    fits: &[PoolFit],
+    fault: Option<Fault>,
+) -> Result<Vec<Remark>, AllocError>
+    ensures { IfOk result (λ v. v.items ≡ remarks_of warned file.now fits.now fault) }
+{
+    match fault {
+        None => warnings(alloc, warned, file, fits),
+        Some(fault) => reasons(alloc, file, fault),
+    }
+}
+
+/// Remarks with their places. Without remarks, no place is looked for.
+fn placed(
+    alloc: Global,
+    source: &Source<'_>,
+    remarks: &[Remark],
+) -> Result<Vec<PlacedRemark>, AllocError>
+    ensures same { IfOk result (λ v. map remark_of v.items ≡ remarks.now) }
+    ensures places { let s = source.now in IfOk result (λ v.
+        Each (IsPlacedRemark s.bytes.now (table_view s.document.now)) v.items) }
+{
+    if remarks.is_empty() {
+        return Ok(Vec::new(alloc));
+    }
+    let places = Places::new(alloc, source.bytes, source.document)?;
+    with_places(alloc, &places, remarks)
+}
+
+/// The verdict on a board, by its fault and how its pools fit.
+fn with_remarks(
+    alloc: Global,
+    warned: Warned,
+    source: &Source<'_>,
+    fits: Vec<PoolFit>,
+    fault: Option<Fault>,
+) -> Result<Verdict, AllocError>
+    ensures fault { IfOk result (λ v. v.fault ≡ fault) }
+    ensures fits { IfOk result (λ v. v.fits.items ≡ fits.items) }
+    ensures remarks { IfOk result (λ v.
+        map remark_of v.remarks.items ≡ remarks_of warned source.now.file fits.items fault) }
+    ensures places { let s = source.now in IfOk result (λ v.
+        Each (IsPlacedRemark s.bytes.now (table_view s.document.now)) v.remarks.items) }
+{
+    let remarks = remarks(alloc, warned, &source.file, &fits, fault)?;
+    let remarks = placed(alloc, source, &remarks)?;
+    Ok(Verdict {
+        fault,
+        fits,
+        remarks,
+    })
+}
+
+/// The verdict on a board with this table and this fault.
+fn judge_fits(
+    alloc: Global,
     warned: Warned,
     source: &Source<'_>,
     table: &FunctionTable,
     apertures: &Apertures,
+    fault: Option<Fault>,
 ) -> Result<Verdict, AllocError>
-    requires read { IsRead source.now }
-    requires table { IsTableOf (board_in table.now) table.now }
-    ensures fault { IfOk result (λ v. v.fault ≡ None) }
-    ensures text { let t = telling.now in let bytes = source.now.bytes.now in
-        IfOk result (λ v. (b : Board) → IsTableOf b table.now
-        → IsFitText t.style warned t.name.now bytes b apertures.now (string_bytes v.text)) }
+    requires { IsTableOf (board_in table.now) table.now }
+    ensures fault { IfOk result (λ v. v.fault ≡ fault) }
+    ensures fits { IfOk result (λ v. (b : Board) → IsTableOf b table.now
+        → v.fits.items ≡ pool_fits b apertures.now fault) }
+    ensures remarks { IfOk result (λ v.
+        map remark_of v.remarks.items ≡ remarks_of warned source.now.file v.fits.items fault) }
+    ensures places { let s = source.now in IfOk result (λ v.
+        Each (IsPlacedRemark s.bytes.now (table_view s.document.now)) v.remarks.items) }
 {
-    let mut text = fit_text(alloc, table, apertures)?;
-    let warnings = warnings_text(alloc, telling, warned, source, table, apertures)?;
-    text.push_str(warnings.as_str())?;
-    Ok(Verdict { text, fault: None })
-}
-
-/// Of a board that can't: its line, the entries of its file that are why, and what is told of the pool that
-/// doesn't fit. It fails where memory is out.
-fn decline(
-    alloc: Global,
-    telling: &Telling<'_>,
-    source: &Source<'_>,
-    apertures: &Apertures,
-    shortage: Option<Shortage>,
-    fault: Fault,
-) -> Result<Verdict, AllocError>
-    requires { IsRead source.now }
-    ensures known { IfOk result (λ v. fault ≢ Memory) }
-    ensures fault { IfOk result (λ v. v.fault ≡ Some fault) }
-    ensures text { let t = telling.now in let bytes = source.now.bytes.now in
-        IfOk result (λ v. (b : Board) → IsNeedOf b apertures.now shortage
-        → IsMisfit t.style t.name.now bytes b apertures.now shortage fault
-        (string_bytes v.text)) }
-{
-    if fault == Fault::Memory {
-        return Err(AllocError);
-    }
-    let mut text = refusal_line(alloc, telling.name, shortage, fault)?;
-    let reasons = reasons_text(alloc, telling, source, fault)?;
-    text.push_str(reasons.as_str())?;
-    let costs = costs_text(alloc, telling, source, shortage, apertures)?;
-    text.push_str(costs.as_str())?;
-    Ok(Verdict {
-        text,
-        fault: Some(fault),
-    })
-}
-
-/// The same, by the table of its functions.
-fn reject(
-    alloc: Global,
-    telling: &Telling<'_>,
-    source: &Source<'_>,
-    table: &FunctionTable,
-    apertures: &Apertures,
-    fault: Fault,
-) -> Result<Verdict, AllocError>
-    requires read { IsRead source.now }
-    requires table { IsTableOf (board_in table.now) table.now }
-    ensures known { IfOk result (λ v. fault ≢ Memory) }
-    ensures fault { IfOk result (λ v. v.fault ≡ Some fault) }
-    ensures text { let t = telling.now in let bytes = source.now.bytes.now in
-        IfOk result (λ v. (b : Board) → IsTableOf b table.now
-        → IsMisfitText t.style t.name.now bytes b apertures.now fault (string_bytes v.text)) }
-{
-    let shortage = find_shortage(alloc, table, apertures, fault)?;
-    decline(alloc, telling, source, apertures, shortage, fault)
+    let fits = pool_fits(alloc, table, apertures, fault)?;
+    with_remarks(alloc, warned, source, fits, fault)
 }
 
 /// Whether a board with this table can be set up.
@@ -116,54 +128,48 @@ fn can_be_placed(alloc: Global, table: &FunctionTable, apertures: &Apertures) ->
     Ok(())
 }
 
-/// What is said of a board with this table.
-fn fit(
+/// The verdict on a board with this table.
+fn judge_table(
     alloc: Global,
-    telling: &Telling<'_>,
     warned: Warned,
     source: &Source<'_>,
     table: &FunctionTable,
     apertures: &Apertures,
 ) -> Result<Verdict, AllocError>
-    requires read { IsRead source.now }
-    requires table { IsTableOf (board_in table.now) table.now }
+    requires { IsTableOf (board_in table.now) table.now }
     ensures known { IfOk result (λ v. v.fault ≢ Some Memory) }
-    ensures verdict { let t = telling.now in let bytes = source.now.bytes.now in
-        IfOk result (λ v. (b : Board) → IsTableOf b table.now
-        → IsVerdict t.style warned t.name.now bytes b apertures.now v.fault
-        (string_bytes v.text)) }
+    ensures verdict { IfOk result (λ v. (b : Board) → IsTableOf b table.now
+        → IsVerdict warned source.now.file b apertures.now v) }
+    ensures places { let s = source.now in IfOk result (λ v.
+        Each (IsPlacedRemark s.bytes.now (table_view s.document.now)) v.remarks.items) }
 {
     match can_be_placed(alloc, table, apertures) {
-        Ok(()) => accept(alloc, telling, warned, source, table, apertures),
-        Err(fault) => reject(alloc, telling, source, table, apertures, fault),
+        Ok(()) => judge_fits(alloc, warned, source, table, apertures, None),
+        Err(Fault::Memory) => Err(AllocError),
+        Err(fault) => judge_fits(alloc, warned, source, table, apertures, Some(fault)),
     }
 }
 
-/// What is said of the board of a host at reset, which the file declares: how much of each
-/// aperture its pools take, and a warning of what may be a mistake in the file, by `warned`; or why it can't be
-/// set up, with the entries of the file that are why, and of a pool that doesn't fit its five largest regions,
-/// what gaps cost and the least aperture that fits. `name` is what the file is called. With excerpts the line
-/// of the file stands below what is said of an entry. It fails where memory is out.
+/// The verdict on the board of a host at reset, which the file declares. `warned` says which possible mistakes are
+/// remarked. It fails if memory runs out.
 pub fn judge(
     alloc: Global,
-    style: Style,
     warned: Warned,
-    name: &str,
     source: &Source<'_>,
     host: Host,
 ) -> Result<Verdict, AllocError>
-    requires read { IsRead source.now }
-    requires reset { IsAtReset host.state }
+    requires { IsAtReset host.state }
     ensures known { IfOk result (λ v. v.fault ≢ Some Memory) }
-    ensures verdict { let bytes = source.now.bytes.now in let b = board_below host in
-        IfOk result (λ v. IsVerdict style warned name.now bytes b host.apertures
-        v.fault (string_bytes v.text)) }
+    ensures verdict { IfOk result (λ v.
+        IsVerdict warned source.now.file (board_below host) host.apertures v) }
+    ensures places { let s = source.now in IfOk result (λ v.
+        Each (IsPlacedRemark s.bytes.now (table_view s.document.now)) v.remarks.items) }
 {
-    let telling = Telling { style, name };
     let apertures = host.apertures();
     let mut host = host;
     match enumerate(alloc, &mut host) {
-        Ok(table) => fit(alloc, &telling, warned, source, &table, &apertures),
-        Err(fault) => decline(alloc, &telling, source, &apertures, None, fault),
+        Ok(table) => judge_table(alloc, warned, source, &table, &apertures),
+        Err(Fault::Memory) => Err(AllocError),
+        Err(fault) => with_remarks(alloc, warned, source, Vec::new(alloc), Some(fault)),
     }
 }

@@ -1,30 +1,23 @@
 //! Layer: files. Below: window_packing, diagnostics. Above: board_told.
 //!
-//! What is said of a board file that is accepted: whether its board can be set up, how much of each aperture it
-//! takes and what may be a mistake in the file, or why it can't be set up; with the lines of the file.
+//! Judges the board of a file that is accepted: whether it can be set up, how much of each aperture it needs, and what may
+//! be a mistake in the file, or which of its entries cause the fault. Each remark has its place in the file.
 #![tactic(auto)]
 
-mod apertures;
-mod costs;
-mod fitting;
-mod hexadecimal;
 mod judging;
-mod largest;
 pub mod laws;
-mod least;
 mod misfit;
 mod path_sets;
 mod placed_remark;
-mod pool_region;
-mod pool_regions;
+mod pool_fit;
 mod remark;
-mod remark_lines;
-mod remark_texts;
-mod shortage;
+mod rendering;
 mod warned;
 mod warnings;
 
 pub use judging::{Verdict, judge};
-pub use least::least_aperture;
-pub use pool_region::PoolRegion;
+pub use placed_remark::PlacedRemark;
+pub use pool_fit::PoolFit;
+pub use remark::Remark;
+pub use rendering::verdict_text;
 pub use warned::Warned;

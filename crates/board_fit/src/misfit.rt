@@ -1,5 +1,5 @@
 //! Why the board of a file can't be set up, by the entries of the file.
-ghost use Rattle.std.specs.Prelude.{◌≡◌, ◌++◌, IfOk, OnOk};
+ghost use Rattle.std.specs.Prelude.{◌≡◌, IfOk};
 ghost use Rattle.bars.specs.Kinds.{kind_of};
 ghost use Rattle.headers.specs.Decodes.{io_decode_of};
 ghost use Rattle.board_fit.specs.Misfits.{is_io, is_closed, closes, first_closed, closed_bars, closed_by, closed_in, closed_regions, bridge_too_many, reasons};
@@ -62,67 +62,59 @@ fn closed_bars(
         .collect(alloc)
 }
 
-/// Appends them, where there is such a bridge.
-fn push_bars(
+/// The same, if there is such a bridge.
+fn closed_by(
     alloc: Global,
-    remarks: &mut Vec<Remark>,
     endpoint: usize,
     bridge: Option<usize>,
     bars: &[BarEntry<'_>],
-) -> Result<(), AllocError>
-    ensures { OnOk result (remarks.new.items
-        ≡ remarks.old.items ++ closed_by endpoint bridge bars.now) }
+) -> Result<Vec<Remark>, AllocError>
+    ensures { IfOk result (λ v. v.items ≡ closed_by endpoint bridge bars.now) }
 {
     match bridge {
-        Some(bridge) => {
-            let closed = closed_bars(alloc, endpoint, bridge, bars)?;
-            remarks.extend_from_slice(&closed)
-        }
-        None => Ok(()),
+        Some(bridge) => closed_bars(alloc, endpoint, bridge, bars),
+        None => Ok(Vec::new(alloc)),
     }
 }
 
-/// Appends the regions of an endpoint that are behind such a bridge.
+/// The regions of I/O of an endpoint that are behind a bridge without an I/O window.
 #[tactic(auto, unfolding(crate::specs::Misfits::closed_in))]
-fn push_endpoint(
+fn closed_in(
     alloc: Global,
-    remarks: &mut Vec<Remark>,
     bridges: &[BridgeEntry<'_>],
     index: usize,
     endpoint: &EndpointEntry<'_>,
-) -> Result<(), AllocError>
-    ensures { OnOk result (remarks.new.items
-        ≡ remarks.old.items ++ closed_in bridges.now (index, endpoint.now)) }
+) -> Result<Vec<Remark>, AllocError>
+    ensures { IfOk result (λ v. v.items ≡ closed_in bridges.now (index, endpoint.now)) }
 {
     let bridge = first_closed(bridges, &endpoint.at.path());
-    push_bars(alloc, remarks, index, bridge, &endpoint.bars)
+    closed_by(alloc, index, bridge, &endpoint.bars)
 }
 
-/// Appends the regions of all endpoints that are behind such a bridge.
-fn push_closed_regions(
-    alloc: Global,
-    remarks: &mut Vec<Remark>,
-    file: &FileEntries<'_>,
-) -> Result<(), AllocError>
-    ensures { OnOk result (remarks.new.items ≡ remarks.old.items ++ closed_regions file.now) }
+/// Those of all endpoints.
+fn closed_regions(alloc: Global, file: &FileEntries<'_>) -> Result<Vec<Remark>, AllocError>
+    ensures { IfOk result (λ v. v.items ≡ closed_regions file.now) }
 {
+    let mut remarks = Vec::new(alloc);
     'endpoints: for (index, endpoint) in file.endpoints.iter().enumerate() {
-        push_endpoint(alloc, remarks, &file.bridges, index, endpoint)?;
+        let closed = closed_in(alloc, &file.bridges, index, endpoint)?;
+        remarks.extend_from_slice(&closed)?;
     }
-    Ok(())
+    Ok(remarks)
 }
 
-/// Appends the first bridge for which there is no bus number.
-fn push_too_many(remarks: &mut Vec<Remark>, file: &FileEntries<'_>) -> Result<(), AllocError>
-    ensures { OnOk result (remarks.new.items ≡ remarks.old.items ++ bridge_too_many file.now) }
+/// The first bridge for which there is no bus number.
+fn bridge_too_many(alloc: Global, file: &FileEntries<'_>) -> Result<Vec<Remark>, AllocError>
+    ensures { IfOk result (λ v. v.items ≡ bridge_too_many file.now) }
 {
+    let mut remarks = Vec::new(alloc);
     if 255 < file.bridges.len() {
         remarks.push(Remark::BridgeTooMany(255))?;
     }
-    Ok(())
+    Ok(remarks)
 }
 
-/// All entries of a file that are why its board can't be set up, where the fault names some.
+/// All entries of a file that are why its board can't be set up, if the fault names some.
 pub(crate) fn reasons(
     alloc: Global,
     file: &FileEntries<'_>,
@@ -130,11 +122,9 @@ pub(crate) fn reasons(
 ) -> Result<Vec<Remark>, AllocError>
     ensures { IfOk result (λ v. v.items ≡ reasons file.now fault) }
 {
-    let mut remarks = Vec::new(alloc);
     match fault {
-        Fault::Buses => push_too_many(&mut remarks, file)?,
-        Fault::NoIoWindow => push_closed_regions(alloc, &mut remarks, file)?,
-        _ => {}
+        Fault::Buses => bridge_too_many(alloc, file),
+        Fault::NoIoWindow => closed_regions(alloc, file),
+        _ => Ok(Vec::new(alloc)),
     }
-    Ok(remarks)
 }

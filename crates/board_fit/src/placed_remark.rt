@@ -2,7 +2,7 @@
 ghost use Rattle.std.specs.Prelude.{◌≡◌, IfOk, map};
 ghost use Rattle.toml.specs.View.{table_view};
 ghost use Rattle.lists.specs.Elements.{Each};
-ghost use Rattle.board_fit.specs.RemarkTexts.{remark_of, IsPlacedRemark};
+ghost use Rattle.board_fit.specs.PlacedRemarks.{remark_of, IsPlacedRemark};
 
 use crate::remark::Remark;
 use diagnostics::{Other, Places, TextPlace, place_of, with_place};

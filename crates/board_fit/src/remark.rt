@@ -1,11 +1,8 @@
 //! What is remarked of a board file that is accepted.
-ghost use Rattle.std.specs.Prelude.{◌≡◌, Some};
-ghost use Rattle.board_fit.specs.Remarks.{aperture_key, entry_of, key_of, label_of, remark_text, other_of};
+ghost use Rattle.std.specs.Prelude.{◌≡◌};
+ghost use Rattle.board_fit.specs.Remarks.{aperture_key, entry_of, key_of, other_of};
 
-use crate::pool_region::PoolRegion;
-use crate::shortage::pool_words;
 use board_file::Entry;
-use std::fmt;
 use window_packing::Pool;
 
 /// What may be a mistake and is no fault, or why a board can't be set up. Lists of the file begin at 0.
@@ -23,8 +20,6 @@ pub enum Remark {
     BridgeTooMany(usize),
     /// A region of I/O, by its endpoint and its place in the list, is behind a bridge without an I/O window.
     ClosedRegion(usize, usize, usize),
-    /// A region is one of the largest of a pool that doesn't fit its aperture.
-    LargeRegion(Pool, PoolRegion),
 }
 
 /// The key of the aperture of a pool.
@@ -50,7 +45,6 @@ impl Remark {
             Remark::WideAperture(_) => Entry::Host,
             Remark::BridgeTooMany(index) => Entry::Bridge(index),
             Remark::ClosedRegion(endpoint, bar, _) => Entry::Bar(endpoint, bar),
-            Remark::LargeRegion(_, region) => Entry::Bar(region.endpoint, region.bar),
         }
     }
 
@@ -63,18 +57,6 @@ impl Remark {
             Remark::GuestWithoutSlots(_) => "name",
             Remark::WideAperture(pool) => aperture_key(pool),
             Remark::ClosedRegion(_, _, _) => "kind",
-            Remark::LargeRegion(_, _) => "size",
-        }
-    }
-
-    /// What stands before the entry.
-    pub(crate) fn label(self) -> &'static str
-        ensures { result.now ≡ label_of self }
-    {
-        match self {
-            Remark::BridgeTooMany(_) | Remark::ClosedRegion(_, _, _) | Remark::LargeRegion(_, _) =>
-                "",
-            _ => "warning: ",
         }
     }
 
@@ -85,29 +67,6 @@ impl Remark {
         match self {
             Remark::ClosedRegion(_, _, bridge) => Some(Entry::Bridge(bridge)),
             _ => None,
-        }
-    }
-}
-
-/// What is said of the entry.
-impl fmt::Display for Remark {
-    ghost output = { λ r. Some (remark_text r) };
-
-    fn fmt<W: fmt::Write>(&self, f: &mut fmt::Formatter<W>) -> fmt::Result {
-        match self {
-            Remark::EmptyBridge(_) => write!(f, "nothing stands behind it"),
-            Remark::EndpointOfNone(_) => write!(f, "is in no slot of a guest"),
-            Remark::GuestWithoutSlots(_) => write!(f, "has no slots"),
-            Remark::WideAperture(_) => write!(f, "is more than ten times what its pool uses"),
-            Remark::BridgeTooMany(_) => {
-                write!(f, "is the first bridge for which no bus number is left")
-            }
-            Remark::ClosedRegion(_, _, _) => write!(f, "is behind a bridge without an I/O window"),
-            Remark::LargeRegion(pool, region) => {
-                let pool = pool_words(*pool);
-                let size = region.size;
-                write!(f, "is one of the largest of the {pool}, 0x{size:x} bytes")
-            }
         }
     }
 }

@@ -1,23 +1,19 @@
 //! What may be a mistake in a file, and is no fault.
 ghost use Rattle.std.specs.{Prelude.{◌≡◌, ◌&&◌, IfOk}, BTreeSet.contains};
-ghost use Rattle.model_board.specs.Board.{Board};
-ghost use Rattle.model_set_up.specs.FunctionTable.{board_in};
 ghost use Rattle.paths.specs.PathOrders.{path_cmp};
-ghost use Rattle.bus_scan.specs.SizedTables.{IsTableOf};
 ghost use Rattle.board_file.specs.PathTexts.{is_path_text, path_at};
-ghost use Rattle.board_fit.specs.{PathSets.{bridges_outside, endpoints_outside}, Warnings.{all_paths, empty_bridges, endpoints_of_none, guests_without_slots, warnings}};
+ghost use Rattle.board_fit.specs.{PathSets.{bridges_outside, endpoints_outside}, Warnings.{all_paths, empty_bridges, endpoints_of_none, guests_without_slots, is_wide_use, is_wide, all_wide_apertures, wide_apertures, warnings}};
 
-use crate::apertures::push_wide_apertures;
 use crate::path_sets::{bridges_above, given_paths};
+use crate::pool_fit::PoolFit;
 use crate::remark::Remark;
 use crate::warned::Warned;
 use board_file::entries::{BridgeEntry, EndpointEntry, FileEntries, GuestEntry};
 use board_file::path_text::PathText;
-use bus_scan::FunctionTable;
-use headers::Apertures;
 use paths::Path;
 use std::alloc::{AllocError, Global};
 use std::collections::BTreeSet;
+use window_packing::PoolUse;
 
 /// The paths of all functions.
 fn all_paths(alloc: Global, file: &FileEntries<'_>) -> Result<Vec<Path>, AllocError>
@@ -106,24 +102,59 @@ fn guests_without_slots(alloc: Global, guests: &[GuestEntry<'_>]) -> Result<Vec<
         .collect(alloc)
 }
 
-/// What is warned of in a file, by the table of its board and its apertures.
+/// Whether so many bytes are more than ten times what a pool uses, and it uses something.
+fn is_wide_use(size: u128, used: PoolUse) -> bool
+    ensures { result ≡ is_wide_use size used }
+{
+    used.extent != 0 && u128::from(used.extent) * 10 < size
+}
+
+/// Whether the aperture of a pool is so wide.
+fn is_wide(fit: &PoolFit) -> bool
+    ensures { result ≡ is_wide fit.now }
+{
+    match (fit.size, fit.used) {
+        (Some(size), Some(used)) => is_wide_use(size, used),
+        _ => false,
+    }
+}
+
+/// The apertures that are so wide.
+fn all_wide_apertures(alloc: Global, fits: &[PoolFit]) -> Result<Vec<Remark>, AllocError>
+    ensures { IfOk result (λ v. v.items ≡ all_wide_apertures fits.now) }
+{
+    fits.iter()
+        .filter(|fit| is_wide(fit))
+        .map(|fit| Remark::WideAperture(fit.pool))
+        .collect(alloc)
+}
+
+/// The same, if they are warned of.
+fn wide_apertures(
+    alloc: Global,
+    warned: Warned,
+    fits: &[PoolFit],
+) -> Result<Vec<Remark>, AllocError>
+    ensures { IfOk result (λ v. v.items ≡ wide_apertures warned fits.now) }
+{
+    match warned {
+        Warned::Likely => Ok(Vec::new(alloc)),
+        Warned::All => all_wide_apertures(alloc, fits),
+    }
+}
+
+/// What may be a mistake in a file, and is no fault, by how the pools of its board fit.
 pub(crate) fn warnings(
     alloc: Global,
     warned: Warned,
     file: &FileEntries<'_>,
-    table: &FunctionTable,
-    apertures: &Apertures,
+    fits: &[PoolFit],
 ) -> Result<Vec<Remark>, AllocError>
-    requires { IsTableOf (board_in table.now) table.now }
-    ensures { IfOk result (λ v.
-        (b : Board) → IsTableOf b table.now
-        → v.items ≡ warnings warned file.now b apertures.now) }
+    ensures { IfOk result (λ v. v.items ≡ warnings warned file.now fits.now) }
 {
     let mut remarks = empty_bridges(alloc, file)?;
-    let endpoints = endpoints_of_none(alloc, file)?;
-    remarks.extend_from_slice(&endpoints)?;
-    let guests = guests_without_slots(alloc, &file.guests)?;
-    remarks.extend_from_slice(&guests)?;
-    push_wide_apertures(alloc, &mut remarks, warned, table, apertures)?;
+    remarks.extend_from_slice(&endpoints_of_none(alloc, file)?)?;
+    remarks.extend_from_slice(&guests_without_slots(alloc, &file.guests)?)?;
+    remarks.extend_from_slice(&wide_apertures(alloc, warned, fits)?)?;
     Ok(remarks)
 }

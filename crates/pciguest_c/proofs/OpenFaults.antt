@@ -8,10 +8,8 @@ use Rattle.std.{proofs.Common.{◌≡◌, ◌≤◌, ◌<◌, ◌⊎◌, ℕ, Op
 use Rattle.model_guests.specs.Text.{Text}
 use Rattle.board_file.specs.declared.fault.BoardFault.{BoardFault}
 use Rattle.bus_scan.specs.declared.fault.Fault.{Fault as SetUpFault}
-use Rattle.diagnostics.specs.declared.style.Style.{Style}
-use Rattle.board_fit.specs.declared.warned.Warned.{Warned}
 use Rattle.session.specs.{declared.opening.OpenFault.{OpenFault, TheVariants.{File, SetUp}}, Faults.{number_of, OnFile, OnSetUp}}
-use Rattle.board_told.specs.Checking.{IsCheckText, IsOutOfMemory}
+use Rattle.board_told.specs.Checking.{IsFaultOf, IsOutOfMemory}
 use Rattle.board_file.specs.declared.fault.BoardFault.TheVariants as file
 use Rattle.board_file.specs.Faults as board_file
 use Rattle.bus_scan.specs.declared.fault.Fault.TheVariants as set_up
@@ -45,11 +43,11 @@ known_set_up : (s : SetUpFault) → s ≢ set_up.Memory → (bus_scan.number_of 
 known_set_up set_up.Memory other = absurd (other refl)
 known_set_up _ other = (lit< tt, λ wrong. omega arith)
 
-pub known : (style : Style) (warned : Warned) (name board text : Text) (o : Option OpenFault) → IsCheckText style warned name board o text
+pub known : (board : Text) (o : Option OpenFault) → IsFaultOf board o
     → (option_map_or number_of o 0 < 299) × (option_map_or number_of o 0 ≢ 199)
-known style warned name board text None said = (lit< tt, λ wrong. omega arith)
-known style warned name board text (Some (File b)) said = known_file b said.known
-known style warned name board text (Some (SetUp s)) said = known_set_up s (λ memory. said.known (ap Some memory))
+known board None found = (lit< tt, λ wrong. omega arith)
+known board (Some (File b)) found = known_file b found.0
+known board (Some (SetUp s)) found = known_set_up s found.0
 
 pub out_of_memory : (f : OpenFault) → IsOutOfMemory f → (number_of f ≡ 199) ⊎ (number_of f ≡ 299)
 out_of_memory (File b) is = inl (ap board_file.number_of is)

@@ -1,14 +1,11 @@
 -- What a report and a check of a board file tell C.
 --     IsReportIn form board before after old new n      the report of a file in a form is put into a buffer, and its length is told,
 --         or n is the number of why not
---     board_name      what the board is called in what is told
---     IsCheckOf board n text      what is told of a board, and the number that refuses it, or 0
-use Rattle.std.specs.{Prelude.{◌≡◌, ◌≢◌, ◌<◌, ◌≤◌, ◌⊎◌, ℕ, codes, length, Option}, Option.option_map_or}
+--     IsCheckOf board n      n is the number that refuses a board, or 0
+use Rattle.std.specs.{Prelude.{◌≡◌, ◌≢◌, ◌<◌, ◌≤◌, ◌⊎◌, ℕ, length, Option}, Option.option_map_or}
 use Rattle.model_guests.specs.{Text.Text, World.World}
 use Rattle.session.specs.{Files.{Refuses, Breaks, IsSetUp}, declared.opening.OpenFault.OpenFault, Faults.number_of}
-use Rattle.diagnostics.specs.declared.style.Style.TheVariants.{Plain}
-use Rattle.board_fit.specs.declared.warned.Warned.TheVariants.{Likely}
-use Rattle.board_told.specs.{Checking.IsCheckText, Listing.report_in, declared.listing.ReportForm.ReportForm}
+use Rattle.board_told.specs.{Checking.IsFaultOf, Listing.report_in, declared.listing.ReportForm.ReportForm}
 use Rattle.pciguest_c.specs.TextsTold.{at_front}
 
 pub record IsReportIn (form : ReportForm) (board before after : Text) (old new n : ℕ) : Type 0 where
@@ -20,11 +17,7 @@ pub record IsReportIn (form : ReportForm) (board before after : Text) (old new n
   pub refused : n ≢ 0 → after ≡ before
   pub untold : n ≢ 0 → n ≤ 299 → new ≡ old
 
-abbrev pub board_name : Text
-board_name = codes "board.toml"
-
--- what `pciguest check --plain` writes
-pub record IsCheckOf (board : Text) (n : ℕ) (text : Text) : Type 0 where
+pub record IsCheckOf (board : Text) (n : ℕ) : Type 0 where
   pub fault : Option OpenFault
   pub number : n ≡ option_map_or number_of fault 0
-  pub is_text : IsCheckText Plain Likely board_name board fault text
+  pub is_fault : IsFaultOf board fault

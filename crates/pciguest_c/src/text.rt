@@ -38,7 +38,7 @@ const BOARD_NAME: &str = "board.toml";
 
 /// What a check says of a board file, and the number that refuses the file or its board, or 0.
 pub fn check_of(alloc: Global, board: &[u8]) -> Result<(String, u32), u32>
-    ensures told { IfOk result (λ v. IsCheckOf board.now v.1 (string_bytes v.0)) }
+    ensures told { IfOk result (λ v. IsCheckOf board.now v.1) }
     ensures numbers { IfOk result (λ v. (v.1 < 299) × (v.1 ≢ 199)) }
     ensures memory { IfErr result (λ n. (n ≡ 199) ⊎ (n ≡ 299)) }
 {

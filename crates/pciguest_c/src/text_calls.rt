@@ -1,5 +1,5 @@
 //! What C is told as text.
-ghost use Rattle.std.specs.Prelude.{◌≡◌, ◌≢◌, ◌<◌, ◌≤◌, ◌⊎◌, ℕ, length};
+ghost use Rattle.std.specs.Prelude.{◌≡◌, ◌≢◌, ◌<◌, ◌≤◌, ◌⊎◌, length};
 ghost use Rattle.model_guests.specs.Text.{Text};
 ghost use Rattle.pciguest_c.specs.{Checks.{IsCheckOf, IsReportIn}, TextsTold.{IsTold, at_front}};
 
@@ -104,11 +104,10 @@ pub extern "C" fn pciguest_raw_check(
     out: &mut [u8],
     needed: &mut usize,
 ) -> u32
-    ensures told { result < 299 → result ≢ 199 →
-        (text : Text) × IsCheckOf board.now result text
+    ensures number { result < 299 → result ≢ 199 → IsCheckOf board.now result }
+    ensures told { result < 299 → result ≢ 199 → (text : Text)
         × (out.new ≡ at_front text out.old) × (needed.new ≡ length text) }
-    ensures room { result ≡ 902 → (n : ℕ) × (text : Text) × IsCheckOf board.now n text
-        × (length out.old < length text) × (needed.new ≡ length text) }
+    ensures room { result ≡ 902 → length out.old < needed.new }
     ensures numbers { (result ≤ 299) ⊎ (result ≡ 902) }
     ensures unwritten { (result ≡ 199) ⊎ (result ≡ 299) ⊎ (result ≡ 902) →
         out.new ≡ out.old }

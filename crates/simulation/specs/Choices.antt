@@ -1,7 +1,7 @@
 -- What the program does, by what it is asked.
 --     form_of json      the form of a report or of an audit
 --     style_of plain, warned_of all      how a check tells, and of what it warns
---     Prints text at result, Lists form board at result, Checks style warned name board at result      a text was written
+--     Prints text at result, Lists form board at result, Checks board at result      a text was written
 --         whole and flushed, or a beginning of it where a write or flush failed: one that is given, the report of a
 --         board, or what a check says
 --     Does choice seen board at result      what was done, by how it ended, with a board file of these bytes
@@ -33,11 +33,10 @@ Lists form board at (Err Write) = IsListedInPart form board at.before at.after
 Lists form board at (Err other) = ⊤
 
 -- a check tells of a fault of the file or its board
-abbrev pub Checks : {T : Type 0} → Style → Warned → (name board : Text) → Ends → Result T Fault → Type 0
-Checks style warned name board at (Ok x) = IsChecked style warned name board None at.before at.after × (at.flushed ≡ at.after)
-Checks style warned name board at (Err Write) = IsCheckedInPart style warned name board at.before at.after
-Checks style warned name board at (Err f) =
-    IsRefusal f → IsChecked style warned name board (open_fault f) at.before at.after × (at.flushed ≡ at.after)
+abbrev pub Checks : {T : Type 0} → Text → Ends → Result T Fault → Type 0
+Checks board at (Ok x) = IsChecked board None at.before at.after × (at.flushed ≡ at.after)
+Checks board at (Err Write) = IsCheckedInPart at.before at.after
+Checks board at (Err f) = IsRefusal f → IsChecked board (open_fault f) at.before at.after × (at.flushed ≡ at.after)
 
 abbrev pub form_of : Bool → ReportForm
 form_of json = if json then Json else Lines
@@ -52,7 +51,7 @@ abbrev pub Does : {T : Type 0} → Choice → Seen → Text → Ends → Result 
 Does (Help text) seen board at r = Prints (string_bytes text) at r
 Does Demo seen board at r = OnRun (IsRun demo_board at) r
 Does (List path json) seen board at r = Lists (form_of json) board at r
-Does (Check path all plain) seen board at r = Checks (style_of plain) (warned_of all) path.now board at r
+Does (Check path all plain) seen board at r = Checks board at r
 Does (Run path strict) seen board at r = RunsAs strict seen board at r
 Does (Firmware path strict) seen board at r = Serves None strict seen board at r
 Does (Audit path json strict) seen board at r = Serves (Some (question.Audit (form_of json))) strict seen board at r

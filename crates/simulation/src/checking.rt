@@ -23,19 +23,17 @@ pub fn check<W: Writer>(
 ) -> Result<(), Fault>
     requires { W.failures writer.old < 2 ^ 64 - 1 }
 
-    // The file declares a board that can be set up, and this was said; or what is wrong with the file, or why its
-    // board can't be set up.
-    ensures fits { OnOk result (IsChecked style warned name.now board.now None
-        (W.written writer.old) (W.written writer.new)) }
+    // The file declares a board that can be set up; or the file is refused, or its board, and something was written.
+    ensures fits { OnOk result
+        (IsChecked board.now None (W.written writer.old) (W.written writer.new)) }
     ensures flushed { OnOk result (W.flushed writer.new ≡ W.written writer.new) }
     ensures told { IfErr result (λ f. IsRefusal f →
-        IsChecked style warned name.now board.now (open_fault f)
-        (W.written writer.old) (W.written writer.new)) }
+        IsChecked board.now (open_fault f) (W.written writer.old) (W.written writer.new)) }
     ensures told_flushed { IfErr result
         (λ f. IsRefusal f → W.flushed writer.new ≡ W.written writer.new) }
 
     ensures stopped { IsErrOf result Fault.Write →
-        IsCheckedInPart style warned name.now board.now (W.written writer.old) (W.written writer.new) }
+        IsCheckedInPart (W.written writer.old) (W.written writer.new) }
     ensures faults { IfErr result IsOfList }
     ensures nothing { IfErr result
         (λ f. f ≢ Fault.Write → ¬ IsRefusal f → writer.new ≡ writer.old) }

@@ -1,4 +1,4 @@
-use Rattle.std.proofs.{Common.{subst, string_bytes}, lemmas.Result.IfOk-weaker}
+use Rattle.std.proofs.{Common.{subst}, lemmas.Result.IfOk-weaker}
 use Rattle.model_registers.specs.Apertures.{Apertures}
 use Rattle.model_board.specs.Board.{Board}
 use Rattle.bus_scan.specs.SizedTables.{IsTableOf}
@@ -11,6 +11,6 @@ returns-in-Ok-clause-verdict c =
     let b = board_below c.args.host in
     let table = subst (λ (x : Board). IsTableOf x c.in-Ok.table) c.in-Ok.ensures.found.board c.in-Ok.ensures.found.table in
     let same = c.apertures-apertures.ensures in
-    IfOk-weaker c.fit.result _ _
-    (λ v said. subst (λ (a : Apertures). IsVerdict c.args.style c.args.warned c.args.name.now c.args.source.now.bytes.now b a v.fault (string_bytes v.text)) same (said b table))
-    c.fit.ensures.verdict
+    IfOk-weaker c.judge_table.result _ _
+    (λ v said. subst (λ (a : Apertures). IsVerdict c.args.warned c.args.source.now.file b a v) same (said b table))
+    c.judge_table.ensures.verdict

@@ -1,7 +1,7 @@
 use Rattle.toml.specs.View.{table_view}
 use Rattle.lists.specs.Elements.{Each}
 use Rattle.std.proofs.Common.{◌≡◌, ◌++◌, map, drop}
-use Rattle.board_fit.specs.RemarkTexts.{remark_of, IsPlacedRemark}
+use Rattle.board_fit.specs.PlacedRemarks.{remark_of, IsPlacedRemark}
 use Rattle.board_fit.proofs.placed_remark.with_places.Given as goal
 
 abbrev pub invariant-remarks : goal.invariant-remarks

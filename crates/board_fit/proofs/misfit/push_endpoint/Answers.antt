@@ -1,6 +1,0 @@
-use Rattle.board_fit.specs.Misfits.{closed_in}
-use Rattle.board_fit.proofs.misfit.push_endpoint.Goals as goal
-
-pub returns : goal.returns
-unfolding closed_in
-returns c = rw (← c.endpoint.view_is, ← c.path.ensures, ← c.first_closed-bridge.ensures, ← c.deref.ensures.value) c.push_bars.ensures
