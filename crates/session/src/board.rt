@@ -1,6 +1,7 @@
 //! A board that firmware drives.
-ghost use Rattle.std.specs.{Prelude.{◌≡◌, ◌≢◌, ◌≤◌, ◌++◌, ◌∷◌, [], false, not, codes, length, option_and_then, MatchOption, IfOk, IfErr, IfSome, string_bytes}, Bool.OnTrue};
-ghost use Rattle.model_guests.specs.{Accesses.{reads, writes}, Replies.reply_text, World.IsLawfulWorld};
+ghost use Rattle.std.specs.{Prelude.{◌≡◌, ◌≢◌, ◌≤◌, ◌++◌, ◌∷◌, [], false, not, codes, length, map, option_and_then, MatchOption, IfOk, IfErr, IfSome, string_bytes}, Bool.OnTrue};
+ghost use Rattle.model_board.specs.AtReset.{board_at};
+ghost use Rattle.model_guests.specs.{Accesses.{reads, writes}, Replies.reply_text, World.IsLawfulWorld, WorldNow.{board_state, names_now}};
 ghost use Rattle.model_findings.specs.{AuditText.audit, Problems.problems, Lacks.lack_count, ReadyText.ready_report};
 ghost use Rattle.model_handoff.specs.Changes.{BeginsIn};
 ghost use Rattle.model_lines.specs.{HostAccesses.answer, FirmwareLines.text_by, Requests.why_written, GivenLaws.IsGiven, Sessions.{at_reset, after_board_access, after_meant}};
@@ -9,6 +10,7 @@ ghost use Rattle.lines.specs.{FirmwareLines.{host_asked, firmware_meaning_of}, R
 ghost use Rattle.board_file.specs.{declared.fault.BoardFault.TheVariants.Memory, Faults.number_of as file_number};
 ghost use Rattle.bus_scan.specs.{declared.fault.Fault.TheVariants.Memory as SetUpMemory, Faults.number_of as set_up_number};
 ghost use Rattle.session.specs.{Boards.IsRefusalOf, Files.{Declares, Refuses, BreaksRule, IsAtFirst}, Refusals.refusal_by};
+ghost use Rattle.monitor.specs.Beginnings.{with_no_slots};
 ghost use Rattle.script.specs.Refusals.{refusal_of};
 ghost use Rattle.json_texts.specs.WhyValue.{host_why_json};
 
@@ -59,6 +61,23 @@ impl Board {
         ensures refused { IfErr result (λ f. f ≢ Memory → Refuses file.now (file_number f)) }
     {
         let (host, guests) = read_board(alloc, file)?;
+        Ok(Board {
+            host,
+            guests,
+            written: false,
+        })
+    }
+
+    /// The board of a machine at reset again, made anew, with guests of the same names, whose slots are empty. The
+    /// machine stays as it is.
+    pub fn of_machine(alloc: Global, machine: &Monitor) -> Result<Board, AllocError>
+        ensures board { let board = board_at (board_state machine.now.world).functions in
+            IfOk result (λ b. b.world.board ≡ board) }
+        ensures guests { IfOk result (λ b.
+            b.world.guests ≡ map with_no_slots (names_now machine.now.world)) }
+        ensures reset { IfOk result (λ b. b ≡ at_reset b.world) }
+    {
+        let (host, guests) = machine.anew(alloc)?;
         Ok(Board {
             host,
             guests,
