@@ -1,8 +1,7 @@
-"""The page as firmware uses it, in Chromium, for page/tests/browse: registers as fields, problems that come and go, and a board that is given away."""
+"""The page as firmware uses it, in any browser, for page/tests/browse: registers as fields, problems that come and go, and a board that is given away."""
 import json
 
 from browse_why import ASKED, CLICK
-from chromium import press
 from tried import CUT, FIELD, MAPS, PLAIN, SEEN, TOP, holds, said_last, text_of, type_line, until, write_field
 
 AUDIT = f"[...document.querySelectorAll('#audit li')].map(one => one.textContent{PLAIN})"
@@ -18,7 +17,7 @@ def told_lines(script):
 def the_reader_is_firmware(browser, page):
     browser.open(f'{page}#board=main')
     browser.run("document.querySelector('#as input').focus()")
-    press(browser, 'ArrowRight')
+    browser.press('ArrowRight')
     holds('a key makes the reader firmware', text_of(browser, 'verdict') == 'Driven by firmware: 3 endpoints, 1 bridge', text_of(browser, 'verdict'))
     wanted = ['2.0/0.0: a cycle for 00:00.0 reaches nothing', '2.0/1.0: a cycle for 00:01.0 reaches 1.0']
     holds('at reset the audit tells of what is not found', browser.run(AUDIT) == wanted, browser.run(AUDIT))
@@ -52,7 +51,7 @@ def problems_come_and_go(browser, page):
     for line in ['host cw 00:02.0 0x18 4 0x010100', 'host cw 00:02.0 0x20 4 0xc000c000', 'host cw 00:02.0 0x24 4 0xfff0']:
         type_line(browser, line)
     browser.run("document.querySelector('#tree [data-path=\"2.0/0.0\"]').focus()")
-    press(browser, 'Enter')
+    browser.press('Enter')
     holds('a key selects another function', browser.run("document.getElementById('chosen').value") == '2.0/0.0')
     write_field(browser, 'bar0', 'base', '0xc0100000')
     browser.run(f"{FIELD % ('Command', 'Memory space')}.click()")
@@ -65,13 +64,13 @@ def problems_come_and_go(browser, page):
     browser.run("document.querySelector('[data-space=mem] .bars').focus()")
     told = []
     for _ in range(6):
-        press(browser, 'ArrowRight')
+        browser.press('ArrowRight')
         told.append(browser.run(f"document.querySelector('[data-space=mem] .told').textContent{PLAIN}"))
     holds('the keys tell of it at its region', any(one.endswith(f'; ! {text}') for one in told), told)
     browser.run("document.querySelector('#audit button').focus()")
     lit = browser.run("[...document.querySelectorAll('#tree .lit')].map(one => one.dataset.path)")
     holds('a problem shows its functions', lit == ['2.0', '2.0/0.0'], lit)
-    press(browser, 'Enter', '\r')
+    browser.press('Enter')
     holds('a problem leads to its bridge', browser.run("document.getElementById('chosen').value") == '2.0')
     browser.run(f"{FIELD % ('Command', 'Memory space')}.click()")
     write_field(browser, 'Memory', 'last', '0xc01fffff')

@@ -9,6 +9,8 @@ import time
 import tomllib
 import types
 
+import browse_boards
+import browse_firmware
 import browse_lecture
 import browse_names
 import browse_newcomer
@@ -354,7 +356,7 @@ ALL = [lessons_are_done, a_reply_counts_in_its_place, a_lesson_leads_on, a_teach
 
 
 def in_browser(browser, page, folder, shot=''):
-    for check in [*ALL, *browse_lecture.ALL, *browse_names.ALL, *browse_newcomer.ALL, *browse_ready.ALL, *browse_robust.ALL, *browse_scripts.ALL, *browse_state.ALL, *browse_why.ALL]:
+    for check in [*browse_boards.ALL, *browse_firmware.ALL, *ALL, *browse_lecture.ALL, *browse_names.ALL, *browse_newcomer.ALL, *browse_ready.ALL, *browse_robust.ALL, *browse_scripts.ALL, *browse_state.ALL, *browse_why.ALL]:
         check(browser, page)
     browse_sight.all_is_seen(browser, page, TASKS, SOLUTIONS)
     browse_state.the_state_looks_well(browser, page, folder, shot)

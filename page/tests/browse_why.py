@@ -235,6 +235,8 @@ def a_bar_of_a_guest_is_asked(browser, page):
     type_line(browser, 'a cw 0 4 2 0')
     wanted = ['memory 0x80000000: nobody answers', CLOSED[1]]
     holds('what was asked at a region stays when it closes', browser.run(LINES) == wanted, browser.run(LINES))
+    holds('below its bar, where the region is drawn in dashes', browser.run("document.querySelector('#maps .question') !== null"))
+    type_line(browser, 'a cw 0 0x14 4 0')
     holds('below all bars, where its own is gone', browser.run("document.querySelector('#asked_there .question') !== null"))
     type_line(browser, 'a cw 0 4 2 2')
     browser.run("document.querySelector('.question .fold').focus()")

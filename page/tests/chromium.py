@@ -7,6 +7,8 @@ import subprocess
 import sys
 import time
 
+CODES = {'Tab': 9, 'Enter': 13, 'Escape': 27, 'ArrowLeft': 37, 'ArrowUp': 38, 'ArrowRight': 39, 'ArrowDown': 40, 'F2': 113, 'F4': 115, 'F8': 119, 'F9': 120, '+': 187}
+
 
 class Browser:
     """Chromium's own protocol, over two pipes."""
@@ -74,22 +76,14 @@ class Browser:
         self.ask('Input.insertText', text=text)
 
     def press(self, key):
-        press(self, key, '\r' if key == 'Enter' else '')
+        how = {'key': key, 'code': key, 'windowsVirtualKeyCode': CODES[key]}
+        self.ask('Input.dispatchKeyEvent', type='keyDown', **how, **({'text': '\r'} if key == 'Enter' else {}))
+        self.ask('Input.dispatchKeyEvent', type='keyUp', **how)
+
+    def mouse(self, x, y, click=False):
+        for kind in ['mouseMoved', *(['mousePressed', 'mouseReleased'] if click else [])]:
+            how = {} if kind == 'mouseMoved' else {'button': 'left', 'clickCount': 1}
+            self.ask('Input.dispatchMouseEvent', type=kind, x=x, y=y, **how)
 
     def picture(self, file):
         file.write_bytes(base64.b64decode(self.ask('Page.captureScreenshot', format='png')['data']))
-
-
-def press(browser, key, text=''):
-    codes = {'Tab': 9, 'Enter': 13, 'Escape': 27, 'ArrowLeft': 37, 'ArrowUp': 38, 'ArrowRight': 39, 'ArrowDown': 40, 'F2': 113, 'F4': 115, 'F8': 119, 'F9': 120, '+': 187}
-    browser.ask('Input.dispatchKeyEvent', type='keyDown', key=key, code=key, windowsVirtualKeyCode=codes[key], **({'text': text} if text else {}))
-    browser.ask('Input.dispatchKeyEvent', type='keyUp', key=key, code=key, windowsVirtualKeyCode=codes[key])
-
-
-def put_mouse(browser, find, across, down, click=False):
-    box = browser.run(f"(() => {{ const one = document.querySelector('{find}'); one.scrollIntoView({{ block: 'center' }}); "
-                      "const b = one.getBoundingClientRect(); return [b.x, b.y, b.width, b.height]; })()")
-    at = {'x': box[0] + box[2] * across, 'y': box[1] + down}
-    browser.ask('Input.dispatchMouseEvent', type='mouseMoved', **at)
-    for kind in ['mousePressed', 'mouseReleased'] if click else []:
-        browser.ask('Input.dispatchMouseEvent', type=kind, button='left', clickCount=1, **at)

@@ -89,5 +89,10 @@ class Browser:
         acts = [{'type': kind, 'value': KEYS.get(key, key)} for kind in ('keyDown', 'keyUp')]
         self.ask('WebDriver:PerformActions', actions=[{'type': 'key', 'id': 'keys', 'actions': acts}])
 
+    def mouse(self, x, y, click=False):
+        acts = [{'type': 'pointerMove', 'x': round(x), 'y': round(y), 'origin': 'viewport'}]
+        acts += [{'type': kind, 'button': 0} for kind in ('pointerDown', 'pointerUp') if click]
+        self.ask('WebDriver:PerformActions', actions=[{'type': 'pointer', 'id': 'mouse', 'parameters': {'pointerType': 'mouse'}, 'actions': acts}])
+
     def picture(self, file):
         file.write_bytes(base64.b64decode(self.ask('WebDriver:TakeScreenshot', full=False)['value']))

@@ -52,6 +52,13 @@ def type_line(browser, line):
     browser.press('Enter')
 
 
+def put_mouse(browser, find, across, down, click=False):
+    """Puts the mouse into an element, at a share of its width and so many pixels down."""
+    x, y, width = browser.run(f"(() => {{ const one = document.querySelector('{find}'); one.scrollIntoView({{ block: 'center' }}); "
+                              "const b = one.getBoundingClientRect(); return [b.x, b.y, b.width]; })()")
+    browser.mouse(x + width * across, y + down, click)
+
+
 def said_last(browser, name='said'):
     return browser.run(f"[...document.querySelectorAll('#transcript .{name}')].at(-1)?.textContent{PLAIN.replace('.', '?.', 1)}")
 
