@@ -8,6 +8,7 @@ import { bang_at, before_box, cause_box, ghost_box, gutter_box, gutter_of, lack_
 import { called } from './names.js';
 import { at_address, change_of, findings_in_words, holds_address, least, most, naming, span_alone, span_in_words, spans_by_aperture } from './spans.js';
 import { question_at } from './why.js';
+import { same_list, same_owners } from './same.js';
 
 const ROW = 20, TICKS = 36, NAMED_BESIDE = 6;
 const NAMES = { io: 'I/O', mem: 'Memory', pref: 'Prefetchable memory' };
@@ -31,18 +32,33 @@ function strip_of(used, shown, aperture, width, asked) {
   return strip;
 }
 
+// Whether a change is of a place on the board, before the last line or after it.
+const is_of_place = ({ was, now }) => (was ?? now) !== null && (was ?? now).owner === undefined;
+
+// Whether bars that are drawn are as they would be drawn again.
+function bars_are_as_drawn(one, other) {
+  const [{ problems, lacks, asked, changes }, old] = [one.findings, other.findings];
+  return ['apertures', 'marks', 'none', 'place', 'can_ask'].every(name => one[name] === other[name]) && same_list(one.functions, other.functions)
+    && same_owners(one.owners, other.owners) && same_list(problems, old.problems) && same_list(lacks, old.lacks)
+    && asked.space === old.asked.space && asked.address === old.asked.address && same_list(asked.causes, old.asked.causes)
+    && !changes.some(is_of_place) && !old.changes.some(is_of_place);
+}
+
 export class Addresses {
   // `light` is given the path of the function that is pointed at, or null; `question` is what one asks.
   constructor(into, light, question) {
-    Object.assign(this, { into, light, question, ranges: new Map(), at: new Map(), width: 0, outer: 0, board: null });
+    Object.assign(this, { into, light, question, ranges: new Map(), at: new Map(), width: 0, outer: 0, board: null, last: null });
     new ResizeObserver(() => { if (this.outer !== into.clientWidth) { this.outer = into.clientWidth; this.width = 0; this.redraw(); } }).observe(into);
   }
 
-  forget() { this.ranges.clear(); this.at.clear(); this.width = 0; }
+  forget() { this.ranges.clear(); this.at.clear(); Object.assign(this, { width: 0, last: null }); }
 
   // `findings` are problems and lacks, with the address and the space at which they are seen, what is asked, and what the last line changed;
   // `none` is told where there is nothing to draw.
   draw(functions, apertures, owners, marks, findings, none = '') {
+    const now = { functions, apertures, owners: new Map(owners), marks, findings, none, place: this.question.place, can_ask: this.question.can_ask() }, { last } = this;
+    if (last !== null && this.width > 0 && bars_are_as_drawn(now, last)) return;
+    this.last = now;
     const spans = spans_by_aperture(functions, apertures, Object.keys(NAMES)), is_driven = functions.some(one => one.all_regions !== undefined);
     const deepest = is_io => Math.max(0, ...functions.filter(one => [...one.regions, ...one.all_regions ?? []].some(({ kind }) => (kind === 'io') === is_io)
       || [...one.windows, ...one.all_windows ?? []].some(({ space }) => (space === 'io') === is_io)).map(one => one.depth));

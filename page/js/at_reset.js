@@ -4,6 +4,7 @@ import { TO_BYTES, TO_TEXT } from './engine.js';
 import { hex, parent_of, two_digits } from './report.js';
 import { keeping_latch } from './asked.js';
 import { UNNUMBERED } from './names.js';
+import { same_values } from './same.js';
 
 const COMMAND = 0x04, BUSES = 0x18;
 const NO_WINDOW = { first: 1n, last: 0n, open: false };
@@ -21,9 +22,10 @@ const windows_in_row = ({ windows, opens }, decodes) => windows.filter(({ space 
   .map(({ space, first, last, is_there }) => ({ space, ...(is_there ? { first, last, open: opens[space] } : NO_WINDOW) }));
 
 export class AtReset {
-  // `functions` are the report's; `decodes` has the windows of each bridge, by its path.
-  constructor(driven, functions, decodes) {
-    Object.assign(this, { driven, declared: functions, decodes, cycles: new Map(), functions: [], given: false, problems: [], lacks: [], found: null });
+  // `functions` are the report's; `decodes` has the windows of each bridge, by its path. `others` are functions as another moment has them: one
+  // that is the same here is taken from there, so that one sees at once that nothing of it changed.
+  constructor(driven, functions, decodes, others = []) {
+    Object.assign(this, { driven, declared: functions, decodes, others, cycles: new Map(), functions: [], given: false, problems: [], lacks: [], found: null });
   }
 
   // Looks at all functions, and tells which problems came and which went. Once the board is given to its guests nothing of it changes. What is
@@ -51,8 +53,10 @@ export class AtReset {
 
   // A function is as it was where the module tells the same of it, and firmware reads the same.
   function_now(one, nth, lost) {
-    const before = this.functions[nth], told = this.driven.function_at(nth, before?.told), values = this.values_of(one, before, told, lost !== null);
+    const before = this.functions[nth], other = this.others[nth], told = this.driven.function_at(nth, (before ?? other)?.told);
+    const values = this.values_of(one, before, told, lost !== null);
     if (told === before?.told && values === before.values && lost === before.lost) return before;
+    if (told === other?.told && lost === other.lost && same_values(values, other.values)) return other;
     const bus = told.place.slice(0, 2), all_regions = regions_in_row(one, told), decodes = this.decodes.get(one.path), all_windows = windows_in_row(told, decodes);
     const now = { ...one, place: told.place, bus: bus === '00' && one.depth > 0 ? UNNUMBERED : bus, lost, told, values, decodes, all_regions, all_windows,
       regions: all_regions.filter(region => region.open), windows: all_windows.filter(window => window.open) };

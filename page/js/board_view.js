@@ -3,6 +3,7 @@
 import { hex, parent_of, size_in_words } from './report.js';
 import { badge, colour, make, make_button, mark_of, owner_in_words, sign } from './marks.js';
 import { number_shown, UNNUMBERED, with_numbers } from './names.js';
+import { same_list, same_owners } from './same.js';
 
 export const LARGE = 64;
 const MANY = 12, TOLD = 8;
@@ -48,16 +49,22 @@ function line_of(name, seen, meaning, text) {
   return one;
 }
 
+// Whether a table that is drawn is as it would be drawn again. What the last line changed isn't in it.
+function table_is_as_drawn(one, other) {
+  return one.marks === other.marks && one.turned === other.turned && same_list(one.functions, other.functions) && same_owners(one.owners, other.owners)
+    && ['troubles', 'lacks', 'causes'].every(name => one[name] === other[name] || one[name].size + other[name].size === 0);
+}
+
 export class Board {
   // `parts` are the elements `tree`, `told` and `table`; `light` is given the path of a function, or null, `choose` that of one
   // that is chosen, and `ask` such a function first where no cycle finds it.
-  constructor(parts, light, choose, ask) { Object.assign(this, { parts, light, choose, ask, chosen: null, turned: new Set(), whole: new Set() }); }
+  constructor(parts, light, choose, ask) { Object.assign(this, { parts, light, choose, ask, chosen: null, turned: new Set(), whole: new Set(), tabled: null }); }
 
-  forget() { this.turned.clear(); this.whole.clear(); }
+  forget() { this.turned.clear(); this.whole.clear(); this.tabled = null; }
 
   // The texts that name a function, by its path: as wrong, as lacking something, as a cause of what was asked, and as changed by the last line.
   draw(functions, owners, marks, { troubles, lacks, causes, changes }) {
-    Object.assign(this, { functions, owners, marks, troubles, lacks, causes, changes, below: new Map() });
+    Object.assign(this, { functions, owners, marks, troubles, lacks, causes, changes, below: new Map(), behind: new Map() });
     for (const one of functions) {
       const parent = parent_of(one.path);
       if (!this.below.has(parent)) this.below.set(parent, []);
@@ -118,7 +125,10 @@ export class Board {
   }
 
   // The paths of all functions behind a bridge.
-  all_below(path) { return (this.below.get(path) ?? []).flatMap(one => [one.path, ...this.all_below(one.path)]); }
+  all_below(path) {
+    if (!this.behind.has(path)) this.behind.set(path, (this.below.get(path) ?? []).flatMap(one => [one.path, ...this.all_below(one.path)]));
+    return this.behind.get(path);
+  }
 
   chip_of(one) {
     const owner = this.owners.get(one.path), mark = mark_of(owner, this.marks), chip = make('div', 'chip');
@@ -157,6 +167,10 @@ export class Board {
   }
 
   draw_table() {
+    const { functions, owners, marks, troubles, lacks, causes } = this;
+    const now = { functions, owners: new Map(owners), marks, troubles, lacks, causes, turned: [...this.turned].join() };
+    if (this.tabled !== null && table_is_as_drawn(now, this.tabled)) return;
+    this.tabled = now;
     const names = ['Number', 'Guest', 'Path', 'Class and identity', 'Regions and windows', 'Interrupt'], head = make('tr', '');
     head.append(...names.map(name => make('th', '', name)));
     const buses = new Map();

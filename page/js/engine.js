@@ -92,6 +92,12 @@ export class Engine {
   open_at_reset(file) { return this.made(this.exports.pciguest_raw_board_new, file, Driven); }
 }
 
+// Of a large board this is asked a thousand times after a line.
+function are_same(one, other) {
+  for (let at = 0; at < one.length; at += 1) if (one[at] !== other[at]) return false;
+  return true;
+}
+
 // What is held behind a handle and answers lines.
 class Held {
   // Its rooms are made once, as of a large board thousands of calls follow a line.
@@ -278,7 +284,7 @@ class Driven extends Held {
   function_at(nth, before) {
     const told = this.row_of(this.engine.exports.pciguest_raw_board_function, nth), long = at => told.getBigUint64(at, true), word = at => told.getUint32(at, true);
     const words = new Uint32Array(told.buffer, told.byteOffset, FUNCTION_ROW / 4);
-    if (before?.words.every((one, at) => one === words[at])) return before;
+    if (before && are_same(before.words, words)) return before;
     const [bus, device, number] = [0, 4, 8].map(at => word(NUMBER_AT + at)), place = number_at({ bus, device, function: number }), [io, mem] = [0, 4].map(at => word(OPENS_AT + at) !== 0);
     const firsts = Array.from({ length: 6 }, (_, register) => long(REGIONS_AT + REGION_ROW * register));
     const window_at = (space, at) => ({ space, first: long(at), last: long(at + 8), is_there: word(at + 16) !== 0 });

@@ -3,14 +3,15 @@
 
 import { LARGEST_FILE, too_large } from './limits.js';
 
-// Milliseconds without a letter after which one has stopped typing, and how many lines are numbered: more take the browser seconds.
-const TYPED = 200, MOST_NUMBERED = 8000;
+// Milliseconds without a letter after which one has stopped typing, and how many lines are numbered at once: of a longer file those around what
+// is shown, as all of them take the browser seconds.
+const TYPED = 200, NUMBERED = 1000;
 
 export class FileView {
   // `parts` are the elements `board`, `numbers` and `check`; `changed` is called once the file is another one, and `tell` says what is refused.
   constructor(parts, { changed, tell }) {
-    Object.assign(this, { parts, changed, timer: null });
-    parts.board.addEventListener('scroll', () => { parts.numbers.scrollTop = parts.board.scrollTop; });
+    Object.assign(this, { parts, changed, timer: null, wrong: new Set(), warned: new Set(), count: 0, first: 0 });
+    parts.board.addEventListener('scroll', () => this.show_numbers());
     parts.board.addEventListener('input', () => { clearTimeout(this.timer); this.timer = setTimeout(() => this.settle(), TYPED); });
     parts.board.addEventListener('blur', () => this.settle());
     parts.board.addEventListener('paste', event => {
@@ -31,9 +32,20 @@ export class FileView {
 
   // Numbers the lines of the file, and marks those of which a check tells: what is wrong, and what it warns of.
   number_lines(wrong, warned) {
-    const { board, numbers } = this.parts, lines = board.value.split('\n').slice(0, MOST_NUMBERED).map((_, nth) => nth + 1);
-    numbers.innerHTML = lines.map(line => (wrong.has(line) ? `<b>${line}</b>` : warned.has(line) ? `<i>${line}</i>` : line)).join('\n');
-    numbers.scrollTop = board.scrollTop;
+    Object.assign(this, { wrong, warned, count: this.parts.board.value.split('\n').length, first: null });
+    this.show_numbers();
+  }
+
+  // Shows the numbers beside the lines that are shown. They are made again once one has scrolled by half of them.
+  show_numbers() {
+    const { board, numbers } = this.parts, { wrong, warned, count } = this, height = parseFloat(getComputedStyle(board).lineHeight), step = NUMBERED / 2;
+    const first = count <= NUMBERED ? 0 : Math.max(Math.floor(board.scrollTop / height / step - 0.5), 0) * step;
+    if (first !== this.first) {
+      const lines = Array.from({ length: Math.min(NUMBERED, count - first) }, (_, nth) => first + nth + 1);
+      numbers.innerHTML = lines.map(line => (wrong.has(line) ? `<b>${line}</b>` : warned.has(line) ? `<i>${line}</i>` : line)).join('\n');
+      this.first = first;
+    }
+    numbers.scrollTop = board.scrollTop - first * height;
   }
 
   // Puts the cursor into a line of the file, and shows it.

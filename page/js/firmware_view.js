@@ -10,6 +10,9 @@ import { count_in_words, two_digits } from './report.js';
 import { keeping_latch } from './asked.js';
 import { bytes_of, seen_in } from './registers.js';
 
+// Who has which function before firmware gave its board to guests.
+const NOBODY = new Map(), NOT_GIVEN = [NOBODY, NOBODY];
+
 export class Firmware {
   // `give` runs a line in the console.
   constructor(parts, board, addresses, registers, light, give) {
@@ -51,7 +54,7 @@ export class Firmware {
   // `changes` what the last line changed.
   draw(apertures, owners, marks, asked, changes) {
     if (this.now === null) { this.problems.draw([], ''); this.lacks.draw([], ''); return; }
-    const { functions, problems, lacks, given } = this.now, nobody = new Map(), whose = given ? [owners, marks] : [nobody, nobody];
+    const { functions, problems, lacks, given } = this.now, whose = given ? [owners, marks] : NOT_GIVEN;
     this.draw_findings(problems, lacks);
     this.is_drawn = true;
     if (functions.length === 0) return;

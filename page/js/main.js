@@ -169,7 +169,7 @@ function all_lines() {
 }
 
 const open_board = () => (as === 'firmware' ? engine.open_at_reset(file_view.bytes()) : engine.open(file_view.bytes())).made;
-const copy_of_board = () => ({ seed: answers() ?? {}, functions, owners: first_owners, decodes: as === 'firmware' ? firmware.decodes : null, state: beginning.state,
+const copy_of_board = () => ({ seed: answers() ?? {}, others: firmware.now?.functions, functions, owners: first_owners, decodes: as === 'firmware' ? firmware.decodes : null, state: beginning.state,
   prepared: script_console.prepared.length, open: open_board });
 
 // Shows another moment of the board, after so many lines.

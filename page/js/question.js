@@ -7,7 +7,7 @@ import { with_numbers } from './names.js';
 import { read_why, read_why_of_guest } from './why.js';
 
 const LINES_SHOWN = 8;
-const UNASKED = { asked: null, place: null, back: () => null, reply: null, lines: [] };
+const UNASKED = { asked: null, place: null, back: () => null, reply: null, lines: [], causes: [] };
 
 export class Question {
   // `heard` is told each reply; `driven` gives what answers firmware's questions, or null where none can be asked, and `held` what answers
@@ -50,7 +50,7 @@ export class Question {
     const { line, at, call } = this.asked, answers = call === null ? this.driven() : this.held(), reply = call === null ? answers.long_reply(line) : answers.why(call);
     if (reply === this.reply) return false;
     const lines = call === null ? read_why(answers.board_why_json(at), reply) : read_why_of_guest(answers.why_json(call), reply, slot => this.path_in(call.guest, slot));
-    Object.assign(this, { reply, lines });
+    Object.assign(this, { reply, lines, causes: lines.filter(one => one.is_cause) });
     this.findings.draw(this.lines, this.asked.line);
     this.heard.textContent = [...(this.about.hidden ? [] : [this.about.textContent]), ...this.lines.map(one => with_numbers(one.text, this.functions()))].join('; ');
     return true;
@@ -67,7 +67,7 @@ export class Question {
   doubt() { this.reply = null; }
 
   // What is marked: the address, with its space where it has one, and the causes.
-  marked() { return { space: this.asked?.space ?? null, address: this.asked?.address ?? null, causes: this.lines.filter(one => one.is_cause) }; }
+  marked() { return { space: this.asked?.space ?? null, address: this.asked?.address ?? null, causes: this.causes }; }
 
   // The box, where the bar of this space takes it.
   below(space) { return this.place === space ? [this.box] : []; }

@@ -28,17 +28,17 @@ export function moment_of({ held, functions, owners, now }) {
 
 export class Replay {
   // `board` has `open`, which gives what answers lines at the beginning; `functions` and `owners`, those of the report; `decodes`, the windows
-  // that bridges have, or null where guests have the board; `seed`, what was found of the board last; and `state`, which is loaded behind `prepared` lines, or null.
+  // that bridges have, or null where guests have the board; `seed`, what was found of the board last; `others`, its functions as they are then; and `state`, which is loaded behind `prepared` lines, or null.
   constructor(board) { Object.assign(this, { board, held: null, count: 0, found: new Map() }); }
 
   // What was found of the board before is found again without its lines, where its JSON is the same.
   begin() {
     const { told, found } = this.held ?? this.board.seed;
     this.close();
-    const { open, functions, owners, decodes } = this.board;
+    const { open, functions, owners, decodes, others } = this.board;
     Object.assign(this, { held: open(), functions, owners: new Map(owners), count: 0 });
     Object.assign(this.held, { told, found });
-    this.now = decodes === null ? null : new AtReset(this.held, functions, decodes);
+    this.now = decodes === null ? null : new AtReset(this.held, functions, decodes, this.now?.functions ?? others);
     this.watch = new Watch({ read: line => (this.now === null ? asked_of(this.held, line) : keeping_latch(this.held, () => asked_of(this.held, line))),
       moment: () => moment_of(this) });
     this.load();
