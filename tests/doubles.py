@@ -12,7 +12,7 @@ HEAD = re.compile(r"(?:(?:pub|abbrev|unfoldable|opaque) )*([^\s:(){}=]+) :(?=\s)
 WORD = re.compile(r"[^\s(){}.,;]+|[(){}.,;]")
 # what has fewer words is no more than an instance of another lemma
 LEAST = 20
-KNOWN = ["Follows InOrder InOrder IsBehind", "same_is same_is", "shape_places shaped_places"]
+KNOWN = ["Follows InOrder InOrder IsBehind", "same_is same_is"]
 
 
 def lemmas(text):

@@ -1,4 +1,4 @@
-//! Layer: program. Below: machine_images, board_told.
+//! Layer: program. Below: board_told.
 //!
 //! The library for C: a machine of a board file, or its board at reset, behind a handle, and what each is
 //! asked.
