@@ -181,6 +181,10 @@ if cargo --version > /dev/null 2>&1; then
   printf '[package]\nname = "bare"\nedition = "2021"\n[profile.dev]\npanic = "abort"\n[dependencies]\n%s\n' \
     'pciguest = { path = "../pciguest", default-features = false }' > outside/bare/Cargo.toml
   holds 'Rust: the crate without the standard library' offline outside/bare target cargo run --offline --quiet
+  mkdir -p outside/carried/src
+  cp "$top/tests/library/carried.rs" outside/carried/src/main.rs
+  printf '[package]\nname = "carried"\nedition = "2021"\n[dependencies]\npciguest = { path = "../pciguest" }\n' > outside/carried/Cargo.toml
+  holds 'Rust: the program that saves a machine is built' offline outside/carried target cargo build --offline --quiet
   offline "$top/examples/rust" device env RUSTFLAGS='-D warnings' make -s > device.rust.out
   holds 'Rust: the example prints what the one in C does' cmp device.rust.out "$top/tests/library/device.stdout"
   if ls -d /usr/share/cargo/registry/vm-{memory,superio}-* > /dev/null 2>&1; then
@@ -210,6 +214,23 @@ else
     python3 "$top/examples/python/device.py" "$top/examples/device.toml" > device.python.out 2>&1
   holds 'Python: the example prints what the one in C does' cmp device.python.out "$top/tests/library/device.stdout"
 fi
+
+# ---- a machine that is saved in one process and goes on in another, in each of the languages that are here
+holds 'the program that saves a machine is built' build carried "$top/tests/library/carried.c"
+languages=(C)
+[ ! -x target/debug/carried ] || languages+=(Rust)
+! command -v python3 > /dev/null || [ ! -e "$top/library/libpciguest.so.0" ] || languages+=(Python)
+in_C() { ./carried "$1" "$board"; }
+in_Rust() { target/debug/carried "$1" "$board"; }
+in_Python() {
+  env PYTHONPATH="$top/library/python" PYTHONDONTWRITEBYTECODE=1 PCIGUEST_LIBRARY_DIR="$top/library" \
+    python3 "$top/tests/library/carried.py" "$1" "$board"
+}
+goes_on() { test "$("in_$2" load 2>&1 < "image.$1")" = $'b: 0x0b\na: 0xffffffff'; }
+for here in "${languages[@]}"; do
+  "in_$here" save > "image.$here" 2> /dev/null
+  for there in "${languages[@]}"; do holds "a machine saved in $here goes on in $there" goes_on "$here" "$there"; done
+done
 
 # ---- the lines that docs/library-c.md and docs/vmm-integration.md print, in a program: its firmware reads what the region on
 # the board begins with, and an empty file is refused
