@@ -118,7 +118,7 @@ holds 'nothing is left but folders' test -z "$(find "$room/package" ! -type d)"
 # ---- what the shared library gives and takes
 if command -v nm > /dev/null && command -v readelf > /dev/null; then
   declared() {
-    cat library/{pciguest,raw}.h | grep -v '^static' | grep -o '^[A-Za-z][A-Za-z0-9_ *]*pciguest_[a-z_]*(' |
+    cat library/{pciguest.h,raw.h,machines.c,compat.c} | grep -v '^static' | grep -o '^[A-Za-z][A-Za-z0-9_ *]*pciguest_[a-z_]*(' |
       sed 's/.*[ *]//; s/($//' | sort -u
   }
   visible() { nm -D --defined-only library/libpciguest.so.0 | awk '{ print $3 }' | sort -u; }
