@@ -1,4 +1,4 @@
-//! The base address registers of one function.
+//! The base address registers (BARs) of one function.
 ghost use Rattle.std.specs.Prelude.{◌≡◌, ◌<◌, ◌++◌, map};
 ghost use Rattle.model_registers.specs.{Registers.{read, write}, ByteEnables.lanes, Declarations.HasLawfulRegions, EndpointTable.{base_register, base_file, command_cells, opened, HasLawfulBases}, Decoding.first_hit};
 ghost use Rattle.bars.specs.{Kinds.named_space, Hits.named_hit, Resets.{at_reset, with_no_base}, Slots.bases_from};
@@ -9,11 +9,12 @@ use crate::region::BasedRegion;
 use crate::slots::Slots;
 use std::marker::Model;
 
-/// The six base address registers of a function, 10h to 27h.
+/// The six base address registers of a function, at 10h to 27h.
 ///
-/// The bases are kept as numbers, at the index of each region's first register: an address is decoded
-/// by a few comparisons a region, and what a register shows is computed when it is read. Addresses that
-/// no region holds are told first, by two comparisons, since most slots of a guest are passed so.
+/// The bases are stored as integers, indexed by each region's first register. So decoding an
+/// address takes a few comparisons per region, and register values are computed only when they are
+/// read. Most lookups in a guest's slots miss, so two comparisons first exclude addresses outside
+/// every region.
 #[derive(Debug, Drop)]
 pub struct Bars {
     slots: Slots,
@@ -32,8 +33,8 @@ impl Model for Bars {
 }
 
 impl Bars {
-    /// The registers of these declarations by index, with bases 0. A declaration for 64 bits takes the
-    /// next register too.
+    /// Returns registers for these declarations, all with base 0. A 64-bit declaration also uses
+    /// the next register.
     pub fn new(decls: [Option<BarDecl>; 6]) -> Bars
         requires { HasLawfulRegions (map opened (at_reset decls)) }
         ensures { result ≡ at_reset decls }
@@ -43,7 +44,7 @@ impl Bars {
         }
     }
 
-    /// The regions with the bases that they have now, each at the index of its first register.
+    /// Returns the regions with their current bases, indexed by their first register.
     pub fn regions(&self) -> &[Option<BasedRegion>; 6]
         ensures bases { bases_from 0 result.now ≡ self.now }
         ensures lawful { HasLawfulBases self.now }
@@ -51,7 +52,7 @@ impl Bars {
         self.slots.regions()
     }
 
-    /// The enabled bytes of the register at an index; the other bytes read 0.
+    /// Reads the enabled bytes of register `reg`, 0 to 5. Disabled bytes read 0.
     pub fn read(&self, reg: u8, enables: u8) -> u32
         requires { reg < 6 }
         ensures word { result ≡ read (base_file self.now) (base_register reg) (lanes enables) }
@@ -64,8 +65,8 @@ impl Bars {
         }
     }
 
-    /// Writes the enabled bytes of the register at an index. The bits below a region's size stay, and
-    /// each half of a base of 64 bits counts at once.
+    /// Writes the enabled bytes of register `reg`, 0 to 5. The bits below the region's size are
+    /// read-only. Writing either half of a 64-bit BAR takes effect immediately.
     pub fn write(&mut self, reg: u8, enables: u8, value: u32)
         requires { reg < 6 }
         ensures cells { base_file self.new
@@ -76,15 +77,15 @@ impl Bars {
             let value = u64::from(value) << part.shift;
             let enabled = u64::from(enabled_bits(enables)) << part.shift;
             let region = part.region.written(value, enabled);
-            // where no region moves, all extents stay
+            // The extents only change if the region's base does.
             if region.base != part.region.base {
                 self.slots.put(part.slot, region);
             }
         }
     }
 
-    /// The least register whose region decodes an address under this Command register, and the offset
-    /// in the region.
+    /// Returns the first register whose region decodes `addr`, and the offset in that region.
+    /// `command` is the value of the Command register.
     pub fn decode(&self, space: Space, addr: u64, command: u16) -> Option<(u8, u64)>
         ensures { named_hit result
             ≡ first_hit (command_cells command

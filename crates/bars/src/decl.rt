@@ -1,4 +1,4 @@
-//! What a base address register opens.
+//! The declaration of a BAR: its kind and size.
 ghost use Rattle.std.specs.Prelude.{◌≡◌, ◌==◌, ◌-◌, ◌^◌, ◌↔◌, IsOk, IfOk};
 ghost use Rattle.model_registers.specs.{Declarations.{IsLawfulSize, registers_of, least_size, greatest_size}, EndpointTable.{type_bits, base_width}, Decoding.{space_of, command_bit}};
 ghost use Rattle.bars.specs.Kinds.{kind_of, named_space};
@@ -6,14 +6,14 @@ ghost use Rattle.bars.specs.Kinds.{kind_of, named_space};
 use std::marker::Model;
 use thiserror::Error;
 
-/// The two address spaces that regions lie in.
+/// The address spaces that contain regions.
 #[derive(Clone, Copy, Debug, PartialEq, Eq)]
 pub enum Space {
     Io,
     Mem,
 }
 
-/// What a base address register opens. `pref` says that the memory is prefetchable.
+/// The kind of a BAR. `pref` marks prefetchable memory.
 #[derive(Clone, Copy, Debug, PartialEq, Eq)]
 pub enum Kind {
     Io,
@@ -21,13 +21,13 @@ pub enum Kind {
     Mem64 { pref: bool },
 }
 
-/// A size that is no power of two, or lies outside the limits of its kind.
+/// The error for a size that isn't a power of two or is outside the limits of its kind.
 #[derive(Clone, Copy, Debug, PartialEq, Eq, Error)]
 #[error("a region's size is a power of two within the limits of its kind")]
 pub struct BarFault;
 
 impl Space {
-    /// The bit of the Command register that opens the space (section 6.2.2).
+    /// Returns the bit of the Command register that enables decoding in this space (section 6.2.2).
     pub fn command_bit(self) -> u16
         ensures { result ≡ command_bit (named_space self) }
     {
@@ -39,7 +39,7 @@ impl Space {
 }
 
 impl BarFault {
-    /// The number of the fault.
+    /// Returns the error number, 107.
     pub fn number(self) -> u16
         ensures { result ≡ 107 }
     {
@@ -48,7 +48,7 @@ impl BarFault {
 }
 
 impl Kind {
-    /// The space that a region of this kind lies in.
+    /// Returns the address space of this kind of region.
     pub fn space(self) -> Space
         ensures { named_space result ≡ space_of (kind_of self) }
     {
@@ -58,14 +58,14 @@ impl Kind {
         }
     }
 
-    /// Whether the base takes two registers.
+    /// Returns whether the BAR uses two registers.
     pub fn is_wide(self) -> bool
         ensures { result ≡ (registers_of (kind_of self) == 2) }
     {
         matches!(self, Kind::Mem64 { pref: _ })
     }
 
-    /// All bits of a base: 32, or 64 of them.
+    /// Returns a mask of all bits of the BAR, 32 or 64.
     pub fn base_bits(self) -> u64
         ensures { result ≡ 2 ^ base_width (kind_of self) - 1 }
     {
@@ -76,8 +76,8 @@ impl Kind {
         }
     }
 
-    /// The read-only bits of the first register that tell the kind: bits 1 and 0 of an I/O register,
-    /// bits 3 to 0 of a memory register.
+    /// Returns the read-only type bits of the first register: bits 1 and 0 of an I/O BAR, bits 3 to
+    /// 0 of a memory BAR.
     pub fn type_bits(self) -> u32
         ensures { result ≡ type_bits (kind_of self) }
     {
@@ -88,7 +88,7 @@ impl Kind {
         }
     }
 
-    /// The least and the greatest size of a region of this kind, in bytes.
+    /// Returns the minimum and maximum region size of this kind, in bytes.
     fn limits(self) -> (u64, u64)
         ensures least { result.0 ≡ least_size (kind_of self) }
         ensures greatest { result.1 ≡ greatest_size (kind_of self) }
@@ -101,8 +101,8 @@ impl Kind {
     }
 }
 
-/// The kind of a base address register and the size of its region in bytes: a power of two, from 4 to
-/// 256 for I/O, from 16 to 2^31 for 32-bit memory, from 16 to 2^40 for 64-bit memory.
+/// The kind of a BAR and the size of its region in bytes. The size is a power of two, from 4 to 256
+/// for I/O, from 16 to 2^31 for 32-bit memory, and from 16 to 2^40 for 64-bit memory.
 #[derive(Clone, Copy, Debug)]
 pub struct BarDecl {
     kind: Kind,
@@ -123,7 +123,7 @@ impl Model for BarDecl {
 }
 
 impl BarDecl {
-    /// A region of `size` bytes. A size that the kind does not allow is refused.
+    /// Declares a region of `size` bytes. Fails if the kind doesn't allow this size.
     pub fn new(kind: Kind, size: u64) -> Result<BarDecl, BarFault>
         ensures taken { IsOk result ↔ IsLawfulSize (kind_of kind) size }
         ensures declared { IfOk result (λ b. b ≡ record { kind = kind_of kind; size = size }) }
@@ -135,14 +135,14 @@ impl BarDecl {
         Ok(BarDecl { kind, size })
     }
 
-    /// What the register opens.
+    /// Returns the kind of the BAR.
     pub fn kind(&self) -> Kind
         ensures { kind_of result ≡ self.now.kind }
     {
         self.kind
     }
 
-    /// The size of the region in bytes.
+    /// Returns the size of the region in bytes.
     pub fn size(&self) -> u64
         ensures value { result ≡ self.now.size }
         ensures lawful { IsLawfulSize self.now.kind self.now.size }

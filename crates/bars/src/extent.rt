@@ -1,22 +1,23 @@
-//! The addresses between which regions lie.
+//! Address ranges that bound a function's regions.
 ghost use Rattle.std.specs.Prelude.{◌≡◌, ◌≤◌, ◌↔◌, ℕ, List, Option, IsTrue, None};
 ghost use Rattle.bars.specs.{Kinds.named_space, Hits.{offset_in, hit_from}, declared.region.BasedRegion.BasedRegion, Extents.{IsOutside, AreExtents}};
 
 use crate::decl::Space;
 use crate::region::BasedRegion;
 
-/// The least and the greatest address of regions. Of none, the least is above the greatest.
+/// The lowest and the highest address of a set of regions. For an empty set, `least` is above
+/// `greatest`.
 #[derive(Clone, Copy, Debug)]
 pub struct Extent {
     least: u64,
     greatest: u64,
 }
 
-/// The extents of a function's regions: of those of ports, of those of memory, and of those of memory
-/// below 4 GB and from there on, each at least in part.
+/// The extents of a function's regions: in I/O, in memory, in memory below 4 GB and in memory from
+/// 4 GB up. A region on both sides of 4 GB counts in both halves.
 ///
-/// Of a function with a region of memory in either half, most addresses lie in the extent of both. They
-/// are passed by the extent of the half in which they lie.
+/// If a function has regions on both sides of 4 GB, its memory extent contains most addresses. The
+/// extents of the two halves still exclude them.
 #[derive(Clone, Copy, Debug)]
 pub struct Extents {
     pub io: Extent,
@@ -26,7 +27,7 @@ pub struct Extents {
 }
 
 impl Extent {
-    /// The extent of no region.
+    /// Returns the extent of the empty set.
     pub fn empty() -> Extent {
         Extent {
             least: u64::MAX,
@@ -34,14 +35,15 @@ impl Extent {
         }
     }
 
-    /// Whether an address is below the least or above the greatest one.
+    /// Returns whether `addr` is below or above the extent.
     pub fn is_outside(self, addr: u64) -> bool
         ensures { IsTrue result ↔ IsOutside self addr }
     {
         addr < self.least || addr > self.greatest
     }
 
-    /// The extent with one more region in it, if an address from `first` to `last` lies in that.
+    /// Returns the extent widened by `region`, if the region is in `space` and overlaps addresses
+    /// `first` to `last`.
     pub fn with(self, space: Space, first: u64, last: u64, region: BasedRegion) -> Extent
         ensures wider { (a : ℕ) → IsOutside result a → IsOutside self a }
         ensures holds { (a : ℕ) → first ≤ a → a ≤ last → IsOutside result a →
@@ -59,7 +61,8 @@ impl Extent {
 }
 
 impl Extents {
-    /// Whether an address is outside the extent of its space, or outside that of its half.
+    /// Returns whether `addr` is outside the extent of its space, or outside that of its half of
+    /// memory.
     pub fn is_outside(self, space: Space, addr: u64) -> bool
         ensures { (slots : List (Option BasedRegion)) → AreExtents slots self → IsTrue result
             → hit_from (named_space space) addr 0 slots ≡ None }

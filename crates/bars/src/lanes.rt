@@ -1,8 +1,8 @@
-//! Byte enables.
+//! Byte enables of registers.
 ghost use Rattle.std.specs.Prelude.{◌≡◌};
 ghost use Rattle.model_registers.specs.ByteEnables.{lanes, enabled_bits};
 
-/// The bits of the bytes of a register that the bits 0 to 3 of `enables` enable.
+/// Returns a mask of the register bytes that bits 0 to 3 of `enables` enable.
 pub fn enabled_bits(enables: u8) -> u32
     ensures { result ≡ enabled_bits (lanes enables) }
 {

@@ -1,6 +1,6 @@
 //! Layer: board. Below: model_registers. Above: headers.
 //!
-//! Base address registers of a function: PCI Local Bus Specification 3.0, section 6.2.5.1.
+//! Base address registers of a function (PCI Local Bus Specification 3.0, section 6.2.5.1).
 #![tactic(auto)]
 
 mod bars;

@@ -1,11 +1,11 @@
-//! One region of a function.
+//! A region with its current base address.
 ghost use Rattle.std.specs.Prelude.{◌≡◌};
 ghost use Rattle.model_registers.specs.{EndpointTable.IsLawfulBase, BaseLaws.{shown, rebased}};
 ghost use Rattle.bars.specs.{Kinds.named_space, Slots.placed, Hits.offset_in};
 
 use crate::decl::{BarDecl, Space};
 
-/// A region, and the base that its registers name now.
+/// A declared region with the base address in its registers.
 #[derive(Clone, Copy, Debug)]
 pub struct BasedRegion {
     pub decl: BarDecl,
@@ -13,7 +13,7 @@ pub struct BasedRegion {
 }
 
 impl BasedRegion {
-    /// What the registers show, all bytes as one number: the base and the bits that tell the kind.
+    /// Returns the value that the BAR reads, as one integer: the base address and the type bits.
     pub fn shown(&self) -> u64
         requires { IsLawfulBase (placed 0 self.now) }
         ensures { result ≡ shown (placed 0 self.now) }
@@ -21,8 +21,8 @@ impl BasedRegion {
         self.base + u64::from(self.decl.kind().type_bits())
     }
 
-    /// The region after a write of `value` to the enabled bits of its registers. The bits below the
-    /// size stay.
+    /// Returns the region after a write of the `enabled` bits of `value` to its BAR. The bits below
+    /// the size are read-only.
     pub fn written(self, value: u64, enabled: u64) -> BasedRegion
         requires { IsLawfulBase (placed 0 self) }
         ensures { result ≡ record self { base = rebased (placed 0 self) value enabled } }
@@ -35,8 +35,8 @@ impl BasedRegion {
         }
     }
 
-    /// The offset of an address in the region, if it lies there. The difference is compared with the
-    /// size, since base and size may add up to 2^64.
+    /// Returns the offset of `addr` in the region, or `None` if `addr` isn't in the region.
+    /// Compares the difference with the size, because base plus size can be 2^64.
     pub fn offset_of(&self, space: Space, addr: u64) -> Option<u64>
         ensures { result ≡ offset_in (named_space space) addr self.now }
     {

@@ -1,11 +1,11 @@
-//! Finding the size of a region by what its registers show.
+//! Decoding of BAR sizing: from the value read back to the region's kind and size.
 ghost use Rattle.std.specs.Prelude.{◌≡◌, ◌==◌, ◌+◌, ◌*◌, ◌%◌, ◌^◌, if◌then◌else◌, IfSome, Some, option_map};
 ghost use Rattle.model_registers.specs.{Declarations.{Kind as model_kind, Bar, registers_of, least_size, IsLawfulSize}, EndpointTable.type_bits, Sizing.ShowsSize};
 ghost use Rattle.bars.specs.Kinds.{kind_of, named_bar};
 
 use crate::decl::{BarDecl, Kind};
 
-/// The kind that the type bits of a region's first register tell.
+/// Decodes the type bits of a region's first register. Returns `None` for reserved types.
 fn kind_shown(low: u32) -> Option<Kind>
     ensures shown { IfSome result (λ k. low % least_size (kind_of k) ≡ type_bits (kind_of k)) }
     ensures found { (k : model_kind) → low % least_size k ≡ type_bits k →
@@ -23,7 +23,7 @@ fn kind_shown(low: u32) -> Option<Kind>
     }
 }
 
-/// What the registers of a region show, all bytes as one number.
+/// Joins the values of a BAR's registers into one integer.
 fn joined(kind: Kind, low: u32, high: u32) -> u64
     ensures { result ≡ (if registers_of (kind_of kind) == 2 then high * 2 ^ 32 + low else low) }
 {
@@ -34,9 +34,9 @@ fn joined(kind: Kind, low: u32, high: u32) -> u64
     }
 }
 
-/// The kind and the size of the region whose registers read `low` and `high` after all ones were
-/// written to them (section 6.2.5.1). `high` counts for a base of 64 bits alone. `None` where no
-/// region shows these.
+/// Decodes the kind and size of a region from `low` and `high`, the values that its registers read
+/// after all ones were written to them (section 6.2.5.1). `high` matters only for a 64-bit BAR.
+/// Returns `None` if no region reads these values.
 pub fn size_of_mask(low: u32, high: u32) -> Option<(Kind, u64)>
     ensures shown { IfSome result (λ m.
         IsLawfulSize (kind_of m.0) m.1 × ShowsSize (record { kind = kind_of m.0; size = m.1 }) low high) }
@@ -45,7 +45,7 @@ pub fn size_of_mask(low: u32, high: u32) -> Option<(Kind, u64)>
 {
     let kind = kind_shown(low)?;
     let base = joined(kind, low, high) - u64::from(kind.type_bits());
-    // The complement and one: 0 where no bit of the base is set, which no kind allows.
+    // The two's complement, which is 0 if no base bit is set. No kind allows size 0.
     let size = (kind.base_bits() - base).wrapping_add(1);
     match BarDecl::new(kind, size) {
         Ok(_) => Some((kind, size)),

@@ -1,4 +1,4 @@
-//! The regions of a function by their registers.
+//! The regions of a function, indexed by BAR.
 ghost use Rattle.std.specs.Prelude.{◌≡◌, ◌<◌, map, IfSome, IfNone, IsTrue, Some, None, slice_set};
 ghost use Rattle.bars.specs.{Kinds.named_space, Hits.{hit_from, named_hit}, Extents.{IsExtent, AreExtents}, Resets.at_reset, Slots.{bases_from, with_no_base_in}, Parts.{IsPartAt, IsUnused}};
 
@@ -7,11 +7,11 @@ use crate::extent::{Extent, Extents};
 use crate::region::BasedRegion;
 use std::marker::Model;
 
-/// At the index of its first register, each region.
+/// The regions, each at the index of its first register.
 ///
-/// The extents are kept for speed: an address that lies in none of a function's regions, as most do
-/// that are looked for in one slot after the other, is passed by two comparisons in place of a look at
-/// each register. They stand first, beside the Command register of the function.
+/// The extents are a performance optimization. Most addresses looked up are in none of a function's
+/// regions, and two comparisons exclude these without checking each register. The extents come
+/// first, so that they are next to the function's Command register in memory.
 #[derive(Debug, Drop)]
 pub struct Slots {
     extents: Extents,
@@ -29,7 +29,7 @@ impl Model for Slots {
     ghost invariant = { λ s. AreExtents s.regions s.extents };
 }
 
-/// The regions of these declarations by index, with bases 0.
+/// Returns the declared regions by index, with base 0.
 fn regions_at_reset(decls: [Option<BarDecl>; 6]) -> [Option<BasedRegion>; 6]
     ensures { bases_from 0 result ≡ at_reset decls }
 {
@@ -51,7 +51,7 @@ fn clear_bases(regions: &mut [Option<BasedRegion>; 6])
     }
 }
 
-/// The part of a region's registers that one register of four bytes shows, from the bit `shift` on.
+/// One four-byte register of a BAR: bits `shift` to `shift + 31` of the value that the BAR reads.
 #[derive(Clone, Copy, Debug)]
 pub struct ShownPart {
     pub slot: usize,
@@ -59,9 +59,11 @@ pub struct ShownPart {
     pub shift: u32,
 }
 
-/// The first region that holds an address, by the index of its first register, and the offset in it.
+/// Returns the first region that contains `addr`, as the index of its first register, and the
+/// offset in the region.
 ///
-/// It is a call, so that the test that comes before it is compiled into each walk from slot to slot.
+/// This stays a separate call so that the extent check before it is inlined into each walk over
+/// slots.
 #[inline(never)]
 fn first_hit(regions: &[Option<BasedRegion>; 6], space: Space, addr: u64) -> Option<(u8, u64)>
     ensures { named_hit result ≡ hit_from (named_space space) addr 0 regions.now }
@@ -76,7 +78,7 @@ fn first_hit(regions: &[Option<BasedRegion>; 6], space: Space, addr: u64) -> Opt
     None
 }
 
-/// The extent of the regions in a space that hold an address from `first` to `last`.
+/// Returns the extent of the regions in `space` that overlap addresses `first` to `last`.
 fn extent_in(regions: &[Option<BasedRegion>; 6], space: Space, first: u64, last: u64) -> Extent
     ensures { IsExtent (named_space space) first last regions.now result }
 {
@@ -89,7 +91,7 @@ fn extent_in(regions: &[Option<BasedRegion>; 6], space: Space, first: u64, last:
     extent
 }
 
-/// The extents of these regions.
+/// Returns the extents of these regions.
 fn extents_of(regions: &[Option<BasedRegion>; 6]) -> Extents
     ensures { AreExtents regions.now result }
 {
@@ -103,7 +105,7 @@ fn extents_of(regions: &[Option<BasedRegion>; 6]) -> Extents
 }
 
 impl Slots {
-    /// The regions of these declarations by index, with bases 0.
+    /// Returns the declared regions by index, with base 0.
     pub fn new(decls: [Option<BarDecl>; 6]) -> Slots
         ensures { bases_from 0 result ≡ at_reset decls }
     {
@@ -114,15 +116,16 @@ impl Slots {
         }
     }
 
-    /// All regions, each at the index of its first register.
+    /// Returns all regions, each at the index of its first register.
     pub fn regions(&self) -> &[Option<BasedRegion>; 6]
         ensures { result.now ≡ self.now }
     {
         &self.regions
     }
 
-    /// What the register at an index shows: a region's lower half or its only register, or the upper
-    /// half of the region below.
+    /// Returns the part of a BAR that register `reg` reads: the lower half or the only register of
+    /// the region at this index, or the upper half of the 64-bit region one index below. Returns
+    /// `None` if the register is unused.
     pub fn part_at(&self, reg: u8) -> Option<ShownPart>
         requires { reg < 6 }
         ensures used { IfSome result (IsPartAt self.now reg) }
@@ -149,7 +152,7 @@ impl Slots {
         None
     }
 
-    /// Puts a region at the index of its first register.
+    /// Stores a region at the index of its first register, and updates the extents.
     pub fn put(&mut self, slot: usize, region: BasedRegion)
         requires { slot < 6 }
         ensures { self.new ≡ slice_set self.old slot (Some region) }
@@ -158,14 +161,15 @@ impl Slots {
         self.extents = extents_of(&self.regions);
     }
 
-    /// Whether an address is outside the extent of its space, and so in no region.
+    /// Returns whether `addr` is outside the extent of its space, and so in no region.
     pub fn is_outside(&self, space: Space, addr: u64) -> bool
         ensures { IsTrue result → hit_from (named_space space) addr 0 self.now ≡ None }
     {
         self.extents.is_outside(space, addr)
     }
 
-    /// The first region that holds an address, by the index of its first register, and the offset in it.
+    /// Returns the first region that contains `addr`, as the index of its first register, and the
+    /// offset in the region.
     pub fn first_hit(&self, space: Space, addr: u64) -> Option<(u8, u64)>
         ensures { named_hit result ≡ hit_from (named_space space) addr 0 self.now }
     {

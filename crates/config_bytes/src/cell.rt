@@ -1,4 +1,4 @@
-//! One byte of configuration space or of a region.
+//! A byte of configuration space or of a region, with its write behavior.
 ghost use Rattle.std.specs.Prelude.{◌≡◌, ◌↔◌, IsOk, IfOk, bit_and};
 ghost use Rattle.lists.specs.Elements.{Each};
 ghost use Rattle.model_registers.specs.{Cell.{IsCell, constant, written, raised}, DeviceBytes.with_value};
@@ -6,13 +6,13 @@ ghost use Rattle.model_registers.specs.{Cell.{IsCell, constant, written, raised}
 use std::marker::Model;
 use thiserror::Error;
 
-/// Refuses a cell with a bit that is both writable and cleared by writing one.
+/// The error for a byte with a bit that is both writable and write-1-to-clear (W1C).
 #[derive(Clone, Copy, Debug, PartialEq, Eq, Error)]
 #[error("cell masks")]
 pub struct CellFault;
 
 impl CellFault {
-    /// The number of the fault line: 112.
+    /// Returns the error number, 112.
     pub fn number(self) -> u16
         ensures { result ≡ 112 }
     {
@@ -20,8 +20,8 @@ impl CellFault {
     }
 }
 
-/// A value, the bits of it that a write sets, and those that writing a one clears (PCI Local Bus 3.0,
-/// chapter 6.2.3). No bit is of both kinds.
+/// A byte with its value, write mask and W1C mask (PCI Local Bus 3.0, chapter 6.2.3). No bit is in
+/// both masks.
 #[derive(Clone, Copy, Debug, PartialEq, Eq)]
 pub struct Cell {
     value: u8,
@@ -43,8 +43,8 @@ impl Model for Cell {
 }
 
 impl Cell {
-    /// A cell with this value, these writable bits and these bits that writing a one clears. Refuses
-    /// a bit in both masks.
+    /// Returns a byte with this value, write mask `rw` and W1C mask `w1c`. Fails if a bit is in
+    /// both masks.
     pub fn new(value: u8, rw: u8, w1c: u8) -> Result<Cell, CellFault>
         ensures taken { IsOk result ↔ (bit_and rw w1c ≡ 0) }
         ensures cell { IfOk result (λ c.
@@ -56,7 +56,7 @@ impl Cell {
         Ok(Cell { value, rw, w1c })
     }
 
-    /// A cell that no write changes.
+    /// Returns a read-only byte.
     pub fn fixed(value: u8) -> Cell
         ensures { result ≡ constant value }
     {
@@ -67,21 +67,21 @@ impl Cell {
         }
     }
 
-    /// A cell whose bits of `rw` a write sets.
+    /// Returns a byte with write mask `rw` and no W1C bits.
     pub fn settable(value: u8, rw: u8) -> Cell
         ensures { result ≡ record { value = value; writable = rw; clearable = 0 } }
     {
         Cell { value, rw, w1c: 0 }
     }
 
-    /// A cell whose bits of `w1c` fall where a one is written to them.
+    /// Returns a byte with W1C mask `w1c`. Writing 1 to one of these bits clears it.
     pub fn clearable(value: u8, w1c: u8) -> Cell
         ensures { result ≡ record { value = value; writable = 0; clearable = w1c } }
     {
         Cell { value, rw: 0, w1c }
     }
 
-    /// The byte that a read gives.
+    /// Returns the value that a read returns.
     pub fn value(&self) -> u8
         ensures value { result ≡ self.now.value }
         ensures lawful { IsCell self.now }
@@ -89,7 +89,7 @@ impl Cell {
         self.value
     }
 
-    /// The cell after a write of `byte`.
+    /// Returns the cell after a write of `byte`.
     pub fn written(self, byte: u8) -> Cell
         ensures { result ≡ written byte self }
     {
@@ -98,8 +98,8 @@ impl Cell {
         Cell { value, rw, w1c }
     }
 
-    /// The cell after the device has raised the bits of `mask`, of which only those rise that writing
-    /// a one clears.
+    /// Returns the cell after its device has set the bits of `mask`. Only W1C bits can be set this
+    /// way.
     pub fn raised(self, mask: u8) -> Cell
         ensures { result ≡ raised mask self }
     {
@@ -108,7 +108,7 @@ impl Cell {
         Cell { value, rw, w1c }
     }
 
-    /// The cell with another value, whatever its masks, which stay.
+    /// Returns the cell with its value replaced, ignoring and keeping both masks.
     pub fn with_value(self, byte: u8) -> Cell
         ensures { result ≡ with_value byte self }
     {
@@ -119,7 +119,7 @@ impl Cell {
     }
 }
 
-/// Looks at cells, and changes nothing: each of their numbers is a byte.
+/// Establishes that the value and both masks of each cell are below 256.
 pub fn are_cells(cells: &[Cell])
     ensures { Each IsCell cells.now }
 {

@@ -1,4 +1,4 @@
-//! The cells of one function's configuration space, or of one region's block.
+//! The register bytes of a function's configuration space, or of one region's block.
 ghost use Rattle.std.specs.{Prelude.{◌≡◌, ◌==◌, ◌<◌, ◌%◌, ◌^◌, ◌↔◌, All, IfOk, IsTrue, not, length, if◌then◌else◌}, List.list_all};
 ghost use Rattle.model_registers.specs.{Cell.written, Registers.{config, changed, read, write, raise, cell_at}, DeviceBytes.set_value, ByteEnables.{enabled_bytes, is_enabled, lanes}, FileLaws.IsConfigFile};
 ghost use Rattle.lists.specs.Elements.{Each, all_pairs};
@@ -9,13 +9,13 @@ use byteorder::{ByteOrder, LittleEndian};
 use std::alloc::{AllocError, Global};
 use std::marker::Model;
 
-/// Cells by offset, and what they were at the beginning (PCI Local Bus 3.0, chapter 6). An offset
-/// without a cell reads 0, and drops writes and raises. Only `new` takes memory.
+/// Bytes by offset, with their reset values (PCI Local Bus 3.0, chapter 6). An offset without a
+/// cell reads 0, and writes and raises there are dropped. Only `new` allocates memory.
 ///
-/// Every access of the simulator ends here. So the cells stand in a table by offset, where an access
-/// finds its bytes at once, however many cells there are: no list is searched. A gap of the table holds
-/// a cell that reads 0 and never changes, so no access asks whether an offset has a cell. `initial`
-/// holds the offsets in the order given, for the file that callers see, and the cells for `reset`.
+/// Every access of the simulator ends here, so the cells are in a table indexed by offset: an
+/// access finds its bytes in constant time, however many cells there are. Gaps in the table hold
+/// read-only zero bytes, so an access never checks whether an offset has a cell. `initial` holds
+/// the offsets and reset cells in the order given to `new`.
 #[derive(Drop)]
 pub struct Cells {
     table: Vec<Cell>,
@@ -35,7 +35,7 @@ impl Model for Cells {
     ghost invariant = { λ f. IsTable f.table.items f.initial.items };
 }
 
-/// Whether the byte lane is enabled.
+/// Returns whether byte lane `lane`, 0 to 3, is enabled.
 fn is_enabled(enables: u8, lane: u8) -> bool
     requires { lane < 4 }
     ensures { result ≡ is_enabled enables lane }
@@ -43,7 +43,7 @@ fn is_enabled(enables: u8, lane: u8) -> bool
     (enables >> lane) & 1 == 1
 }
 
-/// A length that has room for each offset.
+/// Returns the table length needed for the highest offset.
 fn table_length(cells: &[(u16, Cell)]) -> usize
     ensures { All (λ c. c.0 < result) cells.now }
 {
@@ -54,7 +54,7 @@ fn table_length(cells: &[(u16, Cell)]) -> usize
         .unwrap_or(0)
 }
 
-/// Puts each cell into the table at its offset.
+/// Stores each cell in the table at its offset.
 fn place(table: &mut [Cell], cells: &[(u16, Cell)])
     requires { Each (λ c. c.0 < length table.old) cells.now }
     ensures { table.new ≡ placed cells.now table.old }
@@ -64,7 +64,7 @@ fn place(table: &mut [Cell], cells: &[(u16, Cell)])
     }
 }
 
-/// Puts each cell but those at the offsets from `first` to `last` into the table at its offset.
+/// Stores each cell in the table at its offset, except for offsets `first` to `last`.
 fn place_outside(table: &mut [Cell], cells: &[(u16, Cell)], first: u16, last: u16)
     requires { Each (λ c. c.0 < length table.old) cells.now }
     ensures { table.new ≡ placed_outside first last cells.now table.old }
@@ -76,15 +76,16 @@ fn place_outside(table: &mut [Cell], cells: &[(u16, Cell)], first: u16, last: u1
     }
 }
 
-/// Whether no cell of these stands at an offset.
+/// Returns whether none of these cells is at offset `off`.
 fn is_free(off: u16, cells: &[(u16, Cell)]) -> bool
     ensures { result ≡ list_all (λ c. not (off == c.0)) cells.now }
 {
     cells.iter().all(|(other, _)| off != *other)
 }
 
-/// The same, asked of the cell at the index `off` first. In a region's block, whose cells stand one after the
-/// other from 0 on, it stands at this offset: then the others are not looked at.
+/// Returns whether none of these cells is at offset `off`, checking the cell at index `off` first.
+/// The cells of a region's block are consecutive from offset 0, so for a block the first check is
+/// enough.
 fn is_gap(off: u16, cells: &[(u16, Cell)]) -> bool
     ensures { result ≡ list_all (λ c. not (off == c.0)) cells.now }
 {
@@ -98,7 +99,7 @@ fn is_gap(off: u16, cells: &[(u16, Cell)]) -> bool
     is_free(off, cells)
 }
 
-/// Whether each cell's offset is free of the later ones.
+/// Returns whether all offsets are distinct.
 fn offsets_differ(cells: &[(u16, Cell)]) -> bool
     ensures { result ≡ all_pairs differ cells.now }
 {
@@ -113,8 +114,8 @@ fn offsets_differ(cells: &[(u16, Cell)]) -> bool
 }
 
 impl Cells {
-    /// The cells at these offsets, 0 to 65535 in any order, of which no two are the same. The table has
-    /// a cell for each offset up to the highest.
+    /// Creates a register file from cells at distinct offsets, 0 to 65535, in any order. The table
+    /// extends to the highest offset. Fails if memory is exhausted.
     pub fn new(alloc: Global, cells: &[(u16, Cell)]) -> Result<Cells, AllocError>
         requires { HasDistinctOffsets cells.now }
         ensures cells { IfOk result (λ f.
@@ -128,7 +129,7 @@ impl Cells {
         Ok(Cells { table, initial })
     }
 
-    /// The byte at an offset, where it is enabled, else 0.
+    /// Returns the byte at offset `off`, or 0 if it isn't enabled.
     fn byte_at(&self, off: u16, enabled: bool) -> u8
         ensures byte { result
             ≡ (if enabled then (cell_at self.now.now (config off)).value else 0) }
@@ -142,21 +143,21 @@ impl Cells {
         if enabled { value } else { 0 }
     }
 
-    /// The little-endian word at `off`, a multiple of 4. Bit n of `enables`, 0 to 3, enables the byte at
-    /// `off + n` (PCI Local Bus 3.0, chapter 3.2.2); a byte that is not enabled reads 0.
+    /// Reads the little-endian word at `off`, a multiple of 4. Bit n of `enables`, 0 to 3, enables
+    /// the byte at `off + n` (PCI Local Bus 3.0, chapter 3.2.2). Disabled bytes read 0.
     #[inline(always)]
     pub fn read(&self, off: u16, enables: u8) -> u32
         requires { off % 4 ≡ 0 }
         ensures word { result ≡ read self.now.now (config off) (lanes enables) }
         ensures enabled { result ≡ enabled_bytes (lanes enables) result }
 
-        // A register of 16 bits in the low half of a word fits its type.
+        // If only the lower two bytes are enabled, the result fits a 16-bit register.
         ensures low { enables < 4 → result < 2 ^ 16 }
         ensures places { IsConfigFile self.now.now }
         ensures kept { KeepsPlaces self.now }
     {
-        // Most reads are of a whole word. Asked first, it is read in two thirds of the time, as no byte
-        // asks whether it is enabled.
+        // Most reads access a whole word. Handling them first saves a third of the time, because
+        // the bytes needn't be tested for being enabled.
         if enables == 0b1111 {
             let bytes = [
                 self.byte_at(off, true),
@@ -175,7 +176,7 @@ impl Cells {
         LittleEndian::read_u32(&bytes)
     }
 
-    /// Writes a byte to the cell at an offset, where it is enabled.
+    /// Writes a byte to the cell at offset `off` if `enabled` is set.
     fn write_byte(&mut self, off: u16, enabled: bool, byte: u8)
         ensures cells { self.new ≡ record self.old {
           now =
@@ -190,8 +191,8 @@ impl Cells {
         }
     }
 
-    /// Writes the bytes of the little-endian `data` that `enables` enables, at `off`, a multiple of 4. Each
-    /// changes its cell by the cell's masks, and all other cells stay.
+    /// Writes the enabled bytes of the little-endian `data` at `off`, a multiple of 4. Each byte is
+    /// written under its cell's masks. All other cells are unchanged.
     #[inline(always)]
     pub fn write(&mut self, off: u16, enables: u8, data: u32)
         requires { off % 4 ≡ 0 }
@@ -209,8 +210,8 @@ impl Cells {
         self.write_byte(off + 3, is_enabled(enables, 3), fourth);
     }
 
-    /// Raises the bits of `mask` that writing a one clears, in the cell at `off`. All other cells
-    /// stay.
+    /// Sets the bits of `mask` in the cell at `off`, as a device does. Only W1C bits can be set.
+    /// All other cells are unchanged.
     pub fn raise(&mut self, off: u16, mask: u8)
         ensures cells { self.new
             ≡ record self.old { now = raise mask (config off) self.old.now } }
@@ -223,15 +224,16 @@ impl Cells {
         }
     }
 
-    /// What the cell at `off` holds, 0 where none stands.
+    /// Returns the value of the cell at `off`, or 0 if there is no cell.
     pub fn value(&self, off: u16) -> u8
         ensures { result ≡ (cell_at self.now.now (config off)).value }
     {
         self.byte_at(off, true)
     }
 
-    /// Puts a value into the cell at `off`, whatever its masks, which stay. All other cells stay, and
-    /// where none stands nothing changes. A gap of the table looks like a cell, so the offsets are asked.
+    /// Sets the value of the cell at `off`, ignoring and keeping its masks. Without a cell there,
+    /// nothing changes. This checks the declared offsets, because a gap in the table looks like a
+    /// cell.
     pub fn set(&mut self, off: u16, value: u8)
         ensures cells { self.new
             ≡ record self.old { now = set_value value (config off) self.old.now } }
@@ -245,7 +247,7 @@ impl Cells {
         self.table[at] = self.table[at].with_value(value);
     }
 
-    /// Goes back to the cells that `new` was given.
+    /// Restores the reset value of every cell.
     pub fn reset(&mut self)
         ensures cells { self.new ≡ record self.old { now = self.old.initial } }
         ensures places { IsConfigFile self.new.now }
@@ -254,8 +256,8 @@ impl Cells {
         place(self.table.as_mut_slice(), self.initial.as_slice());
     }
 
-    /// Goes back to the cells that `new` was given, but for those at the offsets from `first` to `last`,
-    /// both included, which stay.
+    /// Restores the reset value of every cell except those at offsets `first` to `last`, both
+    /// included.
     pub fn reset_outside(&mut self, first: u16, last: u16)
         ensures cells { self.new
             ≡ record self.old { now = reset_outside first last self.old.initial self.old.now } }

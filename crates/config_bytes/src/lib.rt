@@ -1,6 +1,7 @@
 //! Layer: board. Below: model_registers. Above: headers.
 //!
-//! The cells of configuration space and of regions, and files of them (PCI Local Bus 3.0, chapter 6).
+//! The bytes of configuration space and of regions, with their masks, and register files made of
+//! them (PCI Local Bus 3.0, chapter 6).
 #![tactic(auto)]
 
 ghost use Rattle.config_bytes.specs.OffsetLaws.{FileOfAppend, FileOfOffsets, FileOfConfig, WithinWider, WithinAppend, WithinOffsets, DistinctAppend, DistinctPush, DistinctOffsets};
@@ -15,7 +16,8 @@ pub use cells::Cells;
 pub use lanes::{all_ones, enables_of, from_lanes, into_lanes, lowered};
 pub use op::Op;
 
-/// Lists of offsets with cells: the files that they are, and when no two cells stand at one offset.
+/// Proves which register file a list of offsets with cells describes, and when its offsets are
+/// distinct.
 pub fn lists_of_offsets()
     ensures file_of_append { FileOfAppend }
     ensures file_of_offsets { FileOfOffsets }

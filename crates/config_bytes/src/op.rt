@@ -1,7 +1,7 @@
-//! What is done at a place.
+//! The operations of an access.
 
-/// A read, or a write of a number's bytes that are enabled: those of a configuration cycle's byte enables, or as many
-/// of the lowest as an access is wide.
+/// A read, or a write of the enabled bytes of a value. A configuration cycle's byte enables select
+/// the bytes of the value. Any other access writes its lowest bytes, according to the access width.
 #[derive(Clone, Copy, Debug, PartialEq, Eq)]
 pub enum Op {
     Read,
@@ -12,7 +12,7 @@ impl Op {
     ghost use Rattle.std.specs.Prelude.{◌≡◌};
     ghost use Rattle.config_bytes.specs.Ops.{is_write};
 
-    /// Whether it is a write.
+    /// Returns whether this is a write.
     pub fn is_write(self) -> bool
         ensures { result ≡ is_write self }
     {

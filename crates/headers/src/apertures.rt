@@ -1,17 +1,17 @@
-//! The addresses that set-up may give out.
+//! The address apertures that set-up may assign from.
 ghost use Rattle.std.specs.Prelude.{◌≡◌, ◌↔◌, ◌<◌, is_ok, IsOk, IfOk};
 ghost use Rattle.model_registers.specs.Apertures.{is_of_units, is_io_aperture, is_mem_aperture, is_pref_aperture, has_lawful_pref, are_lawful, IsLawfulApertures};
 
 use std::marker::Model;
 use thiserror::Error;
 
-/// Apertures that are not lawful.
+/// The error for invalid apertures.
 #[derive(Clone, Copy, Debug, PartialEq, Eq, Error)]
 #[error("aperture")]
 pub struct ApertureFault;
 
 impl ApertureFault {
-    /// The number of the fault.
+    /// Returns the error number, 111.
     pub fn number(self) -> u16
         ensures { result ≡ 111 }
     {
@@ -19,7 +19,7 @@ impl ApertureFault {
     }
 }
 
-/// The first and the last address, both included.
+/// The first and last address of an aperture, both included.
 #[derive(Clone, Copy, Debug, PartialEq, Eq)]
 pub struct Aperture {
     pub first: u64,
@@ -37,7 +37,7 @@ impl Model for Aperture {
 }
 
 impl Aperture {
-    /// Not empty, and of whole units.
+    /// Returns whether the aperture is nonempty and consists of whole units of `unit` bytes.
     fn is_of_units(&self, unit: u64) -> bool
         requires { 0 < unit }
         ensures { result ≡ is_of_units unit self.now }
@@ -67,7 +67,7 @@ impl Aperture {
     }
 }
 
-/// Whether the prefetchable aperture, if there is one, is lawful.
+/// Returns whether the prefetchable aperture is valid, if there is one.
 fn has_lawful_pref(mem: &Aperture, pref: &Option<Aperture>) -> bool
     ensures { result ≡ has_lawful_pref mem.now pref.now }
 {
@@ -77,7 +77,8 @@ fn has_lawful_pref(mem: &Aperture, pref: &Option<Aperture>) -> bool
     }
 }
 
-/// Lawful apertures of I/O, of memory, and of prefetchable memory where the board has it.
+/// Valid apertures for I/O, for memory, and for prefetchable memory if the board has a separate
+/// aperture for it.
 #[derive(Clone, Copy, Debug)]
 pub struct Apertures {
     io: Aperture,
@@ -99,9 +100,9 @@ impl Model for Apertures {
 }
 
 impl Apertures {
-    /// These apertures, where all are lawful: none is empty; I/O is whole pages of 4 KB within 1000h to
-    /// FFFFh; the others are whole megabytes, memory below 4 GB, prefetchable memory below 2^63, on
-    /// one side of 4 GB and apart from memory.
+    /// Returns these apertures if all are valid: nonempty, I/O in whole 4 KB pages within 1000h to
+    /// FFFFh, the others in whole megabytes, memory below 4 GB, and prefetchable memory below 2^63,
+    /// entirely below or above 4 GB, without overlapping memory.
     pub fn new(
         io: Aperture,
         mem: Aperture,
@@ -118,7 +119,7 @@ impl Apertures {
         Ok(Apertures { io, mem, pref })
     }
 
-    /// The aperture of I/O regions and windows.
+    /// Returns the aperture for I/O regions and windows.
     pub fn io(&self) -> Aperture
         ensures value { result ≡ self.now.io }
         ensures lawful { IsLawfulApertures self.now }
@@ -126,14 +127,14 @@ impl Apertures {
         self.io
     }
 
-    /// The aperture of memory.
+    /// Returns the aperture for memory.
     pub fn mem(&self) -> Aperture
         ensures { result ≡ self.now.mem }
     {
         self.mem
     }
 
-    /// The aperture of prefetchable memory, where the board has one.
+    /// Returns the aperture for prefetchable memory, if the board has one.
     pub fn pref(&self) -> Option<Aperture>
         ensures { result ≡ self.now.pref }
     {

@@ -1,4 +1,4 @@
-//! Bridges, which have headers of type 1 (PCI-to-PCI Bridge Architecture 1.2, chapter 3.2).
+//! Bridges, which have type 1 headers (PCI-to-PCI Bridge Architecture 1.2, chapter 3.2).
 ghost use Rattle.std.specs.Prelude.{◌≡◌, ◌++◌, IfOk, flat_map};
 ghost use Rattle.lists.specs.Elements.{Each};
 ghost use Rattle.model_registers.specs.BridgeTable.{bridge_header, bridge_reset, io_cells, mem_cells, pref_cells, no_bridge_values, no_window};
@@ -12,10 +12,10 @@ use crate::table::{header_type, push_rows};
 use config_bytes::Cells;
 use std::alloc::{AllocError, Global};
 
-/// A bridge's registers.
+/// The registers of a bridge.
 pub struct Bridge;
 
-/// The registers of a bridge's header, then those of its memory window.
+/// Returns the header registers of a bridge, followed by those of its memory window.
 pub fn bridge_rows(decl: &BridgeDecl, multifunction: bool) -> [Row; 16]
     ensures cells { flat_map row_cells result
         ≡ bridge_header decl.now multifunction no_bridge_values ++ mem_cells no_window }
@@ -41,8 +41,8 @@ pub fn bridge_rows(decl: &BridgeDecl, multifunction: bool) -> [Row; 16]
     ]
 }
 
-/// The registers of the I/O window. One that isn't there has no bytes; the low bits of one that is
-/// tell how it decodes.
+/// Returns the registers of the I/O window. An unimplemented register has width 0. The low bits of
+/// an implemented register encode the decode width.
 pub fn io_rows(decode: IoDecode) -> [Row; 4]
     ensures cells { flat_map row_cells result ≡ io_cells (io_decode_of decode) no_window }
     ensures rows { Each IsRow result }
@@ -60,7 +60,8 @@ pub fn io_rows(decode: IoDecode) -> [Row; 4]
     ]
 }
 
-/// The registers of the prefetchable window, likewise.
+/// Returns the registers of the prefetchable memory window. An unimplemented register has width 0.
+/// The low bits of an implemented register encode the decode width.
 pub fn pref_rows(decode: PrefDecode) -> [Row; 4]
     ensures cells { flat_map row_cells result ≡ pref_cells (pref_decode_of decode) no_window }
     ensures rows { Each IsRow result }
@@ -79,7 +80,8 @@ pub fn pref_rows(decode: PrefDecode) -> [Row; 4]
 }
 
 impl Bridge {
-    /// The cells of a bridge at reset. `multifunction` says that its device has two functions or more.
+    /// Creates the register file of a bridge at reset. `multifunction` is set if its device has two
+    /// or more functions. Fails if memory is exhausted.
     pub fn cells(alloc: Global, decl: &BridgeDecl, multifunction: bool) -> Result<Cells, AllocError>
         ensures { IfOk result (λ f.
             f ≡ record {

@@ -1,4 +1,4 @@
-//! What a board declares of a bridge.
+//! The declaration of a bridge.
 ghost use Rattle.std.specs.{Prelude.{◌≡◌, IfOk, option_map}, Result.result_err};
 ghost use Rattle.model_registers.specs.DeclarationRules.{first_broken, bridge_rules, IsLawfulBridge};
 ghost use Rattle.headers.specs.{Decodes.{bridge_of, io_decode_of, pref_decode_of}, Faults.number_of};
@@ -7,7 +7,7 @@ use crate::decodes::{IoDecode, PrefDecode};
 use crate::fault::DeclFault;
 use std::marker::Model;
 
-/// A bridge whose declared values keep the rules: no vendor is FFFFh.
+/// A valid declaration of a bridge. The Vendor ID isn't FFFFh.
 #[derive(Clone, Copy, Debug)]
 pub struct BridgeDecl {
     vendor: u16,
@@ -37,7 +37,7 @@ impl Model for BridgeDecl {
 }
 
 impl BridgeDecl {
-    /// The declaration with these values. The vendor FFFFh is refused with 104.
+    /// Returns the declaration with these values. Refuses Vendor ID FFFFh with error 104.
     pub fn new(
         vendor: u16,
         device: u16,
@@ -62,7 +62,7 @@ impl BridgeDecl {
         })
     }
 
-    /// The Vendor ID.
+    /// Returns the Vendor ID.
     pub fn vendor(&self) -> u16
         ensures value { result ≡ self.now.vendor }
         ensures lawful { IsLawfulBridge self.now }
@@ -70,28 +70,28 @@ impl BridgeDecl {
         self.vendor
     }
 
-    /// The Device ID.
+    /// Returns the Device ID.
     pub fn device(&self) -> u16
         ensures { result ≡ self.now.device }
     {
         self.device
     }
 
-    /// The Revision ID.
+    /// Returns the Revision ID.
     pub fn revision(&self) -> u8
         ensures { result ≡ self.now.revision }
     {
         self.revision
     }
 
-    /// How the bridge decodes I/O addresses.
+    /// Returns the decode mode of the I/O window.
     pub fn io(&self) -> IoDecode
         ensures { io_decode_of result ≡ self.now.io }
     {
         self.io
     }
 
-    /// How the bridge decodes prefetchable memory.
+    /// Returns the decode mode of the prefetchable memory window.
     pub fn pref(&self) -> PrefDecode
         ensures { pref_decode_of result ≡ self.now.pref }
     {

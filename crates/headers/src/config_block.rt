@@ -1,4 +1,4 @@
-//! Registers of a device's own in configuration space.
+//! Device-specific registers in configuration space.
 ghost use Rattle.std.specs.{Prelude.◌≡◌, List.list_all};
 ghost use Rattle.lists.specs.Elements.{all_pairs};
 ghost use Rattle.model_registers.specs.DeclarationRules.{is_config_block, blocks_apart};
@@ -6,8 +6,8 @@ ghost use Rattle.model_registers.specs.DeclarationRules.{is_config_block, blocks
 use config_bytes::Cell;
 use std::marker::Model;
 
-/// The cells from the offset `off` on. In a lawful declaration they lie at 40h to FFh, and there is
-/// at least one.
+/// Consecutive register bytes from offset `off` on. In a valid declaration they lie within 40h to
+/// FFh, and there is at least one.
 #[derive(Clone, Debug, Drop)]
 pub struct ConfigBlock {
     pub off: u16,
@@ -46,14 +46,14 @@ impl ConfigBlock {
     }
 }
 
-/// Whether each block lies at 40h to FFh.
+/// Returns whether each block is nonempty and lies within 40h to FFh.
 pub(crate) fn are_lawful(blocks: &[ConfigBlock]) -> bool
     ensures { result ≡ list_all is_config_block blocks.now }
 {
     blocks.iter().all(|block| block.is_lawful())
 }
 
-/// Whether no offset belongs to two blocks.
+/// Returns whether no two blocks overlap.
 pub(crate) fn are_apart(blocks: &[ConfigBlock]) -> bool
     ensures { result ≡ all_pairs blocks_apart blocks.now }
 {

@@ -1,7 +1,7 @@
-//! Which address bits a bridge's windows decode (PCI-to-PCI Bridge Architecture 1.2, chapters 3.2.5.6
+//! The address decode modes of bridge windows (PCI-to-PCI Bridge Architecture 1.2, chapters 3.2.5.6
 //! and 3.2.5.9).
 
-/// Whether a bridge has an I/O window, and the bits of its addresses.
+/// Whether a bridge implements an I/O window, and with how many address bits.
 #[derive(Clone, Copy, Debug, PartialEq, Eq)]
 pub enum IoDecode {
     Unimplemented,
@@ -9,7 +9,7 @@ pub enum IoDecode {
     Bits32,
 }
 
-/// Whether a bridge has a prefetchable memory window, and the bits of its addresses.
+/// Whether a bridge implements a prefetchable memory window, and with how many address bits.
 #[derive(Clone, Copy, Debug, PartialEq, Eq)]
 pub enum PrefDecode {
     Unimplemented,

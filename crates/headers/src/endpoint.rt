@@ -1,4 +1,4 @@
-//! Endpoints, which have headers of type 0 (PCI Local Bus 3.0, chapter 6.1).
+//! Endpoints, which have type 0 headers (PCI Local Bus 3.0, chapter 6.1).
 ghost use Rattle.std.specs.Prelude.{◌≡◌, ◌++◌, IfOk, OnOk, flat_map};
 ghost use Rattle.lists.specs.Elements.{Each};
 ghost use Rattle.model_registers.specs.{DeclarationRules.IsConfigBlock, EndpointTable.{block_cells, header_cells, config_reset}};
@@ -13,10 +13,10 @@ use crate::table::{header_type, push_block, push_rows};
 use config_bytes::{Cell, Cells};
 use std::alloc::{AllocError, Global};
 
-/// An endpoint's registers.
+/// The registers of an endpoint.
 pub struct Endpoint;
 
-/// Appends the cells of the device's own registers.
+/// Appends the cells of the device-specific registers.
 fn push_blocks(cells: &mut Vec<(u16, Cell)>, blocks: &[ConfigBlock]) -> Result<(), AllocError>
     requires { Each IsConfigBlock blocks.now }
     ensures { OnOk result (file_of cells.new.items
@@ -30,7 +30,7 @@ fn push_blocks(cells: &mut Vec<(u16, Cell)>, blocks: &[ConfigBlock]) -> Result<(
     Ok(())
 }
 
-/// The registers of an endpoint's header, without its base address registers.
+/// Returns the header registers of an endpoint, without its BARs.
 pub fn endpoint_rows(decl: &EndpointDecl, multifunction: bool) -> [Row; 14]
     ensures cells { flat_map row_cells result ≡ header_cells decl.now multifunction 0 }
     ensures rows { Each IsRow result }
@@ -55,8 +55,8 @@ pub fn endpoint_rows(decl: &EndpointDecl, multifunction: bool) -> [Row; 14]
 }
 
 impl Endpoint {
-    /// The cells of an endpoint at reset, without its base address registers. `multifunction` says that its
-    /// device has two functions or more.
+    /// Creates the register file of an endpoint at reset, without its BARs. `multifunction` is set
+    /// if its device has two or more functions. Fails if memory is exhausted.
     pub fn cells(
         alloc: Global,
         decl: &EndpointDecl,

@@ -1,4 +1,4 @@
-//! What a board declares of an endpoint.
+//! The declaration of an endpoint.
 ghost use Rattle.std.specs.{Prelude.{◌≡◌, [], IfNone, IfOk, map, option_map}, Result.result_err};
 ghost use Rattle.lists.specs.Elements.{Each};
 ghost use Rattle.model_registers.specs.{Declarations.{IsLawfulSize, HasLawfulRegions}, EndpointTable.{opened, closed}, DeclarationRules.{first_broken, has_lawful_numbers, has_own_registers, endpoint_rules, with_ordered_regions, IsLawfulEndpoint}};
@@ -13,7 +13,7 @@ use bars::BarDecl;
 use std::alloc::Global;
 use std::marker::Model;
 
-/// What a board says of an endpoint, not yet judged. Regions and blocks may stand in any order.
+/// The values declared for an endpoint, not yet validated. Regions and blocks may be in any order.
 #[derive(Clone, Debug, Drop)]
 pub struct EndpointValues {
     pub vendor: u16,
@@ -44,8 +44,8 @@ impl Model for EndpointValues {
 }
 
 impl EndpointValues {
-    /// An endpoint of this identity and class, with neither regions nor registers of its own. All its
-    /// other numbers are 0.
+    /// Returns an endpoint with this identity and class code, without regions or device-specific
+    /// registers. All other values are 0.
     pub fn plain(alloc: Global, vendor: u16, device: u16, class: u32) -> EndpointValues
         ensures { result ≡ record {
           vendor = vendor;
@@ -95,7 +95,7 @@ impl EndpointValues {
         have_own_registers(&self.bar)
     }
 
-    /// The first rule that the values break.
+    /// Returns the first rule that the values break.
     fn broken_rule(&self) -> Option<DeclFault>
         ensures first { option_map number_of result ≡ first_broken (endpoint_rules self.now) }
         ensures sizes { IfNone result (Each (λ r. IsLawfulSize r.kind r.size) self.now.regions) }
@@ -114,8 +114,7 @@ impl EndpointValues {
     }
 }
 
-/// An endpoint whose declared values keep the rules. Its regions stand in the order of their
-/// registers.
+/// A valid declaration of an endpoint, with its regions in the order of their registers.
 #[derive(Clone, Debug, Drop)]
 pub struct EndpointDecl {
     values: EndpointValues,
@@ -132,7 +131,7 @@ impl Model for EndpointDecl {
 }
 
 impl EndpointDecl {
-    /// The declaration with these values, or the first rule that they break, in the order 104, 106,
+    /// Validates these values. Fails with the first rule that they break, in the order 104, 106,
     /// 107, 112.
     pub fn new(values: EndpointValues) -> Result<EndpointDecl, DeclFault>
         ensures refused { option_map number_of (result_err result)
@@ -149,7 +148,7 @@ impl EndpointDecl {
         Ok(EndpointDecl { values })
     }
 
-    /// The declared values, with the regions in the order of their registers.
+    /// Returns the declared values, with the regions in the order of their registers.
     pub fn values(&self) -> &EndpointValues
         ensures values { result.now ≡ self.now }
         ensures lawful { IsLawfulEndpoint self.now }
@@ -157,8 +156,7 @@ impl EndpointDecl {
         &self.values
     }
 
-    /// What each of the six base address registers opens, by index, for a function's own registers: they
-    /// are lawful where `bars::Bars` wants it.
+    /// Returns the BAR declarations by index, in the form that `bars::Bars::new` requires.
     pub fn base_registers(&self) -> [Option<BarDecl>; 6]
         ensures bases { at_reset result ≡ map closed self.now.regions }
         ensures lawful { HasLawfulRegions (map opened (at_reset result)) }

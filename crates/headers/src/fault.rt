@@ -1,4 +1,4 @@
-//! Why a declaration is refused.
+//! Errors of declarations.
 ghost use Rattle.std.specs.Prelude.{◌≡◌};
 ghost use Rattle.headers.specs.Faults.{number_of};
 
@@ -7,10 +7,10 @@ use thiserror::Error;
 /// The first rule that a declaration breaks.
 #[derive(Clone, Copy, Debug, PartialEq, Eq, Error)]
 pub enum DeclFault {
-    /// A number outside its range.
+    /// A value outside its range.
     #[error("number")]
     Number,
-    /// A base address register outside 0 to 5, or used twice.
+    /// A BAR index outside 0 to 5, or used twice.
     #[error("register")]
     Register,
     /// A block longer than its region.
@@ -22,7 +22,7 @@ pub enum DeclFault {
 }
 
 impl DeclFault {
-    /// The number of the fault.
+    /// Returns the error number.
     pub fn number(self) -> u16
         ensures { result ≡ number_of self }
     {

@@ -1,8 +1,8 @@
 //! Layer: board. Below: config_bytes, bars. Above: bridge_forward, guest_functions, accesses.
 //!
-//! The headers of PCI functions: what a board declares of endpoints and bridges, their registers at
-//! reset, and what the registers say (PCI Local Bus 3.0, chapter 6; PCI-to-PCI Bridge Architecture
-//! 1.2, chapter 3).
+//! The headers of PCI functions: the declarations of endpoints and bridges, their registers at
+//! reset, and the decoded values of those registers (PCI Local Bus 3.0, chapter 6; PCI-to-PCI
+//! Bridge Architecture 1.2, chapter 3).
 #![tactic(auto)]
 
 mod apertures;

@@ -1,24 +1,24 @@
-//! Which base address registers regions take.
+//! Allocation of the six base address registers to regions.
 ghost use Rattle.std.specs.{Prelude.{◌≡◌, ◌+◌, ◌≤◌, ◌<◌, [], ◌∷◌, nat_le, map, count_by}, List.list_all};
 ghost use Rattle.model_registers.specs.{Declarations.{Region, registers_of}, DeclarationRules.{uses, has_own_registers}};
 ghost use Rattle.bars.specs.Kinds.{kind_of};
 
 use bars::Kind;
 
-/// What takes base address registers: a region, or what declares one.
+/// A type that uses base address registers: a region or its declaration.
 pub trait TakesRegisters {
     ghost region: { Self → Region };
 
-    /// The base address register at which it begins.
+    /// Returns the index of its first base address register.
     fn index(&self) -> u64
         ensures { result ≡ (region self.now).index };
 
-    /// What that register opens.
+    /// Returns the kind of the BAR.
     fn kind(&self) -> Kind
         ensures { kind_of result ≡ (region self.now).kind };
 }
 
-/// How many base address registers a region of a kind takes.
+/// Returns the number of base address registers that a region of this kind uses.
 fn registers(kind: Kind) -> u64
     ensures value { result ≡ registers_of (kind_of kind) }
     ensures some { 0 < result }
@@ -43,7 +43,7 @@ fn uses<T: TakesRegisters>(region: &T, register: u64) -> bool
     index <= register && register < index + registers(region.kind())
 }
 
-/// Whether each region's registers are among the six.
+/// Returns whether each region's registers are among the six.
 fn are_in_header<T: TakesRegisters>(regions: &[T]) -> bool
     ensures { result ≡ list_all (λ r.
         nat_le ((T.region r).index + registers_of (T.region r).kind) 6) regions.now }
@@ -62,7 +62,7 @@ fn is_used_once<T: TakesRegisters>(regions: &[T], register: u64) -> bool
         <= 1
 }
 
-/// Whether no register is used twice.
+/// Returns whether no register is used twice.
 fn use_registers_once<T: TakesRegisters>(regions: &[T]) -> bool
     ensures { result
         ≡ list_all (λ n. nat_le (count_by (λ r. uses n (T.region r)) regions.now) 1) (0 ∷ 1
@@ -76,7 +76,7 @@ fn use_registers_once<T: TakesRegisters>(regions: &[T]) -> bool
         && is_used_once(regions, 5)
 }
 
-/// Whether each region has its registers among the six, and no register is used twice.
+/// Returns whether each region's registers are among the six, and no register is used twice.
 pub fn have_own_registers<T: TakesRegisters>(regions: &[T]) -> bool
     ensures { result ≡ has_own_registers (map T.region regions.now) }
 {

@@ -1,7 +1,7 @@
-//! Where in a function a byte stands.
+//! Places of bytes within a function.
 
-/// The space of a byte's offset: configuration space, or the block of the region whose base address
-/// register has this number, 0 to 5.
+/// The space of a byte's offset: configuration space, or the block of the region with this BAR
+/// index, 0 to 5.
 #[derive(Clone, Copy, Debug, PartialEq, Eq)]
 pub enum Place {
     Cfg,

@@ -1,4 +1,4 @@
-//! Regions as a board declares them.
+//! Declared regions of a function.
 ghost use Rattle.std.specs.{Prelude.{◌≡◌, ◌*◌, nat_le, length, map}, List.list_all, Bool.OnTrue};
 ghost use Rattle.model_registers.specs.{Declarations.{IsLawfulRegion, IsLawfulSize, HasLawfulRegions, registers_of}, EndpointTable.{base_cells, opened, closed}};
 ghost use Rattle.lists.specs.Elements.{Each};
@@ -11,8 +11,8 @@ use bars::{BarDecl, Kind};
 use config_bytes::Cell;
 use std::marker::Model;
 
-/// What the base address register `index` opens, and the cells at the beginning of the region. A
-/// 64-bit region takes this register and the next.
+/// A region: its BAR index and declaration, and the bytes at its beginning. A 64-bit region uses
+/// the registers `index` and `index + 1`.
 #[derive(Clone, Debug, Drop)]
 pub struct Region {
     pub index: u8,
@@ -41,7 +41,7 @@ impl TakesRegisters for Region {
     }
 }
 
-/// How many bytes a base address register of this kind has.
+/// Returns the size of a BAR of this kind in bytes.
 pub fn register_width(kind: Kind) -> u8
     ensures { result ≡ 4 * registers_of (kind_of kind) }
 {
@@ -52,7 +52,7 @@ pub fn register_width(kind: Kind) -> u8
 }
 
 impl Region {
-    /// The base address register of the region.
+    /// Returns the BAR of the region as a register row.
     pub fn base_row(&self) -> Row
         requires { IsLawfulRegion self.now }
         ensures cells { row_cells result
@@ -79,14 +79,14 @@ impl Region {
     }
 }
 
-/// Whether no block has more than 4096 cells.
+/// Returns whether no block has more than 4096 cells.
 pub(crate) fn blocks_are_short(regions: &[Region]) -> bool
     ensures { result ≡ list_all (λ r. nat_le (length r.cells) 4096) regions.now }
 {
     regions.iter().all(|region| region.block.len() <= 4096)
 }
 
-/// Whether each block lies within its region.
+/// Returns whether each block fits its region.
 pub(crate) fn blocks_fit(regions: &[Region]) -> bool
     ensures value { result ≡ list_all (λ r. nat_le (length r.cells) r.size) regions.now }
     ensures sizes { OnTrue result (Each (λ r. IsLawfulSize r.kind r.size) regions.now) }
@@ -101,7 +101,7 @@ pub(crate) fn blocks_fit(regions: &[Region]) -> bool
     true
 }
 
-/// What each of the six base address registers opens, by index.
+/// Returns the declared BARs by index.
 pub(crate) fn base_registers(regions: &[Region]) -> [Option<BarDecl>; 6]
     requires { HasLawfulRegions regions.now }
     ensures bases { at_reset result ≡ map closed regions.now }

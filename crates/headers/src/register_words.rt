@@ -1,11 +1,11 @@
-//! Registers of a function's cells as numbers.
+//! Multi-byte registers of a function.
 ghost use Rattle.std.specs.Prelude.{◌≡◌, ◌<◌, ◌^◌};
 ghost use Rattle.model_registers.specs.{Registers.{config, number}, ByteEnables.LiesInWord};
 
 use crate::registers::{Command, Status};
 use config_bytes::{Cells, enables_of, from_lanes};
 
-/// The little-endian number of `width` bytes at `off`, which lie in one word.
+/// Reads the little-endian value of `width` bytes at `off`. All of them must lie in one word.
 pub(crate) fn number(cells: &Cells, off: u16, width: u16) -> u32
     requires { LiesInWord off width }
     ensures value { result ≡ number cells.now.now (config off) width }
@@ -15,14 +15,14 @@ pub(crate) fn number(cells: &Cells, off: u16, width: u16) -> u32
     from_lanes(u64::from(off), u64::from(width), word)
 }
 
-/// The Command register, the word at 04h (PCI Local Bus 3.0, chapter 6.2.2).
+/// Returns the Command register, at 04h (PCI Local Bus 3.0, chapter 6.2.2).
 pub fn command(cells: &Cells) -> Command
     ensures { result.0 ≡ number cells.now.now (config 0x04) 2 }
 {
     Command(number(cells, 0x04, 2) as u16)
 }
 
-/// The Status register, the word at 06h (PCI Local Bus 3.0, chapter 6.2.3).
+/// Returns the Status register, at 06h (PCI Local Bus 3.0, chapter 6.2.3).
 pub fn status(cells: &Cells) -> Status
     ensures { result.0 ≡ number cells.now.now (config 0x06) 2 }
 {

@@ -3,8 +3,8 @@ ghost use Rattle.std.specs.Prelude.{◌≡◌, ⊤, [], ◌∷◌, codes};
 
 use bitflags::{Flag, Flags, bitflag_items};
 
-/// The Command register, by the bits that endpoints and bridges implement here; all others are
-/// read-only 0. A bridge has no `INTERRUPT_DISABLE`.
+/// The Command register. The named bits are implemented by endpoints and bridges, except that
+/// bridges don't implement `INTERRUPT_DISABLE`. All other bits are read-only zero.
 #[derive(Clone, Copy, PartialEq, Eq, Debug)]
 pub struct Command(pub u16);
 
@@ -43,14 +43,14 @@ impl Flags for Command {
 }
 
 impl Command {
-    /// The bits that software sets in an endpoint: all that have a name here.
+    /// Returns the bits that are writable in an endpoint: all named bits.
     pub fn of_endpoint() -> Command
         ensures { result.0 ≡ 0x0547 }
     {
         Command(Command::of_bridge().0 | Command::INTERRUPT_DISABLE.0)
     }
 
-    /// The bits that software sets in a bridge.
+    /// Returns the bits that are writable in a bridge.
     pub fn of_bridge() -> Command
         ensures { result.0 ≡ 0x0147 }
     {
@@ -59,7 +59,7 @@ impl Command {
         Command(transfers | errors)
     }
 
-    /// The bits that open both spaces.
+    /// Returns the bits that enable I/O and memory decoding.
     pub fn both_spaces() -> Command
         ensures { result.0 ≡ 3 }
     {
@@ -67,7 +67,7 @@ impl Command {
     }
 }
 
-/// The Status register, by the bits that the function sets and that writing a one clears.
+/// The Status register. The function sets the named bits, and software clears them by writing 1.
 #[derive(Clone, Copy, PartialEq, Eq, Debug)]
 pub struct Status(pub u16);
 

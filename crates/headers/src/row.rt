@@ -1,11 +1,11 @@
-//! A register of the tables: where it stands, its value at reset, and what writing does to it.
+//! Registers as rows of a table: the offset, width, reset value and masks.
 ghost use Rattle.std.specs.Prelude.{◌≡◌, ◌+◌, ◌-◌, ◌/◌, ◌%◌, ◌<◌};
 ghost use Rattle.headers.specs.Rows.{IsRow};
 
 use config_bytes::Cell;
 
-/// A register of configuration space: where it stands, how many bytes it has, its value at reset, and
-/// the bits that a write sets and that writing a one clears. All its bits are of one kind.
+/// A register of configuration space: its offset, width in bytes, reset value, write mask and W1C
+/// mask. At most one of the two masks is nonzero.
 #[derive(Clone, Copy)]
 pub struct Row {
     pub off: u16,
@@ -16,7 +16,7 @@ pub struct Row {
 }
 
 impl Row {
-    /// A row of a table.
+    /// Creates a row of a register table.
     pub(crate) fn new(off: u16, width: u8, value: u64, writable: u64, clearable: u64) -> Row
         ensures { result
             ≡ record {
@@ -36,7 +36,7 @@ impl Row {
         }
     }
 
-    /// The cell of the lowest byte.
+    /// Returns the cell of the lowest byte.
     pub(crate) fn cell(self) -> Cell
         requires { IsRow self }
         ensures { result
@@ -54,7 +54,7 @@ impl Row {
         }
     }
 
-    /// The register without its lowest byte.
+    /// Returns the rest of the register above its lowest byte.
     pub fn above(self) -> Row
         requires some { 0 < self.width }
         requires row { IsRow self }

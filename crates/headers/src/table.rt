@@ -1,4 +1,4 @@
-//! Lists of cells from rows and blocks.
+//! Building lists of cells from register rows and blocks.
 ghost use Rattle.std.specs.Prelude.{◌≡◌, ◌+◌, ◌≤◌, ◌++◌, OnOk, length, flat_map};
 ghost use Rattle.lists.specs.Elements.{Each};
 ghost use Rattle.model_registers.specs.{Registers.{config, cells_from}, EndpointTable.header_type};
@@ -9,15 +9,15 @@ use crate::row::Row;
 use config_bytes::Cell;
 use std::alloc::AllocError;
 
-/// The Header Type register: the layout, and in bit 7 whether the device has more functions (PCI
-/// Local Bus 3.0, chapter 6.2.1).
+/// Returns the Header Type register: the layout, and in bit 7 whether the device has more than one
+/// function (PCI Local Bus 3.0, chapter 6.2.1).
 pub(crate) fn header_type(layout: u8, multifunction: bool) -> u64
     ensures { result ≡ header_type layout multifunction }
 {
     u64::from(layout) + if multifunction { 0x80 } else { 0 }
 }
 
-/// Appends the register's cells, lowest byte first.
+/// Appends the cells of a register, lowest byte first.
 fn push_row(cells: &mut Vec<(u16, Cell)>, row: Row) -> Result<(), AllocError>
     requires { IsRow row }
     ensures { OnOk result (file_of cells.new.items ≡ file_of cells.old.items ++ row_cells row) }
@@ -30,7 +30,7 @@ fn push_row(cells: &mut Vec<(u16, Cell)>, row: Row) -> Result<(), AllocError>
     Ok(())
 }
 
-/// Appends the cells of registers.
+/// Appends the cells of all registers.
 pub(crate) fn push_rows(cells: &mut Vec<(u16, Cell)>, rows: &[Row]) -> Result<(), AllocError>
     requires { Each IsRow rows.now }
     ensures { OnOk result (file_of cells.new.items
@@ -44,7 +44,7 @@ pub(crate) fn push_rows(cells: &mut Vec<(u16, Cell)>, rows: &[Row]) -> Result<()
     Ok(())
 }
 
-/// Appends a block's cells, from the offset `off` on.
+/// Appends the cells of a block, starting at offset `off`.
 pub(crate) fn push_block(
     cells: &mut Vec<(u16, Cell)>,
     off: u16,

@@ -1,6 +1,7 @@
-//! The addresses that a bridge's window registers name (PCI-to-PCI Bridge Architecture 1.2, chapters
-//! 3.2.5.6 to 3.2.5.10). Each window is its first and last address, both included, or `None` where it
-//! is unimplemented or its base is above its limit. The Command register does not count here.
+//! Decoding of a bridge's window registers (PCI-to-PCI Bridge Architecture 1.2, chapters 3.2.5.6 to
+//! 3.2.5.10). A window is returned as its first and last address, both included, or as `None` if
+//! the window isn't implemented or its base is above its limit. The Command register isn't taken
+//! into account.
 ghost use Rattle.std.specs.Prelude.{◌≡◌, ◌≤◌, ◌<◌, ◌^◌, option_map};
 ghost use Rattle.model_registers.specs.{ByteEnables.LiesInWord, Windows.{io_window, mem_window, pref_window, window, window_bits}};
 ghost use Rattle.headers.specs.WindowPairs.{pair_of};
@@ -10,7 +11,7 @@ use crate::decodes::{IoDecode, PrefDecode};
 use crate::register_words::number;
 use config_bytes::Cells;
 
-/// A window is empty where its base is above its limit.
+/// Returns the window from `first` to `last`, or `None` if the base is above the limit.
 fn window(first: u64, last: u64) -> Option<(u64, u64)>
     ensures { result ≡ option_map pair_of (window first last) }
 {
@@ -21,7 +22,7 @@ fn window(first: u64, last: u64) -> Option<(u64, u64)>
     }
 }
 
-/// The address bits in a window register: its bits above 3, in units of `unit`.
+/// Returns the address that the register's bits above bit 3 encode, in units of `unit` bytes.
 fn address(cells: &Cells, off: u16, width: u16, unit: u64) -> u64
     requires lane { LiesInWord off width }
     requires width { width ≤ 2 }
@@ -32,7 +33,7 @@ fn address(cells: &Cells, off: u16, width: u16, unit: u64) -> u64
     u64::from(number(cells, off, width)) / 16 * unit
 }
 
-/// The I/O window. With 16-bit decode the upper address bits are 0.
+/// Returns the I/O window. With 16-bit decoding, the upper address bits are 0.
 pub fn io_window(cells: &Cells, decl: &BridgeDecl) -> Option<(u64, u64)>
     ensures { result ≡ option_map pair_of (io_window decl.now.io cells.now.now) }
 {
@@ -46,7 +47,7 @@ pub fn io_window(cells: &Cells, decl: &BridgeDecl) -> Option<(u64, u64)>
     window(first, last)
 }
 
-/// The memory window.
+/// Returns the memory window.
 pub fn mem_window(cells: &Cells, _decl: &BridgeDecl) -> Option<(u64, u64)>
     ensures { result ≡ option_map pair_of (mem_window cells.now.now) }
 {
@@ -56,7 +57,7 @@ pub fn mem_window(cells: &Cells, _decl: &BridgeDecl) -> Option<(u64, u64)>
     )
 }
 
-/// The prefetchable memory window. With 32-bit decode the upper address bits are 0.
+/// Returns the prefetchable memory window. With 32-bit decoding, the upper address bits are 0.
 pub fn pref_window(cells: &Cells, decl: &BridgeDecl) -> Option<(u64, u64)>
     ensures { result ≡ option_map pair_of (pref_window decl.now.pref cells.now.now) }
 {

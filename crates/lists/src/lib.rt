@@ -1,5 +1,5 @@
 //! Layer: words. Above: model_registers, command_line.
 //!
-//! Words on lists, for definitions, and lemmas on lists and on tests of their elements, for proofs. No code and no
-//! contract.
+//! List functions for definitions, and lemmas about lists and tests of their elements for proofs.
+//! The crate contains no code and no contracts.
 #![tactic(auto)]

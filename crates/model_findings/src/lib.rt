@@ -1,27 +1,33 @@
 //! Layer: definitions. Below: model_set_up, model_guests. Above: model_handoff, claim_table.
 //!
-//! Audits and readiness of a board in any register state: definitions, and laws about them. Does every address reach one
-//! place, can every function be found, and if not, which bridge and which address? Is each region open, within the
-//! apertures and fetched only as it may be, and does each bridge know its bus? What our own set-up leaves passes both.
+//! Definitions of the audit and the readiness check for a board in any register state, with
+//! theorems about both. The audit reports addresses that don't reach exactly one target and
+//! functions that can't be found, and names the bridge and the address. The readiness check also
+//! reports disabled BARs, BARs outside the apertures, BARs that may be prefetched although they
+//! aren't prefetchable, and bridges with a wrong Primary Bus Number. The result of our own set-up
+//! passes both.
 #![tactic(auto)]
 
 ghost use Rattle.model_findings.specs.{AuditExamples.WorkedExamples, Found.{FoundOnce, NumbersOfBoard, ScanFindsAll}, Orderly.OrderlyClaims, Witnesses.{NumberingDecides, ProblemsAreReal, ProblemsDecide, RoutingDecides}, SetUpPasses.{RoutedAsSetUp, SetUpPasses}, ReadyExamples.ReadyExamples, ReadyLaws.{LacksAreReal, LacksDecide, ReadyAsSetUp, ReadyDecides, ReadyIsFound, ReadyIsUsable, SetUpIsReady}};
 
-/// In an orderly state an address has the claim of the open region that holds it and no other, and each byte of an
-/// open region is claimed through every bridge above it.
+/// Proves that in a consistent state an address is claimed by the enabled region that contains it
+/// and by no other, and that each byte of an enabled region is claimed through every bridge above
+/// the region.
 pub fn orderly_claims()
     ensures { OrderlyClaims }
 {}
 
-/// Where no function is told as not found, each is reached by its address and by no other, and a scan of all
-/// addresses finds all functions. A board that holds its own bus numbers is such a state.
+/// Proves that if the audit reports no function as not found, each function is reached by its BDF
+/// and by no other, and a scan of all BDFs finds every function. This includes every board whose
+/// bridges hold its own bus numbers.
 pub fn numbers_find_all()
     ensures once { FoundOnce }
     ensures scan { ScanFindsAll }
     ensures board { NumbersOfBoard }
 {}
 
-/// Each problem is real, as its witness shows, and there is none where and only where the state is in order.
+/// Proves that each reported problem is real, as its witness shows, and that a state has no
+/// problems if and only if it is consistent.
 pub fn problems_decide()
     ensures real { ProblemsAreReal }
     ensures decide { ProblemsDecide }
@@ -29,40 +35,41 @@ pub fn problems_decide()
     ensures numbering { NumberingDecides }
 {}
 
-/// What is told of some states.
+/// Proves the audit's output for some example states.
 pub fn worked_audit_examples()
     ensures { WorkedExamples }
 {}
 
-/// On every board that set-up takes, what it leaves has no problem; nor has any later state with the same routing
-/// registers and bus numbers.
+/// Proves that set-up leaves every board that it accepts without problems. The same holds for any
+/// later state with the same routing registers and bus numbers.
 pub fn set_up_passes()
     ensures set_up { SetUpPasses }
     ensures later { RoutedAsSetUp }
 {}
 
-/// Each lack is real, as its witness shows, and there is none where and only where nothing is lacking.
+/// Proves that each reported lack is real, as its witness shows, and that a state has no lacks if
+/// and only if nothing is missing.
 pub fn lacks_decide()
     ensures real { LacksAreReal }
     ensures decide { LacksDecide }
     ensures ready { ReadyDecides }
 {}
 
-/// In a ready state each byte of each region that an endpoint declares is claimed where its register says, within the
-/// apertures, and each function is reached by its number alone.
+/// Proves that in a ready state each byte of each endpoint's regions is claimed at its programmed
+/// address, within the apertures, and that each function is reached by its own BDF and no other.
 pub fn ready_is_usable()
     ensures regions { ReadyIsUsable }
     ensures functions { ReadyIsFound }
 {}
 
-/// What set-up leaves is ready, on every board that it takes; so is any later state with the same routing registers and
-/// bus numbers.
+/// Proves that set-up leaves every board that it accepts ready. The same holds for any later state
+/// with the same routing registers and bus numbers.
 pub fn set_up_is_ready()
     ensures set_up { SetUpIsReady }
     ensures later { ReadyAsSetUp }
 {}
 
-/// What is told of some states.
+/// Proves the readiness check's output for some example states.
 pub fn worked_ready_examples()
     ensures { ReadyExamples }
 {}

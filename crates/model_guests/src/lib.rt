@@ -1,32 +1,35 @@
 //! Layer: definitions. Below: model_board. Above: model_findings, accesses.
 //!
-//! What guests, their scripts and replies are, and what happens to their functions at the devices, as definitions, and
-//! laws about them.
+//! The formal model of guests: the functions assigned to them, their scripts and replies, and the
+//! events at their devices, with theorems about isolation.
 #![tactic(auto)]
 
 ghost use Rattle.model_guests.specs.{Isolation.{Isolated, IsolatedByOwnLines, OwnLinesAlone, TwoWorlds, TwoWorldsByOwnLines}, Seated.{ByIndex, SeatedAfterEvents, SeatedAfterMoves, SeatedAlong, SeatedAtFirst}, AgreedLaws.{CopiesNeverRise, FileOfSeat, ShowsFile}, ChangeLaws.{ChangesOneFunction, EventReachesBoard, LatchKeepsBoard, MoveResetsOneFunction, OneFile, RaisesAlike, ResetsAlike, WritesAlike}, ViewLaws.{ViewAgrees, ViewIsFile}, MoveLaws.{InputsWithin, MoveBetween, MoveWithin, MovedFunction}, LineRuns.{AfterAlong, CutIsBeginning, LinesOfPieces, OutputAlong, StoppedIsBeginning}, WorldNow.world_protocol, WorldLaws.{HandoffStays, LongLinesAlike, NamesAlong, NamesStay}, DeviceByteLaws.{ReadsLeaveGuests, ReadsWritten, WriteReachesBoard}, DeviceExamples.CountingDevice, DeviceLaws.{NamesAfterDevices, OthersAfterDevice, OwnAfterDevice, ResetByMoves, ResetReachesBoard, SeatedAfterDevices}};
 
-/// To each guest a script's replies, and what it then holds, are those of its own functions and
-/// latch alone, to its own lines and the moves that touch it, over any handoff.
+/// Proves isolation over any handoff: a script's replies to a guest, and the guest's state
+/// afterwards, depend only on the guest's own functions and CONFIG_ADDRESS, its own lines, and the
+/// moves that involve it.
 pub fn isolated()
     ensures { Isolated }
 {}
 
-/// Worlds and scripts that agree on a guest's functions, lines and moves give it equal reply lines,
-/// over any two handoffs.
+/// Proves that two configurations and scripts that agree on a guest's functions, lines and moves
+/// give the guest the same reply lines, even over different handoffs.
 pub fn two_worlds()
     ensures { TwoWorlds }
 {}
 
-/// In a script without moves a guest's own lines alone decide, over any handoff.
+/// Proves isolation for scripts without moves, over any handoff: a guest's inputs are then exactly
+/// its own lines.
 pub fn own_lines_decide()
     ensures inputs { OwnLinesAlone }
     ensures isolated { IsolatedByOwnLines }
     ensures two_worlds { TwoWorldsByOwnLines }
 {}
 
-/// Whatever guests do and wherever functions are moved, each function that a guest has stands in one
-/// slot, as the endpoint of its path, and each guest keeps its name. The handoff stays.
+/// Proves that each assigned function is always in exactly one slot and remains the endpoint at its
+/// path, whatever guests do and wherever functions are moved. Guest names and the handoff never
+/// change.
 pub fn guests_stay_seated()
     ensures first { SeatedAtFirst }
     ensures events { SeatedAfterEvents }
@@ -38,8 +41,9 @@ pub fn guests_stay_seated()
     ensures index { ByIndex }
 {}
 
-/// When a guest changes a function, the board changes there alone: a write, a raise or a reset reaches
-/// it by the bytes of which the guest has no copy, and by no others.
+/// Proves that an event in a guest's function changes the board in that function only. A write, a
+/// raise or a reset reaches the board through the bytes that the guest has no copies of, and
+/// through no others.
 pub fn agreement_follows()
     ensures writes { WritesAlike }
     ensures raises { RaisesAlike }
@@ -51,22 +55,23 @@ pub fn agreement_follows()
     ensures events { EventReachesBoard }
 {}
 
-/// Of the bytes of which a guest has no copy the board shows the guest's, and no device raises bits of
-/// the others.
+/// Proves that the board holds the guest's value for each byte that the guest has no copy of, and
+/// that no device raises bits in the copied bytes.
 pub fn agreement_shows()
     ensures shows { ShowsFile }
     ensures copies { CopiesNeverRise }
     ensures files { FileOfSeat }
 {}
 
-/// A guest's file is the board's with the guest's copies put in.
+/// Proves that overlaying a guest's copies on the board's register file gives the guest's register
+/// file.
 pub fn view_is_file()
     ensures file { ViewIsFile }
     ensures agrees { ViewAgrees }
 {}
 
-/// A move empties one slot and fills another, within one guest or between two; the function is then at
-/// reset in its new slot, and its former slot is empty.
+/// Proves that a move empties one slot and fills another, within one guest or between two guests.
+/// Afterwards the function is at reset in its new slot, and its former slot is empty.
 pub fn moves_by_index()
     ensures within { MoveWithin }
     ensures between { MoveBetween }
@@ -74,8 +79,8 @@ pub fn moves_by_index()
     ensures slots { MovedFunction }
 {}
 
-/// Pieces of a script write and leave, one after the other, what the whole does, and a run that fails
-/// wrote a beginning of it.
+/// Proves that running a script in pieces has the same output and result as running the whole
+/// script, and that a run that fails has written a prefix of the output.
 pub fn runs_in_pieces()
     ensures output { OutputAlong world_protocol }
     ensures after { AfterAlong world_protocol }
@@ -85,15 +90,15 @@ pub fn runs_in_pieces()
     ensures cut { CutIsBeginning world_protocol }
 {}
 
-/// A reset of a function leaves what a move to an empty slot and back leaves, and reaches the board by
-/// the bytes of which the guest has no copy.
+/// Proves that resetting a function has the same effect as moving the function to an empty slot and
+/// back. The reset reaches the board through the bytes that the guest has no copies of.
 pub fn resets_as_moves()
     ensures moves { ResetByMoves }
     ensures board { ResetReachesBoard }
 {}
 
-/// What a guest holds after an event at its device is told by what it held, and no other guest holds
-/// anything else than before. All stay seated and keep their names.
+/// Proves that a guest's state after an event at its device depends only on its state before, and
+/// that no other guest changes. Functions keep their slots, and guests keep their names.
 pub fn devices_keep_guests()
     ensures own { OwnAfterDevice }
     ensures others { OthersAfterDevice }
@@ -101,15 +106,16 @@ pub fn devices_keep_guests()
     ensures names { NamesAfterDevices }
 {}
 
-/// What a device reads changes nothing. What it writes is read again where a cell stands, and changes the
-/// board in its function alone, by that byte.
+/// Proves that a device's reads change nothing. A byte that a device writes to an existing cell is
+/// read back, and changes that one byte of its function on the board.
 pub fn devices_own_bytes()
     ensures reads { ReadsLeaveGuests }
     ensures written { ReadsWritten }
     ensures board { WriteReachesBoard }
 {}
 
-/// A device that counts in a register that its driver only reads.
+/// Proves the behavior of an example device, which counts in a register that is read-only to its
+/// driver.
 pub fn counting_device()
     ensures { CountingDevice }
 {}

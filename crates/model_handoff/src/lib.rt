@@ -1,14 +1,14 @@
 //! Layer: definitions. Below: model_findings. Above: model_images, model_lines, report.
 //!
-//! Guests over a board in the state in which any firmware hands it over, as definitions, and laws about them: what their
-//! accesses come to there, where the regions of their functions stand, what is told of each function of the board, and
-//! functions that are given to guests and taken from them.
+//! The formal model of guests over a board that any firmware has handed over: the effect of their
+//! accesses, the addresses of their BARs, the report on each function, and assigning and
+//! unassigning functions, with theorems about all of these.
 #![tactic(auto)]
 
 ghost use Rattle.model_handoff.specs.{AgreementLaws.{FirstIsHandoff, FirstIsReset, KeepsAddresses, KeepsBoard, KeepsBridges, KeepsNumbers, KeepsProblems, KeepsReach, KeepsRouting, StateAgrees, StateIsOnly, StaysInOrder}, RegionLaws.{CycleReads, CycleWrites, FaultDecides, HitActs, HitReachesOver, MemoryBySpace, PortsBySpace, RegionIsClaimed, RegionReads, RegionWrites, ServedAfterEvents, ServedAfterMoves, ServedAtFirst}, AfterSetUp.{SetUpIsolates, SetUpTwoWorlds}, ReportLaws.{ClosedWithoutItems, CountsOfBoard, IdentitiesOfBoard, PinLines}, SetUpCase.{SetUpAddresses, SetUpCanBeGiven, SetUpIsHandoff, SetUpIsInOrder, SetUpPlaces}, SetUpLaws.{HitReachesRegion, SetUpAgrees, SetUpAtFirst, SetUpIsOnly, SetUpKeepsNumbers, SetUpKeepsRouting}, ViewLaws.{OverReset, ResetAfterEvents, ResetAfterMoves, ResetAtFirst, ResetShown}, ResetCase.ResetIsHandoff, DevicesOver.{LawfulAfterDevices, ResetAfterDevices}, Kept.{LawfulAfter, LawfulAlong, LawfulAtFirst}, Examples.WorkedExamples, FunctionExamples.ToldFunctions, FunctionLaws.{NoSeatHolds, SeatsHold}, QueryLaws.{AccessLands, HitIsInside, InsideIsHit, NothingHit}, RegionBytes.BytesByAddress, StayLaws.RegionsStay, Actions.IsolatedByActions, CountLaws.{AnswersStay, ChangesTouchSlots, CountsGrow, RegionsStayAlong}, GivingLaws.{BoardAfterGift, BoardAfterTaking, GivenBack, GivenFunction, LawfulAfterGift, LawfulAfterTaking, OthersAfterGift, OthersAfterTaking, ShownAfterGift, ShownAfterTaking}};
 
-/// Just one state of the board agrees with the guests over a handoff; before any event it is the handoff with each
-/// given function at reset.
+/// Proves that exactly one state of the board agrees with the guests over a handoff. Before the
+/// first event it is the handoff with each assigned function at reset.
 pub fn agreement_is_one()
     ensures agrees { StateAgrees }
     ensures is_only { StateIsOnly }
@@ -16,8 +16,8 @@ pub fn agreement_is_one()
     ensures at_reset { FirstIsHandoff }
 {}
 
-/// Whatever guests do, the board has the functions, the routing registers and the bus numbers that were handed over,
-/// and an audit of it tells the same.
+/// Proves that guests can't change the board's functions, routing registers or bus numbers, and
+/// that an audit of the board always gives the same result as an audit of the handoff.
 pub fn handoff_stays()
     ensures board { KeepsBoard }
     ensures bridges { KeepsBridges }
@@ -29,14 +29,15 @@ pub fn handoff_stays()
     ensures order { StaysInOrder }
 {}
 
-/// A byte of an open region is claimed where an orderly handoff has it, by that region alone; a guest's hit stands for
-/// such a byte.
+/// Proves that each byte of an enabled region is claimed at its address in a consistent handoff,
+/// and by that region only. A guest's access that hits a region corresponds to one of these bytes.
 pub fn regions_are_reached()
     ensures claimed { RegionIsClaimed }
     ensures hits { HitReachesOver }
 {}
 
-/// At the place that a handoff gives a guest's function, the board reads and changes what the guest's file holds.
+/// Proves that accessing a guest's function at its address in the handoff reads and changes the
+/// guest's own register file.
 pub fn accesses_reach_files()
     ensures reads { RegionReads }
     ensures writes { RegionWrites }
@@ -47,8 +48,9 @@ pub fn accesses_reach_files()
     ensures cycle_writes { CycleWrites }
 {}
 
-/// Where an audit passes and no region of a given function is closed, all of them stay open to whoever has them, and
-/// the world stays lawful along any script.
+/// Proves that if the audit passes and no assigned function has a disabled BAR, all regions of
+/// assigned functions stay enabled on the board, whichever guest has them. The configuration stays
+/// lawful along any script.
 pub fn given_are_served()
     ensures first { ServedAtFirst }
     ensures events { ServedAfterEvents }
@@ -59,12 +61,13 @@ pub fn given_are_served()
     ensures lawful_along { LawfulAlong }
 {}
 
-/// A board at reset is a handoff.
+/// Proves that a board at reset is a valid handoff.
 pub fn reset_is_a_case()
     ensures { ResetIsHandoff }
 {}
 
-/// With each function in a slot at reset the board shows over which handoff its guests are, whatever they did.
+/// Proves that the board with every assigned function at reset identifies the handoff, whatever the
+/// guests did.
 pub fn handoff_is_shown()
     ensures over { OverReset }
     ensures shown { ResetShown }
@@ -73,13 +76,13 @@ pub fn handoff_is_shown()
     ensures moves { ResetAfterMoves }
 {}
 
-/// Whatever happens at devices, the world stays lawful, and the same handoff is shown.
+/// Proves that events at devices keep the configuration lawful and leave the handoff unchanged.
 pub fn devices_over_handoffs()
     ensures lawful { LawfulAfterDevices }
     ensures shown { ResetAfterDevices }
 {}
 
-/// What set-up leaves is a handoff in order, without a closed region.
+/// Proves that set-up leaves a valid, consistent handoff without disabled BARs.
 pub fn set_up_is_a_case()
     ensures handoff { SetUpIsHandoff }
     ensures order { SetUpIsInOrder }
@@ -88,9 +91,10 @@ pub fn set_up_is_a_case()
     ensures addresses { SetUpAddresses }
 {}
 
-/// Just one state of a board that is set up agrees with the guests; before any event it is the one that set-up leaves.
-/// Whatever guests do, the board routes as set-up left it and keeps its bus numbers. What a guest's function decodes is
-/// a byte of a declared region, which set-up placed, and which the board claims there.
+/// Proves that exactly one state of a board after set-up agrees with the guests. Before the first
+/// event it is the state that set-up left. Whatever guests do, routing and bus numbers stay as
+/// set-up left them, and each hit in a guest's function corresponds to a byte of a declared region,
+/// which set-up placed and the board claims.
 pub fn agreement_after_set_up()
     ensures agrees { SetUpAgrees }
     ensures is_only { SetUpIsOnly }
@@ -100,15 +104,17 @@ pub fn agreement_after_set_up()
     ensures hits { HitReachesRegion }
 {}
 
-/// On a board that is set up, as over any handoff, each guest is told what its own functions tell it by themselves, and
-/// worlds that agree on a guest tell it the same.
+/// Proves isolation on a board after set-up, as over any handoff: each guest's replies depend only
+/// on its own functions and inputs, and configurations that agree on a guest give it the same
+/// replies.
 pub fn isolated_after_set_up()
     ensures isolated { SetUpIsolates }
     ensures two_worlds { SetUpTwoWorlds }
 {}
 
-/// A report is of the board itself: it counts and names the board's functions, shows the windows behind which something
-/// is placed, as set-up closes just the others, and each pin.
+/// Proves that a report describes the board: it counts and identifies the board's functions, shows
+/// the windows that have something placed behind them, and has a line for each interrupt pin in
+/// use. Set-up disables all other windows.
 pub fn report_is_of_the_board()
     ensures counts { CountsOfBoard }
     ensures identities { IdentitiesOfBoard }
@@ -116,45 +122,48 @@ pub fn report_is_of_the_board()
     ensures pins { PinLines }
 {}
 
-/// What guests see over some handoffs.
+/// Proves the results of example accesses by guests over some handoffs.
 pub fn worked_examples()
     ensures { WorkedExamples }
 {}
 
-/// What is told of a place is what an access there does: of any width, but for the one that is the
-/// guest's own address latch.
+/// Proves that an access has the effect reported for its target, for any access width. The only
+/// exception is the guest's own CONFIG_ADDRESS.
 pub fn accesses_land()
     ensures lands { AccessLands }
     ensures nothing { NothingHit }
 {}
 
-/// A hit lies in a region that is told there and is open, and each address of such a region hits
-/// something. An access of a byte that is hit is one of that byte by its slot and its register.
+/// Proves that each hit lies in an enabled region at its reported address, and that each address of
+/// an enabled region hits something. Accessing a byte by its slot and register has the same effect
+/// as accessing the byte by its address.
 pub fn hits_lie_in_regions()
     ensures inside { HitIsInside }
     ensures hit { InsideIsHit }
     ensures bytes { BytesByAddress }
 {}
 
-/// Where a region of a guest's function stands changes by nothing else than the guest's own writes of
-/// Command or of base address registers, moves that touch its slot, and resets at its device.
+/// Proves that the regions of a guest's functions change address only through the guest's own
+/// writes to Command or to BARs, moves that involve the slot, and resets at its device.
 pub fn regions_stay()
     ensures { RegionsStay }
 {}
 
-/// A seat that is told of a function holds it, and where none is told no slot of a guest does.
+/// Proves that the assignment reported for a function is correct: the reported slot holds the
+/// function, and if none is reported, no guest's slot holds it.
 pub fn seats_hold()
     ensures held { SeatsHold }
     ensures none { NoSeatHolds }
 {}
 
-/// Functions of a board that is set up, as they are told once one of them was moved.
+/// Proves the reports on some functions of an example board, after set-up and one move.
 pub fn told_functions()
     ensures { ToldFunctions }
 {}
 
-/// A function that is given to a guest is at reset in its slot and on the board, which is else as it was. The world
-/// stays lawful, and the handoff is shown as before but for this function.
+/// Proves that assigning a function resets it in its slot and on the board, and changes nothing
+/// else on the board. The configuration stays lawful, and the handoff differs only in this
+/// function.
 pub fn gifts_reset_functions()
     ensures board { BoardAfterGift }
     ensures lawful { LawfulAfterGift }
@@ -162,30 +171,32 @@ pub fn gifts_reset_functions()
     ensures function { GivenFunction }
 {}
 
-/// A function that is taken from a guest is at reset on the board, which is else as it was. The world stays lawful, and
-/// the same handoff is shown.
+/// Proves that unassigning a function resets it on the board and changes nothing else there. The
+/// configuration stays lawful, and the handoff is unchanged.
 pub fn takings_reset_functions()
     ensures board { BoardAfterTaking }
     ensures lawful { LawfulAfterTaking }
     ensures shown { ShownAfterTaking }
 {}
 
-/// No other guest holds anything else after a gift or a taking, and a gift that is taken again leaves all guests as they
-/// were.
+/// Proves that assigning or unassigning a function changes no other guest, and that unassigning a
+/// function straight after assigning it restores all guests.
 pub fn gifts_touch_one_guest()
     ensures gift { OthersAfterGift }
     ensures taking { OthersAfterTaking }
     ensures back { GivenBack }
 {}
 
-/// Along any calls, gifts and takings, what a guest is told and what it holds are those of its own events, those at its
-/// devices, and the moves, gifts and takings that touch it, over what it held before.
+/// Proves isolation along any sequence of calls, assignments and unassignments: a guest's replies
+/// and state depend only on its previous state, its own events, the events at its devices, and the
+/// moves, assignments and unassignments that involve it.
 pub fn actions_are_isolated()
     ensures { IsolatedByActions }
 {}
 
-/// A guest's count grows by one with each action that touches a slot of it in the sense in which an answer may change.
-/// While it stays, each answer stays where the regions of the guest's functions stand.
+/// Proves that a guest's change counter increases by one with each action that may move a region of
+/// the guest. While the counter is unchanged, every answer about the addresses of the guest's
+/// regions stays valid.
 pub fn counts_tell_changes()
     ensures along { RegionsStayAlong }
     ensures touched { ChangesTouchSlots }

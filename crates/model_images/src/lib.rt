@@ -1,13 +1,14 @@
 //! Layer: definitions. Below: model_handoff. Above: images.
 //!
-//! Images of guests, by which they are saved, loaded and carried elsewhere: as definitions, as bytes, and laws about both:
-//! how they are written, read and loaded.
+//! The formal model of saved guests: the contents of an image, its byte format, and how images are
+//! written, read and loaded, with theorems about saving, loading and migration.
 #![tactic(auto)]
 
 ghost use Rattle.model_images.specs.{FitLaws.{FittingAfter, FittingAlong, FittingAtFirst, SavedFits}, ImageExamples.ImageExamples, LoadLaws.{AnswersAsSaved, BoardAfterLoad, BoardBesideLoad, HandoffAfterLoad, HoldsAsSaved, KeepsWhatWasSaved, LawfulAfterLoad, LoadedHolds, LoadsAlike, NamesAfterLoad, OthersAfterLoad, PathsAfterLoad, RestartedHolds, SeatedAfterLoad, ShownAfterLoad}, RequestLaws.{AnswersStayAlong, AnswersStayByCount, LawfulAlongRequests, RequestCountsGrow}, Requests.IsolatedByRequests, StepLaws.LoadsBySteps, ByteExamples.ByteExamples, ByteLaws.{BytesAreBytes, BytesAreRead, GuestsHaveBytes, OneImage, ReadAreBytes, ReadIsOfAGuest}, LoadedLaws.{AcceptedIsImage, AlikeAccepted, ImagesDecided, KeepsSavedBytes, LoadsImage, RefusedStays}, SavedLaws.{CanBeSavedAlong, CanBeSavedAtFirst, NoImageIsRefused, SavesWhatWasTaken, TakesSavedGuest}, Stops.OneStop, TakenBytes.{AcceptedIsTaken, ImageIsTaken, SlotsAreTaken}};
 
-/// A guest that is loaded with an image holds what the guest held that was saved, in whatever
-/// world, and is told by the same inputs the same. Loading what was saved changes nothing.
+/// Proves that a guest loaded from an image has the state of the saved guest, in any configuration,
+/// and gives the same replies to the same inputs. Loading the image of the current state changes
+/// nothing.
 pub fn loaded_as_saved()
     ensures nothing { KeepsWhatWasSaved }
     ensures loaded { LoadedHolds }
@@ -16,8 +17,8 @@ pub fn loaded_as_saved()
     ensures answers { AnswersAsSaved }
 {}
 
-/// A load changes what no other guest holds, no name, no path and no handoff, and the board in no
-/// function of another.
+/// Proves that loading a guest changes no other guest, no name, no path and no handoff, and changes
+/// only the guest's own functions on the board.
 pub fn loads_touch_one_guest()
     ensures others { OthersAfterLoad }
     ensures names { NamesAfterLoad }
@@ -28,20 +29,22 @@ pub fn loads_touch_one_guest()
     ensures alike { LoadsAlike }
 {}
 
-/// Along any actions, loads and restarts, what a guest is told and what it holds are those of its
-/// own inputs, over what it held before.
+/// Proves isolation along any actions, loads and restarts: a guest's replies and state depend only
+/// on its previous state and its own inputs.
 pub fn requests_are_isolated()
     ensures { IsolatedByRequests }
 {}
 
-/// After a load of what fits guests stay seated, the world lawful, and the same handoff is shown.
+/// Proves that after loading an image that fits, all functions keep their slots, the configuration
+/// is lawful, and the handoff is unchanged.
 pub fn fitting_loads_keep_worlds()
     ensures seated { SeatedAfterLoad }
     ensures lawful { LawfulAfterLoad }
     ensures shown { ShownAfterLoad }
 {}
 
-/// Whatever happens, what is saved of a guest fits each guest of equal declarations, on any board.
+/// Proves that the saved state of a guest always fits every guest with equal declarations, on any
+/// board.
 pub fn saved_guests_fit()
     ensures first { FittingAtFirst }
     ensures after { FittingAfter }
@@ -49,9 +52,9 @@ pub fn saved_guests_fit()
     ensures fits { SavedFits }
 {}
 
-/// Along requests whose images fit the world stays lawful. A guest's count grows by one with each
-/// request that changes it, and while it stays, each answer stays where the regions of the guest's
-/// functions stand.
+/// Proves that requests whose images fit keep the configuration lawful. A guest's change counter
+/// increases by one with each request that changes the guest. While the counter is unchanged, every
+/// answer about the addresses of the guest's regions stays valid.
 pub fn counts_tell_requests()
     ensures lawful { LawfulAlongRequests }
     ensures along { AnswersStayAlong }
@@ -59,19 +62,19 @@ pub fn counts_tell_requests()
     ensures stay { AnswersStayByCount }
 {}
 
-/// A function that is loaded holds what a guest and its device could have brought about from reset,
+/// Proves that a guest and its device could have produced each loaded function state from reset,
 /// byte by byte.
 pub fn loads_are_steps()
     ensures { LoadsBySteps }
 {}
 
-/// What an image has, and what a loaded guest holds.
+/// Proves the contents of example images and the state of guests loaded from them.
 pub fn worked_examples()
     ensures { ImageExamples }
 {}
 
-/// Every list of numbers is either the bytes of one image, which is that of a guest, or read as
-/// none. What is read of the bytes of an image is the image.
+/// Proves that every byte sequence is either the encoding of exactly one image, which belongs to
+/// some guest, or is rejected. Decoding an encoded image returns the image.
 pub fn images_are_bytes()
     ensures are_bytes { BytesAreBytes }
     ensures are_read { BytesAreRead }
@@ -80,13 +83,15 @@ pub fn images_are_bytes()
     ensures of_a_guest { ReadIsOfAGuest }
 {}
 
-/// The image of each guest whose functions are lawful and hold what they can has bytes.
+/// Proves that the image of a guest has an encoding if its functions are lawful and hold values
+/// that they can hold.
 pub fn guests_have_bytes()
     ensures { GuestsHaveBytes }
 {}
 
-/// Bytes that a guest takes are an image that fits it. An image that doesn't is refused as one of
-/// other functions, and a guest takes its own, as does each of equal declarations.
+/// Proves that the bytes that a guest accepts encode an image that fits the guest. An image that
+/// doesn't fit is refused as belonging to other functions. A guest accepts its own image, and so
+/// does every guest with equal declarations.
 pub fn fitting_bytes_are_taken()
     ensures images { AcceptedIsImage }
     ensures decided { ImagesDecided }
@@ -96,10 +101,10 @@ pub fn fitting_bytes_are_taken()
     ensures saved { KeepsSavedBytes }
 {}
 
-/// The bytes that were saved of a guest, whenever that was, are taken by each guest of equal
-/// declarations, in whatever world: it then answers as the saved one would have, and no one else
-/// answers otherwise. For this the guest's world can be saved from the first, along any requests.
-/// What is saved of a guest after a load are the bytes that were loaded.
+/// Proves that bytes saved from a guest at any time are accepted by each guest with equal
+/// declarations, in any configuration. The loaded guest then answers as the saved one would have,
+/// and no other guest's replies change. The guest can be saved from the start and after any
+/// requests. Saving a guest straight after a load returns the loaded bytes.
 pub fn saved_guests_are_taken()
     ensures first { CanBeSavedAtFirst }
     ensures along { CanBeSavedAlong }
@@ -108,20 +113,22 @@ pub fn saved_guests_are_taken()
     ensures refused { NoImageIsRefused }
 {}
 
-/// Where bytes that a guest takes say what each slot holds. They are the image of just that, which
-/// fits the guest; that its declarations can be written is all that it needs for this.
+/// Proves at which offsets the bytes of an accepted image hold the state of each slot. The bytes
+/// encode exactly this image, which fits the guest. The only requirement is that the guest's
+/// declarations can be serialized.
 pub fn taken_bytes_are_slots()
     ensures slots { SlotsAreTaken }
     ensures image { ImageIsTaken }
     ensures accepted { AcceptedIsTaken }
 {}
 
-/// Bytes that a guest refuses stop to fit at one offset, unless they are no image at all.
+/// Proves that bytes that a guest refuses stop fitting at exactly one offset, unless they aren't an
+/// image at all.
 pub fn refused_bytes_stop_once()
     ensures { OneStop }
 {}
 
-/// The bytes of an image, how they are read, and what is refused.
+/// Proves the encoding, decoding and refusal of example images.
 pub fn worked_byte_examples()
     ensures { ByteExamples }
 {}

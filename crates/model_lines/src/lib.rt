@@ -1,64 +1,68 @@
 //! Layer: definitions. Below: model_handoff. Above: findings, lines.
 //!
-//! Questions and lines over a board, as definitions, and laws about them. Why an address or a configuration number finds
-//! what it finds, in any register state. What firmware asks through the host bridge by lines, and sessions, which are
-//! firmware's lines, among them those that ask for an audit of the registers as they stand there, for readiness or why
-//! something finds what it finds, and the one that hands the board to its guests; and what guests see of a board that was
-//! given, whoever set it up.
+//! Definitions of the questions and lines about a board, with theorems about them. `why` questions
+//! explain the target of an address or a BDF in any register state. Firmware lines access the board
+//! through the host bridge. A session combines firmware lines with requests for an audit, for
+//! readiness or for an explanation, and with the line that hands the board over to its guests. The
+//! replies that guests get afterwards are defined for boards set up by any firmware.
 #![tactic(auto)]
 
 ghost use Rattle.model_lines.specs.{WhyExamples.WhyExamples, GuestExamples.GuestExamples, WhyGuests.{FoundAsLocated, ClosedAreAll, ClosedAreTrue}, WhyPorts.{PortsByLatch, PortExamples}, WhyLaws.{AddressesExplained, NumbersExplained, OrderlyAnswersAlone, ReadyTellsNothing}, FirmwareLaws.{BadLinesChangeNothing, DataIsByNumber, LatchIsPort, LongLinesAlike, ReadsChangeNoRegister, RefusedChangesNothing}, FirmwareLines.board_protocol, Sessions.session_protocol, Requests.RequestExamples, SessionLaws.{HostWordsAreNoForm, QuestionsChangeNothing, RefusedStays, RequestsAreNoForm, DrivenIsFirmware, GivenIsScript, PlainSessions, AccessesTellWritten, GivenBy, IsolatedSessions, LinesTellWritten}, FirmwareLeaves.{AccessLeaves, LinesLeave}, GivenLaws.{GivenAlike, GivenAsSetUp, GivenIsolated, GivenStays, OrderlyStays}};
 ghost use Rattle.model_guests.specs.LineRuns.{AfterAlong, CutIsBeginning, OutputAlong, StoppedIsBeginning};
 
-/// What is told of an address is so, and each region that holds it answers or is told. In an orderly state no other
-/// region would answer too, and in a ready one nothing is told.
+/// Proves that the explanation of an address is true, and that each region that contains the
+/// address either answers or is listed. In a consistent state no other region would answer too, and
+/// in a ready state no obstacle is listed.
 pub fn addresses_explained()
     ensures each { AddressesExplained }
     ensures orderly { OrderlyAnswersAlone }
     ensures ready { ReadyTellsNothing }
 {}
 
-/// A configuration cycle reaches the function at the end of its way, and what is told as missing isn't there.
+/// Proves that a configuration cycle reaches the function at the end of the explained route, and
+/// that everything reported as missing is indeed missing.
 pub fn numbers_explained()
     ensures { NumbersExplained }
 {}
 
-/// Each access at an I/O port goes where the address latch is said to make it go.
+/// Proves that each I/O port access goes to the target that the explanation derives from
+/// CONFIG_ADDRESS.
 pub fn ports_explained()
     ensures { PortsByLatch }
 {}
 
-/// What a guest is told of a place is where its access lands; each closed region that is told holds the address, and no
-/// other does.
+/// Proves that a guest's explanation names the target of its access. The disabled regions that the
+/// explanation lists are exactly those that contain the address.
 pub fn guests_explained()
     ensures located { FoundAsLocated }
     ensures closed { ClosedAreTrue }
     ensures all { ClosedAreAll }
 {}
 
-/// What is told of some addresses, numbers and ports, and to a guest.
+/// Proves the explanations of some example addresses, BDFs, ports and guest accesses.
 pub fn worked_why_examples()
     ensures each { WhyExamples }
     ensures ports { PortExamples }
     ensures guests { GuestExamples }
 {}
 
-/// CF8h is the address latch, and while the latch is enabled CFCh to CFFh are the registers that it
-/// selects: what is done there is what is done by number, but that the latch is 0 after an access by number.
+/// Proves that port CF8h accesses CONFIG_ADDRESS, and that while CONFIG_ADDRESS enables them, ports
+/// CFCh to CFFh access the selected register. The effect is that of the same access by BDF, except
+/// that an access by BDF leaves CONFIG_ADDRESS 0.
 pub fn numbers_and_ports()
     ensures latch { LatchIsPort }
     ensures by_number { DataIsByNumber }
 {}
 
-/// Only writes that no check refuses change a register.
+/// Proves that only accepted writes change a register.
 pub fn what_changes_nothing()
     ensures refused { RefusedChangesNothing }
     ensures bad { BadLinesChangeNothing }
     ensures reads { ReadsChangeNoRegister }
 {}
 
-/// Pieces of a text write and leave, one after the other, what the whole does, and a run that fails wrote
-/// a beginning of it.
+/// Proves that running a text in pieces has the same output and result as running the whole text,
+/// and that a run that fails has written a prefix of the output.
 pub fn lines_in_pieces()
     ensures output { OutputAlong board_protocol }
     ensures after { AfterAlong board_protocol }
@@ -67,8 +71,9 @@ pub fn lines_in_pieces()
     ensures cut { CutIsBeginning board_protocol }
 {}
 
-/// The lines that ask for an audit, for readiness, why, or for guests have no form of another line. All but the last
-/// change nothing, nor does a handover that is refused.
+/// Proves that the lines that request an audit, readiness, an explanation or the handover aren't
+/// valid firmware or script lines. Only the handover changes anything, and a refused handover
+/// changes nothing.
 pub fn questions_and_handovers()
     ensures no_form { HostWordsAreNoForm }
     ensures requests_no_form { RequestsAreNoForm }
@@ -76,35 +81,38 @@ pub fn questions_and_handovers()
     ensures refused { RefusedStays }
 {}
 
-/// What some lines ask.
+/// Proves the requests that some example lines make.
 pub fn worked_requests()
     ensures { RequestExamples }
 {}
 
-/// Without such lines a session writes and leaves what its lines do as firmware's, and once the board is given what
-/// they do as a script's.
+/// Proves that a session without these requests behaves exactly like its firmware lines. After the
+/// handover its lines behave like a script.
 pub fn plain_sessions()
     ensures plain { PlainSessions }
     ensures firmware { DrivenIsFirmware }
     ensures script { GivenIsScript }
 {}
 
-/// Where no write was done, a board at reset is at reset, whatever was read and whatever was refused.
+/// Proves that a board at reset stays at reset until a write succeeds, whatever was read or
+/// refused.
 pub fn what_is_written()
     ensures accesses { AccessesTellWritten }
     ensures lines { LinesTellWritten }
 {}
 
-/// Wherever a session has guests, one of its lines gave them the board. From there on a guest is told what its own
-/// functions tell it by themselves, and holds what they leave, whatever firmware did before.
+/// Proves that if a session has guests, one of its lines handed the board over. From there on, a
+/// guest's replies and state depend only on its own functions and inputs, whatever firmware did
+/// before.
 pub fn guests_in_sessions()
     ensures given { GivenBy }
     ensures isolated { IsolatedSessions }
 {}
 
-/// Over any board that was given, whoever set it up, a guest is told what its own functions tell it by
-/// themselves, and holds what they leave. So two such boards that agree on what a guest has, and our own
-/// set-up, tell it the same; and the board stays in order, with each region of a given function open.
+/// Proves that on any board that was handed over, by any firmware, a guest's replies and state
+/// depend only on its own functions and inputs. So a guest gets the same replies on two such boards
+/// that agree on its functions, and on a board from our own set-up. The board stays consistent,
+/// with each region of an assigned function enabled.
 pub fn guests_alike()
     ensures isolated { GivenIsolated }
     ensures alike { GivenAlike }
@@ -113,8 +121,8 @@ pub fn guests_alike()
     ensures orderly { OrderlyStays }
 {}
 
-/// Pieces of a session write and leave, one after the other, what the whole does, and a run that fails wrote
-/// a beginning of it.
+/// Proves that running a session in pieces has the same output and result as running the whole
+/// session, and that a run that fails has written a prefix of the output.
 pub fn sessions_in_pieces()
     ensures output { OutputAlong session_protocol }
     ensures after { AfterAlong session_protocol }
@@ -122,7 +130,7 @@ pub fn sessions_in_pieces()
     ensures cut { CutIsBeginning session_protocol }
 {}
 
-/// Whatever firmware does to a handoff, it leaves one of the same board.
+/// Proves that firmware accesses turn a handoff into another handoff of the same board.
 pub fn firmware_hands_over()
     ensures access { AccessLeaves }
     ensures lines { LinesLeave }

@@ -1,26 +1,27 @@
 //! Layer: definitions. Below: lists. Above: model_board, config_bytes, bars.
 //!
-//! Cells, register files and register tables of PCI functions, as definitions, and laws about them.
+//! The formal model of register bytes, register files and register tables of PCI functions, with
+//! theorems about them.
 #![tactic(auto)]
 
 ghost use Rattle.std.specs.Prelude.{◌≡◌, ℕ};
 ghost use Rattle.model_registers.specs.{Cell.{no_cell, written}, AccessLaws.{AlignedLiesInWord, NumberByLanes, LanesFit, NumberFromWord, AllOnesByLanes, WriteByLanes, DisabledRead, DisabledStay, NumberFits, ReadsEnabled}, FileLaws.{JoinedCell, JoinedChange, JoinedWrite, ReadNone, WriteNone, ReadSecond, ReadFirst, PlacesStay, RegionCells, RegionCell, RegionRead, RegionChange, RegionWrite, RegionHasNoConfig, RegionHasNoOther, ConfigHasNoBlock, ConfigStays}, RegisterLaws.{ChangeAtPlace, FieldReads, FieldWrites, EnabledFieldReads, EnabledFieldWrites}, BaseLaws.{ReadsOfBases, WritesOfBases}, Sizing.SizesRead, DecodingLaws.{HitIsOfRegion, HitsByBases, HitsOfRegisters}, OwnCopies.{OwnReads, OwnWrites, OwnStay, OwnHits, ResetHoldsOwn}};
 
-/// A place without a cell drops writes.
+/// Proves that writes to an unimplemented byte are dropped.
 pub fn no_cell_drops_writes()
     ensures { (b : ℕ) → written b no_cell ≡ no_cell }
 {}
 
-/// Register files: one cell changes at its place alone, and a register of several bytes reads its
-/// value and takes a write by its mask.
+/// Proves that changing one byte of a register file leaves all other bytes unchanged, and that a
+/// multi-byte register reads its value and is written under its write mask.
 pub fn register_files()
     ensures change { ChangeAtPlace }
     ensures reads { FieldReads }
     ensures writes { FieldWrites }
 {}
 
-/// Accesses: a number of 1, 2 or 4 bytes is read and written as enabled bytes of the word in which it
-/// lies.
+/// Proves that reading or writing a value of 1, 2 or 4 bytes accesses the enabled bytes of the word
+/// that contains it.
 pub fn byte_accesses()
     ensures aligned { AlignedLiesInWord }
     ensures number { NumberByLanes }
@@ -32,14 +33,15 @@ pub fn byte_accesses()
     ensures disabled_stay { DisabledStay }
 {}
 
-/// Files whose cells are bytes: a number of some bytes is below the power, and a read has no byte that
-/// is not enabled.
+/// Proves that for register files that hold bytes, a value of `n` bytes is below 256^n, and the
+/// disabled bytes of a read are 0.
 pub fn files_of_bytes()
     ensures number { NumberFits }
     ensures read { ReadsEnabled }
 {}
 
-/// Joined files: each takes its own part of a write, and one without the place is passed by.
+/// Proves that in the concatenation of register files each file receives its own part of a write,
+/// and that a file without the accessed byte is skipped.
 pub fn joined_files()
     ensures cell { JoinedCell }
     ensures change { JoinedChange }
@@ -51,7 +53,7 @@ pub fn joined_files()
     ensures places { PlacesStay }
 {}
 
-/// The cells of a block in a region are those of the block at the same offsets, and stand nowhere else.
+/// Proves that a region contains exactly the cells of its block, at the same offsets.
 pub fn region_files()
     ensures cells { RegionCells }
     ensures cell { RegionCell }
@@ -64,29 +66,29 @@ pub fn region_files()
     ensures config_stays { ConfigStays }
 {}
 
-/// Registers of several bytes by byte enables.
+/// Proves how byte enables select the bytes of a multi-byte register.
 pub fn enabled_bytes()
     ensures reads { EnabledFieldReads }
     ensures writes { EnabledFieldWrites }
 {}
 
-/// Base address registers in numbers.
+/// Proves that reads, writes and sizing of a BAR can be computed with integers.
 pub fn base_registers()
     ensures reads { ReadsOfBases }
     ensures writes { WritesOfBases }
     ensures sizes { SizesRead }
 {}
 
-/// What a function decodes, by its Command register and its bases alone; and a hit lies in one of its
-/// regions, at an offset below the size.
+/// Proves that a function decodes addresses by its Command register and BARs only, and that each
+/// hit lies in one of its regions, at an offset below the region's size.
 pub fn decoding()
     ensures by_bases { HitsByBases }
     ensures of_registers { HitsOfRegisters }
     ensures of_region { HitIsOfRegion }
 {}
 
-/// A function's file in two parts: a guest's own copies, and the cells that its accesses are handed on
-/// to.
+/// Proves that a function's register file can be split into the guest's own copies and the bytes to
+/// which accesses are forwarded.
 pub fn own_copies()
     ensures reads { OwnReads }
     ensures writes { OwnWrites }

@@ -1,30 +1,32 @@
 //! Layer: definitions. Below: model_board. Above: model_findings, bus_scan.
 //!
-//! What set-up makes of a board, as definitions, and laws about it: the scan, placement, the registers that it
-//! leaves, and who claims an address then.
+//! The formal model of set-up: the bus scan, the placement of BARs and windows, the register values
+//! that set-up writes, and the resulting claims, with theorems about them.
 #![tactic(auto)]
 
 ghost use Rattle.model_set_up.specs.{FunctionTable.PlacedAsFound, Levels.ItemsByBus, OrderLaws.{OneOrder, OrderIsSorted}, Packing.{CompactIsRun, FlatNeedOnBus}, PlacementLaws.{LayoutIsLawful, PoolsAreLawful, RowsAreDeclared}, Reach.{OneRoute, OnlyNamed, ReachedByNumbers, SetUpHasNumbers}, ScanOrder.{ScanGivesNumbersInPathOrder, ScanMeetsInPathOrder}, Scanning.{NumbersOfScanState, ReachedWhileScanning}, UniqueClaimant.{ClaimInAnyOrder, ClaimOfRegion, PlacedWithin, RowsArePlaced, UniqueClaimant}, WindowLaws.{ClosedWindows, NamedWindows, SetUpWindows}};
 
-/// On a bus without bridges the compact placement takes the sum of the sizes rounded up to the
-/// unit, and no lawful placement takes fewer units.
+/// Proves that on a bus without bridges the compact placement needs the sum of the sizes rounded up
+/// to the window granularity, and that no lawful placement needs fewer units.
 pub fn flat_need()
     ensures { FlatNeedOnBus }
 {}
 
-/// What stands on a bus is its regions and the windows of its bridges, at any depth.
+/// Proves that the items to place on a bus are its regions and the windows of its bridges, at any
+/// depth.
 pub fn items_by_bus()
     ensures { ItemsByBus }
 {}
 
-/// Compact placement on one bus is aligned, without overlap, and within its need.
+/// Proves that the compact placement on one bus is aligned, has no overlaps, and stays within its
+/// computed size.
 pub fn compact_is_run()
     ensures { CompactIsRun }
 {}
 
-/// With the board's bus numbers in its bridges, a configuration cycle reaches the function that the
-/// numbers name, and no other number reaches a function. Set-up leaves them there. Whatever the bridges
-/// hold, at most one way leads anywhere.
+/// Proves that with the board's bus numbers in its bridges, a configuration cycle reaches the
+/// function with that BDF, and no other BDF reaches a function. Set-up programs these bus numbers.
+/// At most one route leads to each bus, whatever values the bridges hold.
 pub fn reached_by_numbers()
     ensures named { ReachedByNumbers }
     ensures only_named { OnlyNamed }
@@ -32,60 +34,61 @@ pub fn reached_by_numbers()
     ensures one_route { OneRoute }
 {}
 
-/// While a scan runs, a configuration cycle for a bus that it has met reaches the function that stands
-/// there, or none where none stands, whatever the registers other than bus numbers hold.
+/// Proves that during a scan a configuration cycle to a bus found so far reaches the function at
+/// the BDF, if there is one. Only the bus number registers matter.
 pub fn reached_while_scanning()
     ensures reach { ReachedWhileScanning }
     ensures states { NumbersOfScanState }
 {}
 
-/// A scan goes through a bus by devices 0 to 15 and functions 0 to 7, and through all that stands
-/// behind a bridge right after it: so it meets the functions in path order, and the numbers that it
-/// gives one after the other are the board's.
+/// Proves that a scan visits devices 0 to 15 and functions 0 to 7 of each bus, and everything
+/// behind a bridge directly after the bridge. So the scan visits the functions in path order and
+/// assigns the board's bus numbers in sequence.
 pub fn scan_order()
     ensures functions { ScanMeetsInPathOrder }
     ensures numbers { ScanGivesNumbersInPathOrder }
 {}
 
-/// Compact placement takes the items of a bus in sorted order, and however they are sorted they come in
-/// that order.
+/// Proves that the compact placement takes the items of a bus in sorted order, and that every way
+/// of sorting them gives this order.
 pub fn items_in_order()
     ensures sorted { OrderIsSorted }
     ensures only { OneOrder }
 {}
 
-/// Where a pool fits, the rows of its compact placement are lawful: regions and windows are aligned,
-/// inside the aperture, inside the windows of every bridge above them, and apart; and so are the rows
-/// of the whole layout where every pool fits.
+/// Proves that if a pool fits, its compact placement is lawful: regions and windows are aligned,
+/// don't overlap, and lie within the aperture and within the windows of every bridge above them. If
+/// every pool fits, the whole layout is lawful.
 pub fn placement_is_lawful()
     ensures each_pool { PoolsAreLawful }
     ensures whole { LayoutIsLawful }
 {}
 
-/// Each region of the board has one row of compact placement, at the address that set-up gives it;
-/// each bridge has one in each pool in which items stand behind it; and no other row stands.
+/// Proves that the placement has exactly one row for each region of the board, at the address that
+/// set-up programs, and one for each bridge in each pool with items behind the bridge.
 pub fn rows_are_declared()
     ensures { RowsAreDeclared }
 {}
 
-/// A window without items, as set-up leaves its registers, forwards no address, in each decode of its
-/// bridge.
+/// Proves that a window without items, as set-up programs it, forwards no address in any decode
+/// mode of its bridge.
 pub fn closed_windows()
     ensures { ClosedWindows }
 {}
 
-/// A window's registers name exactly the whole units that were written, within the reach
-/// of the bridge's decode; so on a board that fits, after set-up, each bridge's windows are those that
-/// placement gave it.
+/// Proves that window registers decode to exactly the units written to them, within the bridge's
+/// address range. So on a board that fits, set-up gives each bridge the windows that the placement
+/// assigned to it.
 pub fn named_windows()
     ensures named { NamedWindows }
     ensures set_up { SetUpWindows }
 {}
 
-/// After set-up, and in every state with its routing registers, an address has the claim of the
-/// placed region that holds it and no other. Each byte of a placed region is claimed there, through
-/// every bridge above, and no two placed regions of one space share an address. So a list of the
-/// placed regions has the same claim in any order, and the rows of the layout are such a list.
+/// Proves that after set-up, and in every state with the same routing registers, an address is
+/// claimed by the placed region that contains it and by no other. Each byte of a placed region is
+/// claimed at its address through every bridge above, and no two placed regions of one space share
+/// an address. So the order of a list of placed regions doesn't affect claims, and the rows of the
+/// layout are one of these lists.
 pub fn unique_claimant()
     ensures claims { UniqueClaimant }
     ensures of_region { ClaimOfRegion }
@@ -93,15 +96,15 @@ pub fn unique_claimant()
     ensures rows { RowsArePlaced }
 {}
 
-/// Set-up places each region at a multiple of 4: an I/O region from 1000h to FFFFh, and a memory region
-/// below 2^63.
+/// Proves that set-up places each region at a multiple of 4: an I/O region from 1000h to FFFFh, and
+/// a memory region below 2^63.
 pub fn placed_within()
     ensures { PlacedWithin }
 {}
 
-/// A scan, and sizing after it, find all that placement looks at: a lawful board as it was found is a
-/// lawful board with the same table, the same placement and settings, and the same refusals, and it
-/// enumerates where the board does.
+/// Proves that the scan and the sizing find everything that placement depends on. A lawful board as
+/// found is again a lawful board with the same function table, placement, register settings and
+/// refusals, and it can be enumerated if and only if the original board can.
 pub fn placed_as_found()
     ensures { PlacedAsFound }
 {}

@@ -1,5 +1,5 @@
-//! The address latch behind the ports CONFIG_ADDRESS and CONFIG_DATA (PCI Local Bus 3.0, chapter 3.2.2.3.2): that of
-//! the host bridge, and those that guests have.
+//! The CONFIG_ADDRESS register, which selects the target of CONFIG_DATA (PCI Local Bus 3.0, chapter
+//! 3.2.2.3.2). The host bridge has one, and so does each guest.
 ghost use Rattle.std.specs.Prelude.{◌≡◌, ◌%◌, ◌&&◌};
 ghost use Rattle.model_registers.specs.ConfigAddress.{latched, is_enabled, selected_register, is_address_port, is_data_port};
 ghost use Rattle.model_board.specs.Ports.{selected};
@@ -8,22 +8,23 @@ ghost use Rattle.paths.specs.{BusAddresses.bus_address_of, Latches.{select_at, I
 use crate::bdf::Bdf;
 use std::marker::Model;
 
-/// Whether an access of `width` bytes at a port is one of CONFIG_ADDRESS: 4 bytes at CF8h.
+/// Returns whether an access of `width` bytes at `port` is an access to CONFIG_ADDRESS: 4 bytes at
+/// CF8h.
 pub fn is_address_port(port: u64, width: u64) -> bool
     ensures { result ≡ is_address_port port width }
 {
     port == 0xcf8 && width == 4
 }
 
-/// What CONFIG_ADDRESS holds: bit 31 enables CONFIG_DATA, bits 23 to 16 are a bus, 15 to 11 a device, 10 to 8 a
-/// function and 7 to 2 a register. All other bits read 0.
+/// The value of CONFIG_ADDRESS. Bit 31 enables CONFIG_DATA, bits 23 to 16 select a bus, 15 to 11 a
+/// device, 10 to 8 a function and 7 to 2 a register. All other bits read 0.
 #[derive(Clone, Copy, Debug, PartialEq, Eq)]
 pub struct Latch {
     bits: u32,
 }
 
-/// Where an access at a port goes by a guest's latch: to the guest's regions as any other, to no
-/// function, or to a slot at an offset of its configuration space.
+/// The target of a guest's port access: an ordinary port of the guest's I/O regions, no function,
+/// or a slot with an offset in its configuration space.
 #[derive(Clone, Copy, Debug, PartialEq, Eq)]
 pub enum Select {
     Ordinary,
@@ -42,21 +43,22 @@ impl Model for Latch {
 }
 
 impl Latch {
-    /// The latch at the beginning, which selects nothing.
+    /// Returns the initial value, 0, with CONFIG_DATA disabled.
     pub fn new() -> Latch
         ensures { result ≡ 0 }
     {
         Latch { bits: 0 }
     }
 
-    /// Writes four bytes to CONFIG_ADDRESS. The bits that are not used stay 0.
+    /// Writes four bytes to CONFIG_ADDRESS. Unused bits stay 0.
     pub fn write(&mut self, value: u32)
         ensures { self.new ≡ latched value }
     {
         self.bits = value & 0x80ff_fffc;
     }
 
-    /// Enables CONFIG_DATA, and selects the word at `off`, a multiple of 4, of a function.
+    /// Returns the value that enables CONFIG_DATA and selects the word at `off`, a multiple of 4,
+    /// in the configuration space of function `at`.
     pub fn selecting(at: Bdf, off: u8) -> Latch
         requires { off % 4 ≡ 0 }
         ensures function { selected result ≡ bus_address_of at }
@@ -68,7 +70,7 @@ impl Latch {
         }
     }
 
-    /// What a read of four bytes of CONFIG_ADDRESS shows.
+    /// Returns the four bytes that a read of CONFIG_ADDRESS returns.
     pub fn value(self) -> u32
         ensures { result ≡ self }
     {
@@ -81,14 +83,14 @@ impl Latch {
         self.bits >> 31 == 1
     }
 
-    /// Whether a port is one of CONFIG_DATA, CFCh to CFFh, while the latch enables it.
+    /// Returns whether `port` is a CONFIG_DATA port, CFCh to CFFh, and CONFIG_DATA is enabled.
     pub fn shows_data(self, port: u64) -> bool
         ensures { result ≡ (is_enabled self && is_data_port port) }
     {
         self.is_enabled() && (0xcfc..=0xcff).contains(&port)
     }
 
-    /// The function that is selected.
+    /// Returns the BDF of the selected function.
     pub fn function(self) -> Bdf
         ensures { bus_address_of result ≡ selected self }
     {
@@ -99,15 +101,16 @@ impl Latch {
         }
     }
 
-    /// The offset of the word that is selected.
+    /// Returns the offset of the selected word, a multiple of 4.
     pub fn register(self) -> u8
         ensures { result ≡ selected_register self }
     {
         (self.bits >> 2 & 0x3f) as u8 * 4
     }
 
-    /// Where an access of a guest at a port goes: at CONFIG_DATA to the byte of the selected word that the
-    /// port names. The guest's slots are the devices of bus 0, and each has function 0 alone.
+    /// Returns the target of a guest's access at `port`. An access to CONFIG_DATA goes to the byte
+    /// of the selected word that the port addresses. The guest's slots are the devices of bus 0,
+    /// each with function 0 only.
     pub fn select(self, port: u64) -> Select
         ensures select { result ≡ select_at self port }
         ensures slot { IsSelectAt port result }

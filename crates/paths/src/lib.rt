@@ -1,6 +1,7 @@
 //! Layer: board. Below: model_board. Above: bridge_forward, intx_swizzle, guest_functions, accesses.
 //!
-//! Where a function stands: its path from bus 0 down, its bus, device and function number, and the latch that names it.
+//! The location of a function: its path from bus 0, its BDF, and the CONFIG_ADDRESS register that
+//! selects it.
 #![tactic(auto)]
 
 mod bdf;

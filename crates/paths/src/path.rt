@@ -1,4 +1,4 @@
-//! Where a function stands.
+//! Paths of functions, from bus 0 down.
 ghost use Rattle.std.specs.{Prelude.{◌≡◌, ◌&&◌, not, IsTrue, ◌+◌, ◌<◌, [], ◌∷◌, ◌++◌, length, refl}, Ordering.{is_lt, is_eq, as_partial_cmp}, Cmp.{po, partial_equiv_from_equiv}};
 ghost use Rattle.model_board.specs.Paths.{part_eq, part_before, path_eq, path_before, leads_to, parent, function_zero, last_part, IsPath};
 ghost use Rattle.paths.specs.{PathOrders.path_cmp, PathLaws.{paths_equal, paths_ordered, paths_tied}};
@@ -7,7 +7,7 @@ use arrayvec::ArrayVec;
 use std::cmp::Ordering;
 use std::marker::Model;
 
-/// A device and a function number on one bus.
+/// A device number, 0 to 15, and a function number, 0 to 7, on one bus.
 #[derive(Clone, Copy, Debug, Default, PartialEq, Eq, PartialOrd, Ord)]
 pub struct Part {
     device: u8,
@@ -28,7 +28,7 @@ impl Model for Part {
 }
 
 impl Part {
-    /// The function with this number in the device, from 0 to 15, and from 0 to 7.
+    /// Returns the part with this device number, 0 to 15, and function number, 0 to 7.
     pub fn new(device: u8, function: u8) -> Part
         requires device { device < 16 }
         requires function { function < 8 }
@@ -37,7 +37,7 @@ impl Part {
         Part { device, function }
     }
 
-    /// The device, from 0 to 15.
+    /// Returns the device number, 0 to 15.
     pub fn device(self) -> u8
         ensures value { result ≡ self.device }
         ensures range { result < 16 }
@@ -45,7 +45,7 @@ impl Part {
         self.device
     }
 
-    /// The function, from 0 to 7.
+    /// Returns the function number, 0 to 7.
     pub fn function(self) -> u8
         ensures value { result ≡ self.function }
         ensures range { result < 8 }
@@ -53,7 +53,7 @@ impl Part {
         self.function
     }
 
-    /// The order in which a bus is scanned, against a device and a function number of any size.
+    /// Compares this part with any device and function number, in the order of a bus scan.
     fn compare_numbers(self, device: u8, function: u8) -> Ordering
         ensures less { is_lt result
             ≡ part_before self (record { device = device; function = function }) }
@@ -69,7 +69,7 @@ impl Part {
         }
     }
 
-    /// Whether this one is met first as a bus is scanned.
+    /// Returns whether a bus scan visits this part before `other`.
     pub fn is_before(self, other: Part) -> bool
         ensures { result ≡ part_before self other }
     {
@@ -78,7 +78,8 @@ impl Part {
     }
 }
 
-/// The parts from bus 0 down: each but the last names a bridge. It takes no memory.
+/// The path of a function, as its parts from bus 0 down. Every part except the last names a bridge.
+/// A path doesn't allocate memory.
 #[derive(Drop, Debug)]
 pub struct Path {
     parts: ArrayVec<Part, 16>,
@@ -95,7 +96,7 @@ impl Model for Path {
 }
 
 impl Default for Path {
-    /// The path of device 0 and function 0 on bus 0.
+    /// Returns the path of device 0, function 0 on bus 0.
     fn default() -> Path
         ensures { result ≡ record { device = 0; function = 0 } ∷ [] }
     {
@@ -117,7 +118,7 @@ impl Eq for Path {
     ghost laws = { paths_equal };
 }
 
-/// Path order: part by part, and a path before its extensions.
+/// Path order: compares part by part, with each path before its extensions.
 impl Ord for Path {
     ghost cmp = { path_cmp };
 
@@ -143,7 +144,7 @@ impl PartialOrd for Path {
 }
 
 impl Path {
-    /// The path of a function on bus 0.
+    /// Returns the path of a function on bus 0.
     pub fn on_root(part: Part) -> Path
         ensures { result ≡ part ∷ [] }
     {
@@ -152,7 +153,8 @@ impl Path {
         Path { parts }
     }
 
-    /// Goes on to a function behind the bridge at this path, of at most 15 parts.
+    /// Extends the path to a function behind the bridge at this path. The path must have fewer than
+    /// 16 parts.
     pub fn push(&mut self, part: Part)
         requires { length self.old < 16 }
         ensures { self.new ≡ self.old ++ part ∷ [] }
@@ -160,7 +162,7 @@ impl Path {
         self.parts.push(part);
     }
 
-    /// The parts, the one on bus 0 first.
+    /// Returns the parts, starting with the one on bus 0.
     pub fn parts(&self) -> &[Part]
         ensures value { result.now ≡ self.now }
         ensures path { IsPath self.now }
@@ -168,7 +170,8 @@ impl Path {
         self.parts.as_slice()
     }
 
-    /// A copy of this path. It takes no memory, so unlike a `clone` it can't fail.
+    /// Returns a copy of this path. Unlike `clone`, copying can't fail, because it doesn't allocate
+    /// memory.
     pub fn copied(&self) -> Path
         ensures { result ≡ self.now }
     {
@@ -179,22 +182,23 @@ impl Path {
         Path { parts }
     }
 
-    /// Whether these are the parts of this path.
+    /// Returns whether this path consists of these parts.
     pub fn has_parts(&self, parts: &[Part]) -> bool
         ensures { result ≡ path_eq self.now parts.now }
     {
         is_same(self.parts(), parts)
     }
 
-    /// Whether this path comes before the other: part by part, and a path before its extensions.
+    /// Returns whether this path comes before `other` in path order.
     pub fn is_before(&self, other: &Path) -> bool
         ensures { result ≡ path_before self.now other.now }
     {
         is_before(self.parts(), other.parts())
     }
 
-    /// Path order against the function with these numbers on a bus that this path is behind. One part
-    /// tells it, since all before it are those of the bus.
+    /// Compares this path with the function at these numbers on `bus`, which must be a proper
+    /// prefix of this path. Comparing one part is enough, because all parts before it are those of
+    /// `bus`.
     pub fn compare_on(&self, bus: &[Part], device: u8, function: u8) -> Ordering
         requires { IsTrue (leads_to bus.now self.now) }
         ensures less { is_lt result
@@ -219,14 +223,14 @@ impl Path {
         }
     }
 
-    /// Whether this path is a proper beginning of the other.
+    /// Returns whether this path is a proper prefix of `other`.
     pub fn leads_to(&self, other: &Path) -> bool
         ensures { result ≡ leads_to self.now other.now }
     {
         leads_to(self.parts(), other.parts())
     }
 
-    /// The parts of the bridge above, and none for a function on bus 0.
+    /// Returns the parts of the bridge above this function. They are empty for a function on bus 0.
     pub fn parent(&self) -> &[Part]
         ensures value { result.now ≡ parent self.now }
         ensures short { length result.now < 16 }
@@ -236,7 +240,7 @@ impl Path {
         &parts[..parts.len() - 1]
     }
 
-    /// The path of function 0 in the same device.
+    /// Returns the path of function 0 in the same device.
     pub fn function_zero(&self) -> Path
         ensures { result ≡ function_zero self.now }
     {
@@ -250,7 +254,7 @@ impl Path {
         Path { parts: zero }
     }
 
-    /// The device and function on the path's own bus.
+    /// Returns the device and function number on the function's own bus.
     pub fn last(&self) -> Part
         ensures { result ≡ last_part self.now }
     {
