@@ -1,4 +1,4 @@
-//! What an endpoint's declaration has at each base address register.
+//! The BARs and register blocks of an endpoint, indexed by BAR register.
 ghost use Rattle.std.specs.{Prelude.{◌≡◌, ◌≤◌, ◌<◌, ℕ, IfOk, length, map, slice_get, Some, [], ◌∷◌}, Option.option_copied};
 ghost use Rattle.lists.specs.Elements.{Each};
 ghost use Rattle.model_registers.specs.{Registers.{config, cells_from}};
@@ -9,7 +9,7 @@ use config_bytes::{Cell, Cells};
 use headers::Region;
 use std::alloc::{AllocError, Global};
 
-/// The region that begins at a base address register.
+/// Returns the declared region whose first BAR register has this index.
 fn region_at(regions: &[Region], index: u8) -> Option<&Region>
     ensures { option_copied result ≡ region_at regions.now index }
 {
@@ -25,14 +25,14 @@ fn bar_at(regions: &[Region], index: u8) -> Option<BarDecl>
     }
 }
 
-/// What each of the six base address registers opens.
+/// Returns the declared BAR of each of the six BAR registers, by index.
 pub(crate) fn bar_decls(regions: &[Region]) -> [Option<BarDecl>; 6]
     ensures { result ≡ map (declared_bar regions.now) (0 ∷ 1 ∷ 2 ∷ 3 ∷ 4 ∷ 5 ∷ []) }
 {
     [0, 1, 2, 3, 4, 5].map(|index| bar_at(regions, index))
 }
 
-/// The cells of a block, from the offset 0 on.
+/// Creates the register block with these cells, which start at offset 0.
 fn block_file(alloc: Global, block: &[Cell]) -> Result<Cells, AllocError>
     requires { length block.now ≤ 4096 }
     ensures { IfOk result (λ f. f ≡ as_made (cells_from (config 0) block.now)) }
@@ -44,7 +44,7 @@ fn block_file(alloc: Global, block: &[Cell]) -> Result<Cells, AllocError>
     Cells::new(alloc, &cells)
 }
 
-/// The block at a base address register, empty where no region begins there.
+/// Creates the register block behind a BAR register. The block is empty if no region starts there.
 fn block_at(alloc: Global, regions: &[Region], index: u8) -> Result<Cells, AllocError>
     requires { Each (λ r. length r.cells ≤ 4096) regions.now }
     ensures { IfOk result (λ f. f ≡ as_made (declared_block regions.now index)) }
@@ -55,7 +55,7 @@ fn block_at(alloc: Global, regions: &[Region], index: u8) -> Result<Cells, Alloc
     }
 }
 
-/// The blocks of the six base address registers, by index.
+/// Creates the register blocks of the six BAR registers, by index.
 pub(crate) fn block_files(alloc: Global, regions: &[Region]) -> Result<Vec<Cells>, AllocError>
     requires { Each (λ r. length r.cells ≤ 4096) regions.now }
     ensures blocks { IfOk result (λ v.
@@ -70,7 +70,7 @@ pub(crate) fn block_files(alloc: Global, regions: &[Region]) -> Result<Vec<Cells
     Ok(blocks)
 }
 
-/// All blocks go back to reset.
+/// Resets every register block.
 pub(crate) fn reset_all(blocks: &mut [Cells])
     ensures { blocks.new ≡ blocks_after blocks.old }
 {

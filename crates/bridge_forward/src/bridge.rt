@@ -1,4 +1,4 @@
-//! A bridge of the board, with its registers.
+//! A PCI-to-PCI bridge with its configuration registers.
 ghost use Rattle.std.specs.Prelude.{◌≡◌, ◌%◌, ◌&&◌, IfOk, Option, option_map};
 ghost use Rattle.model_registers.specs.{Registers.{config, number, read, write}, ByteEnables.lanes, DeclarationRules.IsLawfulBridge, BridgeTable.bridge_reset, Decoding.{command_word, is_open}};
 ghost use Rattle.model_board.specs.{Routing.windows, Windows.{Window, is_in, is_in_window, io_window, mem_window, pref_window}, Cycles.{secondary_register, subordinate_register}};
@@ -14,7 +14,7 @@ use headers::{Bridge, BridgeDecl, command, io_window, mem_window, pref_window};
 use std::alloc::{AllocError, Global};
 use std::marker::Model;
 
-/// What a bridge's registers say, as numbers: a window is its first and last address.
+/// The decoded routing registers of a bridge. Each window is a pair of its first and last address.
 #[derive(Clone, Copy)]
 pub(crate) struct Decoded {
     command: u16,
@@ -25,8 +25,8 @@ pub(crate) struct Decoded {
     pref: Option<(u64, u64)>,
 }
 
-/// A bridge: what is declared of it, and its registers as they stand. What decides where an access
-/// goes is kept as numbers beside its cells, since every cycle and every search for a claim asks for it.
+/// A bridge: its declaration and the state of its registers. The routing registers are also kept in
+/// decoded form, because every configuration cycle and every address lookup reads them.
 #[derive(Drop)]
 pub(crate) struct BridgeFn {
     decoded: Decoded,
@@ -46,7 +46,7 @@ impl Model for BridgeFn {
     ghost invariant = { λ b. IsDecoded b.decl b.cells.now b.decoded };
 }
 
-/// What the registers of a bridge say now.
+/// Decodes the routing registers of a bridge.
 fn decode(cells: &Cells, decl: &BridgeDecl) -> Decoded
     ensures { IsDecoded decl.now cells.now.now result }
 {
@@ -61,7 +61,8 @@ fn decode(cells: &Cells, decl: &BridgeDecl) -> Decoded
 }
 
 impl BridgeFn {
-    /// The bridge at reset. `multifunction` says that its device holds other functions.
+    /// Creates the bridge at reset. `multifunction` sets bit 7 of the header type, for a device
+    /// with further functions.
     pub(crate) fn new(
         alloc: Global,
         decl: BridgeDecl,
@@ -71,7 +72,7 @@ impl BridgeFn {
             b ≡ record { decl = decl; file = bridge_reset decl multifunction }) }
         ensures lawful { IfOk result (λ _. IsLawfulBridge decl) }
     {
-        // A bridge that is there has a vendor.
+        // An implemented bridge never has Vendor ID FFFFh.
         prove!(decl.vendor() != 0xffff);
         let cells = Bridge::cells(alloc, &decl, multifunction)?;
         let decoded = decode(&cells, &decl);
@@ -82,7 +83,7 @@ impl BridgeFn {
         })
     }
 
-    /// The enabled bytes of the configuration word at `off`, a multiple of 4.
+    /// Reads the enabled bytes of the configuration word at `off`, a multiple of 4.
     pub(crate) fn config_read(&self, off: u8, enables: u8) -> u32
         requires { off % 4 ≡ 0 }
         ensures { result ≡ read self.now.file (config off) (lanes enables) }
@@ -103,8 +104,9 @@ impl BridgeFn {
         self.decoded = decode(&self.cells, &self.decl);
     }
 
-    /// Whether an address is forwarded: Command opens its space, and a window of that space holds it
-    /// (PCI-to-PCI Bridge Architecture 1.2, chapter 4).
+    /// Returns whether the bridge forwards an address downstream: Command enables the address
+    /// space, and one of the windows in that space contains the address (PCI-to-PCI Bridge
+    /// Architecture 1.2, chapter 4).
     pub(crate) fn forwards(&self, space: Space, addr: u64) -> bool
         ensures { result
             ≡ (is_open self.now.file (named_space space)
@@ -122,21 +124,21 @@ impl BridgeFn {
         }
     }
 
-    /// What is declared of the bridge.
+    /// Returns the declaration of the bridge.
     pub(crate) fn decl(&self) -> BridgeDecl
         ensures { result ≡ self.now.decl }
     {
         self.decl
     }
 
-    /// What Command holds.
+    /// Returns the Command register.
     pub(crate) fn command(&self) -> u16
         ensures { result ≡ command_word self.now.file }
     {
         self.decoded.command
     }
 
-    /// The windows that the registers name.
+    /// Returns the windows programmed in the registers.
     pub(crate) fn windows(&self) -> Ranges
         ensures { let file = self.now.file in let d = self.now.decl in
             named_ranges result
@@ -149,7 +151,7 @@ impl BridgeFn {
         }
     }
 
-    /// The same without memory.
+    /// Returns the windows programmed in the registers, without allocating.
     pub(crate) fn windows_now(&self) -> RangesNow
         ensures { let file = self.now.file in let d = self.now.decl in
             ranges_told result
@@ -163,21 +165,21 @@ impl BridgeFn {
         }
     }
 
-    /// The number of the bus behind the bridge, as its registers hold it.
+    /// Returns the Secondary Bus Number register.
     pub(crate) fn secondary(&self) -> u8
         ensures { result ≡ secondary_register self.now.file }
     {
         self.decoded.secondary
     }
 
-    /// The number of the bus that the bridge stands on, as its register holds it.
+    /// Returns the Primary Bus Number register.
     pub(crate) fn primary(&self) -> u8
         ensures { result ≡ number self.now.file (config 0x18) 1 }
     {
         byte_at(&self.cells, 0x18)
     }
 
-    /// The greatest number of a bus behind the bridge, as its registers hold it.
+    /// Returns the Subordinate Bus Number register.
     pub(crate) fn subordinate(&self) -> u8
         ensures { result ≡ subordinate_register self.now.file }
     {
@@ -185,7 +187,7 @@ impl BridgeFn {
     }
 }
 
-/// Whether the address is one of a window, whose first and last address are included.
+/// Returns whether the address is in the window, whose first and last address are inclusive.
 fn is_in(addr: u64, window: Option<(u64, u64)>) -> bool
     ensures { (w : Option Window) → window ≡ option_map pair_of w → result ≡ is_in addr w }
 {
@@ -195,7 +197,7 @@ fn is_in(addr: u64, window: Option<(u64, u64)>) -> bool
     }
 }
 
-/// The register of one byte at `off`.
+/// Reads the one-byte register at `off`.
 fn byte_at(cells: &Cells, off: u16) -> u8
     ensures { result ≡ number cells.now.now (config off) 1 }
 {

@@ -1,4 +1,4 @@
-//! The tree of a board, built from what is declared of its functions.
+//! Builds the tree of a board from the declarations of its functions.
 ghost use Rattle.std.specs.{Prelude.{◌≡◌, ◌<◌, IfOk, length, map}, BTreeSet.IsFromIterResult};
 ghost use Rattle.model_board.specs.{Board.{IsBoard, is_multifunction}, Lawful.{IsLawfulDecl, HasLawfulDecls}, Places.board_of};
 ghost use Rattle.paths.specs.PathOrders.{path_cmp};
@@ -11,7 +11,7 @@ use paths::Path;
 use std::alloc::{AllocError, Global};
 use std::collections::BTreeSet;
 
-/// Puts the functions of a board into path order.
+/// Sorts the functions of a board into path order.
 fn sort(decls: &mut Vec<Decl>)
     requires { IsBoard (board_of decls.old.items) }
     ensures { decls.new.items ≡ board_of decls.old.items }
@@ -19,7 +19,7 @@ fn sort(decls: &mut Vec<Decl>)
     decls.sort_unstable_by(|a, b| a.compare(b));
 }
 
-/// The paths of function 0 in the devices that have further functions.
+/// Collects the path of function 0 of each multifunction device.
 fn shared_devices(alloc: Global, decls: &[Decl]) -> Result<BTreeSet<Path>, AllocError>
     ensures { IfOk result (IsFromIterResult path_cmp (shared_devices decls.now)) }
 {
@@ -30,8 +30,8 @@ fn shared_devices(alloc: Global, decls: &[Decl]) -> Result<BTreeSet<Path>, Alloc
         .collect(alloc)
 }
 
-/// Which of the functions stand in a device with other functions. Each device of a board has a function 0,
-/// so one look-up tells it of each function, and none is compared with all others.
+/// Returns, for each function, whether its device is a multifunction device. Every device has a
+/// function 0, so one set lookup per function replaces a comparison with all other functions.
 fn multifunction_devices(alloc: Global, decls: &[Decl]) -> Result<Vec<bool>, AllocError>
     requires { IsBoard decls.now }
     ensures { IfOk result (λ v.
@@ -44,7 +44,7 @@ fn multifunction_devices(alloc: Global, decls: &[Decl]) -> Result<Vec<bool>, All
         .collect(alloc)
 }
 
-/// The function at reset, at its path. Where it ends is set by `lay_out`.
+/// Creates the node of a function at reset. `lay_out` sets `end` and `bridge` later.
 fn node_at_reset(alloc: Global, decl: Decl, multifunction: bool) -> Result<Node, AllocError>
     ensures made { IfOk result (λ n.
         function_of n
@@ -64,7 +64,7 @@ fn node_at_reset(alloc: Global, decl: Decl, multifunction: bool) -> Result<Node,
     })
 }
 
-/// All functions at reset.
+/// Creates the nodes of all functions at reset, in path order.
 pub(crate) fn nodes_at_reset(alloc: Global, decls: Vec<Decl>) -> Result<Vec<Node>, AllocError>
     requires { IsBoard (board_of decls.items) }
     ensures made { IfOk result (λ v.
@@ -82,7 +82,8 @@ pub(crate) fn nodes_at_reset(alloc: Global, decls: Vec<Decl>) -> Result<Vec<Node
     Ok(nodes)
 }
 
-/// Where that ends which stands behind node `i`, in a list in path order.
+/// Returns the end of the subtree behind node `i`: the index after its last descendant. The nodes
+/// are in path order.
 fn end_of(nodes: &[Node], i: usize) -> usize
     requires order { AreInOrder (paths_of nodes.now) }
     requires there { i < length nodes.now }
@@ -95,7 +96,8 @@ fn end_of(nodes: &[Node], i: usize) -> usize
     end
 }
 
-/// Sets the ends of nodes in path order. The work is at most the number of nodes times the depth.
+/// Sets `end` in each of the nodes, which are in path order. Takes at most (number of nodes) ×
+/// (depth) steps.
 fn set_ends(nodes: &mut [Node])
     requires { AreInOrder (paths_of nodes.old) }
     ensures laid { IsLaidOut nodes.new }
@@ -108,7 +110,7 @@ fn set_ends(nodes: &mut [Node])
     }
 }
 
-/// Sets for each node where the next bridge stands, from the last one on.
+/// Sets `bridge` in each node, from the last node to the first.
 fn link_bridges(nodes: &mut [Node])
     requires { IsLaidOut nodes.old }
     ensures tree { IsTree nodes.new }
@@ -124,7 +126,7 @@ fn link_bridges(nodes: &mut [Node])
     }
 }
 
-/// Lays out nodes in path order as a tree.
+/// Links nodes in path order into a tree.
 pub(crate) fn lay_out(nodes: &mut [Node])
     requires { AreInOrder (paths_of nodes.old) }
     ensures tree { IsTree nodes.new }

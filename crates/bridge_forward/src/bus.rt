@@ -18,8 +18,9 @@ use paths::Path;
 use std::alloc::{AllocError, Global};
 use std::marker::Model;
 
-/// A function at its path. What stands behind it stands at the indices after its own and below `end`.
-/// From its own index up to `bridge` no bridge stands, and nothing that has anything behind it.
+/// A function and its path. The functions behind it occupy the indices between its own index and
+/// `end`. The nodes from its own index up to, but not including, `bridge` are endpoints with
+/// nothing behind them.
 #[derive(Drop)]
 pub(crate) struct Node {
     pub(crate) end: usize,
@@ -28,13 +29,14 @@ pub(crate) struct Node {
     pub(crate) path: Path,
 }
 
-/// The functions of a board. Their value is a list in path order: path, declaration and cells.
+/// The functions of a board. The model is a list of paths, declarations and register contents in
+/// path order.
 ///
-/// The tree is kept flat, as in a flattened device tree: all functions in path order, each with the
-/// end of what stands behind it. So a walk steps from a function to the next on its bus by one
-/// index, passes what stands behind a bridge by the same step, and takes no memory. A search for a
-/// bridge passes the endpoints before it by one more index. The bridge that leads to a bus is kept by
-/// the number of the bus once a cycle has found it, until a bridge is written.
+/// The tree is stored flat, like a flattened device tree: all functions in path order, each with
+/// the index where its subtree ends. A walk therefore reaches the next function on the same bus, or
+/// skips everything behind a bridge, in one step and without allocating. A search for a bridge
+/// skips the endpoints before it in one step as well. The bridge that leads to a bus number is
+/// cached when a configuration cycle finds it; any write to a bridge clears the cache.
 #[derive(Drop)]
 pub struct Bus {
     pub(crate) nodes: Vec<Node>,
@@ -54,8 +56,8 @@ impl Model for Bus {
     ghost invariant = { λ b. IsBus b.nodes.items b.known };
 }
 
-/// Where an address lands: the path of an endpoint, the base address register of a region, 0 to 5,
-/// and the offset in the region.
+/// The target of an address: the path of the endpoint, the index of the region's first BAR register
+/// (0 to 5), and the offset in the region.
 #[derive(Debug, Drop)]
 pub struct Claim {
     pub path: Path,
@@ -71,8 +73,8 @@ impl Model for Claim {
     ghost view = { λ c. record { path = c.path; index = c.region; offset = c.offset } };
 }
 
-/// Where an address lands: the index of an endpoint in the list of functions, the base address
-/// register of a region, 0 to 5, and the offset in the region.
+/// The target of an address: the index of the endpoint in the list of functions, the index of the
+/// region's first BAR register (0 to 5), and the offset in the region.
 #[derive(Clone, Copy, Debug)]
 pub struct Located {
     pub index: usize,
@@ -83,7 +85,8 @@ pub struct Located {
 impl Node {
     ghost use Rattle.bridge_forward.specs.Skips.{first_bridge};
 
-    /// Where the next bridge stands from this node on, at index `i`, if after it that is at `next`.
+    /// Returns the index of the first bridge at or after this node. `i` is the index of the node,
+    /// and `next` the result for the node after it.
     pub(crate) fn first_bridge(&self, i: usize, next: usize) -> usize
         requires { i < next }
         ensures { result ≡ first_bridge self.now i next }
@@ -95,7 +98,7 @@ impl Node {
         }
     }
 
-    /// What is declared of the function, with its path.
+    /// Returns the declaration of the function with its path.
     fn declared(&self) -> Result<Decl, AllocError>
         ensures { IfOk result (λ d. d ≡ row_at (function_of self.now)) }
     {
@@ -106,7 +109,7 @@ impl Node {
     }
 }
 
-/// What is declared of the functions of nodes.
+/// Returns the declarations of all functions with their paths.
 fn declared(alloc: Global, nodes: &[Node]) -> Result<Vec<Decl>, AllocError>
     ensures { IfOk result (λ v. v.items ≡ board_at (functions_of nodes.now)) }
 {
@@ -120,8 +123,8 @@ fn declared(alloc: Global, nodes: &[Node]) -> Result<Vec<Decl>, AllocError>
 impl Bus {
     ghost use Rattle.bridge_forward.specs.{Cycled.{cycle_reply, after_cycle}, Lending.{LendsEndpoint, LendsEndpointNth, endpoint_at, endpoint_nth, with_endpoint_reset}, Locating.located_claim};
 
-    /// The board of these functions, which stand at lawful places, at reset. Nothing else refuses
-    /// than that memory is out, and no later call takes memory.
+    /// Builds the board with these functions at reset. Their paths must form a valid board. Fails
+    /// only if memory is exhausted. No access to the board allocates afterwards.
     pub fn build(alloc: Global, decls: Vec<Decl>) -> Result<Bus, AllocError>
         requires { IsBoard (board_of decls.items) }
         ensures functions { IfOk result (λ bus.
@@ -134,7 +137,7 @@ impl Bus {
         Ok(Bus { nodes, known })
     }
 
-    /// The same board at reset, made anew of what is declared of its functions.
+    /// Builds the same board at reset, from the declarations of its functions.
     pub fn at_reset(&self, alloc: Global) -> Result<Bus, AllocError>
         requires { IsBoard (board_at self.now) }
         ensures board { IfOk result (λ bus. board_at bus ≡ board_at self.now) }
@@ -145,8 +148,8 @@ impl Bus {
         Ok(bus)
     }
 
-    /// Puts a configuration cycle on bus 0: the enabled bytes that a read shows, 0 for a write that is
-    /// taken, and None where it reaches no function; then nothing changes.
+    /// Performs a configuration cycle on bus 0. Returns the enabled bytes for a read, and 0 for a
+    /// write. Returns `None`, and changes nothing, if the cycle reaches no function.
     pub fn cycle(&mut self, cycle: Cycle) -> Option<u32>
         requires { cycle.offset % 4 ≡ 0 }
         ensures reply { result ≡ cycle_reply self.old cycle }
@@ -160,8 +163,9 @@ impl Bus {
         Some(reply)
     }
 
-    /// The first claim of an address in path order, then by register: a region that decodes it, where
-    /// each bridge above forwards it. It is told by the index of its endpoint.
+    /// Returns the first claim of an address, by path order and then by BAR register. A claim is a
+    /// region that decodes the address behind bridges that all forward it. The endpoint is
+    /// identified by its index.
     pub fn locate(&self, space: Space, addr: u64) -> Option<Located>
         ensures claim { located_claim self.now result
             ≡ first_claim self.now (named_space space) addr }
@@ -170,7 +174,7 @@ impl Bus {
         locate(&self.nodes, space, addr)
     }
 
-    /// The first claim of an address, told by the path of its endpoint.
+    /// Returns the first claim of an address, with the path of its endpoint.
     pub fn claimant(&self, space: Space, addr: u64) -> Option<Claim>
         ensures { result ≡ first_claim self.now (named_space space) addr }
     {
@@ -186,7 +190,7 @@ impl Bus {
         })
     }
 
-    /// The index of the function at a path, if one stands there.
+    /// Returns the index of the function at a path, if there is one.
     pub fn index_of(&self, path: &Path) -> Option<usize>
         ensures function { option_and_then (slice_get self.now) result
             ≡ find (λ f. path_eq f.path path.now) self.now }
@@ -195,8 +199,8 @@ impl Bus {
         position(&self.nodes, path)
     }
 
-    /// The routing registers of all functions as they stand, in path order. It is for an audit: no access
-    /// needs them.
+    /// Returns the routing registers of all functions in path order. Only an audit uses them;
+    /// accesses don't.
     #[tactic(auto, using(crate::proofs::Changes::same_order, crate::proofs::Nodes::functions_in_order))]
     pub fn routing(&self, alloc: Global) -> Result<Vec<RoutingRow>, AllocError>
         ensures rows { IfOk result (λ v. v.items ≡ routing self.now) }
@@ -209,7 +213,7 @@ impl Bus {
         Ok(rows)
     }
 
-    /// The Secondary Bus Number of the bridge at an index, and None where no bridge stands.
+    /// Returns the Secondary Bus Number of the bridge at an index, or `None` if there is no bridge.
     pub fn secondary_nth(&self, index: usize) -> Option<u8>
         ensures { result ≡ secondary_nth self.now index }
     {
@@ -220,7 +224,7 @@ impl Bus {
         node.function.secondary()
     }
 
-    /// The Primary Bus Number of the bridge at an index, and None where no bridge stands.
+    /// Returns the Primary Bus Number of the bridge at an index, or `None` if there is no bridge.
     pub fn primary_nth(&self, index: usize) -> Option<u8>
         ensures { result ≡ primary_nth self.now index }
     {
@@ -231,8 +235,8 @@ impl Bus {
         node.function.primary()
     }
 
-    /// At the index of its first register, each region of the endpoint at an index, where its registers say
-    /// now; none where no endpoint stands.
+    /// Returns the regions of the endpoint at an index with their base addresses, each at the index
+    /// of its first BAR register. All entries are `None` if there is no endpoint.
     pub fn placed_nth(&self, index: usize) -> [Option<BasedRegion>; 6]
         ensures { bases_from 0 result ≡ bases_nth self.now index }
     {
@@ -243,7 +247,8 @@ impl Bus {
         node.function.placed()
     }
 
-    /// The index of the function that a configuration cycle reaches, put on bus 0. It changes nothing.
+    /// Returns the index of the function that a configuration cycle on bus 0 reaches. Doesn't
+    /// perform the cycle.
     pub fn reached(&mut self, cycle: &Cycle) -> Option<usize>
         ensures function { option_and_then (slice_get self.old) result
             ≡ reached_by self.old cycle.now }
@@ -253,8 +258,8 @@ impl Bus {
         reach(&self.nodes, &mut self.known, cycle)
     }
 
-    /// Lends the endpoint at a path, if one stands there. All else stays. No two functions stand at one
-    /// path, since all stand in path order.
+    /// Borrows the endpoint at a path, if there is one. Changes through the borrow affect no other
+    /// function, because paths are unique.
     pub fn endpoint_mut(&mut self, path: &Path) -> Option<&mut EndpointFn>
         ensures* lends { sem 𝓛 (LendsEndpoint self.entry path.now result) }
         ensures value { option_copied_mut result ≡ endpoint_at self.old path.now }
@@ -268,8 +273,8 @@ impl Bus {
         node.function.endpoint_mut()
     }
 
-    /// Resets the endpoint at a path. Its Command and base address registers stay as they are, and so do
-    /// all other functions. Where no endpoint stands there, nothing changes.
+    /// Resets the endpoint at a path, except for its Command register and BARs. Changes nothing if
+    /// there is no endpoint at the path.
     pub fn reset_endpoint(&mut self, path: &Path)
         ensures { self.new ≡ with_endpoint_reset path.now self.old }
     {
@@ -280,7 +285,8 @@ impl Bus {
         node.function.reset_endpoint();
     }
 
-    /// Lends the endpoint at an index of the list, if one stands there. All else stays.
+    /// Borrows the endpoint at an index, if there is one. Changes through the borrow affect no
+    /// other function.
     pub fn endpoint_nth(&mut self, index: usize) -> Option<&mut EndpointFn>
         ensures* lends { sem 𝓛 (LendsEndpointNth self.entry index result) }
         ensures value { option_copied_mut result ≡ endpoint_nth self.old index }

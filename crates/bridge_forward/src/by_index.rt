@@ -1,5 +1,5 @@
-//! What is told of a function by its index, as its registers stand, what is declared of a bridge, and an endpoint to be
-//! read. No answer takes memory.
+//! Accessors for a function by its index: register values, address ranges, bridge declarations, and
+//! a shared borrow of an endpoint. None of them allocates.
 ghost use Rattle.std.specs.{Prelude.{◌≡◌, length, option_map, slice_get}, Option.option_copied};
 ghost use Rattle.model_registers.specs.{Registers.{config, number}, ByteEnables.LiesInWord};
 ghost use Rattle.model_board.specs.State.{BoardFunction};
@@ -12,8 +12,8 @@ use bars::BasedRegion;
 use headers::BridgeDecl;
 use paths::Path;
 
-/// The regions of an endpoint, each at the index of its first register, or the windows of a bridge, where
-/// the registers say now.
+/// The programmed address ranges of a function: the regions of an endpoint, each at the index of
+/// its first BAR register, or the windows of a bridge.
 #[derive(Clone, Copy, Debug)]
 pub enum RangesNow {
     Regions([Option<BasedRegion>; 6]),
@@ -25,14 +25,14 @@ pub enum RangesNow {
 }
 
 impl Bus {
-    /// How many functions the board has.
+    /// Returns the number of functions on the board.
     pub fn count(&self) -> usize
         ensures { result ≡ length self.now }
     {
         self.nodes.len()
     }
 
-    /// The path of the function at an index, in path order.
+    /// Returns the path of the function at an index, in path order.
     pub fn path_nth(&self, index: usize) -> Option<Path>
         ensures { result
             ≡ option_map (λ (f : BoardFunction). f.path) (slice_get self.now index) }
@@ -41,7 +41,8 @@ impl Bus {
         Some(node.path.copied())
     }
 
-    /// The number of so many bytes of configuration space at an offset of this function. They lie in one word.
+    /// Returns the value of the `width` bytes of configuration space at offset `off` of the
+    /// function at an index. The bytes must not cross a word boundary.
     pub fn number_nth(&self, index: usize, off: u8, width: u64) -> Option<u32>
         requires { LiesInWord off width }
         ensures { result
@@ -52,7 +53,7 @@ impl Bus {
         Some(node.function.number(off, width))
     }
 
-    /// What is declared of the bridge at an index, and None where no bridge stands.
+    /// Returns the declaration of the bridge at an index, or `None` if there is no bridge.
     pub fn bridge_decl_nth(&self, index: usize) -> Option<BridgeDecl>
         ensures { result ≡ declared_bridge_nth self.now index }
     {
@@ -63,7 +64,7 @@ impl Bus {
         node.function.bridge_decl()
     }
 
-    /// The endpoint at an index, to be read, and None where no endpoint stands.
+    /// Returns a shared borrow of the endpoint at an index, or `None` if there is no endpoint.
     pub fn endpoint_ref_nth(&self, index: usize) -> Option<&EndpointFn>
         ensures { option_copied result ≡ endpoint_nth self.now index }
     {
@@ -74,7 +75,7 @@ impl Bus {
         node.function.endpoint()
     }
 
-    /// The regions or windows of this function.
+    /// Returns the regions or windows of the function at an index.
     pub fn ranges_nth(&self, index: usize) -> Option<RangesNow>
         ensures { option_map ranges_told result ≡ ranges_nth self.now index }
     {

@@ -1,4 +1,4 @@
-//! What a board declares, function by function.
+//! The declarations of the functions of a board.
 ghost use Rattle.std.specs.{Prelude.{◌≡◌, ◌↔◌, IsTrue}, BTreeSet.contains, Ordering.is_lt};
 ghost use Rattle.model_board.specs.{Paths.{path_before, function_zero}, Board.IsBoard, Places.{board_of, standing}};
 ghost use Rattle.paths.specs.PathOrders.{path_cmp};
@@ -11,14 +11,14 @@ use std::cmp::Ordering;
 use std::collections::BTreeSet;
 use std::marker::Model;
 
-/// What is declared of a function.
+/// The declaration of an endpoint or a bridge.
 #[derive(Debug, Drop)]
 pub enum Declared {
     Endpoint(EndpointDecl),
     Bridge(BridgeDecl),
 }
 
-/// A function of a board: where it stands, and what is declared of it.
+/// A function of a board: its path and its declaration.
 #[derive(Debug, Drop)]
 pub struct Decl {
     pub path: Path,
@@ -36,7 +36,7 @@ impl Model for Decl {
 }
 
 impl Decl {
-    /// Path order.
+    /// Compares two functions by path order.
     #[tactic(auto, using(paths::specs::PathLaws::paths_before))]
     pub(crate) fn compare(&self, other: &Decl) -> Ordering
         ensures { is_lt result ≡ path_before self.now.path other.now.path }
@@ -44,14 +44,15 @@ impl Decl {
         self.path.cmp(&other.path)
     }
 
-    /// Whether this is a further function of its device, and not function 0.
+    /// Returns whether the function number is 1 to 7.
     pub(crate) fn is_further(&self) -> bool
         ensures { result ≡ is_further self.now.path }
     {
         self.path.last().function() != 0
     }
 
-    /// Whether its device is one of those, each told by the path of its function 0.
+    /// Returns whether the function's device is in the set. The set identifies each device by the
+    /// path of its function 0.
     pub(crate) fn is_in_one_of(&self, devices: &BTreeSet<Path>) -> bool
         ensures { result ≡ contains path_cmp devices.now (function_zero self.now.path) }
     {
@@ -74,8 +75,9 @@ impl Stands for Decl {
     }
 }
 
-/// Whether these are the functions of a board, in any order: no path twice, each path on bus 0 or
-/// behind a bridge among them, and a function 0 in each device. It takes no memory.
+/// Returns whether the functions, in any order, form a valid board: their paths are unique, every
+/// path is on bus 0 or behind one of the bridges, and every device has a function 0. Doesn't
+/// allocate.
 pub fn lawful_places(decls: &[Decl]) -> bool
     ensures { IsTrue result ↔ IsBoard (board_of decls.now) }
 {

@@ -1,4 +1,4 @@
-//! An endpoint of the board, with its registers.
+//! An endpoint with its configuration registers and register blocks.
 ghost use Rattle.std.specs.Prelude.{◌≡◌, ◌%◌, ◌+◌, ◌*◌, ◌≤◌, ◌<◌, ◌⊎◌, IfOk, IfSome, IfNone, IsTrue, map};
 ghost use Rattle.model_registers.specs.{Registers.{config, block, cell_at, read, write, raise}, DeviceBytes.{is_device_byte, set_value}, ByteEnables.lanes, DeclarationRules.IsLawfulEndpoint, EndpointTable.endpoint_reset, Decoding.{base_address, command_word, lone_claim}, CopiedFiles.after_reset};
 ghost use Rattle.bars.specs.{Kinds.named_space, Slots.bases_from, Hits.named_hit};
@@ -15,7 +15,7 @@ use headers::{Endpoint, EndpointDecl, Place, command};
 use std::alloc::{AllocError, Global};
 use std::marker::Model;
 
-/// A copy of what stands at six registers.
+/// Copies the six entries.
 fn six(regions: &[Option<BasedRegion>; 6]) -> [Option<BasedRegion>; 6]
     ensures { result ≡ regions.now }
 {
@@ -24,11 +24,11 @@ fn six(regions: &[Option<BasedRegion>; 6]) -> [Option<BasedRegion>; 6]
     ]
 }
 
-/// An endpoint: what is declared of it, and its registers as they stand.
+/// An endpoint: its declaration and the state of its registers.
 ///
-/// The blocks stand by the index of their base address registers, six of them, so that an access
-/// finds its block at once. A register at which no region begins has an empty one. Command is kept as
-/// a number beside its cells, since every search for a claim asks for it.
+/// `blocks` has one entry for each of the six BAR registers, so that an access finds its register
+/// block by index. The entry is empty if no region starts at that register. Command is also kept as
+/// a number, because every address lookup reads it.
 #[derive(Drop)]
 pub struct EndpointFn {
     command: u16,
@@ -55,7 +55,8 @@ impl Model for EndpointFn {
 }
 
 impl EndpointFn {
-    /// The endpoint at reset. `multifunction` says that its device holds other functions.
+    /// Creates the endpoint at reset. `multifunction` sets bit 7 of the header type, for a device
+    /// with further functions.
     pub(crate) fn new(
         alloc: Global,
         decl: EndpointDecl,
@@ -79,21 +80,21 @@ impl EndpointFn {
         })
     }
 
-    /// What is declared of the endpoint.
+    /// Returns the declaration of the endpoint.
     pub fn decl(&self) -> &EndpointDecl
         ensures { result.now ≡ self.now.decl }
     {
         &self.decl
     }
 
-    /// What Command holds.
+    /// Returns the Command register.
     pub(crate) fn command(&self) -> u16
         ensures { result ≡ command_word self.now.file }
     {
         self.command
     }
 
-    /// The regions where their registers say now.
+    /// Returns the regions at their programmed base addresses.
     pub(crate) fn regions(&self, alloc: Global) -> Result<Vec<RoutingRegion>, AllocError>
         ensures { IfOk result (λ v.
             map base_of v.items ≡ map (base_address self.now.file) self.now.decl.regions) }
@@ -101,15 +102,17 @@ impl EndpointFn {
         regions_of(alloc, self.bars.regions())
     }
 
-    /// The same by the index of its first register, without memory.
+    /// Returns the regions at their programmed base addresses, each at the index of its first BAR
+    /// register. Doesn't allocate.
     pub(crate) fn placed(&self) -> [Option<BasedRegion>; 6]
         ensures { bases_from 0 result ≡ map (base_address self.now.file) self.now.decl.regions }
     {
         six(self.bars.regions())
     }
 
-    /// The enabled bytes of the word at `off`, a multiple of 4, in the block of the region at the base
-    /// address register `reg`. All else reads 0: past the block, and where no region begins at `reg`.
+    /// Reads the enabled bytes of the word at `off`, a multiple of 4, in the register block behind
+    /// BAR register `reg`. Disabled bytes, offsets past the end of the block, and registers without
+    /// a region read 0.
     pub fn read(&self, reg: u8, off: u64, enables: u8) -> u32
         requires { off % 4 ≡ 0 }
         ensures { result ≡ read self.now.file (block reg off) (lanes enables) }
@@ -120,8 +123,8 @@ impl EndpointFn {
         }
     }
 
-    /// Writes the enabled bytes of the word at `off`, a multiple of 4, in that block. What has no cell
-    /// there drops them.
+    /// Writes the enabled bytes of the word at `off`, a multiple of 4, in the register block behind
+    /// BAR register `reg`. Writes to unimplemented bytes are ignored.
     pub fn write(&mut self, reg: u8, off: u64, enables: u8, data: u32)
         requires { off % 4 ≡ 0 }
         ensures { self.new
@@ -136,7 +139,8 @@ impl EndpointFn {
         offsets::write(block, off, enables, data);
     }
 
-    /// Raises the bits of `mask` that writing a one clears, in the cell at `off`. All other cells stay.
+    /// Sets the W1C bits of `mask` in the register byte at `off`. Other bits, and other register
+    /// bytes, don't change.
     pub fn raise(&mut self, place: Place, off: u64, mask: u8)
         ensures { self.new
             ≡ record self.old { file = raise mask (place_of place off) self.old.file } }
@@ -154,7 +158,8 @@ impl EndpointFn {
         }
     }
 
-    /// What a byte of the device's own holds, 0 where no cell stands.
+    /// Returns the value of a register byte that belongs to the device, or 0 if it isn't
+    /// implemented.
     pub fn value(&self, place: Place, off: u64) -> u8
         requires { IsTrue (is_device_byte (place_of place off)) }
         ensures { result ≡ (cell_at self.now.file (place_of place off)).value }
@@ -168,8 +173,9 @@ impl EndpointFn {
         }
     }
 
-    /// Puts a value into a byte of the device's own, whatever the cell's masks, which stay. All other
-    /// cells stay, and where none stands nothing changes.
+    /// Sets the value of a register byte that belongs to the device, ignoring its write mask and
+    /// W1C mask, which stay the same. Other register bytes don't change. Does nothing if the byte
+    /// isn't implemented.
     pub fn set(&mut self, place: Place, off: u64, value: u8)
         requires { IsTrue (is_device_byte (place_of place off)) }
         ensures { self.new
@@ -188,8 +194,8 @@ impl EndpointFn {
         }
     }
 
-    /// Goes back to reset. Command and the base address registers stay as they are, and so does the
-    /// header type, which is the same at reset.
+    /// Resets the endpoint, except for its Command register and BARs. The header type keeps its
+    /// reset value.
     pub fn reset(&mut self)
         ensures { self.new ≡ record self.old { file = after_reset self.old.decl self.old.file } }
     {
@@ -198,7 +204,7 @@ impl EndpointFn {
         reset_all(&mut self.blocks);
     }
 
-    /// The enabled bytes of the configuration word at `off`, a multiple of 4.
+    /// Reads the enabled bytes of the configuration word at `off`, a multiple of 4.
     pub fn config_read(&self, off: u8, enables: u8) -> u32
         requires { off % 4 ≡ 0 }
         ensures { result ≡ read self.now.file (config off) (lanes enables) }
@@ -227,8 +233,9 @@ impl EndpointFn {
         }
     }
 
-    /// The least register whose region decodes the address by the endpoint's own Command and base
-    /// address registers, and the offset in the region (PCI Local Bus 3.0, chapter 6.2.5).
+    /// Returns the first BAR register whose region decodes the address, with the offset in the
+    /// region. Only the Command register and the BARs of this endpoint count (PCI Local Bus 3.0,
+    /// section 6.2.5).
     pub fn decode(&self, space: Space, addr: u64) -> Option<(u8, u64)>
         ensures { named_hit result ≡ lone_claim self.now (named_space space) addr }
     {
@@ -236,7 +243,8 @@ impl EndpointFn {
     }
 }
 
-/// The index of the base address register at `off`, a multiple of 4, if one stands there.
+/// Returns the index of the BAR register at `off`, a multiple of 4, or `None` if `off` isn't the
+/// offset of a BAR.
 fn base_register(off: u8) -> Option<u8>
     requires { off % 4 ≡ 0 }
     ensures there { IfSome result (λ reg. (reg < 6) × (off ≡ 0x10 + 4 * reg)) }

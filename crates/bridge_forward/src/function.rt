@@ -1,4 +1,4 @@
-//! What stands at a path.
+//! A function of a board: an endpoint or a bridge.
 ghost use Rattle.std.specs.{Prelude.{◌≡◌, ◌%◌, ◌&&◌, ◌==◌, nat_le, IfOk}, Borrow.sem, Option.{option_copied, option_copied_mut}};
 ghost use Rattle.model_registers.specs.{Registers.{config, number, read, write}, ByteEnables.{LiesInWord, lanes}, Decoding.command_word};
 ghost use Rattle.model_board.specs.{Board.is_bridge, Routing.ranges_of, Lawful.IsLawfulDecl, Cycles.{secondary_register, subordinate_register}};
@@ -27,7 +27,8 @@ impl Function {
     ghost use Rattle.config_bytes.specs.Ops.{is_write};
     ghost use Rattle.bridge_forward.specs.{Cycled.{reply_to, after_access}, Decls.declared, ResetAlone.after_leaf_reset, Functions.{decl_of, file_of, with_cells, reset_cells, endpoint_in, LendsLeaf}};
 
-    /// The function at reset. `multifunction` says that its device holds other functions.
+    /// Creates the function at reset. `multifunction` sets bit 7 of the header type, for a device
+    /// with further functions.
     pub(crate) fn new(
         alloc: Global,
         decl: Declared,
@@ -52,7 +53,7 @@ impl Function {
         }
     }
 
-    /// What is declared of it.
+    /// Returns a copy of the declaration.
     #[tactic(auto, using(std::proofs::lemmas::List::Elements::same_from_all_zip))]
     pub(crate) fn declared(&self) -> Result<Declared, AllocError>
         ensures { IfOk result (λ d. declared d ≡ decl_of self.now) }
@@ -63,7 +64,8 @@ impl Function {
         }
     }
 
-    /// A read or write of the configuration word at `off`, a multiple of 4. A write gives 0.
+    /// Reads or writes the enabled bytes of the configuration word at `off`, a multiple of 4. A
+    /// write returns 0.
     pub(crate) fn access(&mut self, op: Op, off: u8, enables: u8) -> u32
         requires { off % 4 ≡ 0 }
         ensures reply { result ≡ reply_to op off enables (file_of self.old) }
@@ -101,7 +103,7 @@ impl Function {
         }
     }
 
-    /// What Command holds.
+    /// Returns the Command register.
     fn command(&self) -> u16
         ensures { result ≡ command_word (file_of self.now) }
     {
@@ -111,7 +113,7 @@ impl Function {
         }
     }
 
-    /// What is declared of it, if it is a bridge.
+    /// Returns the declaration of a bridge, or `None` for an endpoint.
     pub(crate) fn bridge_decl(&self) -> Option<BridgeDecl>
         ensures { result ≡ declared_bridge (decl_of self.now) }
     {
@@ -121,7 +123,7 @@ impl Function {
         }
     }
 
-    /// The Secondary Bus Number, if it is a bridge.
+    /// Returns the Secondary Bus Number of a bridge, or `None` for an endpoint.
     pub(crate) fn secondary(&self) -> Option<u8>
         ensures { result ≡ secondary_of (decl_of self.now) (file_of self.now) }
     {
@@ -131,7 +133,7 @@ impl Function {
         }
     }
 
-    /// The Primary Bus Number of a bridge.
+    /// Returns the Primary Bus Number of a bridge, or `None` for an endpoint.
     pub(crate) fn primary(&self) -> Option<u8>
         ensures { result ≡ primary_of (decl_of self.now) (file_of self.now) }
     {
@@ -141,7 +143,7 @@ impl Function {
         }
     }
 
-    /// The regions or windows where the registers say now.
+    /// Returns the programmed regions of an endpoint or windows of a bridge.
     fn ranges(&self, alloc: Global) -> Result<Ranges, AllocError>
         ensures { IfOk result (λ r.
             named_ranges r ≡ ranges_of (file_of self.now) (decl_of self.now)) }
@@ -152,7 +154,8 @@ impl Function {
         }
     }
 
-    /// At the index of its first register, each region where its registers say now; none of a bridge.
+    /// Returns the regions of an endpoint at their programmed base addresses, each at the index of
+    /// its first BAR register. All entries are `None` for a bridge.
     pub(crate) fn placed(&self) -> [Option<BasedRegion>; 6]
         ensures { bases_from 0 result ≡ bases_of (decl_of self.now) (file_of self.now) }
     {
@@ -162,7 +165,7 @@ impl Function {
         }
     }
 
-    /// The regions or windows where the registers say now, without memory.
+    /// Returns the programmed regions of an endpoint or windows of a bridge, without allocating.
     pub(crate) fn ranges_now(&self) -> RangesNow
         ensures { ranges_told result ≡ ranges_of (file_of self.now) (decl_of self.now) }
     {
@@ -172,7 +175,8 @@ impl Function {
         }
     }
 
-    /// The number of so many bytes of configuration space at an offset, which lie in one word.
+    /// Returns the value of the `width` bytes of configuration space at offset `off`. The bytes
+    /// must not cross a word boundary.
     pub(crate) fn number(&self, off: u8, width: u64) -> u32
         requires { LiesInWord off width }
         ensures { result ≡ number (file_of self.now) (config off) width }
@@ -182,7 +186,7 @@ impl Function {
         lowered(from, word)
     }
 
-    /// The routing registers, as those of the function at a path.
+    /// Returns the routing registers, labelled with the path of the function.
     pub(crate) fn routing(&self, alloc: Global, path: &Path) -> Result<RoutingRow, AllocError>
         ensures { IfOk result (λ r. r ≡ record {
           path = path.now;
@@ -197,7 +201,7 @@ impl Function {
         })
     }
 
-    /// Resets the endpoint, if it is one.
+    /// Resets an endpoint, except for its Command register and BARs. Does nothing to a bridge.
     pub(crate) fn reset_endpoint(&mut self)
         ensures { self.new
             ≡ with_cells self.old (after_leaf_reset (decl_of self.old) (file_of self.old)) }
@@ -208,7 +212,7 @@ impl Function {
         }
     }
 
-    /// Whether it is a bridge.
+    /// Returns whether the function is a bridge.
     pub(crate) fn is_bridge(&self) -> bool
         ensures { result ≡ is_bridge (decl_of self.now) }
     {
@@ -218,14 +222,15 @@ impl Function {
         }
     }
 
-    /// Whether it is a bridge and the operation a write.
+    /// Returns whether the operation is a write and the function is a bridge.
     pub(crate) fn is_bridge_written(&self, op: Op) -> bool
         ensures { result ≡ (is_write op && is_bridge (decl_of self.now)) }
     {
         op.is_write() && self.is_bridge()
     }
 
-    /// Whether it is a bridge that takes cycles for the bus.
+    /// Returns whether the function is a bridge that claims type 1 cycles for the bus: its
+    /// Secondary Bus Number ≤ `bus` ≤ its Subordinate Bus Number.
     pub(crate) fn covers(&self, bus: u8) -> bool
         ensures { result
             ≡ (is_bridge (decl_of self.now) && nat_le (secondary_register (file_of self.now)) bus
@@ -237,7 +242,7 @@ impl Function {
         }
     }
 
-    /// Whether it is a bridge and the bus is the one behind it.
+    /// Returns whether the function is a bridge with this Secondary Bus Number.
     pub(crate) fn leads_to(&self, bus: u8) -> bool
         ensures { result
             ≡ (is_bridge (decl_of self.now) && (secondary_register (file_of self.now) == bus)) }
@@ -248,7 +253,7 @@ impl Function {
         }
     }
 
-    /// The endpoint, if it is one.
+    /// Returns the endpoint, or `None` for a bridge.
     pub(crate) fn endpoint(&self) -> Option<&EndpointFn>
         ensures { option_copied result ≡ endpoint_in self.now }
     {
@@ -258,7 +263,7 @@ impl Function {
         }
     }
 
-    /// Lends the endpoint, if it is one.
+    /// Borrows the endpoint mutably, or returns `None` for a bridge.
     pub(crate) fn endpoint_mut(&mut self) -> Option<&mut EndpointFn>
         ensures* lends { sem 𝓛 (LendsLeaf self.entry result) }
         ensures value { option_copied_mut result ≡ endpoint_in self.old }

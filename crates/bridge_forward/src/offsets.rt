@@ -1,12 +1,12 @@
-//! Cells by offsets of any size: past those that a file of cells can hold, nothing reads as anything
-//! but 0, and nothing changes.
+//! Register accesses at 64-bit offsets. Offsets above FFFFh, which no register file contains, read
+//! 0 and ignore writes.
 ghost use Rattle.std.specs.Prelude.{◌≡◌, ◌%◌};
 ghost use Rattle.model_registers.specs.{Registers.{config, cell_at, read, write, raise}, DeviceBytes.set_value, ByteEnables.lanes, FileLaws.IsConfigFile};
 ghost use Rattle.bridge_forward.specs.EndpointParts.{IsShort};
 
 use config_bytes::Cells;
 
-/// The enabled bytes of the word at `off`, a multiple of 4.
+/// Reads the enabled bytes of the word at `off`, a multiple of 4.
 pub(crate) fn read(cells: &Cells, off: u64, enables: u8) -> u32
     requires word { off % 4 ≡ 0 }
     requires short { IsShort cells.now.now }
@@ -30,7 +30,7 @@ pub(crate) fn write(cells: &mut Cells, off: u64, enables: u8, data: u32)
     }
 }
 
-/// Raises the bits of `mask` that writing a one clears, in the cell at `off`.
+/// Sets the W1C bits of `mask` in the register byte at `off`.
 pub(crate) fn raise(cells: &mut Cells, off: u64, mask: u8)
     requires { IsShort cells.old.now }
     ensures { cells.new ≡ record cells.old { now = raise mask (config off) cells.old.now } }
@@ -40,7 +40,7 @@ pub(crate) fn raise(cells: &mut Cells, off: u64, mask: u8)
     }
 }
 
-/// What the cell at `off` holds, 0 where none stands.
+/// Returns the value of the register byte at `off`, or 0 if it isn't implemented.
 pub(crate) fn value(cells: &Cells, off: u64) -> u8
     requires { IsShort cells.now.now }
     ensures { result ≡ (cell_at cells.now.now (config off)).value }
@@ -51,7 +51,7 @@ pub(crate) fn value(cells: &Cells, off: u64) -> u8
     cells.value(off)
 }
 
-/// Puts a value into the cell at `off`, whatever its masks.
+/// Sets the value of the register byte at `off`, ignoring its write mask and W1C mask.
 pub(crate) fn set(cells: &mut Cells, off: u64, value: u8)
     requires { IsShort cells.old.now }
     ensures { cells.new ≡ record cells.old { now = set_value value (config off) cells.old.now } }

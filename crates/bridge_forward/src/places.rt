@@ -1,11 +1,12 @@
-//! Which functions may stand together on a board.
+//! The rules for the paths of the functions of a board.
 ghost use Rattle.std.specs.Prelude.{◌≡◌, ◌<◌, ◌↔◌, ◌⊎◌, [], IsTrue, IsFalse, map, drop, length};
 ghost use Rattle.lists.specs.Elements.{Each, EachPair};
 ghost use Rattle.model_board.specs.{Paths.{IsPath, path_eq, parent, function_zero}, Places.{Standing, IsFounded, AreLawfulPlaces, has_path, has_bridge}};
 
 use paths::{Part, Path};
 
-/// What counts of a function for the places of a board: its path, and whether it is a bridge.
+/// The properties of a function that placement rules depend on: its path, and whether it is a
+/// bridge.
 pub trait Stands {
     ghost standing: { Self → Standing };
 
@@ -16,7 +17,7 @@ pub trait Stands {
         ensures { result ≡ (standing self.now).is_bridge };
 }
 
-/// Whether one of these stands at the path.
+/// Returns whether one of the functions has this path.
 fn has_path<S: Stands>(places: &[S], path: &Path) -> bool
     ensures { result ≡ has_path (map S.standing places.now) path.now }
 {
@@ -28,7 +29,7 @@ fn has_path<S: Stands>(places: &[S], path: &Path) -> bool
     false
 }
 
-/// Whether one of these is a bridge with these parts.
+/// Returns whether one of the functions is a bridge whose path has these parts.
 fn has_bridge<S: Stands>(places: &[S], parts: &[Part]) -> bool
     ensures { result ≡ has_bridge (map S.standing places.now) parts.now }
 {
@@ -40,7 +41,8 @@ fn has_bridge<S: Stands>(places: &[S], parts: &[Part]) -> bool
     false
 }
 
-/// Whether these parts are none, as those above bus 0, or name one of the bridges.
+/// Returns whether the parts lead to a bus: the list is empty, which stands for bus 0, or is the
+/// path of one of the bridges.
 fn is_bus<S: Stands>(places: &[S], parts: &[Part]) -> bool
     ensures { IsTrue result
         ↔ ((parts.now ≡ []) ⊎ IsTrue (has_bridge (map S.standing places.now) parts.now)) }
@@ -51,7 +53,8 @@ fn is_bus<S: Stands>(places: &[S], parts: &[Part]) -> bool
     has_bridge(places, parts)
 }
 
-/// Whether the function at `place` is on bus 0 or behind a bridge, in a device with a function 0.
+/// Returns whether the function at `place` is on bus 0 or behind a bridge, in a device with a
+/// function 0.
 fn is_founded<S: Stands>(places: &[S], place: &S) -> bool
     ensures { IsTrue result ↔ IsFounded (map S.standing places.now) (S.standing place.now) }
 {
@@ -61,7 +64,7 @@ fn is_founded<S: Stands>(places: &[S], place: &S) -> bool
     on_bus && has_zero
 }
 
-/// Whether each function is on bus 0 or behind a bridge, in a device with a function 0.
+/// Returns whether every function is on bus 0 or behind a bridge, in a device with a function 0.
 fn are_founded<S: Stands>(places: &[S]) -> bool
     ensures { IsTrue result
         ↔ Each (IsFounded (map S.standing places.now)) (map S.standing places.now) }
@@ -74,7 +77,7 @@ fn are_founded<S: Stands>(places: &[S]) -> bool
     true
 }
 
-/// Whether no two functions stand at one path.
+/// Returns whether all paths are different.
 fn are_apart<S: Stands>(places: &[S]) -> bool
     ensures { IsTrue result
         ↔ EachPair (λ s t. IsFalse (path_eq t.path s.path)) (map S.standing places.now) }
@@ -87,8 +90,9 @@ fn are_apart<S: Stands>(places: &[S]) -> bool
     true
 }
 
-/// Whether these are the functions of a board, in any order: no path twice, each path on bus 0 or
-/// behind a bridge among them, and a function 0 in each device. It takes no memory.
+/// Returns whether the functions, in any order, form a valid board: their paths are unique, every
+/// path is on bus 0 or behind one of the bridges, and every device has a function 0. Doesn't
+/// allocate.
 pub fn are_lawful<S: Stands>(places: &[S]) -> bool
     ensures { IsTrue result ↔ AreLawfulPlaces (map S.standing places.now) }
 {

@@ -1,13 +1,14 @@
-//! Which bridges lead to which buses, as far as cycles have found out.
+//! A cache of the bridge that leads to each bus number, filled in by configuration cycles.
 ghost use Rattle.std.specs.Prelude.{◌≡◌, ◌≤◌, if◌then◌else◌, IfOk, None, get_or, replicate, slice_set};
 ghost use Rattle.bridge_forward.specs.Known.{known_entry};
 
 use std::alloc::{AllocError, Global};
 use std::marker::Model;
 
-/// By bus number the index of the bridge that leads to the bus, where it is known, with the time at which it was
-/// found. Set-up writes a bridge some thirteen times, and with each write all that is known is forgotten: so the
-/// time goes on, and what was found before it doesn't count any more. No entry is cleared.
+/// The cache: for each bus number, the index of the bridge that leads to it and the generation in
+/// which it was found. An entry is valid only in the current generation. Set-up writes each bridge
+/// about thirteen times and invalidates the cache every time, so invalidating only increments the
+/// generation instead of clearing 256 entries.
 #[derive(Drop)]
 pub(crate) struct Routes {
     bridges: Vec<(u64, usize)>,
@@ -25,7 +26,7 @@ impl Model for Routes {
     ghost invariant = { λ r. AreKept r.time r.bridges.items };
 }
 
-/// What is kept at a time of a bridge, or of none.
+/// Returns the cache entry for a bridge found in generation `time`, or an invalid entry for `None`.
 fn entry(time: u64, bridge: Option<usize>) -> (u64, usize)
     requires { 1 ≤ time }
     ensures known { known_entry time result ≡ bridge }
@@ -40,7 +41,7 @@ fn entry(time: u64, bridge: Option<usize>) -> (u64, usize)
 impl Routes {
     ghost use Rattle.bridge_forward.specs.Leading.{AreUnknown};
 
-    /// No bridge is known for any of the 256 bus numbers.
+    /// Creates an empty cache for the 256 bus numbers.
     pub(crate) fn unknown(alloc: Global) -> Result<Routes, AllocError>
         ensures { IfOk result AreUnknown }
     {
@@ -48,7 +49,7 @@ impl Routes {
         Ok(Routes { bridges, time: 1 })
     }
 
-    /// The bridge that is known for a bus number.
+    /// Returns the cached bridge for a bus number.
     pub(crate) fn bridge(&self, bus: u8) -> Option<usize>
         ensures { result ≡ get_or self.now bus None }
     {
@@ -60,14 +61,14 @@ impl Routes {
         }
     }
 
-    /// Keeps the bridge for a bus number, or that none is known.
+    /// Caches the bridge for a bus number. `None` invalidates the entry.
     pub(crate) fn keep(&mut self, bus: u8, bridge: Option<usize>)
         ensures { self.new ≡ slice_set self.old bus bridge }
     {
         self.bridges[usize::from(bus)] = entry(self.time, bridge);
     }
 
-    /// No bridge is known any more.
+    /// Invalidates all entries.
     fn forget(&mut self)
         ensures { self.new ≡ replicate 256 None }
     {
@@ -79,7 +80,7 @@ impl Routes {
         }
     }
 
-    /// No bridge is known any more, if `changed` says so.
+    /// Invalidates all entries if `changed` is true.
     pub(crate) fn forget_if(&mut self, changed: bool)
         ensures { self.new ≡ (if changed then replicate 256 None else self.old) }
     {

@@ -1,5 +1,5 @@
-//! The registers that decide where an address goes, as they stand in one function (PCI Local Bus 3.0,
-//! chapter 6.2.5; PCI-to-PCI Bridge Architecture 1.2, chapters 3.2.5 and 4).
+//! The registers of a function that decide where an address goes (PCI Local Bus 3.0, section 6.2.5;
+//! PCI-to-PCI Bridge Architecture 1.2, section 3.2.5 and chapter 4).
 ghost use Rattle.std.specs.Prelude.{◌≡◌, IfOk, Option, map, option_map};
 ghost use Rattle.model_registers.specs.EndpointTable.{HasLawfulBases};
 ghost use Rattle.headers.specs.WindowPairs.{pair_of};
@@ -12,14 +12,14 @@ use paths::Path;
 use std::alloc::{AllocError, Global};
 use std::marker::Model;
 
-/// The addresses of a window: the first and the last one.
+/// The first and last address of a window, both inclusive.
 #[derive(Clone, Copy, Debug)]
 pub struct Window {
     pub first: u64,
     pub last: u64,
 }
 
-/// The regions of an endpoint by register, or the windows of a bridge.
+/// The regions of an endpoint, ordered by BAR register, or the windows of a bridge.
 #[derive(Debug, Drop)]
 pub enum Ranges {
     Regions(Vec<RoutingRegion>),
@@ -30,7 +30,7 @@ pub enum Ranges {
     },
 }
 
-/// A function's path, its Command, and its regions or windows.
+/// A function's path, its Command register, and its regions or windows.
 #[derive(Debug, Drop)]
 pub struct RoutingRow {
     pub path: Path,
@@ -48,7 +48,7 @@ impl Model for RoutingRow {
         record { path = r.path; command = r.command; ranges = named_ranges r.ranges } };
 }
 
-/// A window, from its first and last address.
+/// Converts a pair of first and last address to a window.
 pub(crate) fn window_of(pair: Option<(u64, u64)>) -> Option<Window>
     ensures { (w : Option model.Window) → pair ≡ option_map pair_of w →
         option_map window_of result ≡ w }
@@ -59,7 +59,7 @@ pub(crate) fn window_of(pair: Option<(u64, u64)>) -> Option<Window>
     }
 }
 
-/// The regions of six registers, one after the other.
+/// Collects the regions from the six BAR registers, in register order.
 pub(crate) fn regions_of(
     alloc: Global,
     slots: &[Option<bars::BasedRegion>; 6],

@@ -1,9 +1,10 @@
-//! A region where its register says now.
+//! A region at its programmed base address.
 ghost use Rattle.std.specs.Prelude.{◌+◌, ◌<◌, ◌≤◌, ◌^◌};
 
 use bars::Kind;
 
-/// A region: its first register, 0 to 5, its kind and size, and the base that the register holds.
+/// A region of an endpoint: the index of its first BAR register (0 to 5), its kind, its size in
+/// bytes, and the base address in the register.
 #[derive(Clone, Copy, Debug)]
 pub struct RoutingRegion {
     pub index: u8,

@@ -1,4 +1,4 @@
-//! Walks along the buses of a tree.
+//! Walks along the buses of the tree.
 ghost use Rattle.std.specs.Prelude.{◌≡◌, ◌≤◌, ◌<◌, IfSome, IfNone, IsSome, None, length, find};
 ghost use Rattle.model_board.specs.{Paths.{Path as PathValue, path_eq}, Cycles.taker, Claims.first_claim};
 ghost use Rattle.bridge_forward.specs.{Layout.functions_of, Skips.IsTree, Search.{is_named, IsSide, IsAt}, Leading.{LeadsTo, LeadsNowhere, AreRoutes}, Cycled.reached_by, Lending.endpoint_nth, Locating.located_claim};
@@ -12,9 +12,10 @@ use bars::Space;
 use paths::{Part, Path};
 use std::cmp::Ordering;
 
-/// The first bridge on a bus that takes cycles for the bus with this number, if what stands there are
-/// the nodes from `from` up to `to`. Each step goes to the next bridge on the bus, past endpoints and
-/// past all that stands behind the former.
+/// Returns the first bridge on a bus that claims type 1 cycles for bus `number`. The nodes from
+/// `from` up to, but not including, `to` are the functions on the bus and behind it. Each step
+/// jumps to the next bridge on the bus, skipping endpoints and everything behind the previous
+/// bridge.
 fn bridge_on_bus(nodes: &[Node], from: usize, to: usize, number: u8) -> Option<usize>
     requires tree { IsTree nodes.now }
     requires range { to ≤ length nodes.now }
@@ -40,8 +41,9 @@ fn bridge_on_bus(nodes: &[Node], from: usize, to: usize, number: u8) -> Option<u
     None
 }
 
-/// The function with these numbers on a bus, if what stands behind it are the nodes from `from` up to
-/// `to`. It is found by halving, since they stand in path order.
+/// Returns the function with this device and function number on a bus. The nodes from `from` up to,
+/// but not including, `to` are the functions on the bus and behind it. They are in path order, so
+/// this is a binary search.
 fn part_on_bus(
     nodes: &[Node],
     bus: &[Part],
@@ -71,7 +73,8 @@ fn part_on_bus(
     None
 }
 
-/// The bridge that leads to a bus. The search steps along the bridges on the way alone.
+/// Returns the bridge that leads to a bus. The search examines only the bridges on the buses along
+/// the way.
 fn search_bridge(nodes: &[Node], bus: u8) -> Option<usize>
     requires { IsTree nodes.now }
     ensures found { IfSome result (LeadsTo nodes.now bus) }
@@ -90,8 +93,8 @@ fn search_bridge(nodes: &[Node], bus: u8) -> Option<usize>
     }
 }
 
-/// The bridge that leads to a bus: the one that is known, else the one that is found, which is known
-/// from then on.
+/// Returns the bridge that leads to a bus, from the cache if possible. Caches a bridge that had to
+/// be searched for.
 fn bridge_to(nodes: &[Node], known: &mut Routes, bus: u8) -> Option<usize>
     requires tree { IsTree nodes.now }
     requires routes { AreRoutes nodes.now known.old }
@@ -107,7 +110,7 @@ fn bridge_to(nodes: &[Node], known: &mut Routes, bus: u8) -> Option<usize>
     found
 }
 
-/// The function that a cycle reaches, put on bus 0.
+/// Returns the function that a configuration cycle on bus 0 reaches.
 pub(crate) fn reach(nodes: &[Node], known: &mut Routes, cycle: &Cycle) -> Option<usize>
     requires tree { IsTree nodes.now }
     requires routes { AreRoutes nodes.now known.old }
@@ -137,8 +140,8 @@ pub(crate) fn reach(nodes: &[Node], known: &mut Routes, cycle: &Cycle) -> Option
     )
 }
 
-/// The first claim of an address in path order, then by register, told by the index of its endpoint. It
-/// passes what stands behind a bridge that doesn't forward the address.
+/// Returns the first claim of an address, by path order and then by BAR register, with the index of
+/// its endpoint. Skips everything behind a bridge that doesn't forward the address.
 pub(crate) fn locate(nodes: &[Node], space: Space, addr: u64) -> Option<Located>
     requires { IsTree nodes.now }
     ensures claim { located_claim (functions_of nodes.now) result
@@ -171,7 +174,8 @@ pub(crate) fn locate(nodes: &[Node], space: Space, addr: u64) -> Option<Located>
     None
 }
 
-/// Where the function with this path stands, found by halving, since nodes stand in path order.
+/// Returns the index of the function with this path. Uses binary search, because the nodes are in
+/// path order.
 pub(crate) fn position(nodes: &[Node], path: &Path) -> Option<usize>
     requires { IsTree nodes.now }
     ensures found { IfSome result (λ i.

@@ -1,4 +1,5 @@
-//! The parts of a bus: device 0 to 15, and in a device function 0 to 7.
+//! The device and function numbers on a bus, in scan order: devices 0 to 15, and functions 0 to 7
+//! of each device.
 ghost use Rattle.std.specs.Prelude.{◌≡◌, ◌<◌, ◌+◌, ◌%◌, ◌==◌, ◌&&◌, not, if◌then◌else◌, [], ◌∷◌, ◌++◌, length};
 ghost use Rattle.model_set_up.specs.ScanOrder.{on, nth_part};
 ghost use Rattle.paths.specs.BusAddresses.{bus_address_of};
@@ -6,13 +7,13 @@ ghost use Rattle.paths.specs.BusAddresses.{bus_address_of};
 use bridge_forward::Part;
 use host_bridge::{Bdf, Path};
 
-/// How many parts a bus has.
+/// The number of device and function numbers on a bus: 16 devices with 8 functions each.
 pub(crate) const PARTS: u8 = 128;
 
-/// How many parts a path has at most.
+/// The maximum number of parts in a path.
 pub(crate) const DEEPEST: usize = 16;
 
-/// The physical number of a part.
+/// Returns the BDF of the nth part of a bus.
 pub(crate) fn address(bus: u8, n: u8) -> Bdf
     requires { n < PARTS }
     ensures { bus_address_of result ≡ record { bus = bus; part = nth_part n } }
@@ -24,8 +25,8 @@ pub(crate) fn address(bus: u8, n: u8) -> Bdf
     }
 }
 
-/// The part that is looked at after the nth one: functions 1 to 7 where function 0 says that its device
-/// holds others, and else the next device.
+/// Returns the part to probe after the nth one: the next device if the nth part is function 0 of a
+/// single-function device, and otherwise the next part in order.
 pub(crate) fn next_part(n: u8, is_multifunction: bool) -> u8
     requires { n < PARTS }
     ensures next { result ≡ (if n % 8 == 0 && not is_multifunction then n + 8 else n + 1) }
@@ -38,7 +39,7 @@ pub(crate) fn next_part(n: u8, is_multifunction: bool) -> u8
     }
 }
 
-/// The path of the function at the nth part of a bus, which the path of its bridge names, or no part for
+/// Returns the path of the nth part of a bus. `bus` is the path of the bridge above, or empty for
 /// bus 0.
 pub(crate) fn path_on(bus: &[Part], n: u8) -> Path
     requires short { length bus.now < 16 }

@@ -1,4 +1,5 @@
-//! The scan of a board by configuration cycles (PCI-to-PCI Bridge Architecture 1.2, chapter 3.2.5).
+//! Enumeration of a board by configuration cycles (PCI-to-PCI Bridge Architecture 1.2, section
+//! 3.2.5).
 ghost use Rattle.std.specs.Prelude.{◌≡◌, ◌⊎◌, ◌<◌, ◌+◌, [], ◌∷◌, ◌++◌, length, IfOk, IfErr, MatchResult, IsTrue, Some, find, ℕ, ◌≤◌};
 ghost use Rattle.model_board.specs.{Paths.{Path as PathValue, path_eq}, Board.{Board, Row, is_bridge_at, is_multifunction, IsBoard}, BusNumbers.{Enumerates, secondary}, State.state_of, Cycles.reached, AtReset.{board_at, IsAtReset}};
 ghost use Rattle.model_set_up.specs.{Scanning.{BusNumbers, numbered_file, numbered_state, IsNumbered, HasOwnNumbers}, ScanOrder.{on, nth_part, next_part, met}, FunctionTable.{TableRow, scanned_table}};
@@ -14,15 +15,16 @@ use headers::{IoDecode, PrefDecode};
 use host_bridge::{Bdf, Host, Path};
 use std::alloc::{AllocError, Global};
 
-/// A scan as it runs: the functions met so far, and the last bus number given. A bridge whose side is
-/// being scanned has Subordinate FFh, as in its register.
+/// A scan in progress: the functions found so far, and the last assigned bus number. While the
+/// buses behind a bridge are being scanned, the bridge's Subordinate Bus Number is FFh, in its row
+/// as in its register.
 #[derive(Drop)]
 struct Enumeration {
     rows: Vec<FunctionRow>,
     last: u8,
 }
 
-/// Writes Primary, Secondary and Subordinate Bus Number of the bridge with an address.
+/// Writes the Primary, Secondary and Subordinate Bus Number of the bridge at a BDF.
 fn write_numbers(host: &mut Host, at: Bdf, primary: u8, secondary: u8, subordinate: u8)
     ensures written { (b : Board) (numbers : PathValue → BusNumbers) (p : PathValue)
         → IsBoard b → IsTrue (is_bridge_at b p)
@@ -38,7 +40,7 @@ fn write_numbers(host: &mut Host, at: Bdf, primary: u8, secondary: u8, subordina
 }
 
 impl Enumeration {
-    /// Takes a function that was met into the table.
+    /// Appends a function to the table.
     fn push(&mut self, path: Path, bus: u8, seen: Seen, found: Found) -> Result<(), AllocError>
         ensures last { IfOk result (λ _. self.new.last ≡ self.old.last) }
         ensures rows { let row : TableRow = record {
@@ -59,8 +61,9 @@ impl Enumeration {
         Ok(())
     }
 
-    /// Gives a bridge the next number, and all numbers from there on to its side, so that cycles go
-    /// there: its Secondary Bus Number.
+    /// Assigns the next bus number to the secondary bus of a bridge, and returns that number.
+    /// Forwards all higher bus numbers as well, so that the scan can reach every bus behind the
+    /// bridge.
     fn open_bridge(
         &mut self,
         host: &mut Host,
@@ -96,7 +99,8 @@ impl Enumeration {
         Ok(number)
     }
 
-    /// Ends the numbers of a bridge with the last one given, in its registers and in its row.
+    /// Sets the Subordinate Bus Number of a bridge to the last assigned bus number, in its register
+    /// and in its row.
     fn close_bridge(&mut self, host: &mut Host, at: Bdf, bus: u8, number: u8, index: usize)
         requires { index < length self.old.rows.items }
         ensures closed { (b : Board) (on_path : PathValue) (n : ℕ) (r : Row) →
@@ -113,7 +117,7 @@ impl Enumeration {
         write_numbers(host, at, bus, number, last);
     }
 
-    /// Numbers a bridge, and takes it and what stands behind it into the table.
+    /// Numbers a bridge, and adds the bridge and everything behind it to the table.
     #[cycle(scan)]
     fn scan_bridge(
         &mut self,
@@ -144,7 +148,8 @@ impl Enumeration {
         Ok(())
     }
 
-    /// Takes what stands at the nth part of a bus, and behind it, into the table: the next part.
+    /// Adds the function at the nth part of a bus, and everything behind it, to the table. Returns
+    /// the next part to probe.
     #[cycle(scan)]
     fn scan_place(&mut self, host: &mut Host, bus: &[Part], number: u8, n: u8) -> Result<u8, Fault>
         requires short { length bus.now < 16 }
@@ -174,8 +179,8 @@ impl Enumeration {
         Ok(next_part(n, seen.is_multifunction))
     }
 
-    /// Takes all that stands on a bus and behind it into the table. The path is that of the bridge
-    /// above, or of no part for bus 0.
+    /// Adds all functions on a bus and behind it to the table. `bus` is the path of the bridge
+    /// above, or empty for bus 0.
     #[cycle(scan)]
     fn scan_bus(&mut self, host: &mut Host, bus: &[Part], number: u8) -> Result<(), Fault>
         requires { length bus.now < 16 }
@@ -196,12 +201,16 @@ impl Enumeration {
     }
 }
 
-/// Scans a board at reset: gives each bridge its bus numbers, in the order in which it is met (PCI-to-PCI
-/// Bridge Architecture 1.2, chapter 3.2.5), and answers the functions found, without the sizes of
-/// their regions. A device whose function 0 reads Vendor ID FFFFh is absent; functions 1 to 7 are looked
-/// at where bit 7 of its header type says that there are some. It goes by configuration cycles alone,
-/// and allocates only the rows of the table. A board with more than 255 bridges is refused before the
-/// 256th one is written.
+/// Enumerates a board at reset: assigns bus numbers to the bridges in the order in which they are
+/// found (PCI-to-PCI Bridge Architecture 1.2, section 3.2.5), and returns the functions, without
+/// the sizes of their regions. A device whose function 0 has Vendor ID FFFFh is absent. Functions 1
+/// to 7 are probed only if bit 7 of the header type of function 0 is set. The scan uses only
+/// configuration cycles, and allocates only the rows of the table.
+///
+/// # Errors
+///
+/// `Fault::Buses` if the board has more than 255 bridges; the 256th bridge isn't written.
+/// `Fault::Memory` if memory is exhausted.
 pub fn scan(alloc: Global, host: &mut Host) -> Result<FunctionTable, Fault>
     requires { IsAtReset host.old.state }
     ensures board { board_at host.new.state.functions ≡ board_at host.old.state.functions }

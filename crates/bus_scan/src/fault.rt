@@ -1,4 +1,4 @@
-//! Why set-up refuses a board.
+//! The reasons why set-up can fail.
 ghost use Rattle.std.specs.Prelude.{◌≡◌, Some};
 ghost use Rattle.bus_scan.specs.Faults.{number_of, fault_words};
 
@@ -6,20 +6,20 @@ use std::alloc::AllocError;
 use std::error::Error;
 use std::fmt;
 
-/// Why a board can't be enumerated or placed.
+/// The reason why a board can't be enumerated, or its regions placed.
 #[derive(Clone, Copy, Debug, PartialEq, Eq)]
 pub enum Fault {
-    /// More than 255 bridges.
+    /// The board has more than 255 bridges.
     Buses,
-    /// An I/O region behind a bridge without an I/O window.
+    /// An I/O region is behind a bridge without an I/O window.
     NoIoWindow,
-    /// The I/O regions don't fit their aperture.
+    /// The I/O regions don't fit in the I/O aperture.
     IoPool,
-    /// The memory regions don't fit their aperture.
+    /// The memory regions don't fit in the memory aperture.
     MemoryPool,
-    /// The prefetchable regions don't fit their aperture.
+    /// The prefetchable regions don't fit in the prefetchable aperture.
     PrefetchablePool,
-    /// Out of memory.
+    /// Memory is exhausted.
     Memory,
 }
 
@@ -34,7 +34,7 @@ impl From<AllocError> for Fault {
 }
 
 impl Fault {
-    /// The number of the fault.
+    /// Returns the error number of the fault.
     pub fn number(self) -> u16
         ensures { result ≡ number_of self }
     {
@@ -48,7 +48,7 @@ impl Fault {
         }
     }
 
-    /// What is said of the fault, beside its number.
+    /// Returns the error message of the fault, without its number.
     pub fn words(self) -> &'static str
         ensures { result.now ≡ fault_words self }
     {

@@ -1,5 +1,5 @@
-//! What a function shows of itself to a scan: identity, header type and interrupt pin (PCI Local Bus
-//! 3.0, chapters 6.2.1 and 6.2.4).
+//! The registers of a function that the scan reads: identification, header type and interrupt pin
+//! (PCI Local Bus 3.0, sections 6.2.1 and 6.2.4).
 ghost use Rattle.std.specs.Prelude.{◌≡◌, ◌<◌, ◌/◌, ◌%◌, ◌^◌, Some, None};
 ghost use Rattle.model_board.specs.{Paths.Path, Board.{Board, is_multifunction}, Cycles.reached, Lawful.IsLawfulDecl, State.BoardFunction};
 ghost use Rattle.model_set_up.specs.Scanning.{BusNumbers, numbered_file};
@@ -9,15 +9,15 @@ ghost use Rattle.bus_scan.specs.Sights.{seen_of};
 
 use host_bridge::{Bdf, Host};
 
-/// The layout of a function's header, with an endpoint's interrupt pin.
+/// The header layout of a function, with the interrupt pin of an endpoint.
 #[derive(Clone, Copy)]
 pub(crate) enum Layout {
     Endpoint { pin: u8 },
     Bridge,
 }
 
-/// What a function shows: Vendor ID and Device ID, whether its device holds other functions, and its
-/// header.
+/// The identification of a function: its Vendor ID and Device ID, the multifunction bit of its
+/// header type, and its header layout.
 #[derive(Clone, Copy)]
 pub(crate) struct Seen {
     pub(crate) vendor: u16,
@@ -26,7 +26,7 @@ pub(crate) struct Seen {
     pub(crate) layout: Layout,
 }
 
-/// The byte of a word in a lane, from 0 for the lowest.
+/// Extracts a byte of a word. Lane 0 is the lowest byte.
 fn byte_of(word: u32, lane: u32) -> u8
     requires { lane < 4 }
     ensures { result ≡ word / 256 ^ lane % 256 }
@@ -34,8 +34,8 @@ fn byte_of(word: u32, lane: u32) -> u8
     (word >> (8 * lane) & 0xff) as u8
 }
 
-/// Looks at a function by its Vendor ID, Device ID, header type and interrupt pin. None where no function
-/// answers, as its Vendor ID then reads FFFFh.
+/// Reads the Vendor ID, Device ID, header type and interrupt pin of a function. Returns `None` if
+/// the Vendor ID reads FFFFh because no function responds.
 pub(crate) fn look(host: &mut Host, at: Bdf) -> Option<Seen>
     ensures none { let fs = host.old.state.functions in
         reached fs (bus_address_of at) ≡ None → result ≡ None }

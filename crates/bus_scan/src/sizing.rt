@@ -1,5 +1,5 @@
-//! Kinds and sizes of regions and the decode of windows, by configuration cycles alone (PCI Local Bus
-//! 3.0, chapter 6.2.5.1; PCI-to-PCI Bridge Architecture 1.2, chapters 3.2.5.6 and 3.2.5.9).
+//! Sizing of BARs and detection of window decoding, by configuration cycles only (PCI Local Bus
+//! 3.0, section 6.2.5.1; PCI-to-PCI Bridge Architecture 1.2, sections 3.2.5.6 and 3.2.5.9).
 ghost use Rattle.std.specs.Prelude.{◌≡◌, ◌%◌, ◌<◌, IsFalse, IfSome, Some};
 ghost use Rattle.model_registers.specs.{Declarations.{Bar, IsLawfulSize}, Sizing.ShowsSize, ByteEnables.lanes};
 ghost use Rattle.model_board.specs.AtReset.{board_at};
@@ -13,17 +13,17 @@ use bars::{BarDecl, size_of_mask};
 use headers::{IoDecode, PrefDecode};
 use host_bridge::{Bdf, Host};
 
-/// Base Address Register 0.
+/// The offset of Base Address Register 0.
 const BASES: u8 = 0x10;
 
-/// I/O Base and Limit of a bridge, with Secondary Status in the upper half of the word.
+/// The offset of I/O Base and I/O Limit. The upper half of this word is Secondary Status.
 const IO_WINDOW: u8 = 0x1c;
 
-/// Prefetchable Memory Base and Limit of a bridge.
+/// The offset of Prefetchable Memory Base and Limit.
 const PREFETCHABLE_WINDOW: u8 = 0x24;
 
-/// What the enabled bytes of a register read after all ones are written to them. What they held before
-/// is written back, so that no bit stays changed.
+/// Writes all ones to the enabled bytes of a register, reads them back, and restores the previous
+/// value. Returns the value that was read back.
 fn probe(host: &mut Host, at: Bdf, off: u8, enables: u8) -> u32
     requires word { off % 4 ≡ 0 }
     requires taken { TakesBack host.old.state (bus_address_of at) off (lanes enables) }
@@ -38,7 +38,8 @@ fn probe(host: &mut Host, at: Bdf, off: u8, enables: u8) -> u32
     mask
 }
 
-/// The region whose registers read `low` and `high` after all ones.
+/// Returns the region whose BAR registers read `low` and `high` after all ones were written, if
+/// there is one.
 fn region_shown(low: u32, high: u32) -> Option<BarDecl>
     ensures shown { IfSome result (λ b. IsLawfulSize b.kind b.size × ShowsSize b low high) }
     ensures found { (b : Bar) → IsLawfulSize b.kind b.size → ShowsSize b low high →
@@ -48,8 +49,8 @@ fn region_shown(low: u32, high: u32) -> Option<BarDecl>
     Some(BarDecl::new(kind, size).unwrap())
 }
 
-/// The region that begins at a register of an endpoint whose registers decode nothing. The next
-/// register is looked at only where the type bits say that the base has 64 bits.
+/// Sizes the region that starts at a BAR register of an endpoint whose decoding is disabled. Probes
+/// the next register only if the type bits declare a 64-bit BAR.
 fn size_bar(host: &mut Host, at: Bdf, reg: u8) -> Option<BarDecl>
     requires register { reg < 6 }
     requires registers { IsNumbered host.old.state }
@@ -70,7 +71,7 @@ fn size_bar(host: &mut Host, at: Bdf, reg: u8) -> Option<BarDecl>
     region_shown(low, high)
 }
 
-/// Whether the register at an index is the upper half of the region before it.
+/// Returns whether a BAR register is the upper half of the 64-bit BAR before it.
 fn is_upper_half(bars: &[Option<BarDecl>; 6], reg: u8) -> bool
     requires { reg < 6 }
     ensures { result ≡ is_after_wide bars.now reg }
@@ -85,7 +86,7 @@ fn is_upper_half(bars: &[Option<BarDecl>; 6], reg: u8) -> bool
     }
 }
 
-/// The regions of an endpoint, each at the index of its first register.
+/// Sizes the regions of an endpoint. Each is at the index of its first BAR register.
 fn size_bars(host: &mut Host, at: Bdf) -> [Option<BarDecl>; 6]
     requires registers { IsNumbered host.old.state }
     requires endpoint { IsEndpointReached host.old.state.functions (bus_address_of at) }
@@ -104,8 +105,8 @@ fn size_bars(host: &mut Host, at: Bdf) -> [Option<BarDecl>; 6]
     bars
 }
 
-/// The decode of a bridge's I/O window, by I/O Base and Limit. Secondary Status in the same word is left
-/// alone.
+/// Detects how a bridge decodes its I/O window, by probing I/O Base and I/O Limit. Leaves Secondary
+/// Status, in the same word, unchanged.
 fn size_io_window(host: &mut Host, at: Bdf) -> IoDecode
     requires registers { IsNumbered host.old.state }
     requires bridge { IsBridgeReached host.old.state.functions (bus_address_of at) }
@@ -123,7 +124,7 @@ fn size_io_window(host: &mut Host, at: Bdf) -> IoDecode
     }
 }
 
-/// The decode of a bridge's prefetchable memory window, by its Base and Limit.
+/// Detects how a bridge decodes its prefetchable memory window, by probing its base and limit.
 fn size_pref_window(host: &mut Host, at: Bdf) -> PrefDecode
     requires registers { IsNumbered host.old.state }
     requires bridge { IsBridgeReached host.old.state.functions (bus_address_of at) }
@@ -141,7 +142,7 @@ fn size_pref_window(host: &mut Host, at: Bdf) -> PrefDecode
     }
 }
 
-/// Fills in the regions or the windows of a function.
+/// Fills in the regions or windows of one row.
 fn size_row(host: &mut Host, row: &mut FunctionRow)
     requires registers { IsNumbered host.old.state }
     requires scanned { IsScannedRow (board_at host.old.state.functions) row.old }
@@ -163,10 +164,10 @@ fn size_row(host: &mut Host, row: &mut FunctionRow)
     }
 }
 
-/// Fills in the regions and windows of all functions of a numbered board, by configuration cycles
-/// alone. Each register is written with all ones, read, and written back: afterwards every register is
-/// as it was. Nothing may be decoded meanwhile, as after a reset. What was found is itself a board with
-/// this table.
+/// Fills in the regions and windows of all functions of a numbered board, using only configuration
+/// cycles. Writes all ones to each register, reads it back and restores it, so that all registers
+/// have their previous values in the end. All decoding must be disabled, as after a reset. The
+/// resulting table describes a valid board.
 pub fn size_all(host: &mut Host, table: &mut FunctionTable)
     requires registers { IsNumbered host.old.state }
     requires scanned { table.old ≡ scanned_table (board_at host.old.state.functions) }

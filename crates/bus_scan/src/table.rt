@@ -1,4 +1,4 @@
-//! What enumeration finds of a board.
+//! The result of enumeration: a table of functions.
 ghost use Rattle.std.specs.Prelude.{◌≡◌};
 
 use bars::BarDecl;
@@ -6,10 +6,10 @@ use headers::{IoDecode, PrefDecode};
 use host_bridge::{Bdf, Path};
 use std::marker::Model;
 
-/// What is found of a function beside its identity: an endpoint's interrupt pin (0 for none, 1 to 4 for
-/// INTA# to INTD#) and, at the index of its first register, each region; the numbers of the buses
-/// behind a bridge, both included, and the decode of its windows. Until sizes are looked for there
-/// are no regions and no windows.
+/// The layout of a function. An endpoint has an interrupt pin (0 for none, 1 to 4 for INTA# to
+/// INTD#) and regions, each at the index of its first BAR register. A bridge has a range of bus
+/// numbers, both ends inclusive, and the decoding of its windows. Before sizing, there are no
+/// regions and no windows.
 #[derive(Debug, Drop)]
 pub enum Found {
     Endpoint {
@@ -24,8 +24,8 @@ pub enum Found {
     },
 }
 
-/// A function: its path, the number of the bus that it stands on, Vendor ID and Device ID, and what else
-/// was found.
+/// A function: its path, the number of the bus it is on, its Vendor ID and Device ID, and its
+/// layout.
 #[derive(Debug, Drop)]
 pub struct FunctionRow {
     pub path: Path,
@@ -56,7 +56,7 @@ impl FunctionRow {
     ghost use Rattle.paths.specs.BusAddresses.{bus_address_of};
     ghost use Rattle.bus_scan.specs.Rows.{ended};
 
-    /// The number that the function is reached by.
+    /// Returns the BDF of the function.
     pub fn address(&self) -> Bdf
         ensures { bus_address_of result
             ≡ record { bus = self.now.bus; part = last_part self.now.path } }
@@ -69,7 +69,7 @@ impl FunctionRow {
         }
     }
 
-    /// Sets the last number of a bridge's buses.
+    /// Sets the last bus number behind a bridge. Does nothing to an endpoint.
     pub(crate) fn end_numbers(&mut self, last: u8)
         ensures { self.new ≡ record self.old { behind = ended last self.old.behind } }
     {
@@ -95,14 +95,14 @@ impl Model for FunctionTable {
 }
 
 impl FunctionTable {
-    /// The table of functions in path order.
+    /// Creates a table from rows in path order.
     pub(crate) fn of(rows: Vec<FunctionRow>) -> FunctionTable
         ensures { result ≡ rows.items }
     {
         FunctionTable { rows }
     }
 
-    /// The functions in path order.
+    /// Returns the functions in path order.
     pub fn rows(&self) -> &[FunctionRow]
         ensures { result.now ≡ self.now }
     {

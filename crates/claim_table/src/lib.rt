@@ -1,7 +1,7 @@
 //! Layer: set-up. Below: model_findings, window_packing. Above: monitor.
 //!
-//! Who claims an address of a board that is set up, or in order, found in a flat table of its regions (PCI-to-PCI
-//! Bridge Architecture 1.2, chapter 4).
+//! A flat table that finds the region claiming an address, for boards that are set up or
+//! consistently routed (PCI-to-PCI Bridge Architecture 1.2, chapter 4).
 #![tactic(auto)]
 
 mod open_regions;

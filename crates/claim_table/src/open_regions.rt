@@ -1,4 +1,4 @@
-//! The open regions of a board in one space, in the order of their addresses.
+//! Lists the enabled regions of a board in one address space, sorted by address.
 ghost use Rattle.std.specs.{Prelude.{◌≡◌, ◌++◌, map, IfOk, OnOk}, List.Sorted.{IsPermutation, IsNonDecreasingBy}};
 ghost use Rattle.lists.specs.Texts.{Adds};
 ghost use Rattle.bars.specs.Kinds.{named_space};
@@ -11,14 +11,14 @@ use bars::Space;
 use bridge_forward::{Ranges, RoutingRegion, RoutingRow};
 use std::alloc::{AllocError, Global};
 
-/// Whether the word of the Command register opens a space.
+/// Returns whether a Command value enables decoding in an address space.
 fn opens(command: u16, space: Space) -> bool
     ensures { result ≡ opens_space command (named_space space) }
 {
     command & space.command_bit() != 0
 }
 
-/// Adds those regions of a function that lie in a space.
+/// Appends the regions of a function that are in an address space.
 fn add_regions(
     entries: &mut Vec<RegionEntry>,
     space: Space,
@@ -42,7 +42,7 @@ fn add_regions(
     Ok(())
 }
 
-/// Adds the open regions of one space of a function.
+/// Appends the regions of a function in an address space, if Command enables that space.
 fn add_open(
     entries: &mut Vec<RegionEntry>,
     space: Space,
@@ -64,7 +64,7 @@ fn add_open(
     }
 }
 
-/// The open regions of one space of all functions, in path order.
+/// Returns the enabled regions of all functions in one address space, in path order.
 fn all_open(
     alloc: Global,
     space: Space,
@@ -79,7 +79,7 @@ fn all_open(
     Ok(entries)
 }
 
-/// The open regions of one space of all functions, by address.
+/// Returns the enabled regions of all functions in one address space, sorted by address.
 pub(crate) fn open_by_address(
     alloc: Global,
     space: Space,

@@ -1,7 +1,7 @@
-//! One region of the table.
+//! An entry of the claim table.
 
-/// A region at its place: its first address and its size, the index of its function in the list of the
-/// board's functions, and its base address register, 0 to 5.
+/// A region at its base address: its first address, its size in bytes, the index of its function in
+/// the board's list of functions, and the index of its first BAR register (0 to 5).
 #[derive(Clone, Copy)]
 pub(crate) struct RegionEntry {
     pub(crate) first: u64,

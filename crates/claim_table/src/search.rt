@@ -1,4 +1,4 @@
-//! The region that holds an address.
+//! Finds the region that contains an address.
 ghost use Rattle.std.specs.Prelude.{◌≡◌, find};
 ghost use Rattle.bars.specs.Kinds.{named_space};
 ghost use Rattle.claim_table.specs.Entries.{lies_in, by_space, AreApart};
@@ -6,7 +6,7 @@ ghost use Rattle.claim_table.specs.Entries.{lies_in, by_space, AreApart};
 use crate::region_entry::RegionEntry;
 use bars::Space;
 
-/// The list of a space.
+/// Returns the list of entries for an address space.
 pub(crate) fn of_space<'a>(
     space: Space,
     ports: &'a [RegionEntry],
@@ -20,8 +20,8 @@ pub(crate) fn of_space<'a>(
     }
 }
 
-/// The region that an address lies in, found by halving: it can only be the last of those that begin at
-/// or before the address.
+/// Returns the region that contains an address. Binary search finds the last region that starts at
+/// or before the address; no other region can contain it.
 pub(crate) fn entry_at(entries: &[RegionEntry], addr: u64) -> Option<RegionEntry>
     requires { AreApart entries.now }
     ensures { result ≡ find (lies_in addr) entries.now }

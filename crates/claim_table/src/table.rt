@@ -1,4 +1,4 @@
-//! The table.
+//! The claim table.
 ghost use Rattle.std.specs.Prelude.{◌≡◌, IfOk, map};
 ghost use Rattle.model_board.specs.Routing.{RoutingRow as RowValue};
 
@@ -11,8 +11,8 @@ use std::alloc::{AllocError, Global};
 use std::marker::Model;
 use window_packing::Ready;
 
-/// The open regions of a board in order, by space and first address, each with the index of its function in
-/// the list of the board's functions. An address is looked up by halving.
+/// The enabled regions of a board, sorted by first address in each address space. Each has the
+/// index of its function in the board's list of functions. Address lookups use binary search.
 #[derive(Drop)]
 pub struct Table {
     paths: Vec<Path>,
@@ -32,7 +32,7 @@ impl Model for Table {
         × AreEntries t.paths.items t.memory.items };
 }
 
-/// The paths of all rows.
+/// Copies the paths of all rows.
 fn paths_in(alloc: Global, rows: &[RoutingRow]) -> Result<Vec<Path>, AllocError>
     ensures { IfOk result (λ v. v.items ≡ map (λ (r : RowValue). r.path) rows.now) }
 {
@@ -45,8 +45,8 @@ impl Table {
     ghost use Rattle.host_bridge.specs.HostState.{HostState};
     ghost use Rattle.claim_table.specs.Tables.{FitsTable};
 
-    /// The table of the open regions of a board in order, whoever set it up. It fits every host with the
-    /// same routing registers. Nothing else refuses than that memory is out.
+    /// Builds the table of a consistently routed board, regardless of who programmed it. The table
+    /// fits every host with the same routing registers. Fails only if memory is exhausted.
     pub fn of_open_regions(alloc: Global, host: &Host) -> Result<Table, AllocError>
         requires board { IsStateOfBoard host.now.state.functions }
         requires order { IsOrderly (routing host.now.state.functions) }
@@ -62,8 +62,9 @@ impl Table {
         })
     }
 
-    /// The table of a board that is set up: it is in order, and all its regions are open. It fits every
-    /// host with the same routing registers. Nothing else refuses than that memory is out.
+    /// Builds the table of a board after set-up, which is consistently routed and has all regions
+    /// enabled. The table fits every host with the same routing registers. Fails only if memory is
+    /// exhausted.
     #[tactic(auto, using(crate::proofs::Readies::ready_state))]
     pub fn build(alloc: Global, ready: &Ready) -> Result<Table, AllocError>
         ensures { IfOk result (λ t.

@@ -1,5 +1,4 @@
-//! A function of the board by its index: what is told of it as its registers stand, and what changes them.
-//! No call takes memory.
+//! Reads and changes of a function identified by its index. None of these calls allocates.
 ghost use Rattle.std.specs.{Prelude.{◌≡◌, ◌%◌, IsSome, IsTrue, length, option_map, slice_get}, Option.option_copied};
 ghost use Rattle.lists.specs.Elements.{Each};
 ghost use Rattle.model_registers.specs.{Registers.{cell_at, config, number, raise, read, write}, ByteEnables.{LiesInWord, lanes}, DeviceBytes.{is_device_byte, set_value}};
@@ -13,14 +12,14 @@ use bridge_forward::{EndpointFn, Path, RangesNow};
 use headers::{BridgeDecl, Place};
 
 impl Host {
-    /// How many functions the board has.
+    /// Returns the number of functions on the board.
     pub fn count(&self) -> usize
         ensures { result ≡ length self.now.state.functions }
     {
         self.root.count()
     }
 
-    /// The path of the function at an index, in path order.
+    /// Returns the path of the function at an index, in path order.
     pub fn path_nth(&self, index: usize) -> Option<Path>
         ensures { result
             ≡ option_map (λ (f : BoardFunction). f.path)
@@ -29,7 +28,8 @@ impl Host {
         self.root.path_nth(index)
     }
 
-    /// The number of so many bytes of configuration space at an offset of this function. They lie in one word.
+    /// Returns the value of the `width` bytes of configuration space at offset `off` of the
+    /// function at an index. The bytes must not cross a word boundary.
     pub fn number_nth(&self, index: usize, off: u8, width: u64) -> Option<u32>
         requires { LiesInWord off width }
         ensures { let fs = self.now.state.functions in
@@ -39,30 +39,30 @@ impl Host {
         self.root.number_nth(index, off, width)
     }
 
-    /// What is declared of the bridge at an index, and None where no bridge stands.
+    /// Returns the declaration of the bridge at an index, or `None` if there is no bridge.
     pub fn bridge_decl_nth(&self, index: usize) -> Option<BridgeDecl>
         ensures { result ≡ declared_bridge_nth self.now.state.functions index }
     {
         self.root.bridge_decl_nth(index)
     }
 
-    /// The endpoint at an index, to be read, and None where no endpoint stands.
+    /// Returns a shared borrow of the endpoint at an index, or `None` if there is no endpoint.
     pub fn endpoint_ref_nth(&self, index: usize) -> Option<&EndpointFn>
         ensures { option_copied result ≡ endpoint_nth self.now.state.functions index }
     {
         self.root.endpoint_ref_nth(index)
     }
 
-    /// The regions of this function, or its windows.
+    /// Returns the regions or windows of the function at an index.
     pub fn ranges_nth(&self, index: usize) -> Option<RangesNow>
         ensures { option_map ranges_told result ≡ ranges_nth self.now.state.functions index }
     {
         self.root.ranges_nth(index)
     }
 
-    /// Reads the enabled bytes of the configuration word at `off`, a multiple of 4, of the endpoint at an
-    /// index. All other bytes read 0. Cycles for some bus number reach the endpoint, so no search by that
-    /// number is needed.
+    /// Reads the enabled bytes of the configuration word at `off`, a multiple of 4, of the endpoint
+    /// at an index. Disabled bytes read 0. The endpoint must be reachable by configuration cycles;
+    /// the index spares the search by bus number.
     pub fn config_read_nth(&mut self, index: usize, off: u8, enables: u8) -> u32
         requires there { IsSome (endpoint_nth self.old.state.functions index) }
         requires reached { IsReached self.old.state.functions index }
@@ -77,7 +77,8 @@ impl Host {
         }
     }
 
-    /// Writes the enabled bytes of this word.
+    /// Writes the enabled bytes of the configuration word at `off`, a multiple of 4, of the
+    /// endpoint at an index. The endpoint must be reachable by configuration cycles.
     pub fn config_write_nth(&mut self, index: usize, off: u8, enables: u8, data: u32)
         requires there { IsSome (endpoint_nth self.old.state.functions index) }
         requires reached { IsReached self.old.state.functions index }
@@ -92,8 +93,8 @@ impl Host {
         }
     }
 
-    /// Raises the bits of `mask` that writing a one clears, in one cell of this endpoint. All other cells
-    /// stay.
+    /// Sets the W1C bits of `mask` in one register byte of the endpoint at an index. Other bits,
+    /// and other register bytes, don't change.
     pub fn raise_nth(&mut self, index: usize, place: Place, off: u64, mask: u8)
         requires { IsSome (endpoint_nth self.old.state.functions index) }
         ensures { let raised = with_file_nth
@@ -106,7 +107,8 @@ impl Host {
         }
     }
 
-    /// What a byte of the device's own holds in this endpoint, 0 where no cell stands.
+    /// Returns the value of a register byte that belongs to the device, or 0 if it isn't
+    /// implemented.
     pub fn device_value_nth(&mut self, index: usize, place: Place, off: u64) -> u8
         requires there { IsSome (endpoint_nth self.old.state.functions index) }
         requires own { IsTrue (is_device_byte (place_of place off)) }
@@ -120,8 +122,9 @@ impl Host {
         }
     }
 
-    /// Puts a value into a byte of the device's own in this endpoint, whatever the cell's masks, which stay.
-    /// All other cells stay, and where none stands nothing changes.
+    /// Sets the value of a register byte that belongs to the device, ignoring its write mask and
+    /// W1C mask, which stay the same. Other register bytes don't change. Does nothing if the byte
+    /// isn't implemented.
     pub fn set_device_value_nth(&mut self, index: usize, place: Place, off: u64, value: u8)
         requires there { IsSome (endpoint_nth self.old.state.functions index) }
         requires own { IsTrue (is_device_byte (place_of place off)) }
@@ -135,8 +138,8 @@ impl Host {
         }
     }
 
-    /// Resets every cell of this endpoint but Command and the base address registers. All other functions
-    /// stay, and so do the address latch and the apertures. Where no endpoint stands, nothing changes.
+    /// Resets the endpoint at an index, except for its Command register and BARs. Does nothing if
+    /// there is no endpoint. Other functions, CONFIG_ADDRESS and the apertures don't change.
     pub fn reset_nth(&mut self, index: usize)
         ensures { self.new
             ≡ with_functions (with_reset_nth index self.old.state.functions) self.old }

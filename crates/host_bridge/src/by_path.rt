@@ -1,4 +1,4 @@
-//! An endpoint by its path, as it is changed. No call takes memory.
+//! Changes of an endpoint identified by its path. None of these calls allocates.
 ghost use Rattle.std.specs.Prelude.{◌≡◌, IsSome};
 ghost use Rattle.model_registers.specs.Registers.{raise};
 ghost use Rattle.model_board.specs.State.{with_file};
@@ -11,8 +11,8 @@ use bridge_forward::Path;
 use headers::Place;
 
 impl Host {
-    /// Raises the bits of `mask` that writing a one clears, in one cell of the endpoint at a path (PCI Local
-    /// Bus 3.0, chapter 6.2.3). All other cells stay.
+    /// Sets the W1C bits of `mask` in one register byte of the endpoint at a path (PCI Local Bus
+    /// 3.0, section 6.2.3). Other bits, and other register bytes, don't change.
     pub fn raise(&mut self, path: &Path, place: Place, off: u64, mask: u8)
         requires { IsSome (endpoint_at self.old.state.functions path.now) }
         ensures { let fs = self.old.state.functions in
@@ -25,9 +25,8 @@ impl Host {
         }
     }
 
-    /// Resets every cell of the endpoint at a path but Command and the base address registers. All other
-    /// functions stay, and so do the address latch and the apertures. Where no endpoint stands there,
-    /// nothing changes.
+    /// Resets the endpoint at a path, except for its Command register and BARs. Does nothing if
+    /// there is no endpoint. Other functions, CONFIG_ADDRESS and the apertures don't change.
     pub fn reset_endpoint(&mut self, path: &Path)
         ensures { let fs = self.old.state.functions in
             self.new ≡ with_functions (with_endpoint_reset path.now fs) self.old }

@@ -18,9 +18,9 @@ use paths::{Bdf, Latch};
 use std::alloc::{AllocError, Global};
 use std::marker::Model;
 
-/// The host bridge: the tree of buses below it, the address latch, and the addresses that set-up may
-/// give out. It hands out neither the tree nor a function to be changed, so every access is one of the
-/// calls here.
+/// The host bridge: the tree of buses below it, the CONFIG_ADDRESS register, and the apertures
+/// available to set-up. It never lends the tree or a mutable function, so every access goes through
+/// the methods of this type.
 #[derive(Drop)]
 pub struct Host {
     pub(crate) root: Bus,
@@ -40,7 +40,7 @@ impl Model for Host {
 }
 
 impl Host {
-    /// The host bridge over a tree, with address latch 0.
+    /// Creates a host bridge for a tree of buses. CONFIG_ADDRESS is 0.
     pub fn new(root: Bus, apertures: Apertures) -> Host
         ensures { result ≡ record {
           state = record { functions = root; latch = 0 };
@@ -54,7 +54,7 @@ impl Host {
         }
     }
 
-    /// The same board at reset, made anew of what is declared of its functions.
+    /// Creates the same board at reset, from the declarations of its functions.
     pub fn at_reset(&self, alloc: Global) -> Result<Host, AllocError>
         requires { IsBoard (board_at self.now.state.functions) }
         ensures board { let board = board_at self.now.state.functions in
@@ -66,14 +66,14 @@ impl Host {
         Ok(Host::new(root, self.apertures))
     }
 
-    /// The addresses that set-up may give out.
+    /// Returns the apertures available to set-up.
     pub fn apertures(&self) -> Apertures
         ensures { result ≡ self.now.apertures }
     {
         self.apertures
     }
 
-    /// Reads the enabled bytes of CONFIG_DATA, of the function and the word that the latch selects.
+    /// Reads the enabled bytes of CONFIG_DATA: the configuration word that CONFIG_ADDRESS selects.
     fn read_data(&mut self, enables: u8) -> u32
         ensures value { let s = self.old.state in let off = selected_register s.latch in
             result ≡ config_reply s.functions (selected s.latch) off (lanes enables) }
@@ -95,10 +95,10 @@ impl Host {
             .cycle(cycle_of(self.latch, enables, Op::Write(data)));
     }
 
-    /// Reads the enabled bytes of the configuration word at `off`, a multiple of 4, of the function that
-    /// the bus registers name, as they stand. Bytes that are not enabled read 0, and where no function
-    /// answers the others are all ones. The address latch is 0 afterwards (PCI Local Bus 3.0, chapter
-    /// 3.2.2.3.2).
+    /// Reads the enabled bytes of the configuration word at `off`, a multiple of 4, of the function
+    /// at a BDF. Routing follows the current bus number registers of the bridges. Disabled bytes
+    /// read 0. On a master abort, enabled bytes read all ones. Leaves CONFIG_ADDRESS at 0 (PCI
+    /// Local Bus 3.0, section 3.2.2.3.2).
     pub fn config_read(&mut self, at: Bdf, off: u8, enables: u8) -> u32
         requires { off % 4 ≡ 0 }
         ensures value { let fs = self.old.state.functions in
@@ -111,9 +111,9 @@ impl Host {
         word
     }
 
-    /// Writes the enabled bytes of the configuration word at `off`, a multiple of 4, of the function
-    /// that the bus registers name, as they stand. Where no function answers they are dropped. The
-    /// address latch is 0 afterwards.
+    /// Writes the enabled bytes of the configuration word at `off`, a multiple of 4, of the
+    /// function at a BDF. Routing follows the current bus number registers of the bridges. A write
+    /// that ends in a master abort is dropped. Leaves CONFIG_ADDRESS at 0.
     pub fn config_write(&mut self, at: Bdf, off: u8, enables: u8, data: u32)
         requires { off % 4 ≡ 0 }
         ensures { let fs = self.old.state.functions in
@@ -125,29 +125,29 @@ impl Host {
         self.latch = Latch::new();
     }
 
-    /// What the address latch holds.
+    /// Returns the CONFIG_ADDRESS register.
     pub fn latch(&self) -> Latch
         ensures { result ≡ self.now.state.latch }
     {
         self.latch
     }
 
-    /// Clears the address latch: it is 0 afterwards, and enables no CONFIG_DATA.
+    /// Sets CONFIG_ADDRESS to 0, which disables CONFIG_DATA.
     pub fn clear_latch(&mut self)
         ensures { self.new ≡ with_latch 0 self.old }
     {
         self.latch = Latch::new();
     }
 
-    /// The first claim of an address in path order, then by register: a region that decodes it, where
-    /// each bridge above forwards it.
+    /// Returns the first claim of an address, by path order and then by BAR register. A claim is a
+    /// region that decodes the address behind bridges that all forward it.
     pub fn claimant(&self, space: Space, addr: u64) -> Option<Claim>
         ensures { result ≡ first_claim self.now.state.functions (named_space space) addr }
     {
         self.root.claimant(space, addr)
     }
 
-    /// The first claim of an address, told by the index of its endpoint.
+    /// Returns the first claim of an address, with the index of its endpoint.
     pub(crate) fn locate(&self, space: Space, addr: u64) -> Option<Located>
         ensures claim { let fs = self.now.state.functions in
             located_claim fs result ≡ first_claim fs (named_space space) addr }
@@ -156,7 +156,7 @@ impl Host {
         self.root.locate(space, addr)
     }
 
-    /// The index of the function at a path, if one stands there.
+    /// Returns the index of the function at a path, if there is one.
     pub fn index_of(&self, path: &Path) -> Option<usize>
         ensures function { let fs = self.now.state.functions in
             option_and_then (slice_get fs) result ≡ find (λ f. path_eq f.path path.now) fs }
@@ -165,7 +165,7 @@ impl Host {
         self.root.index_of(path)
     }
 
-    /// The routing registers of all functions as they stand, in path order: for an audit.
+    /// Returns the routing registers of all functions in path order, for an audit.
     pub fn routing(&self, alloc: Global) -> Result<Vec<RoutingRow>, AllocError>
         ensures rows { IfOk result (λ v. v.items ≡ routing self.now.state.functions) }
         ensures in_order { EachPair (λ f g.
@@ -174,30 +174,32 @@ impl Host {
         self.root.routing(alloc)
     }
 
-    /// The Secondary Bus Number of the bridge at an index, and None where no bridge stands: for an audit.
+    /// Returns the Secondary Bus Number of the bridge at an index, or `None` if there is no bridge,
+    /// for an audit.
     pub fn secondary_nth(&self, index: usize) -> Option<u8>
         ensures { result ≡ secondary_nth self.now.state.functions index }
     {
         self.root.secondary_nth(index)
     }
 
-    /// The Primary Bus Number of the bridge at an index, and None where no bridge stands: for an audit.
+    /// Returns the Primary Bus Number of the bridge at an index, or `None` if there is no bridge,
+    /// for an audit.
     pub fn primary_nth(&self, index: usize) -> Option<u8>
         ensures { result ≡ primary_nth self.now.state.functions index }
     {
         self.root.primary_nth(index)
     }
 
-    /// At the index of its first register, each region of the endpoint at an index, where its registers say
-    /// now; none where no endpoint stands.
+    /// Returns the regions of the endpoint at an index with their base addresses, each at the index
+    /// of its first BAR register. All entries are `None` if there is no endpoint.
     pub fn placed_nth(&self, index: usize) -> [Option<BasedRegion>; 6]
         ensures { bases_from 0 result ≡ bases_nth self.now.state.functions index }
     {
         self.root.placed_nth(index)
     }
 
-    /// The index of the function that configuration accesses at these bus registers' number reach. Nothing
-    /// changes: for an audit.
+    /// Returns the index of the function that configuration accesses to a BDF reach, for an audit.
+    /// Changes nothing.
     pub fn index_reached(&mut self, at: Bdf) -> Option<usize>
         ensures function { let fs = self.old.state.functions in
             option_and_then (slice_get fs) result ≡ reached fs (bus_address_of at) }
@@ -208,7 +210,7 @@ impl Host {
         self.root.reached(&cycle)
     }
 
-    /// What 1, 2 or 4 bytes read where an address lands. Who knows the claim needs no route.
+    /// Reads 1, 2 or 4 bytes at a known claim. Skips the address lookup.
     #[inline(always)]
     pub fn region_read(&mut self, from: Located, width: u64) -> u32
         requires landing { IsLanding self.old.state.functions from width }
@@ -229,7 +231,7 @@ impl Host {
         }
     }
 
-    /// Writes the low 1, 2 or 4 bytes of a value where an address lands.
+    /// Writes the low 1, 2 or 4 bytes of a value at a known claim. Skips the address lookup.
     #[inline(always)]
     pub fn region_write(&mut self, to: Located, width: u64, value: u32)
         requires landing { IsLanding self.old.state.functions to width }
@@ -251,7 +253,7 @@ impl Host {
         }
     }
 
-    /// What `width` bytes at the claim of an address read.
+    /// Reads `width` bytes at an address. An unclaimed address reads all ones.
     fn read_claimed<R: Route>(&mut self, route: &R, space: Space, addr: u64, width: u64) -> u32
         requires fits { R.fits route.now self.old }
         requires width { IsWidth width }
@@ -266,7 +268,8 @@ impl Host {
         }
     }
 
-    /// Writes the low `width` bytes of a value at the claim of an address.
+    /// Writes the low `width` bytes of a value at an address. Drops the write if no region claims
+    /// the address.
     fn write_claimed<R: Route>(
         &mut self,
         route: &R,
@@ -288,9 +291,9 @@ impl Host {
         }
     }
 
-    /// What an access of 1, 2 or 4 bytes at an I/O port reads: the address latch for 4 bytes at CF8h, a
-    /// configuration register at CFCh to CFFh while the latch is enabled, and else what claims the
-    /// port. All ones where nothing answers.
+    /// Reads 1, 2 or 4 bytes at an I/O port. A 4-byte read at CF8h returns CONFIG_ADDRESS. Ports
+    /// CFCh to CFFh access a configuration register if CONFIG_ADDRESS is enabled. Any other read
+    /// goes to the region that claims the port. A read that no function answers returns all ones.
     pub fn inp<R: Route>(&mut self, route: &R, port: u32, width: u64) -> u32
         requires fits { R.fits route.now self.old }
         requires width { IsWidth width }
@@ -306,9 +309,10 @@ impl Host {
         }
     }
 
-    /// Writes the low 1, 2 or 4 bytes of a value at an I/O port: to the address latch for 4 bytes at
-    /// CF8h, to a configuration register at CFCh to CFFh while the latch is enabled, and else to what
-    /// claims the port. Dropped where nothing answers.
+    /// Writes the low 1, 2 or 4 bytes of a value at an I/O port. A 4-byte write at CF8h sets
+    /// CONFIG_ADDRESS. Ports CFCh to CFFh access a configuration register if CONFIG_ADDRESS is
+    /// enabled. Any other write goes to the region that claims the port. A write that no function
+    /// claims is dropped.
     pub fn out<R: Route>(&mut self, route: &R, port: u32, width: u64, value: u32)
         requires fits { R.fits route.now self.old }
         requires width { IsWidth width }
@@ -326,7 +330,7 @@ impl Host {
         }
     }
 
-    /// What an access of 1, 2 or 4 bytes at a memory address reads. All ones where nothing claims it.
+    /// Reads 1, 2 or 4 bytes at a memory address. An unclaimed address reads all ones.
     pub fn load<R: Route>(&mut self, route: &R, addr: u64, width: u64) -> u32
         requires fits { R.fits route.now self.old }
         requires width { IsWidth width }
@@ -337,7 +341,8 @@ impl Host {
         self.read_claimed(route, Space::Mem, addr, width)
     }
 
-    /// Writes the low 1, 2 or 4 bytes of a value at a memory address. Dropped where nothing claims it.
+    /// Writes the low 1, 2 or 4 bytes of a value at a memory address. Drops the write if no region
+    /// claims the address.
     pub fn store<R: Route>(&mut self, route: &R, addr: u64, width: u64, value: u32)
         requires fits { R.fits route.now self.old }
         requires width { IsWidth width }

@@ -1,4 +1,5 @@
-//! Where the address latch leads (PCI Local Bus 3.0, chapter 3.2.2.3.2).
+//! Decoding of CONFIG_ADDRESS and the I/O ports of the host bridge (PCI Local Bus 3.0, section
+//! 3.2.2.3.2).
 ghost use Rattle.std.specs.Prelude.{◌≡◌, List};
 ghost use Rattle.model_board.specs.{State.BoardFunction, Cycles.reached, Ports.{selected, selected_register, port_target}};
 ghost use Rattle.bridge_forward.specs.Cycled.{reached_by};
@@ -8,8 +9,8 @@ use bridge_forward::{Cycle, CycleType};
 use config_bytes::Op;
 use paths::{Bdf, Latch, is_address_port};
 
-/// Where an access at a port goes: to the latch, by a configuration cycle to what the latch selects,
-/// or to whatever claims the port.
+/// The target of an I/O port access: the CONFIG_ADDRESS register, CONFIG_DATA with the
+/// configuration register that CONFIG_ADDRESS selects, or any region that claims the port.
 #[derive(Clone, Copy)]
 pub(crate) enum Target {
     ConfigAddress,
@@ -17,8 +18,8 @@ pub(crate) enum Target {
     Ordinary,
 }
 
-/// The configuration cycle on bus 0, which is the host bridge's own, for the function and the word
-/// that a latch selects: of type 0 for bus 0, and of type 1 for any other.
+/// Returns the configuration cycle that the host bridge puts on bus 0 for the function and word
+/// selected by CONFIG_ADDRESS: type 0 for bus 0, and type 1 for other buses.
 pub(crate) fn cycle_of(latch: Latch, enables: u8, op: Op) -> Cycle
     ensures reached { (fs : List BoardFunction) →
         reached_by fs result ≡ reached fs (selected latch) }
@@ -46,7 +47,7 @@ pub(crate) fn cycle_of(latch: Latch, enables: u8, op: Op) -> Cycle
     }
 }
 
-/// Where an access of a width at a port goes.
+/// Returns the target of a port access of `width` bytes.
 pub(crate) fn target_of(latch: Latch, port: u32, width: u64) -> Target
     ensures { named_target latch port result ≡ port_target latch port width }
 {

@@ -1,10 +1,10 @@
 //! Layer: board. Below: bridge_forward. Above: bus_scan, findings, images, board_file.
 //!
-//! The host bridge: configuration accesses by way of the address latch, I/O ports and memory (PCI
-//! Local Bus 3.0, chapter 3.2.2.3.2).
+//! The host bridge: configuration accesses through CONFIG_ADDRESS and CONFIG_DATA, I/O ports and
+//! memory (PCI Local Bus 3.0, section 3.2.2.3.2).
 //!
-//! A function is identified by configuration cycles, given an address and opened, and then used at its
-//! address:
+//! Software identifies a function by configuration cycles, programs and enables its BARs, and then
+//! accesses it at its address:
 //!
 //! ```
 //! let card = Bdf {

@@ -1,4 +1,4 @@
-//! Ways to find who claims an address.
+//! Strategies for finding the region that claims an address.
 ghost use Rattle.std.specs.Prelude.{◌≡◌, ◌<◌, IfSome, length};
 ghost use Rattle.bars.specs.Kinds.{named_space};
 ghost use Rattle.model_board.specs.{Claims.first_claim, Routing.routing};
@@ -9,17 +9,18 @@ use crate::host::Host;
 use bars::Space;
 use bridge_forward::{Claim, Located};
 
-/// A way to find the first claim of an address.
+/// A strategy for finding the first claim of an address.
 pub trait Route {
-    /// The hosts for which its answers are right.
+    /// The hosts for which the results of this route are correct.
     ghost fits: { Self → HostState → Type 0 };
 
-    /// The first claim of the address in path order, then by register.
+    /// Returns the first claim of the address, by path order and then by BAR register.
     fn claimant(&self, host: &Host, space: Space, addr: u64) -> Option<Claim>
         requires { fits self.now host.now }
         ensures { result ≡ first_claim host.now.state.functions (named_space space) addr };
 
-    /// The same claim, told by the index of its endpoint among the functions of the host.
+    /// Returns the first claim of the address, with the index of its endpoint in the host's list of
+    /// functions.
     fn located(&self, host: &Host, space: Space, addr: u64) -> Option<Located>
         requires { fits self.now host.now }
         ensures claim { let fs = host.now.state.functions in
@@ -39,13 +40,14 @@ pub trait Route {
         })
     }
 
-    /// Routing registers alone decide which hosts it fits: with the same ones another host fits too.
+    /// Whether a route fits a host depends only on the host's routing registers: it also fits every
+    /// host with equal ones.
     ghost by_routing: { (route : Self) (h k : HostState)
         → routing h.state.functions ≡ routing k.state.functions → fits route h →
         fits route k };
 }
 
-/// Asks the tree itself. It fits every host.
+/// Walks the tree of buses for every lookup. Fits every host.
 #[derive(Clone, Copy, Debug)]
 pub struct TreeWalk;
 

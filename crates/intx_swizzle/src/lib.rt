@@ -1,6 +1,6 @@
 //! Layer: set-up. Below: paths. Above: report.
 //!
-//! Where an interrupt pin of a function reaches bus 0.
+//! INTx swizzling: maps the interrupt pin of a function to a device and pin on bus 0.
 #![tactic(auto)]
 
 ghost use Rattle.std.specs.Prelude.{◌≡◌, ◌≤◌, ◌+◌, ◌<◌, sum_by, length};
@@ -8,7 +8,7 @@ ghost use Rattle.model_board.specs.Interrupts.{root_device, root_pin};
 
 use paths::{Part, Path};
 
-/// The sum of the devices of some parts of a path.
+/// Returns the sum of the device numbers of some parts of a path.
 fn devices(parts: &[Part]) -> u32
     requires { length parts.now ≤ 16 }
     ensures value { result ≡ sum_by (λ p. p.device) parts.now }
@@ -21,9 +21,9 @@ fn devices(parts: &[Part]) -> u32
     sum
 }
 
-/// The device on bus 0 and its pin (1 to 4, INTA# to INTD#) that pin `pin` of the function at the path
-/// reaches. One rule holds at every bridge: the pin moves on by the device number on each bus but bus 0
-/// (PCI-to-PCI Bridge Architecture Specification 1.2, chapter 9.1).
+/// Returns the device on bus 0, and its pin (1 to 4 for INTA# to INTD#), that receives interrupt
+/// `pin` of the function at a path. Every bridge rotates the pin by the device number on its
+/// secondary bus (PCI-to-PCI Bridge Architecture 1.2, section 9.1).
 pub fn at_root(path: &Path, pin: u8) -> (u8, u8)
     requires least { 1 ≤ pin }
     requires most { pin ≤ 4 }

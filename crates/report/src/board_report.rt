@@ -1,4 +1,4 @@
-//! The whole text.
+//! The complete report of a board.
 ghost use Rattle.std.specs.Prelude.{◌≡◌, OnOk, IfOk, not, count_by, string_bytes};
 ghost use Rattle.lists.specs.Texts.{Adds};
 ghost use Rattle.model_board.specs.Board.{is_bridge};
@@ -11,7 +11,7 @@ use bus_scan::{Found, FunctionRow, FunctionTable};
 use std::alloc::{AllocError, Global};
 use window_packing::{Plan, Setting};
 
-/// Whether the function is a bridge.
+/// Returns whether the function is a bridge.
 fn is_bridge(row: &FunctionRow) -> bool
     ensures { result ≡ is_bridge row.now.decl }
 {
@@ -21,21 +21,21 @@ fn is_bridge(row: &FunctionRow) -> bool
     }
 }
 
-/// How many of the functions are endpoints.
+/// Counts the endpoints.
 pub fn endpoints(rows: &[FunctionRow]) -> usize
     ensures { result ≡ count_by (λ r. not (is_bridge r.decl)) rows.now }
 {
     rows.iter().filter(|row| !is_bridge(row)).count()
 }
 
-/// How many of the functions are bridges.
+/// Counts the bridges.
 pub fn bridges(rows: &[FunctionRow]) -> usize
     ensures { result ≡ count_by (λ r. is_bridge r.decl) rows.now }
 {
     rows.iter().filter(|row| is_bridge(row)).count()
 }
 
-/// Appends the line that counts endpoints and bridges.
+/// Appends the line with the number of endpoints and bridges.
 fn push_counts(text: &mut String, rows: &[FunctionRow]) -> Result<(), AllocError>
     ensures { OnOk result (Adds text.old text.new (ended (count_line rows.now))) }
 {
@@ -44,7 +44,7 @@ fn push_counts(text: &mut String, rows: &[FunctionRow]) -> Result<(), AllocError
     writeln!(text, "endpoints {endpoints} bridges {bridges}")
 }
 
-/// Appends the lines of all functions, each with what was written into it.
+/// Appends the lines of all functions, each with the register values that set-up wrote.
 fn push_functions(
     text: &mut String,
     rows: &[FunctionRow],
@@ -68,8 +68,8 @@ fn push_guests(text: &mut String, guests: &[GuestDecl]) -> Result<(), AllocError
     Ok(())
 }
 
-/// The report of a board that is set up, from its table, its plan and its guests. Only lack of memory refuses
-/// it.
+/// Returns the report of a board after set-up, from its table, its plan and its guests. Fails only
+/// if memory is exhausted.
 pub fn report_text(
     alloc: Global,
     table: &FunctionTable,

@@ -1,4 +1,4 @@
-//! How numbers, paths and kinds are shown.
+//! Text forms of numbers, paths and kinds of regions.
 ghost use Rattle.std.specs.{Prelude.{◌≡◌, ◌<◌, Some, false}, Fmt.digit_glyph};
 ghost use Rattle.model_handoff.specs.Report.{kind_text, numbers_text};
 ghost use Rattle.model_guests.specs.{PathTexts.{part_text, path_text}, Replies.hex_digits};
@@ -8,7 +8,7 @@ use bars::Kind;
 use paths::{Part, Path};
 use std::fmt;
 
-/// The word for what a region's register opens.
+/// Returns the name of a kind of region, for example `mem64p` for 64-bit prefetchable memory.
 pub fn kind_text(kind: Kind) -> &'static str
     ensures { result.now ≡ kind_text (kind_of kind) }
 {
@@ -19,7 +19,7 @@ pub fn kind_text(kind: Kind) -> &'static str
     }
 }
 
-/// A device and a function.
+/// Displays a device and function number, for example `2.0`.
 #[derive(Clone, Copy)]
 struct ShownPart(Part);
 
@@ -31,7 +31,7 @@ impl fmt::Display for ShownPart {
     }
 }
 
-/// A path: device and function of each part, as in `2.0/1.0`.
+/// Displays a path by the device and function number of each part, for example `2.0/1.0`.
 #[derive(Clone, Copy)]
 pub struct ShownPath<'a>(pub &'a Path);
 
@@ -50,7 +50,7 @@ impl<'a> fmt::Display for ShownPath<'a> {
     }
 }
 
-/// A hexadecimal digit.
+/// Returns the lowercase hexadecimal digit for a value below 16.
 fn digit(value: u8) -> char
     requires { value < 16 }
     ensures glyph { result ≡ digit_glyph false value }
@@ -63,7 +63,7 @@ fn digit(value: u8) -> char
     })
 }
 
-/// The two digits of a byte.
+/// Displays a byte as two hexadecimal digits.
 #[derive(Clone, Copy)]
 pub struct TwoDigits(pub u8);
 
@@ -76,7 +76,7 @@ impl fmt::Display for TwoDigits {
     }
 }
 
-/// The four digits of two bytes.
+/// Displays 16 bits as four hexadecimal digits.
 #[derive(Clone, Copy)]
 pub struct FourDigits(pub u16);
 
@@ -90,7 +90,7 @@ impl fmt::Display for FourDigits {
     }
 }
 
-/// Bus, device and function number of a function.
+/// Displays a BDF, for example `02:1f.0`.
 #[derive(Clone, Copy)]
 pub struct Numbers {
     pub bus: u8,

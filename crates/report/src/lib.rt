@@ -1,7 +1,7 @@
 //! Layer: program. Below: model_handoff, window_packing, intx_swizzle, accesses. Above: findings_told, json_texts.
 //!
-//! The report of a board that is set up: its functions with their regions, interrupts and windows, and
-//! its guests.
+//! The report of a board after set-up: its functions with their regions, interrupt routing and
+//! windows, and its guests.
 #![tactic(auto)]
 
 mod board_report;

@@ -1,4 +1,4 @@
-//! The lines of one function and of one guest.
+//! The report lines of one function and of one guest.
 ghost use Rattle.std.specs.Prelude.{◌≡◌, ◌++◌, ◌≤◌, OnOk, map};
 ghost use Rattle.lists.specs.Texts.{Adds};
 ghost use Rattle.model_guests.specs.Text.{ended, text_of_lines};
@@ -15,7 +15,7 @@ use paths::Path;
 use std::alloc::AllocError;
 use window_packing::{WindowSetting, Writes};
 
-/// Appends the line of a region, whose first register has this index.
+/// Appends the line of the region whose first BAR register has this index.
 fn push_region(text: &mut String, index: usize, region: &BasedRegion) -> Result<(), AllocError>
     ensures { OnOk result (Adds text.old text.new (ended (base_line (placed index region.now)))) }
 {
@@ -25,7 +25,7 @@ fn push_region(text: &mut String, index: usize, region: &BasedRegion) -> Result<
     writeln!(text, "  bar{index} {kind} at 0x{base:x} size 0x{size:x}")
 }
 
-/// Appends the lines of regions, each at the index of its first register.
+/// Appends the lines of regions, which are at the indices of their first BAR registers.
 fn push_regions(text: &mut String, bases: &[Option<BasedRegion>]) -> Result<(), AllocError>
     ensures { OnOk result (Adds text.old text.new
         (text_of_lines (map base_line (bases_from 0 bases.now)))) }
@@ -38,7 +38,7 @@ fn push_regions(text: &mut String, bases: &[Option<BasedRegion>]) -> Result<(), 
     Ok(())
 }
 
-/// The name of an interrupt pin, from 1 to 4: INTA to INTD.
+/// Returns the name of an interrupt pin: INTA to INTD for 1 to 4.
 pub fn pin_text(pin: u8) -> &'static str
     requires least { 1 ≤ pin }
     requires most { pin ≤ 4 }
@@ -52,7 +52,7 @@ pub fn pin_text(pin: u8) -> &'static str
     }
 }
 
-/// Appends the line of an interrupt pin.
+/// Appends the line of an interrupt pin, with the device and pin on bus 0 that it is routed to.
 fn push_pin(text: &mut String, path: &Path, pin: u8) -> Result<(), AllocError>
     requires least { 1 ≤ pin }
     requires most { pin ≤ 4 }
@@ -64,8 +64,8 @@ fn push_pin(text: &mut String, path: &Path, pin: u8) -> Result<(), AllocError>
     writeln!(text, "  irq {pin} at {device} {root}")
 }
 
-/// Appends the line of an interrupt pin. There is none for pin 0, which says that the function has no
-/// pin, and none above 4, which is no pin.
+/// Appends the line of an interrupt pin. Appends nothing for pin 0, which means that the function
+/// has no interrupt pin, or for a reserved value above 4.
 fn push_known_pin(text: &mut String, path: &Path, pin: u8) -> Result<(), AllocError>
     ensures { OnOk result (Adds text.old text.new (text_of_lines (known_pin_lines path.now pin))) }
 {
@@ -75,7 +75,7 @@ fn push_known_pin(text: &mut String, path: &Path, pin: u8) -> Result<(), AllocEr
     push_pin(text, path, pin)
 }
 
-/// Appends the line of a window, if it has items.
+/// Appends the line of a window, unless the window is disabled.
 fn push_window(text: &mut String, name: &str, window: &WindowSetting) -> Result<(), AllocError>
     ensures { OnOk result (Adds text.old text.new
         (text_of_lines (named_window_lines name.now window.now))) }
@@ -88,7 +88,7 @@ fn push_window(text: &mut String, name: &str, window: &WindowSetting) -> Result<
     writeln!(text, "  {name} 0x{first:x} 0x{last:x}")
 }
 
-/// Appends the lines of the regions that were written into an endpoint.
+/// Appends the lines of an endpoint's regions at the base addresses that set-up wrote.
 fn push_bases(text: &mut String, writes: &Writes) -> Result<(), AllocError>
     ensures { OnOk result (Adds text.old text.new
         (text_of_lines (base_lines (writes_of writes.now)))) }
@@ -99,7 +99,7 @@ fn push_bases(text: &mut String, writes: &Writes) -> Result<(), AllocError>
     }
 }
 
-/// Appends the lines of the windows that were written into a bridge.
+/// Appends the lines of a bridge's windows as set-up wrote them.
 fn push_windows(text: &mut String, writes: &Writes) -> Result<(), AllocError>
     ensures { OnOk result (Adds text.old text.new
         (text_of_lines (window_lines (writes_of writes.now)))) }
@@ -114,7 +114,7 @@ fn push_windows(text: &mut String, writes: &Writes) -> Result<(), AllocError>
     }
 }
 
-/// Appends Primary, Secondary and Subordinate Bus Number.
+/// Appends the Primary, Secondary and Subordinate Bus Number.
 fn push_buses(
     text: &mut String,
     primary: u8,
@@ -129,7 +129,7 @@ fn push_buses(
     write!(text, " buses {primary} {secondary} {subordinate}")
 }
 
-/// Appends a function's numbers, its path, its kind and its identity.
+/// Appends the BDF of a function, its path, its header type, and its Vendor ID and Device ID.
 fn push_head(text: &mut String, row: &FunctionRow, kind: &str) -> Result<(), AllocError>
     ensures { OnOk result (Adds text.old text.new (row_head row.now kind.now)) }
 {
@@ -145,7 +145,7 @@ fn push_head(text: &mut String, row: &FunctionRow, kind: &str) -> Result<(), All
     write!(text, "{numbers} {path}{kind}{vendor}:{device}")
 }
 
-/// Ends an endpoint's first line, and appends the lines of its regions and its pin.
+/// Ends the first line of an endpoint, and appends the lines of its regions and its interrupt pin.
 fn push_endpoint(text: &mut String, path: &Path, pin: u8, writes: &Writes) -> Result<(), AllocError>
     ensures { OnOk result (Adds text.old text.new
         (endpoint_text path.now pin (writes_of writes.now))) }
@@ -155,7 +155,7 @@ fn push_endpoint(text: &mut String, path: &Path, pin: u8, writes: &Writes) -> Re
     push_known_pin(text, path, pin)
 }
 
-/// Ends a bridge's first line, and appends the lines of its windows.
+/// Ends the first line of a bridge with its bus numbers, and appends the lines of its windows.
 fn push_bridge(
     text: &mut String,
     bus: u8,
@@ -195,14 +195,14 @@ pub(crate) fn push_function(
     }
 }
 
-/// Appends the line of a guest's slot.
+/// Appends the line for one slot of a guest.
 fn push_slot(text: &mut String, name: &str, slot: usize, path: &Path) -> Result<(), AllocError>
     ensures { OnOk result (Adds text.old text.new (ended (slot_line name.now slot path.now))) }
 {
     writeln!(text, "guest {name} slot {slot} {}", ShownPath(path))
 }
 
-/// Appends the lines of a guest's slots.
+/// Appends the lines for all slots of a guest.
 pub(crate) fn push_guest(text: &mut String, guest: &GuestDecl) -> Result<(), AllocError>
     ensures { OnOk result (Adds text.old text.new
         (text_of_lines (slot_lines guest.now.name 0 guest.now.slots))) }

@@ -1,4 +1,4 @@
-//! Where all regions and windows of a board stand, and what is written into its functions.
+//! The plan of a board: the addresses of its regions and windows, and the register values to write.
 ghost use Rattle.std.specs.Prelude.{◌≡◌, IfOk};
 
 use crate::layout_row::PlanRow;
@@ -10,8 +10,8 @@ use host_bridge::Path;
 use std::alloc::{AllocError, Global};
 use std::marker::Model;
 
-/// Where all regions and windows of a board stand, and what is written into its functions, in path
-/// order. The rows are made when they are asked for.
+/// The addresses of all regions and windows of a board, and the register values to write into its
+/// functions, in path order. `rows` computes the list of addresses on demand.
 #[derive(Debug, Drop)]
 pub struct Plan {
     paths: Vec<Path>,
@@ -34,7 +34,7 @@ impl Model for Plan {
 impl Plan {
     ghost use Rattle.window_packing.specs.LayoutRows.{rows_of, AreListable};
 
-    /// The plan with these settings, of functions at these paths.
+    /// Creates the plan for functions with these paths, from their placement and settings.
     pub(crate) fn new(paths: Vec<Path>, placement: Placement, settings: Vec<Setting>) -> Plan
         requires { AreListable paths.items placement }
         ensures { result
@@ -47,8 +47,8 @@ impl Plan {
         }
     }
 
-    /// Regions and windows: the I/O pool, then memory, then prefetchable memory; in a pool bus by bus in
-    /// path order, and on a bus by address.
+    /// Returns all regions and windows: first the I/O pool, then memory, then prefetchable memory.
+    /// Within a pool, buses are in path order, and the rows of a bus are sorted by address.
     pub fn rows(&self, alloc: Global) -> Result<Vec<PlanRow>, AllocError>
         ensures { IfOk result (λ v. v.items ≡ self.now.rows) }
     {
@@ -59,7 +59,7 @@ impl Plan {
         Ok(list)
     }
 
-    /// What is written into each function, in path order.
+    /// Returns the register values to write into each function, in path order.
     pub fn settings(&self) -> &[Setting]
         ensures { result.now ≡ self.now.settings }
     {

@@ -1,4 +1,4 @@
-//! What stands above each function.
+//! The bridges above each function.
 ghost use Rattle.std.specs.Prelude.{◌≡◌, ℕ, suc, ◌≤◌, length, slice_get, IfOk};
 ghost use Rattle.model_board.specs.Board.{IsBoard};
 ghost use Rattle.model_set_up.specs.FunctionTable.{TableRow, board_in};
@@ -8,9 +8,9 @@ use bus_scan::{Found, FunctionRow};
 use headers::{IoDecode, PrefDecode};
 use std::alloc::{AllocError, Global};
 
-/// The index of the bus that a function stands on, where 0 is bus 0 and 1 + n the bus behind the
-/// function of row n; and whether all bridges above have an I/O window, a prefetchable window, and one
-/// of 64 bits.
+/// The bus of a function and the properties of the bridges above it. Bus index 0 is bus 0, and
+/// index 1 + n is the bus behind the function of row n. The flags say whether all bridges above
+/// have an I/O window, a prefetchable window, and a 64-bit prefetchable window.
 #[derive(Clone, Copy)]
 pub(crate) struct Above {
     pub(crate) bus: usize,
@@ -19,7 +19,8 @@ pub(crate) struct Above {
     pub(crate) pref64: bool,
 }
 
-/// What stands above a function on the bus behind the function of a row, by what stands above that one.
+/// Returns the properties for functions on the bus behind the function of a row, given the
+/// properties `up` of that function.
 fn behind(bus: usize, row: &FunctionRow, up: Above) -> Above
     ensures { result ≡ behind bus row.now.decl up }
 {
@@ -39,7 +40,7 @@ fn behind(bus: usize, row: &FunctionRow, up: Above) -> Above
     }
 }
 
-/// What stands above a function on this bus, by what stands above the functions of the first rows.
+/// Returns the properties for functions on a bus, given those of the functions in the first rows.
 fn on_bus(rows: &[FunctionRow], above: &[Above], bus: usize) -> Above
     requires known { bus ≤ length above.now }
     requires there { length above.now ≤ length rows.now }
@@ -59,8 +60,8 @@ fn on_bus(rows: &[FunctionRow], above: &[Above], bus: usize) -> Above
     behind(bus, &rows[bus - 1], above[bus - 1])
 }
 
-/// What stands above each function. In path order the bridge of a function's bus is the last function
-/// before it whose path is one part shorter.
+/// Returns the properties for each function. In path order, the bridge above a function is the last
+/// one before it whose path is one part shorter.
 pub(crate) fn all_above(alloc: Global, rows: &[FunctionRow]) -> Result<Vec<Above>, AllocError>
     requires { IsBoard (board_in rows.now) }
     ensures { IfOk result (λ v. AreAbove (board_in rows.now) v.items) }

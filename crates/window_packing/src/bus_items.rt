@@ -1,4 +1,4 @@
-//! What the functions of a bus have there.
+//! The regions and windows that the functions of a bus need on that bus.
 ghost use Rattle.std.specs.Prelude.{◌≡◌, ◌++◌, ◌≤◌, ◌^◌, List, [], ◌∷◌, IfOk};
 ghost use Rattle.lists.specs.Texts.{Adds};
 ghost use Rattle.model_registers.specs.Declarations.{Bridge};
@@ -16,7 +16,7 @@ use bus_scan::{Found, FunctionRow};
 use headers::Apertures;
 use std::alloc::AllocError;
 
-/// Adds the region of the register at an index, if there is one and it is of the pool.
+/// Appends the region that starts at a BAR register, if there is one and it belongs to the pool.
 fn push_region(
     into: &mut Vec<Item>,
     part: Part,
@@ -44,7 +44,7 @@ fn push_region(
     Ok(())
 }
 
-/// Adds the regions of an endpoint that are of the pool.
+/// Appends the regions of an endpoint that belong to the pool.
 fn push_regions(
     into: &mut Vec<Item>,
     part: Part,
@@ -72,7 +72,8 @@ fn push_regions(
     Ok(())
 }
 
-/// Adds a bridge's window, which extends over whole units, if items stand behind it.
+/// Appends the window of a bridge, rounded up to the window granularity, unless the bus behind the
+/// bridge is empty.
 fn push_window(
     into: &mut Vec<Item>,
     part: Part,
@@ -95,8 +96,8 @@ fn push_window(
     Ok(())
 }
 
-/// Adds what a function has on its own bus: an endpoint's regions of the pool, or the window of the bus
-/// behind a bridge.
+/// Appends the items of a function on its own bus: the regions of an endpoint that belong to the
+/// pool, or the window of a bridge.
 pub(crate) fn push_own(
     into: &mut Vec<Item>,
     pool: Pool,

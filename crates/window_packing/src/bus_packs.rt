@@ -1,4 +1,4 @@
-//! All buses of a board: what stands on a bus is known once those behind its bridges are packed.
+//! Packs all buses of a board. A bus can only be packed after the buses behind its bridges.
 ghost use Rattle.std.specs.Prelude.{◌≡◌, ◌+◌, ◌<◌, ◌^◌, [], All, IfOk, IfSome, IsNone, IsFalse, MatchOption, length};
 ghost use Rattle.model_registers.specs.Apertures.{IsLawfulApertures};
 ghost use Rattle.lists.specs.Elements.{Each};
@@ -15,7 +15,7 @@ use bus_scan::FunctionRow;
 use headers::Apertures;
 use std::alloc::{AllocError, Global};
 
-/// No items yet, of bus 0 and of `count` buses more.
+/// Creates empty item lists for bus 0 and `count` more buses.
 fn no_items(alloc: Global, count: usize) -> Result<Vec<Vec<Item>>, AllocError>
     ensures buses { IfOk result (λ v. length v.items ≡ count + 1) }
     ensures none { IfOk result (λ v. All (λ own. own.items ≡ []) v.items) }
@@ -28,11 +28,11 @@ fn no_items(alloc: Global, count: usize) -> Result<Vec<Vec<Item>>, AllocError>
     Ok(items)
 }
 
-/// Packs the regions and windows of a pool on each bus: bus 0 first, then the bus behind each function
-/// in the order of the rows, without items behind an endpoint. A pool with a bus that ends above 2^63
-/// is not packed, as it doesn't fit its aperture.
+/// Packs the regions and windows of a pool on each bus. The result contains bus 0, and then the bus
+/// behind each function in row order; the bus behind an endpoint is empty. Returns `None` if a bus
+/// ends above 2^63, because the pool then can't fit in its aperture.
 ///
-/// Each bus is sorted once, so the time is that of sorting all regions and windows.
+/// Each bus is sorted once, so the total time is that of sorting all regions and windows.
 pub(crate) fn pack_pool(
     alloc: Global,
     pool: Pool,

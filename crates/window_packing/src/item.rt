@@ -1,4 +1,4 @@
-//! What is placed on a bus.
+//! The items placed on a bus: regions and windows.
 ghost use Rattle.std.specs.{Ordering.is_lt, Prelude.◌≡◌};
 ghost use Rattle.model_set_up.specs.Placement.{register_of, stands_before};
 
@@ -7,8 +7,8 @@ use bridge_forward::Part;
 use std::cmp::Ordering;
 use std::marker::Model;
 
-/// A region, or the window of a bridge: its function's place on the bus, its alignment, and its size in
-/// bytes.
+/// A region or a bridge window: the device and function number of its function, and its alignment
+/// and size in bytes.
 #[derive(Clone, Copy, Debug)]
 pub(crate) struct Item {
     pub(crate) part: Part,
@@ -31,7 +31,8 @@ impl Model for Item {
 }
 
 impl Item {
-    /// The number of the register, by which items of one function are told apart.
+    /// Returns the index of the region's first BAR register, which distinguishes the items of one
+    /// function. Returns 0 for a window.
     fn register(&self) -> u8
         ensures { result ≡ register_of self.now.what }
     {
@@ -41,7 +42,8 @@ impl Item {
         }
     }
 
-    /// Alignment descending, then device, function and register.
+    /// Returns whether this item is placed before the other: larger alignment first, then by
+    /// device, function and register.
     pub(crate) fn is_before(&self, other: &Item) -> bool
         ensures { result ≡ stands_before self.now other.now }
     {
@@ -52,7 +54,7 @@ impl Item {
             || (self.part == other.part && self.register() < other.register())
     }
 
-    /// The order in which items stand on a bus.
+    /// Compares two items by the order in which they are placed on a bus.
     pub(crate) fn compare(&self, other: &Item) -> Ordering
         ensures { is_lt result ≡ stands_before self.now other.now }
     {
@@ -66,7 +68,7 @@ impl Item {
     }
 }
 
-/// An item and the offset on its bus at which it begins.
+/// An item with its offset from the start of the bus.
 #[derive(Clone, Copy, Debug)]
 pub(crate) struct Spot {
     pub(crate) item: Item,

@@ -1,9 +1,9 @@
-//! A row of a layout: where a region or a window stands.
+//! A row of a layout: a placed region or window.
 use crate::pool::Pool;
 use host_bridge::Path;
 use std::marker::Model;
 
-/// What a row places: the region of the base address register at an index from 0 to 5, or a bridge's
+/// What a row describes: the region whose first BAR register has this index (0 to 5), or a bridge
 /// window.
 #[derive(Clone, Copy, Debug, PartialEq, Eq)]
 pub enum Placed {
@@ -11,8 +11,8 @@ pub enum Placed {
     Window,
 }
 
-/// Where a region or a window stands: the path of its function, its first address and its size in
-/// bytes.
+/// A placed region or window: the path of its function, its pool, its first address, and its size
+/// in bytes.
 #[derive(Debug, Drop)]
 pub struct PlanRow {
     pub path: Path,

@@ -1,9 +1,10 @@
 //! Layer: set-up. Below: bus_scan. Above: claim_table, board_fit, report.
 //!
-//! Placement: where each region and each bridge's windows stand, and the registers that say so (PCI
-//! Local Bus 3.0, chapter 6.2.5; PCI-to-PCI Bridge Architecture 1.2, chapter 3.2.5).
+//! Placement: chooses the addresses of all regions and bridge windows, and programs the registers
+//! (PCI Local Bus 3.0, section 6.2.5; PCI-to-PCI Bridge Architecture 1.2, section 3.2.5).
 //!
-//! A host at reset is set up, or refused by 201 to 205. Afterwards its registers say where all is:
+//! Sets up a host at reset, or fails with error 201 to 205. Afterwards the registers of the host
+//! contain all addresses:
 //!
 //! ```
 //! let ready = set_up(alloc, host)?;

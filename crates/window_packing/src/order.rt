@@ -1,11 +1,11 @@
-//! The items of a bus in the order in which they stand there.
+//! The placement order of the items on a bus.
 ghost use Rattle.std.specs.Prelude.{◌≡◌};
 ghost use Rattle.model_set_up.specs.Placement.{in_order};
 ghost use Rattle.window_packing.specs.Packs.{HasOneOrder};
 
 use crate::item::Item;
 
-/// Sorts the items of a bus: alignment descending, then device, function and register.
+/// Sorts the items of a bus: larger alignment first, then by device, function and register.
 pub(crate) fn sort(items: &mut Vec<Item>)
     requires { HasOneOrder items.old.items }
     ensures { items.new.items ≡ in_order items.old.items }

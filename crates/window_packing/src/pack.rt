@@ -1,4 +1,4 @@
-//! One bus, its items placed one after the other.
+//! Packs the items of one bus.
 ghost use Rattle.std.specs.Prelude.{◌≡◌, ◌+◌, ◌<◌, ◌≤◌, ◌^◌, IfOk, IfSome, MatchOption};
 ghost use Rattle.lists.specs.Elements.{Each};
 ghost use Rattle.model_set_up.specs.Placement.{round_up, end_from, spots_from, in_order, alignment};
@@ -9,11 +9,11 @@ use crate::order::sort;
 use std::alloc::{AllocError, Global};
 use std::marker::Model;
 
-/// No aperture ends above this address.
+/// The upper limit of every aperture: no aperture ends above 2^63.
 const LIMIT: u64 = 0x8000_0000_0000_0000;
 
-/// What stands on a bus: each item at its offset, in the order of offsets; the alignment of the bus; and
-/// the offset at which the last item ends.
+/// A packed bus: its items with their offsets in ascending order, the alignment of the bus, and the
+/// offset at which the last item ends.
 #[derive(Debug, Drop)]
 pub(crate) struct BusPack {
     pub(crate) spots: Vec<Spot>,
@@ -29,7 +29,7 @@ impl Model for BusPack {
     ghost view = { λ p. record { spots = p.spots.items; align = p.align; end = p.end } };
 }
 
-/// The least multiple of `align` that is not before `n`.
+/// Rounds `n` up to a multiple of `align`.
 pub(crate) fn round_up(align: u64, n: u64) -> u64
     requires align { 0 < align }
     requires room { n + align ≤ 2 ^ 64 }
@@ -38,7 +38,8 @@ pub(crate) fn round_up(align: u64, n: u64) -> u64
     (n + (align - 1)) / align * align
 }
 
-/// Where the item stands after `at`, if it ends at the limit or below.
+/// Returns the first aligned offset for the item at or after `at`, or `None` if the item would end
+/// above the limit.
 fn place(at: u64, item: &Item) -> Option<u64>
     requires at { at ≤ 2 ^ 63 }
     requires item { HasLawfulAlign item.now }
@@ -52,7 +53,8 @@ fn place(at: u64, item: &Item) -> Option<u64>
     Some(first)
 }
 
-/// Each item with its place, and where the last ends, if that is at the limit or below.
+/// Places the items one after another. Returns their offsets and the end of the last one, or `None`
+/// if an item would end above the limit.
 fn place_all(alloc: Global, items: &[Item]) -> Result<Option<(Vec<Spot>, u64)>, AllocError>
     requires { Each HasLawfulAlign items.now }
     ensures { IfOk result (λ r. MatchOption r (2 ^ 63 < end_from 0 items.now) (λ p.
@@ -72,7 +74,7 @@ fn place_all(alloc: Global, items: &[Item]) -> Result<Option<(Vec<Spot>, u64)>, 
     Ok(Some((spots, at)))
 }
 
-/// The greatest alignment, and at least the unit.
+/// Returns the largest alignment of the items, or the window granularity `unit` if that is larger.
 fn alignment(unit: u64, items: &[Item]) -> u64
     ensures { result ≡ alignment unit items.now }
 {
@@ -83,7 +85,7 @@ fn alignment(unit: u64, items: &[Item]) -> u64
     greatest
 }
 
-/// A bus with these items, if the last ends at 2^63 or below.
+/// Packs the items of a bus. Returns `None` if the last item would end above 2^63.
 pub(crate) fn pack_bus(
     alloc: Global,
     unit: u64,

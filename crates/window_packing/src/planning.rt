@@ -1,4 +1,4 @@
-//! The plan of a board.
+//! Computes the plan of a board.
 ghost use Rattle.std.specs.{Prelude.{◌≡◌, ◌||◌, not, None, IfOk, IfErr}, List.list_any};
 ghost use Rattle.model_registers.specs.DeclarationRules.{first_broken};
 ghost use Rattle.model_board.specs.{Board.{Board, IsBoard}, Lawful.HasLawfulDecls};
@@ -17,7 +17,7 @@ use bus_scan::{Fault, Found, FunctionRow, FunctionTable};
 use headers::Apertures;
 use std::alloc::Global;
 
-/// Whether one of the regions is of I/O.
+/// Returns whether one of the regions is an I/O region.
 fn has_ports(bars: &[Option<BarDecl>; 6]) -> bool
     ensures { result ≡ list_any is_port bars.now }
 {
@@ -27,7 +27,7 @@ fn has_ports(bars: &[Option<BarDecl>; 6]) -> bool
     })
 }
 
-/// Whether a function has I/O regions.
+/// Returns whether a function has I/O regions.
 fn opens_io(row: &FunctionRow) -> bool
     ensures { result ≡ opens_io row.now.decl }
 {
@@ -42,14 +42,16 @@ fn opens_io(row: &FunctionRow) -> bool
     }
 }
 
-/// Whether the function has no I/O regions, or stands behind bridges with I/O windows alone.
+/// Returns whether I/O accesses can reach the function: all bridges above it have an I/O window. A
+/// function without I/O regions needs no such path.
 fn has_io_path(row: &FunctionRow, above: &Above) -> bool
     ensures { result ≡ (not (opens_io row.now.decl) || above.now.io) }
 {
     !opens_io(row) || above.io
 }
 
-/// Whether each I/O region stands behind bridges with I/O windows alone.
+/// Returns whether I/O accesses can reach every I/O region: all bridges above them have an I/O
+/// window.
 fn has_io_paths(rows: &[FunctionRow], above: &[Above]) -> bool
     requires { AreAbove (board_in rows.now) above.now }
     ensures { result ≡ has_io_paths (board_in rows.now) }
@@ -62,7 +64,8 @@ fn has_io_paths(rows: &[FunctionRow], above: &[Above]) -> bool
     true
 }
 
-/// Places the regions and windows of a board, if each I/O region has an I/O path and each pool fits.
+/// Places the regions and windows of a board. Fails if an I/O region is behind a bridge without an
+/// I/O window, or a pool doesn't fit.
 fn place_board(
     alloc: Global,
     rows: &[FunctionRow],
@@ -87,20 +90,21 @@ fn place_board(
     })
 }
 
-/// Places the regions and windows of the functions of a table in the apertures, and says what is written
-/// into each function. A region goes to the aperture of its kind; on each bus what stands there comes
-/// by alignment, the greatest first, and then by device, function and register; a window extends over
-/// whole units, and begins at a multiple of the greatest alignment behind it.
+/// Places the regions and windows of a table's functions in the apertures, and computes the
+/// register values to write. Each region goes to the aperture of its kind. On each bus, items are
+/// sorted by alignment, largest first, and then by device, function and register. The size of a
+/// window is a multiple of the window granularity, and its start is aligned to the largest
+/// alignment behind it.
 ///
 /// # Errors
 ///
-/// 202 where an I/O region stands behind a bridge without an I/O window, 203 where I/O does not fit its
-/// aperture, 204 where memory does not, 205 where prefetchable memory does not: the least of those
-/// that hold. 299 where memory is out.
+/// Returns the fault with the lowest number: 202 if an I/O region is behind a bridge without an I/O
+/// window, 203 if the I/O regions don't fit in their aperture, 204 if the memory regions don't, 205
+/// if the prefetchable regions don't, or 299 if memory is exhausted.
 pub fn plan(alloc: Global, table: &FunctionTable, apertures: &Apertures) -> Result<Plan, Fault>
     requires { IsTableOf (board_in table.now) table.now }
 
-    // Of whatever board this is the table.
+    // Holds for every board with this table.
     ensures planned { IfOk result (λ p.
         (b : Board) → IsTableOf b table.now → p ≡ planned b apertures.now) }
     ensures lawful { IfOk result (λ p.

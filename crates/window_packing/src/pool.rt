@@ -1,4 +1,4 @@
-//! The pools that regions and windows are placed in.
+//! The pools: one for each aperture.
 ghost use Rattle.std.specs.Prelude.{◌≡◌, List};
 ghost use Rattle.model_registers.specs.Declarations.{Bridge};
 ghost use Rattle.model_set_up.specs.Pools.{unit_of, pool_of, pref_or_mem, pref_reaches};
@@ -9,7 +9,7 @@ use crate::bridges_above::Above;
 use bars::Kind;
 use headers::{Aperture, Apertures};
 
-/// The apertures that regions and windows are placed in.
+/// The aperture in which a region or window is placed.
 #[derive(Clone, Copy, Debug, PartialEq, Eq, PartialOrd, Ord)]
 pub enum Pool {
     Io,
@@ -18,7 +18,7 @@ pub enum Pool {
 }
 
 impl Pool {
-    /// A window of this pool extends over whole units of so many bytes.
+    /// Returns the window granularity of the pool, in bytes.
     pub(crate) fn unit(self) -> u64
         ensures { result ≡ unit_of (named_pool self) }
     {
@@ -29,8 +29,9 @@ impl Pool {
     }
 }
 
-/// Whether the bridges above a prefetchable region forward addresses of the prefetchable aperture: those
-/// below 4 GB, or for a region of 64 bits those above.
+/// Returns whether the bridges above a prefetchable region can forward addresses of the
+/// prefetchable aperture. An aperture that ends below 4 GB needs prefetchable windows. Any other
+/// aperture needs 64-bit prefetchable windows and a 64-bit region.
 fn pref_reaches(aperture: &Aperture, above: &Above, wide: bool) -> bool
     ensures { (ds : List Bridge) → IsOver ds above.now →
         result ≡ pref_reaches aperture.now ds wide }
@@ -42,7 +43,8 @@ fn pref_reaches(aperture: &Aperture, above: &Above, wide: bool) -> bool
     }
 }
 
-/// The pool of a prefetchable memory region.
+/// Returns the pool of a prefetchable memory region, which falls back to memory if the prefetchable
+/// aperture can't be used.
 fn pref_or_mem(apertures: &Apertures, above: &Above, wide: bool) -> Pool
     ensures { (ds : List Bridge) → IsOver ds above.now →
         named_pool result ≡ pref_or_mem apertures.now.pref ds wide }
@@ -53,7 +55,7 @@ fn pref_or_mem(apertures: &Apertures, above: &Above, wide: bool) -> Pool
     }
 }
 
-/// The pool of a region of this kind, behind these bridges.
+/// Returns the pool of a region of this kind behind these bridges.
 pub(crate) fn pool_of(apertures: &Apertures, above: &Above, kind: Kind) -> Pool
     ensures { (ds : List Bridge) → IsOver ds above.now →
         named_pool result ≡ pool_of apertures.now ds (kind_of kind) }

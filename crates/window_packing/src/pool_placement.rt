@@ -1,4 +1,4 @@
-//! One pool of a board, placed in its aperture.
+//! Places the pools of a board in their apertures.
 ghost use Rattle.std.specs.{Prelude.{◌≡◌, ◌<◌, ◌≤◌, ◌^◌, ◌⊎◌, [], IfSome, IfOk, IfErr, IsTrue, IsFalse, map}, Option.option_map_or};
 ghost use Rattle.model_registers.specs.Apertures.{Aperture as ApertureValue, IsLawfulApertures};
 ghost use Rattle.lists.specs.Elements.{Each, EachPair};
@@ -20,7 +20,7 @@ use headers::{Aperture, Apertures};
 use std::alloc::{AllocError, Global};
 use std::marker::Model;
 
-/// The buses of a pool, bus 0 and then the one behind each function, and their first addresses.
+/// A placed pool: bus 0 and then the bus behind each function, each with its first address.
 #[derive(Debug, Drop)]
 pub(crate) struct PlacedPool {
     pub(crate) packs: Vec<BusPack>,
@@ -35,7 +35,7 @@ impl Model for PlacedPool {
     ghost view = { λ p. record { packs = p.packs.items; firsts = p.firsts.items } };
 }
 
-/// All three pools.
+/// The placement of all three pools.
 #[derive(Debug, Drop)]
 pub(crate) struct Placement {
     pub(crate) io: PlacedPool,
@@ -52,7 +52,7 @@ impl Model for Placement {
 }
 
 impl Placement {
-    /// One of the pools.
+    /// Returns the placement of one pool.
     pub(crate) fn pool(&self, pool: Pool) -> &PlacedPool
         ensures { result.now ≡ pool_in self.now (named_pool pool) }
     {
@@ -64,7 +64,7 @@ impl Placement {
     }
 }
 
-/// The aperture of a pool.
+/// Returns the aperture of a pool. The prefetchable aperture is optional.
 fn aperture_of(apertures: &Apertures, pool: Pool) -> Option<Aperture>
     ensures value { result ≡ aperture_of apertures.now (named_pool pool) }
     ensures range { IfSome result (λ a. (a.first ≤ a.last) × (a.last < 2 ^ 63)) }
@@ -78,7 +78,8 @@ fn aperture_of(apertures: &Apertures, pool: Pool) -> Option<Aperture>
     }
 }
 
-/// Where bus 0 begins: at the least multiple of its alignment that is not before the aperture.
+/// Returns the first address of bus 0 in the pool: the start of the aperture, rounded up to the
+/// alignment of the bus.
 pub(crate) fn root_first(apertures: &Apertures, pool: Pool, root: &BusPack) -> u64
     requires some { 0 < root.now.align }
     requires align { root.now.align ≤ 2 ^ 40 }
@@ -92,7 +93,7 @@ pub(crate) fn root_first(apertures: &Apertures, pool: Pool, root: &BusPack) -> u
     }
 }
 
-/// The address after the aperture.
+/// Returns the address after the end of the aperture, or 0 if there is no aperture.
 pub(crate) fn aperture_end(apertures: &Apertures, pool: Pool) -> u64
     ensures value { result ≡ aperture_end apertures.now (named_pool pool) }
     ensures lawful { IsLawfulApertures apertures.now }
@@ -103,7 +104,7 @@ pub(crate) fn aperture_end(apertures: &Apertures, pool: Pool) -> u64
     }
 }
 
-/// Whether the pool fits its aperture, before `end`, by bus 0.
+/// Returns whether the pool, as packed on bus 0, fits in its aperture, which ends before `end`.
 fn fits(apertures: &Apertures, pool: Pool, end: u64, root: &BusPack) -> bool
     requires end { end ≡ aperture_end apertures.now (named_pool pool) }
     requires some { 0 < root.now.align }
@@ -115,8 +116,8 @@ fn fits(apertures: &Apertures, pool: Pool, end: u64, root: &BusPack) -> bool
         || (root.end <= end && root_first(apertures, pool, root) <= end - root.end)
 }
 
-/// The offset at which a bridge's window stands on its bus, by the bus behind the bridge, and 0 where it
-/// has none.
+/// Returns the offset of a bridge's window on its bus, or 0 if the bridge has no window in the
+/// pool. The alignment of the bus behind the bridge speeds up the search.
 fn window_offset(pack: &BusPack, part: Part, behind: &BusPack) -> u64
     requires order { EachPair (λ s t. IsTrue (stands_before s.item t.item)) pack.now.spots }
     requires align { Each (λ s. IsTrue (is_item part a_window s.item)
@@ -132,7 +133,8 @@ fn window_offset(pack: &BusPack, part: Part, behind: &BusPack) -> u64
     offset_of(pack, &key)
 }
 
-/// The first address of each bus: a bus behind a bridge begins where the bridge's window stands.
+/// Returns the first address of each bus. A bus behind a bridge starts where the bridge's window
+/// starts.
 fn bus_firsts(
     alloc: Global,
     pool: Pool,
@@ -165,7 +167,7 @@ fn bus_firsts(
 }
 
 impl Pool {
-    /// What is wrong where the pool doesn't fit.
+    /// Returns the fault for a pool that doesn't fit in its aperture.
     fn fault(self) -> Fault
         ensures { result ≡ fault_of self }
     {
@@ -177,7 +179,7 @@ impl Pool {
     }
 }
 
-/// Places one pool, if it fits its aperture.
+/// Places one pool in its aperture. Fails if the pool doesn't fit.
 pub(crate) fn place_pool(
     alloc: Global,
     pool: Pool,

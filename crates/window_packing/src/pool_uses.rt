@@ -1,4 +1,4 @@
-//! How much of its aperture a pool takes.
+//! How much of its aperture a pool needs.
 ghost use Rattle.std.specs.Prelude.{◌≡◌, ◌-◌, [], IfOk, IfSome, nat_le};
 ghost use Rattle.model_board.specs.{Board.{Board, IsBoard}, Lawful.HasLawfulDecls};
 ghost use Rattle.model_set_up.specs.{FunctionTable.board_in, Placement.{aperture_end, fits}};
@@ -14,19 +14,19 @@ use bus_scan::{FunctionRow, FunctionTable};
 use headers::Apertures;
 use std::alloc::{AllocError, Global};
 
-/// How much of its aperture a pool takes, in bytes.
+/// How much of its aperture a pool needs, in bytes.
 #[derive(Clone, Copy, Debug, PartialEq, Eq)]
 pub struct PoolUse {
-    /// The address at which bus 0 begins in the pool: the first in the aperture that is a multiple of the
-    /// greatest alignment.
+    /// The start of bus 0 in the pool: the first address in the aperture that is a multiple of the
+    /// largest alignment.
     pub first: u64,
-    /// From there to the end of the last region or window.
+    /// The distance from `first` to the end of the last region or window.
     pub extent: u64,
-    /// From there to the end of the aperture.
+    /// The distance from `first` to the end of the aperture.
     pub room: u64,
 }
 
-/// How much a pool takes, by bus 0 and the end of the aperture.
+/// Computes the space that a pool needs from its packed bus 0 and the end of its aperture.
 fn root_use(apertures: &Apertures, pool: Pool, end: u64, root: &BusPack) -> PoolUse
     requires end { end ≡ aperture_end apertures.now (named_pool pool) }
     requires bounded { IsBounded root.now }
@@ -41,7 +41,7 @@ fn root_use(apertures: &Apertures, pool: Pool, end: u64, root: &BusPack) -> Pool
     }
 }
 
-/// How much a pool takes, by the rows of a table.
+/// Computes the space that a pool needs from the rows of a table.
 fn rows_use(
     alloc: Global,
     pool: Pool,
@@ -62,8 +62,8 @@ fn rows_use(
     }
 }
 
-/// How much of its aperture a pool of a board takes, whether it fits or not. None where that is more than
-/// 2^63 bytes.
+/// Returns how much of its aperture a pool needs, whether it fits or not. Returns `None` if the
+/// pool needs more than 2^63 bytes.
 pub fn pool_use(
     alloc: Global,
     pool: Pool,
@@ -72,7 +72,7 @@ pub fn pool_use(
 ) -> Result<Option<PoolUse>, AllocError>
     requires { IsTableOf (board_in table.now) table.now }
 
-    // Of whatever board this is the table. The pool fits where it takes no more than there is.
+    // Holds for every board with this table. The pool fits if `extent` is at most `room`.
     ensures value { IfOk result (λ u.
         (b : Board) → IsTableOf b table.now →
         u ≡ told_use b apertures.now (named_pool pool)) }

@@ -1,4 +1,4 @@
-//! The writes of set-up, by configuration cycles alone.
+//! Programs a plan into the registers of a board, by configuration cycles only.
 ghost use Rattle.std.specs.Prelude.{◌≡◌, ◌/◌, ◌%◌, ◌^◌, ◌<◌};
 ghost use Rattle.model_set_up.specs.{SetUp.set_up_state, Scanning.IsNumbered, SetUpWrites.planned, UniqueClaimant.CanBePlaced};
 ghost use Rattle.model_board.specs.AtReset.{board_at};
@@ -11,7 +11,8 @@ use crate::setting::{Setting, WindowSetting, Writes};
 use bars::BasedRegion;
 use host_bridge::{Bdf, Host};
 
-/// Offsets of words (PCI Local Bus 3.0, chapter 6.1; PCI-to-PCI Bridge Architecture 1.2, chapter 3.2).
+/// The offset of Command. All offsets here are those of words (PCI Local Bus 3.0, section 6.1;
+/// PCI-to-PCI Bridge Architecture 1.2, section 3.2).
 const COMMAND: u8 = 0x04;
 
 const BASE_ADDRESS: u8 = 0x10;
@@ -28,14 +29,15 @@ const PREF_LIMIT_UPPER: u8 = 0x2c;
 
 const IO_UPPER: u8 = 0x30;
 
-/// The byte enables of a word, and of its low half: above Command stands Status, and above the I/O base
-/// and limit stands Secondary Status, whose bits fall where a one is written.
+/// The byte enables for a whole word. Words with Status or Secondary Status in their upper half are
+/// written with `LOW_HALF` instead, because writing a one there clears a status bit.
 const WORD: u8 = 0b1111;
 
 const LOW_HALF: u8 = 0b0011;
 
-/// Writes a plan into the host that was scanned for it: each endpoint's bases and then its Command,
-/// each bridge's windows and then its Command, in path order. All else stays as the scan left it.
+/// Writes a plan into the host that was scanned for it. In path order, writes the BARs of each
+/// endpoint and then its Command register, or the windows of each bridge and then its Command
+/// register. Leaves all other registers as the scan left them.
 pub fn program(host: &mut Host, plan: &Plan)
     requires registers { IsNumbered host.old.state }
     requires placeable { CanBePlaced (board_at host.old.state.functions) host.old.apertures }
@@ -48,7 +50,7 @@ pub fn program(host: &mut Host, plan: &Plan)
     }
 }
 
-/// Writes what one function takes.
+/// Writes the settings of one function.
 fn write_setting(host: &mut Host, setting: &Setting)
     ensures { let words = words_of setting.now.writes in
         host.new ≡ host_after
@@ -61,7 +63,7 @@ fn write_setting(host: &mut Host, setting: &Setting)
     }
 }
 
-/// Writes the base of each region, and then Command.
+/// Writes the base address of each region, and then Command.
 fn write_endpoint(host: &mut Host, at: Bdf, command: u16, bases: &[Option<BasedRegion>; 6])
     ensures { let words = endpoint_words command (bases_from 0 bases.now) in
         host.new ≡ host_after
@@ -75,7 +77,8 @@ fn write_endpoint(host: &mut Host, at: Bdf, command: u16, bases: &[Option<BasedR
     write_word(host, at, COMMAND, LOW_HALF, u32::from(command));
 }
 
-/// Writes the base of a region to the register at an index and, of 64 bits, its upper half to the next.
+/// Writes the base address of a region to the BAR register at an index. For a 64-bit BAR, also
+/// writes the upper half to the next register.
 fn write_base(host: &mut Host, at: Bdf, index: u8, region: BasedRegion)
     requires { index < 6 }
     ensures { let words = base_words (placed index region) in
@@ -91,9 +94,8 @@ fn write_base(host: &mut Host, at: Bdf, index: u8, region: BasedRegion)
     }
 }
 
-/// Writes the windows, and then Command. A bridge without an I/O or a prefetchable window, or with
-/// narrow ones, drops what is written to the registers that it doesn't implement, and the bits that tell
-/// its decode are read-only: so the words are the same for each bridge.
+/// Writes the windows, and then Command. The words are the same for every bridge: a bridge ignores
+/// writes to window registers that it doesn't implement, and its decode type bits are read-only.
 fn write_bridge(
     host: &mut Host,
     at: Bdf,
@@ -111,12 +113,12 @@ fn write_bridge(
     write_word(host, at, PREF_BASE_UPPER, WORD, upper_half(pref.first));
     write_word(host, at, PREF_LIMIT_UPPER, WORD, upper_half(pref.last));
     write_word(host, at, IO_UPPER, WORD, io_upper_word(io));
-    // Its windows of I/O and of memory forward.
+    // Enables forwarding of I/O and memory accesses.
     let command = headers::Command::both_spaces().0;
     write_word(host, at, COMMAND, LOW_HALF, u32::from(command));
 }
 
-/// Writes the enabled bytes of the word at `off`.
+/// Writes the enabled bytes of the configuration word at `off`.
 fn write_word(host: &mut Host, at: Bdf, off: u8, enables: u8, value: u32)
     requires { off % 4 ≡ 0 }
     ensures { let write = word off enables value in
@@ -126,8 +128,8 @@ fn write_word(host: &mut Host, at: Bdf, off: u8, enables: u8, value: u32)
     host.config_write(at, off, enables, value);
 }
 
-/// A window's base, and above it its limit, of two bytes each: bits 15 to 4 are the bits of an address
-/// from 20 on.
+/// Returns the word with a memory window's base in its lower half and its limit in its upper half.
+/// Bits 15 to 4 of each contain bits 31 to 20 of the address.
 fn window_word(span: WindowSetting) -> u32
     ensures { result ≡ window_word span }
 {
@@ -136,8 +138,8 @@ fn window_word(span: WindowSetting) -> u32
     base + limit * 0x1_0000
 }
 
-/// The base and the limit of the I/O window, of one byte each: bits 7 to 4 are the bits 15 to 12 of an
-/// address.
+/// Returns the two bytes with an I/O window's base and limit. Bits 7 to 4 of each contain bits 15
+/// to 12 of the address.
 fn io_word(span: WindowSetting) -> u32
     ensures { result ≡ io_word span }
 {
@@ -146,7 +148,8 @@ fn io_word(span: WindowSetting) -> u32
     base + limit * 0x100
 }
 
-/// The bits 31 to 16 of the I/O window's base, and above them those of its limit.
+/// Returns the word with bits 31 to 16 of an I/O window's base in its lower half, and those of its
+/// limit in its upper half.
 fn io_upper_word(span: WindowSetting) -> u32
     ensures { result ≡ io_upper_word span }
 {
@@ -155,7 +158,7 @@ fn io_upper_word(span: WindowSetting) -> u32
     base + limit * 0x1_0000
 }
 
-/// The bits of an address from 32 on.
+/// Returns bits 63 to 32 of an address.
 fn upper_half(address: u64) -> u32
     ensures { result ≡ address / 2 ^ 32 }
 {

@@ -1,4 +1,4 @@
-//! A board that is set up.
+//! Set-up: enumeration, placement and programming of a board.
 ghost use Rattle.std.specs.Prelude.{◌≡◌, ◌⊎◌, IfOk, IfErr, None, Some};
 ghost use Rattle.model_registers.specs.DeclarationRules.{first_broken};
 ghost use Rattle.model_board.specs.AtReset.{IsAtReset};
@@ -13,8 +13,8 @@ use host_bridge::Host;
 use std::alloc::Global;
 use std::marker::Model;
 
-/// A board that is set up: the host, with all regions and windows at their places and open, the
-/// functions that were found, and where their regions and windows stand.
+/// A board after set-up: the host with all regions and windows placed and enabled, the table of its
+/// functions, and the plan with the addresses.
 #[derive(Drop)]
 pub struct Ready {
     host: Host,
@@ -35,7 +35,7 @@ impl Model for Ready {
 impl Ready {
     ghost use Rattle.window_packing.specs.Readies.{IsReady, OwnClaims};
 
-    /// The host, with all regions and windows at their places and open.
+    /// Returns the host, with all regions and windows placed and enabled.
     pub fn host(&self) -> &Host
         ensures value { result.now ≡ self.now.host }
         ensures ready { IsReady self.now }
@@ -43,7 +43,7 @@ impl Ready {
         &self.host
     }
 
-    /// The functions that were found.
+    /// Returns the table of functions.
     pub fn table(&self) -> &FunctionTable
         ensures value { result.now ≡ self.now.table }
         ensures ready { IsReady self.now }
@@ -51,7 +51,8 @@ impl Ready {
         &self.table
     }
 
-    /// Where all regions and windows stand, and what was written into the functions.
+    /// Returns the plan: the addresses of all regions and windows, and the register values that
+    /// were written.
     pub fn plan(&self) -> &Plan
         ensures value { result.now ≡ self.now.plan }
         ensures ready { IsReady self.now }
@@ -59,9 +60,9 @@ impl Ready {
         &self.plan
     }
 
-    /// The host, the functions that were found, and where their regions and windows stand. In every
-    /// state with the host's routing registers each byte of a placed region has its own claim, and no
-    /// other address any.
+    /// Splits the board into its host, table and plan. As long as the routing registers don't
+    /// change, each byte of a placed region is claimed by that region, and all other addresses are
+    /// unclaimed.
     pub fn into_parts(self) -> (Host, FunctionTable, Plan)
         ensures parts { result ≡ (self.host, self.table, self.plan) }
         ensures ready { IsReady self }
@@ -73,8 +74,8 @@ impl Ready {
 
 ghost use Rattle.window_packing.specs.Readies.{board_below, IsEnumerated, OwnClaims};
 
-/// Finds the functions of a board at reset with their regions and windows, and numbers its buses. A
-/// refusal is out of memory, or 201 where it has more than 255 bridges.
+/// Enumerates a board at reset: finds its functions, assigns bus numbers, and sizes regions and
+/// windows. Fails if memory is exhausted, or with error 201 if the board has more than 255 bridges.
 pub fn enumerate(alloc: Global, host: &mut Host) -> Result<FunctionTable, Fault>
     requires { IsAtReset host.old.state }
     ensures found { IfOk result (λ t. IsEnumerated host.old host.new t) }
@@ -88,9 +89,9 @@ pub fn enumerate(alloc: Global, host: &mut Host) -> Result<FunctionTable, Fault>
     Ok(table)
 }
 
-/// Sets up the board of a host at reset: scan, sizing, placement and programming, in that order. A
-/// refusal is out of memory, or the first rule of 201 to 205 that the board breaks, and consumes
-/// the board.
+/// Sets up the board of a host at reset: enumerates, sizes, places and programs, in that order.
+/// Fails if memory is exhausted, or with the lowest of the errors 201 to 205 that applies. The host
+/// is dropped on failure.
 pub fn set_up(alloc: Global, host: Host) -> Result<Ready, Fault>
     requires { IsAtReset host.state }
     ensures ready { IfOk result (λ r.

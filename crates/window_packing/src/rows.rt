@@ -1,4 +1,4 @@
-//! The rows of a layout, bus by bus.
+//! Lists the rows of a layout, bus by bus.
 ghost use Rattle.std.specs.Prelude.{◌≡◌, ◌<◌, ◌≤◌, ◌+◌, ◌^◌, ◌++◌, [], ◌∷◌, IfOk, map, length};
 ghost use Rattle.lists.specs.Elements.{Each};
 ghost use Rattle.model_set_up.specs.{Layout.row_of, FunctionTable.TableRow};
@@ -13,7 +13,7 @@ use bus_scan::FunctionRow;
 use host_bridge::Path;
 use std::alloc::{AllocError, Global};
 
-/// The paths of all functions.
+/// Copies the paths of all functions.
 pub(crate) fn all_paths(alloc: Global, rows: &[FunctionRow]) -> Result<Vec<Path>, AllocError>
     ensures { IfOk result (λ v. v.items ≡ map (λ (r : TableRow). r.path) rows.now) }
 {
@@ -24,7 +24,7 @@ pub(crate) fn all_paths(alloc: Global, rows: &[FunctionRow]) -> Result<Vec<Path>
     Ok(paths)
 }
 
-/// The path of a function on a bus.
+/// Returns the path of a function on a bus.
 fn path_on(paths: &[Path], bus: usize, part: Part) -> Path
     requires there { bus ≤ length paths.now }
     requires depth { length (bus_at paths.now bus) < 16 }
@@ -38,7 +38,7 @@ fn path_on(paths: &[Path], bus: usize, part: Part) -> Path
     path
 }
 
-/// Adds what stands on a bus that begins at `first`.
+/// Appends the rows of a bus whose first address is `first`.
 fn push_bus(
     into: &mut Vec<PlanRow>,
     paths: &[Path],
@@ -66,7 +66,7 @@ fn push_bus(
     Ok(())
 }
 
-/// Adds what stands in a pool.
+/// Appends the rows of a pool.
 pub(crate) fn push_pool(
     into: &mut Vec<PlanRow>,
     paths: &[Path],

@@ -1,4 +1,4 @@
-//! Where an item stands on a bus.
+//! Finds an item on a packed bus.
 ghost use Rattle.std.specs.Prelude.{◌≡◌, IsTrue};
 ghost use Rattle.lists.specs.Elements.{Each, EachPair};
 ghost use Rattle.model_set_up.specs.Placement.{stands_before, is_item, offset_in};
@@ -7,14 +7,14 @@ ghost use Rattle.window_packing.specs.Searching.{IsFirstFrom};
 use crate::item::{Item, Spot};
 use crate::pack::BusPack;
 
-/// Whether both are of one region, or the windows of one bridge.
+/// Returns whether both items are the same region, or the window of the same bridge.
 fn is_same(item: &Item, key: &Item) -> bool
     ensures { result ≡ is_item key.now.part key.now.what item.now }
 {
     item.part == key.part && item.what == key.what
 }
 
-/// The index of the first spot whose item does not stand before `key`.
+/// Returns the index of the first spot whose item doesn't come before `key` in placement order.
 fn first_from(spots: &[Spot], key: &Item) -> usize
     requires { EachPair (λ s t. IsTrue (stands_before s.item t.item)) spots.now }
     ensures { IsFirstFrom spots.now key.now result }
@@ -26,8 +26,8 @@ fn first_from(spots: &[Spot], key: &Item) -> usize
     )
 }
 
-/// The offset on its bus at which the item stands whose function, register and alignment `key` tells,
-/// and 0 where there is none.
+/// Returns the offset on the bus of the item with the function, register and alignment of `key`, or
+/// 0 if there is no matching item.
 pub(crate) fn offset_of(pack: &BusPack, key: &Item) -> u64
     requires order { EachPair (λ s t. IsTrue (stands_before s.item t.item)) pack.now.spots }
     requires align { Each (λ s. IsTrue (is_item key.now.part key.now.what s.item)

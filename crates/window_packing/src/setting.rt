@@ -1,10 +1,10 @@
-//! What is written into one function.
+//! The register values that set-up writes into one function.
 use bars::BasedRegion;
 use host_bridge::Bdf;
 use std::marker::Model;
 
-/// The first and the last address that the registers of a window name. A window without items has its
-/// first address above its last.
+/// The first and last address of a window, both inclusive. In a disabled window the first address
+/// is above the last.
 #[derive(Clone, Copy, Debug, PartialEq, Eq)]
 pub struct WindowSetting {
     pub first: u64,
@@ -21,8 +21,8 @@ impl Model for WindowSetting {
     ghost inverse = { λ v. record { first = v.first; last = v.last } };
 }
 
-/// What is written into a function: Command and, at the index of its first register, each region with
-/// its base; or the windows of a bridge.
+/// The register values for a function: Command and the base address of each region, at the index of
+/// its first BAR register, or the windows of a bridge.
 #[derive(Clone, Copy, Debug)]
 pub enum Writes {
     Endpoint {
@@ -36,7 +36,7 @@ pub enum Writes {
     },
 }
 
-/// What is written into the function that this number reaches.
+/// The register values for the function at a BDF.
 #[derive(Debug, Drop)]
 pub struct Setting {
     pub at: Bdf,

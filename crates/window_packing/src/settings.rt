@@ -1,4 +1,4 @@
-//! What is written into each function.
+//! Computes the register values of each function.
 ghost use Rattle.std.specs.{Prelude.{◌≡◌, ◌<◌, ◌≤◌, ◌+◌, ◌^◌, List, [], ◌∷◌, Some, if◌then◌else◌, slice_get, IfOk, IsTrue, map, length}, List.list_any};
 ghost use Rattle.lists.specs.Elements.{Each, EachPair};
 ghost use Rattle.model_registers.specs.Declarations.{Endpoint as EndpointValue};
@@ -22,7 +22,7 @@ use bus_scan::{Found, FunctionRow};
 use headers::Apertures;
 use std::alloc::{AllocError, Global};
 
-/// Whether one of the regions lies in a space.
+/// Returns whether one of the regions is in the address space.
 fn opens(bars: &[Option<BarDecl>; 6], space: Space) -> bool
     ensures { result ≡ list_any (is_bar_in (named_space space)) bars.now }
 {
@@ -32,7 +32,7 @@ fn opens(bars: &[Option<BarDecl>; 6], space: Space) -> bool
     })
 }
 
-/// A bit that is set or not.
+/// Returns `value` if `on` is true, and otherwise 0.
 fn bit(on: bool, value: u16) -> u16
     ensures value { result ≡ (if on then value else 0) }
     ensures bound { result ≤ value }
@@ -40,8 +40,8 @@ fn bit(on: bool, value: u16) -> u16
     if on { value } else { 0 }
 }
 
-/// The Command register of an endpoint: bit 0 where it has I/O regions, bit 1 where it has memory
-/// regions (PCI Local Bus 3.0, section 6.2.2).
+/// Returns the Command value for an endpoint: bit 0 is set if it has I/O regions, and bit 1 if it
+/// has memory regions (PCI Local Bus 3.0, section 6.2.2).
 fn command_of(bars: &[Option<BarDecl>; 6]) -> u16
     ensures { (d : EndpointValue) → d.regions ≡ regions_of bars.now →
         result ≡ command_of d }
@@ -49,7 +49,7 @@ fn command_of(bars: &[Option<BarDecl>; 6]) -> u16
     bit(opens(bars, Space::Io), 1) + bit(opens(bars, Space::Mem), 2)
 }
 
-/// A region at its place on a bus that begins at `first`.
+/// Returns a region with its base address, on a bus that starts at `first`.
 fn based(part: Part, index: u8, bar: BarDecl, first: u64, pack: &BusPack) -> BasedRegion
     requires order { EachPair (λ s t. IsTrue (stands_before s.item t.item)) pack.now.spots }
     requires align { Each (λ s. IsTrue (is_item part (a_region index) s.item)
@@ -71,7 +71,8 @@ fn based(part: Part, index: u8, bar: BarDecl, first: u64, pack: &BusPack) -> Bas
     }
 }
 
-/// The region of the register at an index of the endpoint of row `i`, at its place, if there is one.
+/// Returns the region at an index of the endpoint in row `i`, with its base address, or `None` if
+/// no region starts at that register.
 fn base_of(
     rows: &[FunctionRow],
     i: usize,
@@ -100,7 +101,7 @@ fn base_of(
     Some(based(row.path.last(), index, bar, first, pack))
 }
 
-/// The regions of the endpoint of row `i`, each at its place.
+/// Returns the regions of the endpoint in row `i` with their base addresses.
 fn bases_of(
     rows: &[FunctionRow],
     i: usize,
@@ -127,8 +128,8 @@ fn bases_of(
     bases
 }
 
-/// The window of a bus that begins at `first`. Without items it has its first address in the last unit
-/// that its register names, and its last address at 0.
+/// Returns the window of a bus that starts at `first`. For a bus without items, returns a disabled
+/// window: its base register contains the highest value, `closed`, and its limit register 0.
 fn window_of(pool: Pool, closed: u64, first: u64, pack: &BusPack) -> WindowSetting
     requires closed { closed < 2 ^ 12 }
     requires some { Each (λ s. 0
@@ -151,7 +152,7 @@ fn window_of(pool: Pool, closed: u64, first: u64, pack: &BusPack) -> WindowSetti
     }
 }
 
-/// The window of the bus behind row `i` in a pool.
+/// Returns the window, in one pool, of the bus behind the function in row `i`.
 fn window_behind(
     rows: &[FunctionRow],
     i: usize,
@@ -172,7 +173,7 @@ fn window_behind(
     window_of(pool, closed, placed.firsts[i + 1], &placed.packs[i + 1])
 }
 
-/// What is written into the function of row `i`.
+/// Returns the register values for the function in row `i`.
 fn writes_of(
     rows: &[FunctionRow],
     i: usize,
@@ -207,7 +208,7 @@ fn writes_of(
     }
 }
 
-/// What is written into each function, in path order.
+/// Returns the register values for each function, in path order.
 pub(crate) fn all_settings(
     alloc: Global,
     rows: &[FunctionRow],
