@@ -1,4 +1,4 @@
-//! The addresses that set-up may give out.
+//! The address apertures of a board file.
 ghost use Rattle.std.specs.Prelude.{◌≡◌, ◌&&◌, ◌||◌, not, option_map, is_ok, IfOk};
 ghost use Rattle.model_registers.specs.Apertures.{are_lawful, is_io_aperture, is_mem_aperture, has_lawful_pref};
 ghost use Rattle.board_file.specs.{Functions.{aperture, apertures}, Rules.{is_natural, are_natural}};
@@ -6,8 +6,8 @@ ghost use Rattle.board_file.specs.{Functions.{aperture, apertures}, Rules.{is_na
 use crate::entries::{Bounds, FileEntries};
 use headers::{Aperture, ApertureFault, Apertures};
 
-/// The aperture from the first to the last address, both in it. A negative bound counts by its absolute
-/// value, so ask `is_natural` first.
+/// Returns the aperture from `bounds.first` to `bounds.last`, both inclusive. Callers check
+/// `is_natural` first, because a negative bound is replaced by its absolute value.
 fn aperture(bounds: Bounds) -> Aperture
     ensures { result ≡ aperture bounds }
 {
@@ -17,14 +17,14 @@ fn aperture(bounds: Bounds) -> Aperture
     }
 }
 
-/// The same of an aperture that may be left out.
+/// Returns the prefetchable aperture, if the file has one.
 fn pref_aperture(bounds: Option<Bounds>) -> Option<Aperture>
     ensures { result ≡ option_map aperture bounds }
 {
     Some(aperture(bounds?))
 }
 
-/// The apertures, where they are lawful.
+/// Builds the apertures of the file. Fails if they aren't valid.
 pub(crate) fn apertures(file: &FileEntries<'_>) -> Result<Apertures, ApertureFault>
     ensures taken { is_ok result ≡ are_lawful (apertures file.now) }
     ensures value { IfOk result (λ a. a ≡ apertures file.now) }
@@ -36,14 +36,14 @@ pub(crate) fn apertures(file: &FileEntries<'_>) -> Result<Apertures, ApertureFau
     )
 }
 
-/// Whether both addresses are 0 or more.
+/// Returns whether neither address is negative.
 fn is_natural(bounds: Bounds) -> bool
     ensures { result ≡ is_natural bounds }
 {
     0 <= bounds.first && 0 <= bounds.last
 }
 
-/// The same of an aperture that may be left out, which is so where it is.
+/// Returns whether neither address is negative. A missing aperture passes.
 fn are_natural(bounds: Option<Bounds>) -> bool
     ensures { result ≡ are_natural bounds }
 {
@@ -53,19 +53,20 @@ fn are_natural(bounds: Option<Bounds>) -> bool
     }
 }
 
-/// A lawful aperture of I/O.
+/// A valid I/O aperture.
 const IO: Aperture = Aperture {
     first: 0x1000,
     last: 0x1fff,
 };
 
-/// A lawful aperture of memory.
+/// A valid memory aperture.
 const MEM: Aperture = Aperture {
     first: 0,
     last: 0xf_ffff,
 };
 
-/// Whether an aperture of I/O is lawful, as it is beside a lawful one of memory.
+/// Returns whether the I/O aperture is valid. Checks it together with a valid memory aperture,
+/// because [`Apertures::new`] needs both.
 pub(crate) fn is_io(io: Bounds) -> bool
     ensures { result ≡ (is_natural io && is_io_aperture (aperture io)) }
 {
@@ -78,7 +79,7 @@ fn is_lawful_mem(mem: Bounds) -> bool
     Apertures::new(IO, aperture(mem), None).is_ok()
 }
 
-/// Whether an aperture of memory is lawful, as it is beside a lawful one of I/O.
+/// Returns whether the memory aperture is valid. Checks it together with a valid I/O aperture.
 pub(crate) fn is_mem(mem: Bounds) -> bool
     ensures { result ≡ (is_natural mem && is_mem_aperture (aperture mem)) }
 {
@@ -93,7 +94,8 @@ fn is_lawful_pref(mem: Bounds, pref: Option<Bounds>) -> bool
     !is_lawful_mem(mem) || Apertures::new(IO, aperture(mem), pref_aperture(pref)).is_ok()
 }
 
-/// Whether the prefetchable aperture is lawful beside one of memory, if that is.
+/// Returns whether the prefetchable aperture is valid beside the memory aperture. If the memory
+/// aperture isn't valid itself, checks only that no address is negative.
 pub(crate) fn is_pref(mem: Bounds, pref: Option<Bounds>) -> bool
     ensures { result ≡ (are_natural pref
         && (not (is_mem_aperture (aperture mem)) || has_lawful_pref (aperture mem) (option_map aperture pref))) }

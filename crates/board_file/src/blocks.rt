@@ -1,4 +1,5 @@
-//! The bytes at the beginning of a region or of a device's own registers.
+//! Register blocks: the registers at the start of a BAR, or device-specific configuration
+//! registers.
 ghost use Rattle.std.specs.{Prelude.{◌≡◌, ◌+◌, ◌<◌, IfOk, length, nat_abs, nat_le, option_map, take}, List.list_all};
 ghost use Rattle.board_file.specs.{Blocks.{pattern, is_pattern, pattern_bytes, byte_at, are_apart as share_no_bit, cells, is_block, block_cells, Gives}, EntryRules.are_apart};
 
@@ -7,7 +8,8 @@ use config_bytes::Cell;
 use hex::FromHexError;
 use std::alloc::{AllocError, Global};
 
-/// The bytes of hexadecimal text of 1 to `len` bytes.
+/// Decodes hexadecimal text of 1 to `len` bytes. Returns `None` if the text isn't valid or has
+/// another length.
 pub fn pattern(alloc: Global, text: &str, len: usize) -> Result<Option<Vec<u8>>, AllocError>
     ensures { IfOk result (λ found. option_map (λ v. v.items) found ≡ pattern len text.now) }
 {
@@ -24,7 +26,7 @@ pub fn pattern(alloc: Global, text: &str, len: usize) -> Result<Option<Vec<u8>>,
     }
 }
 
-/// The bytes of a pattern, a zero byte where it is absent.
+/// Decodes an optional pattern. A missing pattern is one zero byte.
 pub fn pattern_bytes(
     alloc: Global,
     text: Option<&str>,
@@ -44,8 +46,8 @@ pub fn pattern_bytes(
     }
 }
 
-/// The byte of a pattern that is repeated. Most patterns are one byte, and a division takes as long as many
-/// other steps.
+/// Returns the byte at `index` of the repeated pattern. Most patterns have one byte and skip the
+/// slow division.
 fn byte_at(bytes: &[u8], index: usize) -> u8
     requires { 0 < length bytes.now }
     ensures { result ≡ byte_at bytes.now index }
@@ -57,7 +59,8 @@ fn byte_at(bytes: &[u8], index: usize) -> u8
     }
 }
 
-/// The cells of patterns that are repeated, where no bit is in both masks.
+/// Builds `len` cells from repeated patterns. Returns `None` if a bit is in both the write mask and
+/// the W1C mask.
 fn cells(
     alloc: Global,
     len: usize,
@@ -82,8 +85,8 @@ fn cells(
     Ok(Some(cells))
 }
 
-/// The cells of a block of `len` bytes, where its patterns are lawful, and else None. It fails only where
-/// memory is out.
+/// Builds the `len` cells of a register block. Returns `None` if the patterns aren't valid. Fails
+/// only if memory is exhausted.
 pub(crate) fn block(
     alloc: Global,
     len: usize,
@@ -104,7 +107,7 @@ pub(crate) fn block(
     cells(alloc, len, &reset, &rw, &w1c)
 }
 
-/// Whether the patterns give a block of so many cells.
+/// Returns whether the patterns are valid for a register block of `len` bytes.
 pub(crate) fn is_block(
     alloc: Global,
     len: i64,
@@ -118,7 +121,7 @@ pub(crate) fn is_block(
     }
 }
 
-/// Whether the first ends before the second begins.
+/// Returns whether `first` ends at or before the offset where `second` begins.
 fn ends_before(first: &ConfigEntry<'_>, second: &ConfigEntry<'_>) -> bool
     ensures { result
         ≡ nat_le (nat_abs first.now.off + nat_abs first.now.block) (nat_abs second.now.off) }
@@ -128,14 +131,14 @@ fn ends_before(first: &ConfigEntry<'_>, second: &ConfigEntry<'_>) -> bool
     off <= begin && first.block.unsigned_abs() <= begin - off
 }
 
-/// Whether the two don't overlap.
+/// Returns whether two configuration blocks don't overlap.
 pub fn are_apart(one: &ConfigEntry<'_>, other: &ConfigEntry<'_>) -> bool
     ensures { result ≡ are_apart one.now other.now }
 {
     ends_before(one, other) || ends_before(other, one)
 }
 
-/// Whether none of the first blocks overlaps it.
+/// Returns whether `config` overlaps none of the first `count` blocks.
 pub(crate) fn has_own_offsets(
     configs: &[ConfigEntry<'_>],
     count: usize,

@@ -1,4 +1,4 @@
-//! The board of a table.
+//! Construction of the host and the guests from a checked board file.
 ghost use Rattle.std.specs.{Prelude.{◌≡◌, ◌++◌, ◌⊎◌, IsTrue, IfOk, IfErr, map, true, false}, List.list_all};
 ghost use Rattle.lists.specs.Elements.{Each};
 ghost use Rattle.model_board.specs.{AtReset.{IsAtReset, reset_state}, Board.IsBoard, Lawful.HasLawfulDecls, Places.board_of};
@@ -16,7 +16,7 @@ use headers::Apertures;
 use host_bridge::Host;
 use std::alloc::{AllocError, Global};
 
-/// The endpoints, where their patterns are lawful.
+/// Declares the endpoints. Returns `None` if a pattern isn't valid or configuration blocks overlap.
 fn endpoint_decls(
     alloc: Global,
     entries: &[EndpointEntry<'_>],
@@ -38,7 +38,7 @@ fn endpoint_decls(
     Ok(Some(decls))
 }
 
-/// The bridges, after the other functions.
+/// Appends the declarations of the bridges.
 fn with_bridges(decls: Vec<Decl>, entries: &[BridgeEntry<'_>]) -> Result<Vec<Decl>, AllocError>
     requires bridges { IsTrue (list_all is_lawful_bridge entries.now) }
     requires lawful { HasLawfulDecls decls.items }
@@ -55,7 +55,8 @@ fn with_bridges(decls: Vec<Decl>, entries: &[BridgeEntry<'_>]) -> Result<Vec<Dec
     Ok(decls)
 }
 
-/// All functions, where the patterns are lawful.
+/// Declares all functions, endpoints first. Returns `None` if a pattern isn't valid or
+/// configuration blocks overlap.
 fn decls(alloc: Global, file: &FileEntries<'_>) -> Result<Option<Vec<Decl>>, AllocError>
     requires { IsTrue (is_judged file.now) }
     ensures { IfOk result (λ found. Gives (list_all masks_hold file.now.endpoints) found (λ v.
@@ -67,7 +68,7 @@ fn decls(alloc: Global, file: &FileEntries<'_>) -> Result<Option<Vec<Decl>>, All
     }
 }
 
-/// The guests.
+/// Declares the guests.
 fn guests(alloc: Global, entries: &[GuestEntry<'_>]) -> Result<Vec<GuestDecl>, AllocError>
     requires { Each IsShortGuest entries.now }
     ensures { IfOk result (λ v. v.items ≡ map said.guest entries.now) }
@@ -79,7 +80,7 @@ fn guests(alloc: Global, entries: &[GuestEntry<'_>]) -> Result<Vec<GuestDecl>, A
     Ok(guests)
 }
 
-/// The host over these functions, at reset.
+/// Builds the host with these functions at reset.
 fn host(alloc: Global, decls: Vec<Decl>, apertures: Apertures) -> Result<Host, AllocError>
     requires { IsBoard (board_of decls.items) }
     ensures { IfOk result (λ h.
@@ -88,7 +89,8 @@ fn host(alloc: Global, decls: Vec<Decl>, apertures: Apertures) -> Result<Host, A
     Ok(Host::new(Bus::build(alloc, decls)?, apertures))
 }
 
-/// The host and the guests of a judged file. Only its patterns are still judged.
+/// Builds the host and the guests of a file that passed all earlier checks. Returns `CellMasks` if
+/// a pattern isn't valid or configuration blocks overlap, and `Memory` if memory is exhausted.
 pub(crate) fn build(
     alloc: Global,
     file: &FileEntries<'_>,

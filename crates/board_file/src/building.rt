@@ -1,4 +1,4 @@
-//! The declarations of functions and guests, from entries that were judged.
+//! Conversion of checked entries to declarations of functions and guests.
 ghost use Rattle.std.specs.{Prelude.{◌≡◌, ◌<◌, ◌≤◌, ◌^◌, nat_abs, if◌then◌else◌, IsTrue, IfOk, map, length}, List.list_all};
 ghost use Rattle.model_registers.specs.DeclarationRules.{first_broken, endpoint_rules, blocks_apart, with_ordered_regions, IsLawfulEndpoint, IsLawfulBridge};
 ghost use Rattle.lists.specs.Elements.{all_pairs};
@@ -16,7 +16,7 @@ use headers::{BridgeDecl, ConfigBlock, EndpointDecl, EndpointValues, Region};
 use paths::Path;
 use std::alloc::{AllocError, Global};
 
-/// The number, where it is not negative.
+/// Converts a number that isn't negative.
 fn natural(number: i64) -> u64
     ensures { result ≡ nat_abs number }
 {
@@ -37,7 +37,7 @@ fn half_word(number: i64) -> u16
     natural(number) as u16
 }
 
-/// What a base address register opens.
+/// Declares a BAR whose size was checked.
 fn bar_decl(kind: Kind, size: i64) -> BarDecl
     requires { IsTrue (is_size (kind_of kind) size) }
     ensures { result ≡ record { kind = kind_of kind; size = nat_abs size } }
@@ -45,7 +45,7 @@ fn bar_decl(kind: Kind, size: i64) -> BarDecl
     BarDecl::new(kind, natural(size)).unwrap()
 }
 
-/// The region that a table declares, where its patterns are lawful.
+/// Declares a BAR with its register block. Returns `None` if the patterns aren't valid.
 fn region(alloc: Global, bar: &BarEntry<'_>) -> Result<Option<Region>, AllocError>
     requires block { nat_abs bar.now.block ≤ 4096 }
     requires index { nat_abs bar.now.index ≤ 5 }
@@ -78,7 +78,8 @@ fn regions(alloc: Global, bars: &[BarEntry<'_>]) -> Result<Option<Vec<Region>>, 
     Ok(Some(regions))
 }
 
-/// The registers of its own that a device declares, where the patterns are lawful.
+/// Declares a block of device-specific configuration registers. Returns `None` if the patterns
+/// aren't valid.
 fn config_block(alloc: Global, config: &ConfigEntry<'_>) -> Result<Option<ConfigBlock>, AllocError>
     requires { nat_abs config.now.off < 2 ^ 16 }
     ensures { IfOk result (λ found.
@@ -112,7 +113,7 @@ fn config_blocks(
     Ok(Some(blocks))
 }
 
-/// The values of an endpoint, with these regions and registers of its own.
+/// Returns the values of an endpoint, with the given BARs and configuration blocks.
 fn values(entry: &EndpointEntry<'_>, bar: Vec<Region>, config: Vec<ConfigBlock>) -> EndpointValues
     requires { HasSmallNumbers entry.now }
     ensures { result
@@ -134,7 +135,7 @@ fn values(entry: &EndpointEntry<'_>, bar: Vec<Region>, config: Vec<ConfigBlock>)
     }
 }
 
-/// The endpoint with these values, where its own registers are apart.
+/// Declares an endpoint. Returns `None` if its configuration blocks overlap.
 fn declared(values: EndpointValues) -> Option<EndpointDecl>
     requires { first_broken (endpoint_rules values)
         ≡ (if all_pairs blocks_apart values.blocks then None else Some 112) }
@@ -147,7 +148,8 @@ fn declared(values: EndpointValues) -> Option<EndpointDecl>
     }
 }
 
-/// The endpoint that a table declares, where its patterns are lawful and its own registers are apart.
+/// Declares the endpoint of a table. Returns `None` if a pattern isn't valid or configuration
+/// blocks overlap.
 pub(crate) fn endpoint(
     alloc: Global,
     entry: &EndpointEntry<'_>,
@@ -168,7 +170,7 @@ pub(crate) fn endpoint(
     Ok(declared(values(entry, regions, blocks)))
 }
 
-/// The bridge that a table declares.
+/// Declares the bridge of a table.
 pub(crate) fn bridge(entry: &BridgeEntry<'_>) -> BridgeDecl
     requires vendor { nat_abs entry.now.vendor < 0xffff }
     requires device { nat_abs entry.now.device < 2 ^ 16 }
@@ -186,7 +188,7 @@ pub(crate) fn bridge(entry: &BridgeEntry<'_>) -> BridgeDecl
     .unwrap()
 }
 
-/// The guest that a table declares.
+/// Declares the guest of a table.
 pub(crate) fn guest(entry: &GuestEntry<'_>) -> GuestDecl
     requires name { length entry.now.name ≤ 16 }
     requires slots { length entry.now.slots ≤ 32 }
@@ -200,7 +202,7 @@ pub(crate) fn guest(entry: &GuestEntry<'_>) -> GuestDecl
     }
 }
 
-/// The paths of slots.
+/// Returns the paths of a guest's slots.
 fn slots(texts: &[PathText<'_>]) -> ArrayVec<Path, 32>
     requires { length texts.now ≤ 32 }
     ensures { result.items ≡ map path_at texts.now }

@@ -1,11 +1,11 @@
-//! The order of the checks of a file.
+//! The order in which a board file is checked.
 ghost use Rattle.std.specs.Prelude.{◌≡◌};
 ghost use Rattle.board_file.specs.Meaning.{order};
 
 use crate::fault::BoardFault;
 
-/// The checks of a document, in the order in which they are made, but for that of patterns: these are judged last,
-/// since their lengths go by those of blocks.
+/// Returns the checks of a document in the order in which they are made. Leaves out `CellMasks`,
+/// which is checked last because the length of a pattern is limited by that of its block.
 pub fn order() -> &'static [BoardFault]
     ensures { result.now ≡ order }
 {

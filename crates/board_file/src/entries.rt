@@ -1,4 +1,4 @@
-//! What a board file says: texts and numbers, not yet looked at.
+//! The contents of a board file, before any check of the values.
 ghost use Rattle.std.specs.Prelude.{option_map};
 ghost use Rattle.bars.specs.Kinds.{kind_of};
 ghost use Rattle.headers.specs.Decodes.{io_decode_of, pref_decode_of};
@@ -9,14 +9,14 @@ use bars::Kind;
 use headers::{IoDecode, PrefDecode};
 use std::marker::Model;
 
-/// The two integers of an aperture.
+/// The first and the last address of an aperture.
 #[derive(Clone, Copy)]
 pub struct Bounds {
     pub first: i64,
     pub last: i64,
 }
 
-/// The patterns of a block's bytes.
+/// The hexadecimal patterns of a register block.
 #[derive(Drop)]
 pub struct PatternTexts<'a> {
     pub reset: Option<&'a str>,
@@ -34,7 +34,7 @@ impl<'a> Model for PatternTexts<'a> {
     } };
 }
 
-/// A table of `bar`.
+/// A `bar` table: a BAR of an endpoint.
 #[derive(Drop)]
 pub struct BarEntry<'a> {
     pub index: i64,
@@ -56,7 +56,7 @@ impl<'a> Model for BarEntry<'a> {
     } };
 }
 
-/// A table of `config`.
+/// A `config` table: a block of device-specific configuration registers.
 #[derive(Drop)]
 pub struct ConfigEntry<'a> {
     pub off: i64,
@@ -70,7 +70,7 @@ impl<'a> Model for ConfigEntry<'a> {
     ghost view = { λ c. record { off = c.off; block = c.block; patterns = c.patterns } };
 }
 
-/// A table of `endpoint`.
+/// An `endpoint` table.
 #[derive(Drop)]
 pub struct EndpointEntry<'a> {
     pub at: PathText<'a>,
@@ -108,7 +108,7 @@ impl<'a> Model for EndpointEntry<'a> {
     } };
 }
 
-/// A table of `bridge`.
+/// A `bridge` table.
 #[derive(Drop)]
 pub struct BridgeEntry<'a> {
     pub at: PathText<'a>,
@@ -132,7 +132,7 @@ impl<'a> Model for BridgeEntry<'a> {
     } };
 }
 
-/// A table of `guest`.
+/// A `guest` table.
 #[derive(Drop)]
 pub struct GuestEntry<'a> {
     pub name: &'a str,
@@ -145,7 +145,7 @@ impl<'a> Model for GuestEntry<'a> {
     ghost view = { λ g. record { name = g.name.now; slots = g.slots.items } };
 }
 
-/// What the file says.
+/// All entries of a board file.
 #[derive(Drop)]
 pub struct FileEntries<'a> {
     pub io: Bounds,

@@ -1,22 +1,22 @@
-//! The entries of a board file.
+//! References to the entries of a board file.
 
-/// An entry of a board file. Lists begin at 0.
+/// A reference to a table or slot of a board file. Indices count from 0.
 #[derive(Clone, Copy, Debug, PartialEq, Eq)]
 pub enum Entry {
-    /// The file as a whole.
+    /// The whole file, as the top-level table.
     File,
-    /// The table `host`.
+    /// The `host` table.
     Host,
-    /// A table of `endpoint`.
+    /// The `endpoint` table with this index.
     Endpoint(usize),
-    /// A table of an endpoint's `bar`.
+    /// A `bar` table, by the index of its endpoint and its index there.
     Bar(usize, usize),
-    /// A table of an endpoint's `config`.
+    /// A `config` table, by the index of its endpoint and its index there.
     Config(usize, usize),
-    /// A table of `bridge`.
+    /// The `bridge` table with this index.
     Bridge(usize),
-    /// A table of `guest`.
+    /// The `guest` table with this index.
     Guest(usize),
-    /// A text of a guest's `slots`.
+    /// A slot, by the index of its guest and its index there.
     Slot(usize, usize),
 }

@@ -1,4 +1,4 @@
-//! Why a board file is refused.
+//! The reasons for refusing a board file.
 ghost use Rattle.std.specs.Prelude.{◌≡◌, Some};
 ghost use Rattle.board_file.specs.{Faults.{number_of, fault_words}, declared.fault.BoardFault.TheVariants.Memory};
 
@@ -6,39 +6,41 @@ use std::alloc::{AllocError, AllocFailed};
 use std::error::Error;
 use std::fmt;
 
-/// Why a board file is refused: the first check that it fails, or that memory is out.
+/// The reason for refusing a board file: the first check that fails, or exhausted memory.
 #[derive(Clone, Copy, PartialEq, Eq, Debug)]
 pub enum BoardFault {
-    /// The bytes are no TOML document.
+    /// The bytes aren't a TOML document.
     NotToml,
-    /// A needed key is missing, or a value has another type or is another word than its key's.
+    /// A required key is missing, or a value has the wrong type or isn't one of the words for its
+    /// key.
     Key,
-    /// A key that no table has.
+    /// A table has a key that isn't defined for it.
     UnknownKey,
-    /// An integer outside its range.
+    /// An integer is out of range.
     Number,
-    /// A path of more than 16 parts, or more functions, guests or slots than there may be.
+    /// A path has more than 16 parts, or there are too many functions, guests or slots.
     TooMany,
-    /// An `at` that is no path, or functions that do not stand as those of a board.
+    /// An `at` isn't a path, or the board can't have a function at that path.
     Place,
-    /// A base address register outside 0 to 5, or used twice.
+    /// A BAR index isn't 0 to 5, or BARs share a register.
     Register,
-    /// A size that a region can't have, or a block longer than its region.
+    /// A size isn't valid for its kind of BAR, or a register block is longer than its BAR.
     Size,
-    /// A name that no guest may have, or a name twice.
+    /// A guest's name isn't valid or is already in use.
     GuestName,
-    /// A slot that is no endpoint's path, or an endpoint in two slots.
+    /// A slot isn't the path of an endpoint, or an endpoint is in two slots.
     Slot,
-    /// Apertures that are not lawful.
+    /// An aperture isn't valid.
     Aperture,
-    /// A pattern that is not lawful, a bit in two masks, or blocks of own registers that overlap.
+    /// A pattern isn't valid, a bit is in both the write mask and the W1C mask, or configuration
+    /// blocks overlap.
     CellMasks,
-    /// Out of memory.
+    /// Memory is exhausted.
     Memory,
 }
 
 impl BoardFault {
-    /// The number of the fault's line.
+    /// Returns the error number.
     pub fn number(self) -> u16
         ensures { result ≡ number_of self }
     {
@@ -59,7 +61,7 @@ impl BoardFault {
         }
     }
 
-    /// What is said of the fault, beside its number.
+    /// Returns the error message, without the number.
     pub fn words(self) -> &'static str
         ensures { result.now ≡ fault_words self }
     {

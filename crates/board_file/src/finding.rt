@@ -1,4 +1,4 @@
-//! The entries of a file that break a rule.
+//! Checks of the values in a board file.
 ghost use Rattle.std.specs.Prelude.{◌≡◌, IfOk, OnOk, map};
 ghost use Rattle.board_file.specs.{EntryRules.{file_rules, host_rules}, Problems.{found_of, Adds, broken, of_values, problems_in}};
 
@@ -14,7 +14,7 @@ use crate::rule::Rule;
 use crate::source::Source;
 use std::alloc::{AllocError, Global};
 
-/// An entry that breaks a rule, and the key at which it does.
+/// A broken rule, with the entry and key at which it is broken.
 #[derive(Clone, Copy, Debug)]
 pub struct Breach<'a> {
     pub entry: Entry,
@@ -22,7 +22,7 @@ pub struct Breach<'a> {
     pub key: &'a str,
 }
 
-/// Appends a problem for each rule of an entry that isn't kept.
+/// Appends a problem for each rule that the entry doesn't keep.
 pub(crate) fn push_broken(
     problems: &mut Vec<Breach<'_>>,
     entry: Entry,
@@ -42,7 +42,7 @@ pub(crate) fn push_broken(
     Ok(())
 }
 
-/// Appends what is wrong with the file as a whole.
+/// Appends the problems of the file as a whole.
 fn push_file(
     problems: &mut Vec<Breach<'_>>,
     fault: BoardFault,
@@ -64,7 +64,7 @@ fn push_file(
     }
 }
 
-/// Appends what is wrong with the apertures.
+/// Appends the problems of the apertures.
 fn push_host(
     problems: &mut Vec<Breach<'_>>,
     fault: BoardFault,
@@ -87,7 +87,7 @@ fn push_host(
     }
 }
 
-/// Appends what is wrong with what entries say beside paths.
+/// Appends the problems of all values except paths.
 fn push_values(
     alloc: Global,
     problems: &mut Vec<Breach<'_>>,
@@ -103,8 +103,8 @@ fn push_values(
     push_guests(problems, file, fault)
 }
 
-/// All entries that break a rule of what the file says, with this fault, in the order of the file. Of the
-/// faults of a document and of its keys there are none.
+/// Returns the problems of the file's values with this fault, in file order. Returns none for the
+/// faults of keys and of TOML syntax.
 pub(crate) fn value_problems<'a>(
     alloc: Global,
     source: &Source<'_>,

@@ -1,4 +1,4 @@
-//! The endpoints and bridges of a file that break a rule.
+//! Checks of endpoints and bridges.
 ghost use Rattle.std.specs.{Prelude.{◌≡◌, OnOk, flat_map}, List.enumerate_from};
 ghost use Rattle.board_file.specs.{EntryRules.{endpoint_numbers, endpoint_rules}, Problems.{Adds, broken, of_bar, of_config, of_endpoint, of_bridge}};
 
@@ -12,7 +12,7 @@ use crate::regions::{has_own_registers, is_index, is_size};
 use crate::rule::Rule;
 use std::alloc::{AllocError, Global};
 
-/// Appends what is wrong with a region.
+/// Appends the problems of a BAR.
 fn push_bar(
     alloc: Global,
     problems: &mut Vec<Breach<'_>>,
@@ -47,7 +47,7 @@ fn push_bar(
     }
 }
 
-/// Appends what is wrong with a block of own registers.
+/// Appends the problems of a configuration block.
 fn push_config(
     alloc: Global,
     problems: &mut Vec<Breach<'_>>,
@@ -86,7 +86,7 @@ fn push_config(
     }
 }
 
-/// Appends what is wrong with the numbers of an endpoint.
+/// Appends the problems of an endpoint's numbers.
 fn push_numbers(
     problems: &mut Vec<Breach<'_>>,
     entry: Entry,
@@ -113,7 +113,7 @@ fn push_numbers(
     )
 }
 
-/// Appends what is wrong with an endpoint itself.
+/// Appends the problems of an endpoint, except those of its BARs and configuration blocks.
 fn push_endpoint(
     problems: &mut Vec<Breach<'_>>,
     fault: BoardFault,
@@ -138,7 +138,7 @@ fn push_endpoint(
     }
 }
 
-/// Appends what is wrong with regions.
+/// Appends the problems of an endpoint's BARs.
 fn push_bars(
     alloc: Global,
     problems: &mut Vec<Breach<'_>>,
@@ -155,7 +155,7 @@ fn push_bars(
     Ok(())
 }
 
-/// Appends what is wrong with blocks of own registers.
+/// Appends the problems of an endpoint's configuration blocks.
 fn push_configs(
     alloc: Global,
     problems: &mut Vec<Breach<'_>>,
@@ -173,7 +173,8 @@ fn push_configs(
     Ok(())
 }
 
-/// Appends what is wrong with endpoints, each before its regions and its own registers.
+/// Appends the problems of all endpoints. Those of an endpoint come before those of its BARs and
+/// configuration blocks.
 pub(crate) fn push_endpoints(
     alloc: Global,
     problems: &mut Vec<Breach<'_>>,
@@ -192,7 +193,7 @@ pub(crate) fn push_endpoints(
     Ok(())
 }
 
-/// Appends what is wrong with a bridge.
+/// Appends the problems of a bridge.
 fn push_bridge(
     problems: &mut Vec<Breach<'_>>,
     fault: BoardFault,
@@ -221,7 +222,7 @@ fn push_bridge(
     }
 }
 
-/// Appends what is wrong with bridges.
+/// Appends the problems of all bridges.
 pub(crate) fn push_bridges(
     problems: &mut Vec<Breach<'_>>,
     file: &FileEntries<'_>,

@@ -1,4 +1,4 @@
-//! The guests of a file that break a rule.
+//! Checks of guests.
 ghost use Rattle.std.specs.{Prelude.{◌≡◌, OnOk, flat_map}, List.enumerate_from};
 ghost use Rattle.board_file.specs.{EntryRules.guest_rules, Problems.{Adds, broken, of_guest}};
 
@@ -10,7 +10,7 @@ use crate::guests::{is_name, is_own_name};
 use crate::rule::Rule;
 use std::alloc::AllocError;
 
-/// Appends what is wrong with a guest.
+/// Appends the problems of a guest.
 fn push_guest(
     problems: &mut Vec<Breach<'_>>,
     file: &FileEntries<'_>,
@@ -39,7 +39,7 @@ fn push_guest(
     }
 }
 
-/// Appends what is wrong with guests.
+/// Appends the problems of all guests.
 pub(crate) fn push_guests(
     problems: &mut Vec<Breach<'_>>,
     file: &FileEntries<'_>,

@@ -1,4 +1,4 @@
-//! The names of guests.
+//! Checks of guest names.
 ghost use Rattle.std.specs.{Prelude.{◌≡◌, not, take}, List.list_all, Str.bytes_eq};
 ghost use Rattle.model_guests.specs.World.{is_letter, is_name_byte, is_name};
 
@@ -22,8 +22,8 @@ fn are_name_bytes(bytes: &[u8]) -> bool
     bytes.iter().all(|byte| is_name_byte(*byte))
 }
 
-/// Whether a guest may have the name: a letter from a to z, with 15 such letters or digits after it at most,
-/// and not `host`.
+/// Returns whether a guest may have this name: 1 to 16 characters from `a` to `z` and `0` to `9`,
+/// the first a letter, and not `host`.
 pub(crate) fn is_name(name: &str) -> bool
     ensures { result ≡ is_name name.now }
 {
@@ -35,7 +35,7 @@ pub(crate) fn is_name(name: &str) -> bool
     }
 }
 
-/// Whether none of the first guests has this name.
+/// Returns whether none of the first `count` guests has this name.
 pub(crate) fn is_own_name(guests: &[GuestEntry<'_>], count: usize, name: &str) -> bool
     ensures { result ≡ list_all (λ g. not (bytes_eq g.name name.now)) (take count guests.now) }
 {

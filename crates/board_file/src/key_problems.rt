@@ -1,4 +1,4 @@
-//! The tables of a file that break a rule of keys.
+//! Checks of the keys in a board file, and of the types of their values.
 ghost use Rattle.std.specs.{Prelude.{◌≡◌, ◌++◌, IfOk, OnOk, flat_map, map, option_map, true}, Option.option_map_or};
 ghost use Rattle.toml.specs.View.{view, table_view};
 ghost use Rattle.board_file.specs.{KeyProblems.{with_endpoint, tables_of, unless_kept_at, of_field, of_member, keys_in, of_table, of_entry, key_problems}, Problems.{found_of, Adds}, Schema.{fields, field_of, has_form}};
@@ -17,7 +17,7 @@ use std::alloc::{AllocError, Global};
 use toml::Table;
 use toml::value::Value;
 
-/// Appends the tables of an endpoint's regions and own registers.
+/// Appends an endpoint and its `bar` and `config` tables.
 fn push_tables(
     tables: &mut Vec<Entry>,
     index: usize,
@@ -36,7 +36,7 @@ fn push_tables(
     Ok(())
 }
 
-/// All tables of a file: endpoints, bridges and guests, each with what stands in it.
+/// Returns all tables of a file. Each endpoint is followed by its `bar` and `config` tables.
 fn tables(alloc: Global, file: &FileEntries<'_>) -> Result<Vec<Entry>, AllocError>
     ensures { IfOk result (λ v. v.items ≡ tables_of file.now) }
 {
@@ -55,7 +55,7 @@ fn tables(alloc: Global, file: &FileEntries<'_>) -> Result<Vec<Entry>, AllocErro
     Ok(tables)
 }
 
-/// Appends that a rule is broken at a key, unless it is kept.
+/// Appends a problem at a key, unless the rule is kept.
 fn push_unless<'a>(
     problems: &mut Vec<Breach<'a>>,
     entry: Entry,
@@ -73,7 +73,7 @@ fn push_unless<'a>(
     Ok(())
 }
 
-/// Whether what stands at a key has its form, where something does.
+/// Returns whether a value has the required form. A missing value passes.
 fn keeps_form(form: Form, value: Option<&Value>) -> bool
     ensures { result
         ≡ option_map_or (has_form form) (option_map (λ v. view v.now) value.entry) true }
@@ -84,7 +84,7 @@ fn keeps_form(form: Form, value: Option<&Value>) -> bool
     }
 }
 
-/// Appends what is wrong at a key that the table of an entry may have.
+/// Appends the problems of one defined key of a table.
 fn push_field(
     problems: &mut Vec<Breach<'_>>,
     entry: Entry,
@@ -106,7 +106,7 @@ fn push_field(
     )
 }
 
-/// Appends what is wrong at the keys that the table of an entry may have.
+/// Appends the problems of all defined keys of a table.
 fn push_fields(
     problems: &mut Vec<Breach<'_>>,
     entry: Entry,
@@ -122,7 +122,7 @@ fn push_fields(
     Ok(())
 }
 
-/// Appends the keys that the table of an entry has and its level doesn't.
+/// Appends a problem for each key of a table that isn't defined for its level.
 fn push_unknown<'a>(
     problems: &mut Vec<Breach<'a>>,
     entry: Entry,
@@ -140,7 +140,7 @@ fn push_unknown<'a>(
     Ok(())
 }
 
-/// Appends what is wrong with the keys of a table.
+/// Appends the problems of a table's keys.
 fn push_table<'a>(
     problems: &mut Vec<Breach<'a>>,
     fault: BoardFault,
@@ -158,7 +158,7 @@ fn push_table<'a>(
     }
 }
 
-/// Appends what is wrong with the keys of an entry. One that isn't there breaks no rule.
+/// Appends the problems of an entry's keys. An entry without a table has none.
 fn push_entry<'a>(
     problems: &mut Vec<Breach<'a>>,
     fault: BoardFault,
@@ -174,7 +174,7 @@ fn push_entry<'a>(
     }
 }
 
-/// All tables that break a rule of keys with this fault.
+/// Returns the problems of all keys with this fault.
 pub(crate) fn key_problems<'a>(
     alloc: Global,
     source: &Source<'a>,

@@ -1,10 +1,10 @@
-//! The keys of the tables of a board file.
+//! The keys that are defined for each kind of table in a board file.
 ghost use Rattle.std.specs.Prelude.{◌≡◌, map};
 ghost use Rattle.board_file.specs.Schema.{fields, field_of};
 
 use crate::schema::{Field, Form, Level, Words};
 
-// A key that its table needs.
+// Defines a required key.
 macro_rules! needed {
     ($key:literal, $form:expr) => {
         Field {
@@ -15,7 +15,7 @@ macro_rules! needed {
     };
 }
 
-// A key that may be left out.
+// Defines an optional key.
 macro_rules! optional {
     ($key:literal, $form:expr) => {
         Field {
@@ -84,7 +84,7 @@ const BRIDGE: [Field; 6] = [
 
 const GUEST: [Field; 2] = [needed!("name", Form::Text), needed!("slots", Form::Texts)];
 
-/// The keys of a table of the level.
+/// Returns the keys that are defined for a table of this level.
 pub fn fields(level: Level) -> &'static [Field]
     ensures { map field_of result.now ≡ fields level }
 {

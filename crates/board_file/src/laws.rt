@@ -1,12 +1,12 @@
-//! Laws of problems and refusals.
+//! Theorems about problems and refusals.
 ghost use Rattle.board_file.specs.RefusalLaws.{ProblemsBreakChecks, RefusalsHaveProblems};
 
-/// A document that is refused has an entry that breaks a rule of the fault.
+/// Proves that a document that is refused with a fault has at least one problem with that fault.
 pub fn refusals_have_problems()
     ensures { RefusalsHaveProblems }
 {}
 
-/// A document that keeps a check has no problem of that fault.
+/// Proves that a document that passes a check has no problem with the fault of that check.
 pub fn problems_break_checks()
     ensures { ProblemsBreakChecks }
 {}

@@ -1,7 +1,7 @@
 //! Layer: files. Below: host_bridge, accesses. Above: diagnostics, session.
 //!
-//! Board files: TOML documents that declare the functions of a board, the addresses that set-up may
-//! give out, and guests.
+//! Board files: TOML documents that declare the functions of a board, the address apertures for
+//! set-up, and the guests.
 #![tactic(auto)]
 
 mod apertures;

@@ -1,18 +1,18 @@
-//! The ranges of integers, and how many things a file may have.
+//! Ranges of integers, and limits on the number of entries.
 ghost use Rattle.std.specs.Prelude.{◌≡◌, ◌+◌, ◌+ℤ◌, int_le, nat_le, pos, length};
 ghost use Rattle.board_file.specs.Rules.{is_between, has_only_bits, has_few_slashes};
 
 use crate::entries::{ConfigEntry, FileEntries};
 use crate::path_text::PathText;
 
-/// Whether the number lies from `first` to `last`, both included.
+/// Returns whether the number is between `first` and `last`, both inclusive.
 pub(crate) fn is_between(first: u16, last: u32, number: i64) -> bool
     ensures { result ≡ is_between first last number }
 {
     i64::from(first) <= number && number <= i64::from(last)
 }
 
-/// Whether the number has 16 bits at most, and none outside the mask.
+/// Returns whether the number fits in 16 bits and has no bit outside the mask.
 pub(crate) fn has_only_bits(mask: u16, number: i64) -> bool
     ensures { result ≡ has_only_bits mask number }
 {
@@ -22,7 +22,7 @@ pub(crate) fn has_only_bits(mask: u16, number: i64) -> bool
     }
 }
 
-/// Whether a device's own registers end at offset FFh or before.
+/// Returns whether a configuration block ends at or below offset FFh.
 pub(crate) fn config_ends(config: &ConfigEntry<'_>) -> bool
     ensures { result ≡ int_le (config.now.off +ℤ config.now.block) (pos 256) }
 {
@@ -32,7 +32,7 @@ pub(crate) fn config_ends(config: &ConfigEntry<'_>) -> bool
     }
 }
 
-/// Whether the text has 15 slashes at most.
+/// Returns whether the text has at most 15 slashes. A path of 16 parts has 15.
 pub(crate) fn has_few_slashes(at: &PathText<'_>) -> bool
     ensures { result ≡ has_few_slashes at.now }
 {
@@ -40,7 +40,7 @@ pub(crate) fn has_few_slashes(at: &PathText<'_>) -> bool
     text.iter().filter(|byte| **byte == b'/').count() <= 15
 }
 
-/// Whether there are 1024 functions at most.
+/// Returns whether the file has at most 1024 endpoints and bridges.
 pub(crate) fn has_few_functions(file: &FileEntries<'_>) -> bool
     ensures { result ≡ nat_le (length file.now.endpoints + length file.now.bridges) 1024 }
 {

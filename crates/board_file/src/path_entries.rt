@@ -1,5 +1,5 @@
-//! The entries that have the text of a path: functions, and slots. Which texts have the path of one before
-//! them is found by a set of paths, so none is compared with all others.
+//! The entries with path texts: functions and slots. A set of the paths so far finds duplicates
+//! without comparing each path with all others.
 ghost use Rattle.std.specs.{Prelude.{◌≡◌, ◌++◌, ◌||◌, not, IfOk, OnOk, map}, BTreeSet.contains};
 ghost use Rattle.model_board.specs.Paths.{Path as PathValue};
 ghost use Rattle.paths.specs.PathOrders.{path_cmp};
@@ -15,7 +15,7 @@ use std::alloc::{AllocError, Global};
 use std::collections::BTreeSet;
 use std::marker::Model;
 
-/// An entry, its text, and whether no entry before it has the same path.
+/// The path text of an entry, and whether no earlier entry has the same path.
 #[derive(Drop)]
 pub(crate) struct PathEntry<'f, 'a> {
     pub(crate) entry: Entry,
@@ -29,7 +29,7 @@ impl<'f, 'a> Model for PathEntry<'f, 'a> {
     ghost view = { λ p. record { entry = p.entry; text = p.text.now; is_own = p.is_own } };
 }
 
-/// The texts of all functions, endpoints first.
+/// Returns the path texts of all functions, endpoints first.
 fn place_texts<'f, 'a>(
     alloc: Global,
     file: &'f FileEntries<'a>,
@@ -46,7 +46,7 @@ fn place_texts<'f, 'a>(
     Ok(texts)
 }
 
-/// Appends the texts of a guest's slots.
+/// Appends the path texts of a guest's slots.
 fn push_slots<'f, 'a>(
     texts: &mut Vec<(Entry, &'f PathText<'a>)>,
     index: usize,
@@ -61,7 +61,7 @@ fn push_slots<'f, 'a>(
     Ok(())
 }
 
-/// The texts of all slots, guest after guest.
+/// Returns the path texts of all slots, guest by guest.
 fn slot_texts<'f, 'a>(
     alloc: Global,
     file: &'f FileEntries<'a>,
@@ -75,7 +75,7 @@ fn slot_texts<'f, 'a>(
     Ok(texts)
 }
 
-/// The texts of the paths that a check asks: of functions, or of slots.
+/// Returns the path texts that a check examines: those of functions or those of slots.
 fn path_texts<'f, 'a>(
     alloc: Global,
     file: &'f FileEntries<'a>,
@@ -91,7 +91,8 @@ fn path_texts<'f, 'a>(
     }
 }
 
-/// Whether the text is no path, or one that is not taken yet, which it is from then on.
+/// Adds the path of a text to the set. Returns false if the set already has that path. An invalid
+/// text returns true and adds nothing.
 fn take(taken: &mut BTreeSet<Path>, text: &PathText<'_>) -> Result<bool, AllocError>
     ensures own { IfOk result (λ own.
         own ≡ (not (is_path_text text.now)
@@ -106,7 +107,7 @@ fn take(taken: &mut BTreeSet<Path>, text: &PathText<'_>) -> Result<bool, AllocEr
     }
 }
 
-/// The entries that have these texts.
+/// Marks each text whose path an earlier entry already has.
 fn path_entries<'f, 'a>(
     alloc: Global,
     texts: Vec<(Entry, &'f PathText<'a>)>,
@@ -126,7 +127,7 @@ fn path_entries<'f, 'a>(
     Ok(entries)
 }
 
-/// The entries whose paths a check asks.
+/// Returns the path texts that a check examines, each marked if its path is a duplicate.
 pub(crate) fn asked_entries<'f, 'a>(
     alloc: Global,
     file: &'f FileEntries<'a>,

@@ -1,5 +1,4 @@
-//! The functions of a file that don't stand as those of a board, and the slots that don't name an endpoint
-//! of their own.
+//! Checks of the paths of functions and slots.
 ghost use Rattle.std.specs.Prelude.{◌≡◌, OnOk};
 ghost use Rattle.board_file.specs.{Functions.standings, Problems.{Adds, of_path, of_paths}};
 
@@ -12,7 +11,7 @@ use crate::places::FunctionPath;
 use crate::rule::Rule;
 use std::alloc::{AllocError, Global};
 
-/// Appends what is wrong with the path of an entry: with where a function stands, or with a slot.
+/// Appends the problems of the path of a function or slot.
 fn push_path(
     problems: &mut Vec<Breach<'_>>,
     functions: &PathSets<'_>,
@@ -50,7 +49,7 @@ fn push_path(
     }
 }
 
-/// Appends what is wrong with the paths that a check asks.
+/// Appends the problems of all paths that a check examines.
 pub(crate) fn push_paths(
     alloc: Global,
     problems: &mut Vec<Breach<'_>>,

@@ -1,4 +1,4 @@
-//! Functions by sets of their paths. A set finds a path by halving, so none is compared with all others.
+//! Sets of function paths. A lookup in a set takes logarithmic time.
 ghost use Rattle.std.specs.{Prelude.{◌≡◌, ◌<◌, IfOk, length, map, filter}, BTreeSet.IsFromIterResult};
 ghost use Rattle.model_board.specs.Places.{has_path, has_bridge};
 ghost use Rattle.paths.specs.PathOrders.{path_cmp};
@@ -11,7 +11,7 @@ use std::alloc::{AllocError, Global};
 use std::collections::BTreeSet;
 use std::marker::Model;
 
-/// Functions, with the paths of all and of the bridges.
+/// The paths of all functions, and separately those of bridges.
 #[derive(Drop)]
 pub(crate) struct PathSets<'a> {
     functions: &'a [FunctionPath],
@@ -31,7 +31,7 @@ impl<'a> Model for PathSets<'a> {
     ghost invariant = { λ s. AreSetsOf s.functions.now s.all s.bridges };
 }
 
-/// The paths of functions.
+/// Returns the paths of all functions.
 fn all_paths(alloc: Global, functions: &[FunctionPath]) -> Result<BTreeSet<Path>, AllocError>
     ensures { IfOk result (IsFromIterResult path_cmp (map (λ s. s.path) functions.now)) }
 {
@@ -41,7 +41,7 @@ fn all_paths(alloc: Global, functions: &[FunctionPath]) -> Result<BTreeSet<Path>
         .collect(alloc)
 }
 
-/// The paths of the bridges among them.
+/// Returns the paths of all bridges.
 fn bridge_paths(alloc: Global, functions: &[FunctionPath]) -> Result<BTreeSet<Path>, AllocError>
     ensures { IfOk result (IsFromIterResult path_cmp
         (map (λ s. s.path) (filter (λ s. s.is_bridge) functions.now))) }
@@ -54,7 +54,7 @@ fn bridge_paths(alloc: Global, functions: &[FunctionPath]) -> Result<BTreeSet<Pa
 }
 
 impl<'a> PathSets<'a> {
-    /// Puts the paths of functions into sets.
+    /// Builds the sets for these functions.
     pub(crate) fn new(
         alloc: Global,
         functions: &'a [FunctionPath],
@@ -82,7 +82,7 @@ impl<'a> PathSets<'a> {
         self.bridges.contains(path)
     }
 
-    /// Whether the bus of these parts is bus 0, or is behind a bridge.
+    /// Returns whether the parts lead to an existing bus: bus 0, or a bus behind a bridge.
     pub(crate) fn is_behind_bridge(&self, bus: &[Part]) -> bool
         requires { length bus.now < 16 }
         ensures { result ≡ is_behind_bridge self.now bus.now }
@@ -93,7 +93,7 @@ impl<'a> PathSets<'a> {
         }
     }
 
-    /// Whether the text is the path of an endpoint.
+    /// Returns whether the text is the path of an endpoint.
     pub(crate) fn names_endpoint(&self, text: &PathText<'_>) -> bool
         ensures { result ≡ names_endpoint self.now text.now }
     {

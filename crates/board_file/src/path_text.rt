@@ -1,11 +1,12 @@
-//! Paths as texts.
+//! Parsing of paths.
 ghost use Rattle.std.specs.Prelude.{◌≡◌, ◌+◌, ◌≤◌, ◌++◌, length, option_map, is_some, IfSome};
 ghost use Rattle.board_file.specs.{EntryRules.are_same_place, PathTexts.{short_part, long_part, part_at_front, parts_after, path_of, is_path_text, path_at}};
 
 use paths::{Part, Path};
 use std::marker::Model;
 
-/// A part whose device has one digit, at the front of a text, and what comes after it.
+/// Parses a part with a one-digit device at the start of a text. Returns the part and the rest of
+/// the text.
 fn short_part(text: &[u8]) -> Option<(Part, &[u8])>
     ensures { option_map (λ p. (p.0, p.1.now)) result ≡ short_part text.now }
 {
@@ -20,7 +21,8 @@ fn short_part(text: &[u8]) -> Option<(Part, &[u8])>
     }
 }
 
-/// A part whose device is from 10 to 15, at the front of a text, and what comes after it.
+/// Parses a part with device 10 to 15 at the start of a text. Returns the part and the rest of the
+/// text.
 fn long_part(text: &[u8]) -> Option<(Part, &[u8])>
     ensures { option_map (λ p. (p.0, p.1.now)) result ≡ long_part text.now }
 {
@@ -36,7 +38,7 @@ fn long_part(text: &[u8]) -> Option<(Part, &[u8])>
     }
 }
 
-/// The part at the front of a text, and what comes after it.
+/// Parses the part at the start of a text. Returns the part and the rest of the text.
 fn part_at_front(text: &[u8]) -> Option<(Part, &[u8])>
     ensures { option_map (λ p. (p.0, p.1.now)) result ≡ part_at_front text.now }
 {
@@ -46,7 +48,8 @@ fn part_at_front(text: &[u8]) -> Option<(Part, &[u8])>
     }
 }
 
-/// Goes on along the parts of the text, each after a slash, where there are no more than `room`.
+/// Parses the parts of a text, each after a slash, and appends them to the path. Returns false if
+/// the text isn't valid or has more than `room` parts.
 fn push_parts(path: &mut Path, text: &[u8], room: usize) -> bool
     requires { length path.old + room ≤ 16 }
     ensures all { result ≡ is_some (parts_after room text.now) }
@@ -69,8 +72,8 @@ fn push_parts(path: &mut Path, text: &[u8], room: usize) -> bool
     }
 }
 
-/// The path that a text is: 1 to 16 parts with slashes between them, each a device from 0 to 15, a
-/// dot and a function from 0 to 7, without leading zeros.
+/// Parses a path: 1 to 16 parts, separated by slashes. A part is a device from 0 to 15, a dot and a
+/// function from 0 to 7, without leading zeros.
 pub fn path_of(text: &[u8]) -> Option<Path>
     ensures { result ≡ path_of text.now }
 {
@@ -87,7 +90,7 @@ pub fn path_of(text: &[u8]) -> Option<Path>
     }
 }
 
-/// A text that stands for a path, and the path that it is, if it is one.
+/// The text of a path, parsed but not necessarily valid.
 #[derive(Drop)]
 pub struct PathText<'a> {
     text: &'a str,
@@ -106,7 +109,7 @@ impl<'a> Model for PathText<'a> {
 }
 
 impl<'a> PathText<'a> {
-    /// The text, parsed.
+    /// Parses a text.
     pub fn new(text: &'a str) -> PathText<'a>
         ensures { result ≡ text.now }
     {
@@ -116,21 +119,21 @@ impl<'a> PathText<'a> {
         }
     }
 
-    /// The text itself.
+    /// Returns the text as written.
     pub fn text(&self) -> &'a str
         ensures { result.now ≡ self.now }
     {
         self.text
     }
 
-    /// Whether the text is a path.
+    /// Returns whether the text is a valid path.
     pub fn is_path(&self) -> bool
         ensures { result ≡ is_path_text self.now }
     {
         self.path.is_some()
     }
 
-    /// The path that the text is, or 0.0.
+    /// Returns the path, or `0.0` if the text isn't a valid path.
     pub fn path(&self) -> Path
         ensures { result ≡ path_at self.now }
     {
@@ -141,7 +144,8 @@ impl<'a> PathText<'a> {
     }
 }
 
-/// Whether two texts are the same path. It copies neither, since it is asked of each pair of functions.
+/// Returns whether both texts are valid and are the same path. Compares the paths without copying
+/// them.
 pub fn are_same_place(one: &PathText<'_>, other: &PathText<'_>) -> bool
     ensures { result ≡ are_same_place one.now other.now }
 {

@@ -1,4 +1,4 @@
-//! The paths of functions.
+//! The paths of a board's functions.
 ghost use Rattle.std.specs.Prelude.{◌≡◌, ◌<◌, [], IfOk, length, MatchOption};
 ghost use Rattle.model_board.specs.Places.{has_bridge};
 ghost use Rattle.board_file.specs.Functions.{standings};
@@ -23,8 +23,8 @@ impl Model for FunctionPath {
     ghost view = { λ p. record { path = p.path; is_bridge = p.is_bridge } };
 }
 
-/// The paths of all functions, endpoints first. A text that is no path counts as 0.0. It fails only
-/// where memory is out.
+/// Returns the paths of all functions, endpoints first. Replaces an invalid path by `0.0`. Fails
+/// only if memory is exhausted.
 pub fn function_paths(
     alloc: Global,
     file: &FileEntries<'_>,
@@ -42,7 +42,7 @@ pub fn function_paths(
     endpoints.chain(bridges).collect(alloc)
 }
 
-/// The path of these parts.
+/// Returns the path of these parts, or `None` if there are no parts.
 pub(crate) fn path_of(parts: &[Part]) -> Option<Path>
     requires { length parts.now < 16 }
     ensures { MatchOption result (parts.now ≡ []) (λ p. p ≡ parts.now) }
@@ -55,7 +55,7 @@ pub(crate) fn path_of(parts: &[Part]) -> Option<Path>
     Some(path)
 }
 
-/// Whether a bridge stands at the path.
+/// Returns whether there is a bridge at the path.
 pub fn has_bridge(functions: &[FunctionPath], path: &Path) -> bool
     ensures { result ≡ has_bridge functions.now path.now }
 {

@@ -1,4 +1,4 @@
-//! What the table of a document says, key by key.
+//! Conversion of a TOML document to entries.
 ghost use Rattle.std.specs.{Prelude.{◌≡◌, map, unwrap_or, option_and_then, option_map, IfOk, codes}, List.filter_map};
 ghost use Rattle.toml.specs.{Data.{Members, get_member, as_str, as_table, as_array}, View.{view, array_view, table_view}};
 ghost use Rattle.board_file.specs.{Schema.list_of, Entries.{number, text_at, text, values, tables, table_at, patterns, bar, config, endpoint, bridge, guest, integer_of, range_of, range, file}};
@@ -14,14 +14,14 @@ use headers::{IoDecode, PrefDecode};
 use std::alloc::{AllocError, Global};
 use toml::value::{Array, Table, Value};
 
-/// The value at a key.
+/// Returns the value of a key.
 pub fn value_at<'a>(table: &'a Table, key: &str) -> Option<&'a Value>
     ensures { option_map (λ v. view v.now) result ≡ get_member key.now (table_view table.now) }
 {
     table.get(key)
 }
 
-/// The integer at a key, or 0.
+/// Returns the integer value of a key. A missing or mistyped value reads as 0.
 fn number(table: &Table, key: &str) -> i64
     ensures { result ≡ number key.now (table_view table.now) }
 {
@@ -31,21 +31,21 @@ fn number(table: &Table, key: &str) -> i64
     }
 }
 
-/// The text at a key.
+/// Returns the string value of a key.
 fn text_at<'a>(table: &'a Table, key: &str) -> Option<&'a str>
     ensures { option_map (λ s. s.now) result ≡ text_at key.now (table_view table.now) }
 {
     value_at(table, key)?.as_str()
 }
 
-/// The text at a key, or none.
+/// Returns the string value of a key. A missing or mistyped value reads as an empty string.
 fn text<'a>(table: &'a Table, key: &str) -> &'a str
     ensures { result.now ≡ text key.now (table_view table.now) }
 {
     text_at(table, key).unwrap_or("")
 }
 
-/// The array at a key.
+/// Returns the array value of a key.
 fn array_at<'a>(table: &'a Table, key: &str) -> Option<&'a Array>
     ensures { option_map (λ a. array_view a.now) result
         ≡ option_and_then as_array (get_member key.now (table_view table.now)) }
@@ -53,16 +53,16 @@ fn array_at<'a>(table: &'a Table, key: &str) -> Option<&'a Array>
     value_at(table, key)?.as_array()
 }
 
-/// What a table of an array says.
+/// An entry that can be read from a table.
 trait FromTable<'a>: Sized + Drop {
     ghost said: { Members → Self };
 
-    /// Reads the table.
+    /// Reads an entry from its table.
     fn from_table(alloc: Global, table: &'a Table) -> Result<Self, AllocError>
         ensures { IfOk result (λ e. e ≡ said (table_view table.now)) };
 }
 
-/// What the tables of an array say.
+/// Reads an entry from each table of an array. Skips items that aren't tables.
 fn entries_of<'a, E: FromTable<'a>>(alloc: Global, items: &'a Array) -> Result<Vec<E>, AllocError>
     ensures { IfOk result (λ v.
         v.items ≡ map E.said (filter_map as_table (list_of (array_view items.now)))) }
@@ -76,7 +76,7 @@ fn entries_of<'a, E: FromTable<'a>>(alloc: Global, items: &'a Array) -> Result<V
     Ok(entries)
 }
 
-/// What the tables of the array at a key say.
+/// Reads an entry from each table of the array at a key.
 fn entries<'a, E: FromTable<'a>>(
     alloc: Global,
     table: &'a Table,
@@ -90,7 +90,7 @@ fn entries<'a, E: FromTable<'a>>(
     }
 }
 
-/// The texts of an array, which stand for paths.
+/// Parses each string of an array as a path. Skips items that aren't strings.
 fn texts_of(alloc: Global, items: &Array) -> Result<Vec<PathText<'_>>, AllocError>
     ensures { IfOk result (λ v. v.items ≡ filter_map as_str (list_of (array_view items.now))) }
 {
@@ -215,7 +215,7 @@ fn range_of(items: &Array) -> Bounds
     }
 }
 
-/// The two integers of the array at a key.
+/// Returns the two integers of the array at a key. Anything else reads as two zeros.
 fn range(table: &Table, key: &str) -> Bounds
     ensures { result ≡ range key.now (table_view table.now) }
 {
@@ -254,8 +254,8 @@ fn pref_range(table: &Table) -> Option<Bounds>
     }
 }
 
-/// What the table says. A key that is absent, or that has no value of its type, gives 0, no text or no
-/// tables; it fails only where memory is out.
+/// Reads the entries of a document without checking them. A missing or mistyped value reads as 0,
+/// as an empty string or as an empty list. Fails only if memory is exhausted.
 pub fn read_entries(alloc: Global, table: &Table) -> Result<FileEntries<'_>, AllocError>
     ensures { IfOk result (λ f. f ≡ file (table_view table.now)) }
 {

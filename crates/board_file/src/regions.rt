@@ -1,4 +1,4 @@
-//! The registers and sizes of an endpoint's regions.
+//! Checks of the indices and sizes of an endpoint's BARs.
 ghost use Rattle.std.specs.Prelude.{◌≡◌, ◌||◌, not, map};
 ghost use Rattle.bars.specs.Kinds.{kind_of};
 ghost use Rattle.model_registers.specs.DeclarationRules.{has_own_registers};
@@ -8,14 +8,14 @@ use crate::entries::{BarEntry, EndpointEntry};
 use bars::{BarDecl, Kind};
 use headers::{TakesRegisters, have_own_registers};
 
-/// Whether the index is that of one of the six base address registers, 0 to 5.
+/// Returns whether the index of a BAR is 0 to 5.
 pub(crate) fn is_index(bar: &BarEntry<'_>) -> bool
     ensures { result ≡ is_between 0 5 bar.now.index }
 {
     0 <= bar.index && bar.index <= 5
 }
 
-/// Whether the index of each region is lawful.
+/// Returns whether the indices of all BARs are valid.
 fn has_indices(endpoint: &EndpointEntry<'_>) -> bool
     ensures { result ≡ has_indices endpoint.now }
 {
@@ -34,7 +34,8 @@ impl<'a> TakesRegisters for BarEntry<'a> {
     }
 }
 
-/// Whether each region has its own registers, if all their indices are lawful.
+/// Returns whether no BARs share a register and none needs more than the six registers. Also
+/// returns true if an index isn't valid, which is a problem of its own.
 pub(crate) fn has_own_registers(endpoint: &EndpointEntry<'_>) -> bool
     ensures { result
         ≡ (not (has_indices endpoint.now) || has_own_registers (map region endpoint.now.bars)) }
@@ -42,7 +43,8 @@ pub(crate) fn has_own_registers(endpoint: &EndpointEntry<'_>) -> bool
     !has_indices(endpoint) || have_own_registers(&endpoint.bars)
 }
 
-/// Whether a region of this kind may have so many bytes: a power of two within the limits of its kind.
+/// Returns whether a BAR of this kind can have this size: a power of two within the limits of the
+/// kind.
 pub(crate) fn is_size(kind: Kind, size: i64) -> bool
     ensures { result ≡ is_size (kind_of kind) size }
 {

@@ -1,95 +1,96 @@
-//! The rules that entries have to keep.
+//! The rules of a board file.
 ghost use Rattle.std.specs.Prelude.{◌≡◌};
 ghost use Rattle.board_file.specs.RuleFaults.{row_of, fault_of, key_of};
 
 use crate::fault::BoardFault;
 
-/// A rule that an entry has to keep.
+/// A rule that the entries of a board file have to keep.
 #[derive(Clone, Copy, Debug)]
 pub enum Rule {
-    /// A needed key is there.
+    /// A required key is present.
     Needed,
-    /// A value has the type, or is one of the words, that stands at its key.
+    /// A value has the type of its key, or is one of the words for it.
     Form,
-    /// A key is one that its table has.
+    /// A key is defined for its table.
     Known,
-    /// The Vendor ID is 0 to FFFEh.
+    /// The Vendor ID is at most FFFEh.
     Vendor,
-    /// The Device ID fits its register.
+    /// The Device ID fits in its register.
     Device,
-    /// The Revision ID fits its register.
+    /// The Revision ID fits in its register.
     Revision,
-    /// The Class Code fits its register.
+    /// The Class Code fits in its register.
     Class,
-    /// The Subsystem Vendor ID fits its register.
+    /// The Subsystem Vendor ID fits in its register.
     Subvendor,
-    /// The Subsystem ID fits its register.
+    /// The Subsystem ID fits in its register.
     Subsystem,
-    /// The interrupt pin is none or one of four.
+    /// The Interrupt Pin is 0 (none) or 1 to 4.
     Pin,
-    /// Min_Gnt fits its register.
+    /// Min_Gnt fits in its register.
     MinGnt,
-    /// Max_Lat fits its register.
+    /// Max_Lat fits in its register.
     MaxLat,
-    /// Status has only bits that a device reports.
+    /// Status has only bits of F900h, the error bits that a device can report.
     Status,
-    /// A region's block has at most 4096 cells.
+    /// The register block of a BAR has at most 4096 bytes.
     BarBlock,
-    /// A device's own registers begin at 40h to FFh.
+    /// A configuration block begins at an offset from 40h to FFh.
     ConfigOff,
-    /// There are 1 to 192 of them.
+    /// A configuration block has 1 to 192 bytes.
     ConfigBlock,
-    /// They end at FFh or before.
+    /// A configuration block ends at or below offset FFh.
     ConfigEnd,
     /// A path has at most 15 slashes.
     Slashes,
-    /// There are at most 1024 endpoints and bridges.
+    /// The file has at most 1024 endpoints and bridges.
     Functions,
-    /// There are at most 32 guests.
+    /// The file has at most 32 guests.
     Guests,
     /// A guest has at most 32 slots.
     Slots,
-    /// A region's index is 0 to 5.
+    /// The index of a BAR is 0 to 5.
     Index,
-    /// A region's size is one that its kind allows.
+    /// The size of a BAR is valid for its kind.
     Size,
-    /// A region's block is no longer than the region.
+    /// A register block isn't longer than its BAR.
     BlockFits,
-    /// A guest's name has the form of a name.
+    /// The name of a guest is valid.
     Name,
-    /// The patterns of a region's block are lawful.
+    /// The patterns of a BAR's register block are valid.
     BarMasks,
-    /// The patterns of a device's own registers are lawful.
+    /// The patterns of a configuration block are valid.
     ConfigMasks,
-    /// The `at` is the text of a path.
+    /// The `at` of a function is a valid path.
     Path,
-    /// No function before it stands at the same path.
+    /// No earlier function has the same path.
     OwnPlace,
-    /// It is on bus 0, or behind a bridge of the file.
+    /// A function is on bus 0 or behind a bridge of the file.
     BehindBridge,
-    /// Its device has a function 0.
+    /// The device of a function has a function 0.
     FunctionZero,
-    /// No register is used twice, and each region has its own among the six.
+    /// The BARs of an endpoint don't share a register, and none needs more than the six registers.
     OwnRegisters,
-    /// No guest before it has the same name.
+    /// No earlier guest has the same name.
     OwnName,
     /// A slot is the path of an endpoint.
     NamesEndpoint,
-    /// No slot before it has the same endpoint.
+    /// No earlier slot has the same endpoint.
     OwnSlot,
-    /// The aperture of I/O is lawful.
+    /// The I/O aperture is valid.
     IoAperture,
-    /// The aperture of memory is lawful.
+    /// The memory aperture is valid.
     MemAperture,
-    /// The prefetchable aperture is lawful beside that of memory.
+    /// The prefetchable aperture is valid and doesn't overlap the memory aperture.
     PrefAperture,
-    /// No block of own registers before it overlaps.
+    /// A configuration block doesn't overlap an earlier one.
     OwnOffsets,
 }
 
 impl Rule {
-    /// The fault of a file in which the rule is broken, and the key at which it is. A rule of keys is broken at
-    /// any key, and a slot has none.
+    /// Returns the fault of a file that breaks the rule, and the key at which the problem is
+    /// reported. The key is empty for rules of keys, which apply to any key, and of slots, which
+    /// have no key.
     fn row(self) -> (BoardFault, &'static str)
         ensures { (result.0, result.1.now) ≡ row_of self }
     {
@@ -136,14 +137,15 @@ impl Rule {
         }
     }
 
-    /// The fault of a file in which the rule is broken.
+    /// Returns the fault of a file that breaks the rule.
     pub fn fault(self) -> BoardFault
         ensures { result ≡ fault_of self }
     {
         self.row().0
     }
 
-    /// The key at which the rule is broken, if it is one key.
+    /// Returns the key at which a problem is reported, or an empty string if the rule isn't about
+    /// one key.
     pub fn key(self) -> &'static str
         ensures { result.now ≡ key_of self }
     {

@@ -1,4 +1,4 @@
-//! Which keys the tables of a board file have, and what stands at them.
+//! The kinds of tables in a board file, and the forms of values.
 ghost use Rattle.std.specs.{Prelude.{◌≡◌, is_some}, List.list_all};
 ghost use Rattle.toml.specs.{View.view, Data.{as_integer, as_str, as_table}};
 ghost use Rattle.board_file.specs.Schema.{fields, form_at, is_listed, has_form};
@@ -7,7 +7,7 @@ use crate::keys::fields;
 use crate::texts::{io_decode, pref_decode, region_kind};
 use toml::value::{Array, Value};
 
-/// The kinds of table in a board file.
+/// A kind of table.
 #[derive(Clone, Copy)]
 pub enum Level {
     Top,
@@ -19,7 +19,7 @@ pub enum Level {
     Guest,
 }
 
-/// The lists of words.
+/// A set of words that a value can be chosen from.
 #[derive(Clone, Copy)]
 pub enum Words {
     RegionKind,
@@ -27,7 +27,7 @@ pub enum Words {
     PrefDecode,
 }
 
-/// What stands at a key.
+/// The form of a value: its type, and its words if it has any.
 #[derive(Clone, Copy)]
 pub enum Form {
     Integer,
@@ -35,7 +35,7 @@ pub enum Form {
     Word(Words),
     /// An array of two integers.
     Pair,
-    /// An array of texts.
+    /// An array of strings.
     Texts,
     Table(Level),
     /// An array of tables.
@@ -50,7 +50,7 @@ pub struct Field {
     pub form: Form,
 }
 
-/// What stands at the key in a table of the level.
+/// Returns the form of a key's value, or `None` if the key isn't defined for the level.
 pub fn form_at(level: Level, key: &str) -> Option<Form>
     ensures { result ≡ form_at key.now (fields level) }
 {
@@ -62,7 +62,7 @@ pub fn form_at(level: Level, key: &str) -> Option<Form>
     None
 }
 
-/// The text is one of the words.
+/// Returns whether the text is one of the words.
 fn is_listed(words: Words, text: &str) -> bool
     ensures { result ≡ is_listed words text.now }
 {
@@ -73,7 +73,7 @@ fn is_listed(words: Words, text: &str) -> bool
     }
 }
 
-/// The value is one of the words.
+/// Returns whether the value is a string that is one of the words.
 fn is_word(words: Words, value: &Value) -> bool
     ensures { result ≡ has_form (Form.Word words) (view value.now) }
 {
@@ -83,7 +83,7 @@ fn is_word(words: Words, value: &Value) -> bool
     }
 }
 
-/// The value has the form.
+/// Returns whether the value has the form.
 pub fn has_form(form: Form, value: &Value) -> bool
     ensures { result ≡ has_form form (view value.now) }
 {

@@ -1,4 +1,4 @@
-//! A document with what it says, and the reading of a board file.
+//! Reading of board files.
 ghost use Rattle.std.specs.Prelude.{◌≡◌, ◌≢◌, IfOk, IfErr, IsUtf8, Ok, Err, map, option_map};
 ghost use Rattle.toml.specs.{View.table_view, Parse.parse_document};
 ghost use Rattle.model_registers.specs.DeclarationRules.{first_broken};
@@ -20,21 +20,22 @@ use host_bridge::Host;
 use std::alloc::{AllocError, Global};
 use toml::Table;
 
-/// A document with what it says, whether it is refused or not, beside the bytes of its file.
+/// A document with the bytes of its file and the entries read from it. The document may have
+/// problems.
 #[derive(Drop)]
 pub struct Source<'a> {
     /// The bytes of the file.
     pub bytes: &'a [u8],
     pub document: &'a Table,
     pub file: FileEntries<'a>,
-    /// Where its functions stand.
+    /// The paths of all functions.
     pub functions: Vec<FunctionPath>,
     ghost entries: { file ≡ said.file (table_view document.now) },
     ghost places: { functions.items ≡ standings file },
 }
 
 impl<'a> Source<'a> {
-    /// What a document says, beside the bytes of its file. It fails only where memory is out.
+    /// Reads the entries of a document. Fails only if memory is exhausted.
     pub fn new(
         alloc: Global,
         bytes: &'a [u8],
@@ -53,8 +54,8 @@ impl<'a> Source<'a> {
         })
     }
 
-    /// All entries that break a rule whose fault this is, each with this rule and the key at which it is
-    /// broken, in the order of the file.
+    /// Returns all problems with this fault, in file order. A problem names the entry, the broken
+    /// rule and the key.
     pub fn problems(&self, alloc: Global, fault: BoardFault) -> Result<Vec<Breach<'a>>, AllocError>
         ensures { let ms = table_view self.now.document.now in
             IfOk result (λ v. map found_of v.items ≡ problems_of ms fault) }
@@ -65,7 +66,7 @@ impl<'a> Source<'a> {
         }
     }
 
-    /// The first fault of the document, but for that of its patterns.
+    /// Returns the first fault of the document, except `CellMasks`.
     fn first_fault(&self, alloc: Global) -> Result<Option<BoardFault>, AllocError>
         ensures { let ms = table_view self.now.document.now in
             IfOk result (λ found. option_map number_of found ≡ first_broken (early_checks ms)) }
@@ -78,7 +79,8 @@ impl<'a> Source<'a> {
         Ok(None)
     }
 
-    /// The host and the guests that the document declares, or its refusal, as [`read_board`] answers them.
+    /// Builds the host and the guests of the document, or returns the fault for which the document
+    /// is refused. See [`read_board`] for the order of the checks.
     pub fn world(&self, alloc: Global) -> Result<(Host, Vec<GuestDecl>), BoardFault>
         ensures world { let ms = table_view self.now.document.now in
             IfOk result (λ r. meaning ms ≡ Ok (world_in r.0 r.1.items)) }
@@ -94,7 +96,7 @@ impl<'a> Source<'a> {
     }
 }
 
-/// The host and the guests of a document.
+/// Builds the host and the guests of a document.
 fn read_document(
     alloc: Global,
     bytes: &[u8],
@@ -111,10 +113,10 @@ fn read_document(
     source.world(alloc)
 }
 
-/// The host bridge over the board that a file declares, at reset and with address latch 0, and the
-/// guests in the order of the file. A file that fails a check is refused with the first check that
-/// fails over the whole file, in the order 101, 102, 103, 104, 108, 105, 106, 107, 109, 110, 111,
-/// 112; bytes that are not UTF-8 are no TOML. Out of memory is answered at any point.
+/// Reads a board file. Returns its host bridge and board at reset, with CONFIG_ADDRESS 0, and its
+/// guests in file order. A file that fails checks is refused with the first of them, in the order
+/// 101, 102, 103, 104, 108, 105, 106, 107, 109, 110, 111, 112. Each check covers the whole file.
+/// Bytes that aren't UTF-8 aren't TOML (101). Exhausted memory can be reported at any point.
 pub fn read_board(alloc: Global, bytes: &[u8]) -> Result<(Host, Vec<GuestDecl>), BoardFault>
     ensures world { IfOk result (λ r.
         IsUtf8 bytes.now

@@ -1,4 +1,4 @@
-//! The tables of entries in a document.
+//! Lookup of entries in a document.
 ghost use Rattle.std.specs.Prelude.{◌≡◌, codes, option_map, option_and_then};
 ghost use Rattle.toml.specs.{Data.{get_member, at, as_table, as_str}, View.{view, table_view}};
 ghost use Rattle.board_file.specs.Tables.{table_in, table_at, value_at, owner_of, owner_key, level_of};
@@ -9,7 +9,7 @@ use crate::schema::Level;
 use toml::Table;
 use toml::value::Value;
 
-/// The table at an index of a list.
+/// Returns the table at an index of an array.
 fn table_of(list: &Value, index: usize) -> Option<&Table>
     ensures { option_map (λ t. table_view t.now) result
         ≡ option_and_then as_table (at index (view list.now)) }
@@ -17,7 +17,7 @@ fn table_of(list: &Value, index: usize) -> Option<&Table>
     list.get(index)?.as_table()
 }
 
-/// The table at an index of the list at a key.
+/// Returns the table at an index of the array at a key.
 fn table_in<'v>(table: &'v Table, key: &str, index: usize) -> Option<&'v Table>
     ensures { option_map (λ t. table_view t.now) result
         ≡ table_in key.now index (table_view table.now) }
@@ -25,7 +25,7 @@ fn table_in<'v>(table: &'v Table, key: &str, index: usize) -> Option<&'v Table>
     table_of(member(table, key)?, index)
 }
 
-/// The table at an index of the list at a key of a table of `endpoint`.
+/// Returns the table at an index of an array in an `endpoint` table.
 fn table_in_endpoint<'v>(
     table: &'v Table,
     endpoint: usize,
@@ -39,7 +39,7 @@ fn table_in_endpoint<'v>(
     table_in(table_in(table, "endpoint", endpoint)?, key, index)
 }
 
-/// The table `host`.
+/// Returns the `host` table.
 fn host(table: &Table) -> Option<&Table>
     ensures { option_map (λ t. table_view t.now) result
         ≡ table_at (table_view table.now) Entry.Host }
@@ -47,7 +47,7 @@ fn host(table: &Table) -> Option<&Table>
     member(table, "host")?.as_table()
 }
 
-/// The table of an entry.
+/// Returns the table of an entry. A slot has none.
 pub fn table_at(table: &Table, entry: Entry) -> Option<&Table>
     ensures { option_map (λ t. table_view t.now) result ≡ table_at (table_view table.now) entry }
 {
@@ -63,7 +63,7 @@ pub fn table_at(table: &Table, entry: Entry) -> Option<&Table>
     }
 }
 
-/// The value at a key of a table that may be there.
+/// Returns the value of a key in a table that may be missing.
 fn member_of<'v>(table: Option<&'v Table>, key: &str) -> Option<&'v Value>
     ensures { option_map (λ v. view v.now) result
         ≡ option_and_then (get_member key.now) (option_map (λ t. table_view t.now) table.entry) }
@@ -71,7 +71,7 @@ fn member_of<'v>(table: Option<&'v Table>, key: &str) -> Option<&'v Value>
     member(table?, key)
 }
 
-/// The value at a key of an entry. A slot is its value itself.
+/// Returns the value of a key of an entry. For a slot, returns the slot itself.
 pub fn value_at<'v>(document: &'v Table, entry: Entry, key: &str) -> Option<&'v Value>
     ensures { option_map (λ v. view v.now) result
         ≡ value_at (table_view document.now) entry key.now }
@@ -82,7 +82,7 @@ pub fn value_at<'v>(document: &'v Table, entry: Entry, key: &str) -> Option<&'v 
     }
 }
 
-/// The function or guest that an entry belongs to.
+/// Returns the function or guest that an entry belongs to. Other entries are returned unchanged.
 pub fn owner_of(entry: Entry) -> Entry
     ensures { result ≡ owner_of entry }
 {
@@ -93,7 +93,7 @@ pub fn owner_of(entry: Entry) -> Entry
     }
 }
 
-/// The key of the path or name of what an entry belongs to.
+/// Returns the key that identifies the owner of an entry: `at` for a function, `name` for a guest.
 fn owner_key(entry: Entry) -> Option<&'static str>
     ensures { option_map (λ k. k.now) result ≡ owner_key entry }
 {
@@ -104,7 +104,8 @@ fn owner_key(entry: Entry) -> Option<&'static str>
     }
 }
 
-/// The path of the function, or the name of the guest, that an entry belongs to, as it was read.
+/// Returns the path of the function or the name of the guest that an entry belongs to, as written
+/// in the file.
 pub fn owner_name(document: &Table, entry: Entry) -> Option<&str>
     ensures { option_map (λ s. s.now) result
         ≡ option_and_then as_str
@@ -115,7 +116,7 @@ pub fn owner_name(document: &Table, entry: Entry) -> Option<&str>
     value.as_str()
 }
 
-/// The kind of table that an entry has to be.
+/// Returns the kind of table that an entry has to be, or `None` for a slot.
 pub fn level_of(entry: Entry) -> Option<Level>
     ensures { result ≡ level_of entry }
 {

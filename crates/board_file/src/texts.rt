@@ -1,4 +1,4 @@
-//! The words that a board file has for kinds.
+//! The words of a board file for kinds of BARs and for address decoding.
 ghost use Rattle.std.specs.Prelude.{◌≡◌, option_map};
 ghost use Rattle.bars.specs.Kinds.{kind_of};
 ghost use Rattle.headers.specs.Decodes.{io_decode_of, pref_decode_of};
@@ -7,7 +7,7 @@ ghost use Rattle.board_file.specs.Texts.{region_kind, io_decode, pref_decode};
 use bars::Kind;
 use headers::{IoDecode, PrefDecode};
 
-/// The kind of a base address register.
+/// Parses the kind of a BAR.
 pub(crate) fn region_kind(word: &str) -> Option<Kind>
     ensures { option_map kind_of result ≡ region_kind word.now }
 {
@@ -26,7 +26,7 @@ pub(crate) fn region_kind(word: &str) -> Option<Kind>
     }
 }
 
-/// The I/O addresses that a bridge decodes.
+/// Parses a bridge's I/O address decoding.
 pub(crate) fn io_decode(word: &str) -> Option<IoDecode>
     ensures { option_map io_decode_of result ≡ io_decode word.now }
 {
@@ -41,7 +41,7 @@ pub(crate) fn io_decode(word: &str) -> Option<IoDecode>
     }
 }
 
-/// The prefetchable addresses that a bridge decodes.
+/// Parses a bridge's prefetchable address decoding.
 pub(crate) fn pref_decode(word: &str) -> Option<PrefDecode>
     ensures { option_map pref_decode_of result ≡ pref_decode word.now }
 {

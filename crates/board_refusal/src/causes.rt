@@ -1,4 +1,4 @@
-//! What is wrong where a rule is broken, and why.
+//! Messages and causes of problems.
 
 use crate::key_causes::{asked, push_known};
 use crate::others::path_of;
@@ -11,7 +11,7 @@ use board_file::{Entry, Rule, Source};
 use diagnostics::{Beside, Other};
 use std::alloc::{AllocError, Global};
 
-/// What is said where the rule is broken.
+/// Returns the message for a broken rule, without its cause.
 pub(crate) fn rule_words(rule: Rule) -> &'static str {
     match rule {
         Rule::Needed => "is missing",
@@ -50,7 +50,7 @@ pub(crate) fn rule_words(rule: Rule) -> &'static str {
     }
 }
 
-/// Appends why a region or a block of own registers breaks a rule.
+/// Appends why a BAR or a configuration block breaks a rule.
 fn push_part(
     text: &mut String,
     file: &FileEntries<'_>,
@@ -71,7 +71,7 @@ fn push_part(
     }
 }
 
-/// Appends why the path of a function or a slot breaks a rule.
+/// Appends why the path of a function or slot breaks a rule.
 fn push_path(
     text: &mut String,
     source: &Source<'_>,
@@ -90,7 +90,8 @@ fn push_path(
     }
 }
 
-/// Appends why a region has no registers of its own.
+/// Appends why a BAR has no registers of its own: an earlier BAR uses one of them, or a 64-bit BAR
+/// begins at the last register.
 fn push_taker(
     text: &mut String,
     taker: Option<Other>,
@@ -105,7 +106,7 @@ fn push_taker(
     }
 }
 
-/// Appends why a rule is broken, beyond the words of the rule.
+/// Appends the cause of a problem to its message.
 pub(crate) fn push_cause(
     alloc: Global,
     text: &mut String,

@@ -1,11 +1,12 @@
-//! Why a key is not known, or a value is not what its key asks.
+//! Causes of unknown keys and of values with the wrong form.
 
 use board_file::keys::fields;
 use board_file::schema::{Field, Form, Level, Words, form_at};
 use std::alloc::{AllocError, Global};
 use strsim::levenshtein;
 
-/// The key that may be meant: the first that is one letter off, or else two, and has twice as many letters at least.
+/// Returns the key that was probably meant: the first that is one edit away, or else two. A key
+/// must be at least twice as long as the number of edits.
 fn nearest(
     alloc: Global,
     word: &str,
@@ -21,7 +22,7 @@ fn nearest(
     Ok(None)
 }
 
-/// Appends the key that may be meant by one that a table of the level doesn't have, or all keys that it has.
+/// Appends the key that was probably meant by an unknown one, or a list of all keys of the level.
 pub(crate) fn push_known(
     alloc: Global,
     text: &mut String,
@@ -41,7 +42,7 @@ pub(crate) fn push_known(
     Ok(())
 }
 
-/// What to write at a key of a table of the level.
+/// Returns a hint on how to write the value of a key.
 pub(crate) fn asked(level: Level, key: &str) -> &'static str {
     match form_at(level, key) {
         Some(Form::Integer) => ": write an integer, as 16 or 0x10, without quotes",

@@ -1,7 +1,7 @@
 //! Layer: files. Below: diagnostics. Above: board_told.
 //!
-//! What is told of a board file that is refused: a line for each entry that breaks a rule, with its line in the file,
-//! and why. While keys are wrong, nothing is said about values.
+//! Error messages for a board file that is refused: a line for each problem, with its line in the
+//! file and its cause. Problems of values are reported only when the keys have none.
 #![tactic(auto)]
 
 mod causes;

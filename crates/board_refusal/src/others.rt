@@ -1,4 +1,4 @@
-//! The other entries that a problem has to do with.
+//! The other entries that a problem involves.
 
 use bars::Kind;
 use board_file::blocks::are_apart;
@@ -6,7 +6,7 @@ use board_file::entries::{BarEntry, FileEntries};
 use board_file::path_text::{PathText, are_same_place};
 use board_file::{Entry, Rule};
 
-/// The text of the path of a function or a slot.
+/// Returns the path text of a function or slot.
 pub(crate) fn path_of<'f, 'a>(file: &'f FileEntries<'a>, entry: Entry) -> Option<&'f PathText<'a>> {
     match entry {
         Entry::Endpoint(i) => Some(&file.endpoints.get(i)?.at),
@@ -16,7 +16,7 @@ pub(crate) fn path_of<'f, 'a>(file: &'f FileEntries<'a>, entry: Entry) -> Option
     }
 }
 
-/// The register after those of a region.
+/// Returns the index of the register after those of a BAR.
 fn end_of(bar: &BarEntry<'_>) -> u64 {
     let registers = match bar.kind {
         Kind::Io | Kind::Mem32 { .. } => 1,
@@ -25,13 +25,14 @@ fn end_of(bar: &BarEntry<'_>) -> u64 {
     bar.index.unsigned_abs().saturating_add(registers)
 }
 
-/// Whether both regions take a register.
+/// Returns whether two BARs share a register.
 fn meets(bar: &BarEntry<'_>, other: &BarEntry<'_>) -> bool {
     bar.index.unsigned_abs() < end_of(other) && other.index.unsigned_abs() < end_of(bar)
 }
 
-/// The first region without registers of its own beside those before it, and the first of these that it meets, if it
-/// meets one: a region of a 64-bit kind may lack its second register.
+/// Finds the first BAR that has no registers of its own. Returns its index, and the index of the
+/// first earlier BAR that shares a register with it. The second index is `None` if a 64-bit BAR
+/// begins at the last register.
 fn taker(bars: &[BarEntry<'_>]) -> Option<(usize, Option<usize>)> {
     for (index, bar) in bars.iter().enumerate() {
         let met = bars.iter().take(index).position(|other| meets(bar, other));
@@ -42,7 +43,7 @@ fn taker(bars: &[BarEntry<'_>]) -> Option<(usize, Option<usize>)> {
     None
 }
 
-/// The region that breaks the rule, where an endpoint's regions do.
+/// Returns the BAR that breaks `OwnRegisters`, or `None` for other rules.
 pub(crate) fn taker_of(file: &FileEntries<'_>, entry: Entry, rule: Rule) -> Option<Entry> {
     match (rule, entry) {
         (Rule::OwnRegisters, Entry::Endpoint(i)) => {
@@ -53,7 +54,7 @@ pub(crate) fn taker_of(file: &FileEntries<'_>, entry: Entry, rule: Rule) -> Opti
     }
 }
 
-/// The first function at a path.
+/// Returns the first function with this path.
 fn function_at(file: &FileEntries<'_>, at: &PathText<'_>) -> Option<Entry> {
     let endpoint = file
         .endpoints
@@ -71,7 +72,7 @@ fn function_at(file: &FileEntries<'_>, at: &PathText<'_>) -> Option<Entry> {
     }
 }
 
-/// The first slot with a path.
+/// Returns the first slot with this path.
 fn slot_with(file: &FileEntries<'_>, at: &PathText<'_>) -> Option<Entry> {
     for (i, guest) in file.guests.iter().enumerate() {
         if let Some(j) = guest.slots.iter().position(|slot| are_same_place(slot, at)) {
@@ -81,8 +82,8 @@ fn slot_with(file: &FileEntries<'_>, at: &PathText<'_>) -> Option<Entry> {
     None
 }
 
-/// The first entry that has what the entry asks for itself, where it breaks the rule by that; of regions the one that
-/// has the register of another.
+/// Returns the first entry that conflicts with this one over a path, a name, an offset or a
+/// register. Returns `None` for rules that no other entry is involved in.
 pub(crate) fn other_of(file: &FileEntries<'_>, entry: Entry, rule: Rule) -> Option<Entry> {
     match (rule, entry) {
         (Rule::OwnPlace, _) => function_at(file, path_of(file, entry)?),

@@ -1,11 +1,12 @@
-//! Why a path is none, or nothing stands where it leads.
+//! Causes of invalid paths, and of paths without the required function.
 
 use board_file::path_text::path_of;
 use board_file::places::{FunctionPath, has_bridge};
 use diagnostics::Shown;
 use std::alloc::AllocError;
 
-/// Appends what may be meant by a text that is no path: one of lspci, or a device with a zero before its number.
+/// Appends the path that was probably meant by an invalid text, or else the syntax of paths.
+/// Recognises the form of `lspci` and leading zeros.
 pub(crate) fn push_path_form(text: &mut String, at: &[u8]) -> Result<(), AllocError> {
     let short = match at {
         [b'0', b'0', b':', rest @ ..] => rest,
@@ -27,7 +28,7 @@ pub(crate) fn push_path_form(text: &mut String, at: &[u8]) -> Result<(), AllocEr
     }
 }
 
-/// Appends the first beginning of a path at which no bridge stands.
+/// Appends the first prefix of a path at which there is no bridge.
 pub(crate) fn push_bridge(
     text: &mut String,
     functions: &[FunctionPath],
@@ -44,7 +45,7 @@ pub(crate) fn push_bridge(
     Ok(())
 }
 
-/// Appends function 0 of the device.
+/// Appends the path of the missing function 0.
 pub(crate) fn push_zero(text: &mut String, at: &[u8]) -> Result<(), AllocError> {
     match at.split_last() {
         Some((_, device)) => write!(text, ": no function at {}0", Shown(device)),
@@ -52,7 +53,7 @@ pub(crate) fn push_zero(text: &mut String, at: &[u8]) -> Result<(), AllocError> 
     }
 }
 
-/// Appends what stands at a path that is no endpoint's, or what may be meant by a text that is no path.
+/// Appends why a slot isn't the path of an endpoint.
 pub(crate) fn push_slot(
     text: &mut String,
     functions: &[FunctionPath],

@@ -1,4 +1,4 @@
-//! Problems with their places, and with the other entries that are told of beside them.
+//! Problems with their places in the file.
 ghost use Rattle.std.specs.Prelude.{◌≡◌, IfOk};
 ghost use Rattle.toml.specs.View.{table_view};
 ghost use Rattle.board_refusal.specs.Telling.{HasPlace, line_or_zero, ArePlaced};
@@ -9,18 +9,18 @@ use board_file::entries::FileEntries;
 use diagnostics::{Other, Places, TextPlace, place_of, with_place};
 use std::alloc::{AllocError, Global};
 
-/// A problem, and its place, where that is known and was confirmed.
+/// A problem with its place in the file, if the place was found and confirmed.
 #[derive(Clone, Copy, Debug)]
 pub struct PlacedBreach<'a> {
     pub problem: Breach<'a>,
     pub place: Option<TextPlace>,
-    /// The region without registers of its own, where the problem is that.
+    /// The BAR without registers of its own, if that is the problem.
     pub taker: Option<Other>,
-    /// The other entry that has what this one asks for itself.
+    /// The other entry involved in the problem, such as an earlier function with the same path.
     pub other: Option<Other>,
 }
 
-/// A problem with its place.
+/// Finds the places of a problem and of the other entries involved.
 fn placed<'a>(
     alloc: Global,
     places: &Places<'_>,
@@ -44,7 +44,7 @@ fn placed<'a>(
     })
 }
 
-/// The line of a problem, or 0 where none is known.
+/// Returns the line of a problem, or 0 if the line isn't known.
 fn line_or_zero(told: &PlacedBreach<'_>) -> usize
     ensures { result ≡ line_or_zero told.now }
 {
@@ -54,8 +54,8 @@ fn line_or_zero(told: &PlacedBreach<'_>) -> usize
     }
 }
 
-/// The problems with their places, in the order of their lines. Those without a line come first, and those of one line
-/// keep their order.
+/// Adds the places of problems and sorts the problems by line. Problems without a line come first,
+/// and those on one line keep their order.
 pub(crate) fn with_places<'a>(
     alloc: Global,
     places: &Places<'_>,

@@ -1,4 +1,4 @@
-//! All that is wrong in a board file, check after check.
+//! All problems of a board file, in the order of the checks.
 ghost use Rattle.std.specs.Prelude.{◌≡◌, IfOk};
 ghost use Rattle.toml.specs.View.{table_view};
 ghost use Rattle.board_refusal.specs.Telling.{phase, AreProblems};
@@ -8,8 +8,9 @@ use board_file::{BoardFault, Source, order};
 use diagnostics::Places;
 use std::alloc::{AllocError, Global};
 
-/// The checks that are made together with that of the fault: those of keys, or those of values. Patterns are judged
-/// last, since their lengths go by those of blocks.
+/// Returns the checks that are reported together with a fault: those of keys, those of values, or
+/// that of patterns. Patterns are checked last, because the length of a pattern is limited by that
+/// of its block.
 fn phase(fault: BoardFault) -> &'static [BoardFault]
     ensures { result.now ≡ phase fault }
 {
@@ -20,8 +21,8 @@ fn phase(fault: BoardFault) -> &'static [BoardFault]
     }
 }
 
-/// All entries of a file that break a rule of the check that it fails, or of those that are made together with it, each
-/// with its place; check after check, in each in the order of their lines in the file.
+/// Returns all problems of the failed check and of the checks that are reported with it, each with
+/// its place. Sorts them by check and then by line.
 pub fn placed_problems<'a>(
     alloc: Global,
     source: &Source<'a>,

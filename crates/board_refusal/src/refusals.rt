@@ -1,4 +1,4 @@
-//! What is told of a board file that is refused.
+//! Error messages of board files.
 ghost use Rattle.std.specs.Prelude.{IfSome};
 ghost use Rattle.toml.specs.Errors.{IsWithin};
 ghost use Rattle.board_refusal.specs.Telling.{IsPlaceIn};
@@ -13,7 +13,8 @@ use diagnostics::{
 use std::alloc::{AllocError, Global};
 use toml::de::Error;
 
-/// Appends what is told of a problem: the entry with its place, what is wrong and why, and below it the line of the file.
+/// Appends the message of a problem: the place and the entry, the problem and its cause, and the
+/// line of the file below.
 fn push_problem(
     alloc: Global,
     text: &mut String,
@@ -38,8 +39,9 @@ fn push_problem(
     push_below(alloc, text, &head)
 }
 
-/// What is told of a board file that is refused with this fault: a line for each of its problems, and how many there
-/// are. `name` is what the file is called. With excerpts the line of the file stands below each, where it is known.
+/// Returns the messages for a board file that is refused with this fault: a line for each problem,
+/// and then their number. `name` is the file name to show. With excerpts, the line of the file is
+/// shown below each message if it is known.
 pub fn refusal_text(
     alloc: Global,
     style: Style,
@@ -58,7 +60,7 @@ pub fn refusal_text(
     Ok(text)
 }
 
-/// The place at which the bytes were given up.
+/// Returns the place at which parsing failed.
 fn place_of_error(bytes: &[u8], error: &Error) -> Option<TextPlace>
     requires { IsWithin bytes.now error.now }
     ensures { IfSome result (IsPlaceIn bytes.now) }
@@ -73,8 +75,8 @@ fn place_of_error(bytes: &[u8], error: &Error) -> Option<TextPlace>
     }
 }
 
-/// What is told of bytes that are no document: one line with the reader's reason, and with excerpts below it the line at
-/// which the bytes were given up. `name` is what the file is called.
+/// Returns the message for bytes that aren't a TOML document: a line with the parser's reason.
+/// `name` is the file name to show. With excerpts, the line at which parsing failed is shown below.
 pub fn unread_text(
     alloc: Global,
     style: Style,

@@ -1,10 +1,10 @@
-//! Why a size, an aperture or a pattern is not lawful.
+//! Causes of invalid sizes, apertures and patterns.
 
 use bars::Kind;
 use board_file::entries::{BarEntry, Bounds, PatternTexts};
 use std::alloc::AllocError;
 
-/// The words of the first rule that isn't kept.
+/// Returns the text for the first rule that isn't kept, or an empty string.
 fn first_words(rules: &[(&'static str, bool)]) -> &'static str {
     for (words, is_kept) in rules {
         if !*is_kept {
@@ -14,7 +14,7 @@ fn first_words(rules: &[(&'static str, bool)]) -> &'static str {
     ""
 }
 
-/// Appends why a region can't have its size.
+/// Appends why a BAR can't have its size.
 pub(crate) fn push_size(text: &mut String, bar: &BarEntry<'_>) -> Result<(), AllocError> {
     let (least, greatest, limits) = match bar.kind {
         Kind::Io => (4, 1 << 8, "I/O takes 4 to 0x100 bytes"),
@@ -38,17 +38,17 @@ const EMPTY: &str = ": empty, the last address is below the first";
 
 const MEGABYTES: &str = ": not whole units of 1 MB, as 0xc0000000 to 0xdfffffff are";
 
-/// Whether no address is negative.
+/// Returns whether neither address is negative.
 fn is_natural(bounds: Bounds) -> bool {
     0 <= bounds.first && 0 <= bounds.last
 }
 
-/// Whether these are the first and the last address of whole megabytes.
+/// Returns whether the bounds enclose whole megabytes.
 fn has_megabytes(bounds: Bounds) -> bool {
     bounds.first % 0x10_0000 == 0 && bounds.last % 0x10_0000 == 0xf_ffff
 }
 
-/// Why the aperture of I/O is not lawful.
+/// Returns why the I/O aperture isn't valid.
 pub(crate) fn io_words(io: Bounds) -> &'static str {
     first_words(&[
         (NEGATIVE, is_natural(io)),
@@ -62,7 +62,7 @@ pub(crate) fn io_words(io: Bounds) -> &'static str {
     ])
 }
 
-/// Why the aperture of memory is not lawful.
+/// Returns why the memory aperture isn't valid.
 pub(crate) fn mem_words(mem: Bounds) -> &'static str {
     first_words(&[
         (NEGATIVE, is_natural(mem)),
@@ -72,7 +72,7 @@ pub(crate) fn mem_words(mem: Bounds) -> &'static str {
     ])
 }
 
-/// Why the prefetchable aperture is not lawful.
+/// Returns why the prefetchable aperture isn't valid.
 pub(crate) fn pref_words(mem: Bounds, pref: Bounds) -> &'static str {
     first_words(&[
         (NEGATIVE, is_natural(pref)),
@@ -89,7 +89,8 @@ pub(crate) fn pref_words(mem: Bounds, pref: Bounds) -> &'static str {
     ])
 }
 
-/// Why a text is no pattern of a block of so many bytes, if it is none.
+/// Returns why a pattern isn't valid for `block` bytes. Returns an empty string if the pattern is
+/// valid.
 fn pattern_words(block: i64, pattern: Option<&str>) -> &'static str {
     let Some(pattern) = pattern else {
         return "";
@@ -117,7 +118,7 @@ fn pattern_words(block: i64, pattern: Option<&str>) -> &'static str {
     ])
 }
 
-/// Appends why the patterns of a block are not lawful.
+/// Appends why the patterns of a register block aren't valid.
 pub(crate) fn push_masks(
     text: &mut String,
     block: i64,
