@@ -1,4 +1,5 @@
-//! Judges a board: whether it can be set up, how its pools fit, and what to remark.
+//! Judges a board: whether it can be set up, how well its pools fit their apertures, and which
+//! entries of its file deserve a remark.
 ghost use Rattle.std.specs.Prelude.{◌≡◌, ◌≢◌, ◌⊎◌, None, Some, IfOk, IfErr, map};
 ghost use Rattle.toml.specs.View.{table_view};
 ghost use Rattle.lists.specs.Elements.{Each};
@@ -27,16 +28,17 @@ use window_packing::{enumerate, plan};
 /// The verdict on a board.
 #[derive(Drop)]
 pub struct Verdict {
-    /// The first rule of set-up that the board breaks, if it breaks one.
+    /// The first set-up rule that the board breaks, if any.
     pub fault: Option<Fault>,
-    /// How pools fit their apertures: all pools if the board can be set up, or the one that doesn't fit, if that is the
-    /// fault.
+    /// The fit of each pool. If the board can't be set up, only the pool that doesn't fit, if that
+    /// is the fault.
     pub fits: Vec<PoolFit>,
-    /// What may be a mistake in the file if the board can be set up, or the entries that cause the fault.
+    /// Warnings about the file if the board can be set up. Otherwise, the entries that cause the
+    /// fault.
     pub remarks: Vec<PlacedRemark>,
 }
 
-/// The remarks on a file, by the fault of its board, or by how the pools fit.
+/// Returns warnings if there is no fault, and the entries that cause the fault if there is one.
 fn remarks(
     alloc: Global,
     warned: Warned,
@@ -52,7 +54,7 @@ fn remarks(
     }
 }
 
-/// Remarks with their places. Without remarks, no place is looked for.
+/// Adds a place in the file to each remark. Doesn't scan the file if there are no remarks.
 fn placed(
     alloc: Global,
     source: &Source<'_>,
@@ -69,7 +71,7 @@ fn placed(
     with_places(alloc, &places, remarks)
 }
 
-/// The verdict on a board, by its fault and how its pools fit.
+/// Builds the verdict from the fits of the pools and the fault.
 fn with_remarks(
     alloc: Global,
     warned: Warned,
@@ -93,7 +95,7 @@ fn with_remarks(
     })
 }
 
-/// The verdict on a board with this table and this fault.
+/// Computes the fits of the pools and builds the verdict.
 fn judge_fits(
     alloc: Global,
     warned: Warned,
@@ -115,7 +117,7 @@ fn judge_fits(
     with_remarks(alloc, warned, source, fits, fault)
 }
 
-/// Whether a board with this table can be set up.
+/// Checks whether a board with this function table can be set up.
 fn can_be_placed(alloc: Global, table: &FunctionTable, apertures: &Apertures) -> Result<(), Fault>
     requires { IsTableOf (board_in table.now) table.now }
     ensures kept { IfOk result (λ _.
@@ -128,7 +130,7 @@ fn can_be_placed(alloc: Global, table: &FunctionTable, apertures: &Apertures) ->
     Ok(())
 }
 
-/// The verdict on a board with this table.
+/// Returns the verdict on a board with this function table.
 fn judge_table(
     alloc: Global,
     warned: Warned,
@@ -150,8 +152,8 @@ fn judge_table(
     }
 }
 
-/// The verdict on the board of a host at reset, which the file declares. `warned` says which possible mistakes are
-/// remarked. It fails if memory runs out.
+/// Returns the verdict on the board of a host at reset that the file declares. `warned` selects the
+/// possible mistakes to warn about. Fails only if memory is exhausted.
 pub fn judge(
     alloc: Global,
     warned: Warned,

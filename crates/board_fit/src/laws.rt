@@ -1,8 +1,8 @@
-//! Laws of what is said of a board that can't be set up.
+//! Theorems about the explanations for boards that can't be set up.
 ghost use Rattle.board_fit.specs.ReasonLaws.{ReasonsAreTold};
 
-/// Where set-up refuses the board of a file for its bridges (201) or its I/O windows (202), an entry of the file
-/// is named that is why.
+/// Establishes that at least one entry of the file is named as the cause whenever a board can't be
+/// set up for want of bus numbers (201) or of I/O windows (202).
 pub fn reasons_are_told()
     ensures { ReasonsAreTold }
 {}

@@ -1,7 +1,8 @@
 //! Layer: files. Below: window_packing, diagnostics. Above: board_told.
 //!
-//! Judges the board of a file that is accepted: whether it can be set up, how much of each aperture it needs, and what may
-//! be a mistake in the file, or which of its entries cause the fault. Each remark has its place in the file.
+//! Judges the board of an accepted file: whether it can be set up, how much of each aperture it
+//! needs, and which entries are likely mistakes or cause a fault. Each remark has a place in the
+//! file.
 #![tactic(auto)]
 
 mod judging;

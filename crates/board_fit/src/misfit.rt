@@ -1,4 +1,4 @@
-//! Why the board of a file can't be set up, by the entries of the file.
+//! Finds the entries of a file that prevent its board from being set up.
 ghost use Rattle.std.specs.Prelude.{◌≡◌, IfOk};
 ghost use Rattle.bars.specs.Kinds.{kind_of};
 ghost use Rattle.headers.specs.Decodes.{io_decode_of};
@@ -12,7 +12,7 @@ use headers::IoDecode;
 use paths::Path;
 use std::alloc::{AllocError, Global};
 
-/// Whether the kind is that of I/O.
+/// Returns whether a BAR of this kind is an I/O BAR.
 fn is_io(kind: Kind) -> bool
     ensures { result ≡ is_io (kind_of kind) }
 {
@@ -22,7 +22,7 @@ fn is_io(kind: Kind) -> bool
     }
 }
 
-/// Whether there is no I/O window.
+/// Returns whether a bridge has no I/O window.
 fn is_closed(io: IoDecode) -> bool
     ensures { result ≡ is_closed (io_decode_of io) }
 {
@@ -32,21 +32,21 @@ fn is_closed(io: IoDecode) -> bool
     }
 }
 
-/// Whether a bridge above the path has no I/O window.
+/// Returns whether a bridge is above the path and has no I/O window.
 fn closes(path: &Path, bridge: &BridgeEntry<'_>) -> bool
     ensures { result ≡ closes path.now bridge.now }
 {
     is_closed(bridge.io) && bridge.at.path().leads_to(path)
 }
 
-/// The first such bridge.
+/// Returns the index of the first bridge above the path that has no I/O window.
 fn first_closed(bridges: &[BridgeEntry<'_>], path: &Path) -> Option<usize>
     ensures { result ≡ first_closed bridges.now path.now }
 {
     bridges.iter().position(|bridge| closes(path, bridge))
 }
 
-/// The regions of I/O of an endpoint that are behind such a bridge.
+/// Returns a remark for each I/O BAR of an endpoint that is behind the given bridge.
 fn closed_bars(
     alloc: Global,
     endpoint: usize,
@@ -62,7 +62,7 @@ fn closed_bars(
         .collect(alloc)
 }
 
-/// The same, if there is such a bridge.
+/// Like `closed_bars`, but returns no remarks if there is no bridge.
 fn closed_by(
     alloc: Global,
     endpoint: usize,
@@ -77,7 +77,7 @@ fn closed_by(
     }
 }
 
-/// The regions of I/O of an endpoint that are behind a bridge without an I/O window.
+/// Returns a remark for each I/O BAR of an endpoint that is behind a bridge without an I/O window.
 #[tactic(auto, unfolding(crate::specs::Misfits::closed_in))]
 fn closed_in(
     alloc: Global,
@@ -91,7 +91,7 @@ fn closed_in(
     closed_by(alloc, index, bridge, &endpoint.bars)
 }
 
-/// Those of all endpoints.
+/// Returns a remark for each I/O BAR of the file that is behind a bridge without an I/O window.
 fn closed_regions(alloc: Global, file: &FileEntries<'_>) -> Result<Vec<Remark>, AllocError>
     ensures { IfOk result (λ v. v.items ≡ closed_regions file.now) }
 {
@@ -103,7 +103,8 @@ fn closed_regions(alloc: Global, file: &FileEntries<'_>) -> Result<Vec<Remark>, 
     Ok(remarks)
 }
 
-/// The first bridge for which there is no bus number.
+/// Returns a remark on the first bridge for which no bus number is left, if there are more than 255
+/// bridges.
 fn bridge_too_many(alloc: Global, file: &FileEntries<'_>) -> Result<Vec<Remark>, AllocError>
     ensures { IfOk result (λ v. v.items ≡ bridge_too_many file.now) }
 {
@@ -114,7 +115,8 @@ fn bridge_too_many(alloc: Global, file: &FileEntries<'_>) -> Result<Vec<Remark>,
     Ok(remarks)
 }
 
-/// All entries of a file that are why its board can't be set up, if the fault names some.
+/// Returns a remark for each entry that prevents the board from being set up. Only faults about bus
+/// numbers (201) and I/O windows (202) have entries to name.
 pub(crate) fn reasons(
     alloc: Global,
     file: &FileEntries<'_>,

@@ -1,5 +1,5 @@
-//! Paths that are asked for again and again, in sets. A set finds a path by halving: so no bridge is compared with all
-//! functions, and no endpoint with all slots.
+//! Sets of paths for repeated lookups. A binary search replaces comparing each bridge with every
+//! function and each endpoint with every slot.
 ghost use Rattle.std.specs.{Prelude.{◌≡◌, ◌<◌, IfOk, length}, List.filter_map, BTreeSet.IsFromIterResult};
 ghost use Rattle.paths.specs.PathOrders.{path_cmp};
 ghost use Rattle.board_fit.specs.PathSets.{bridge_at, bridge_above, given_paths};
@@ -9,7 +9,8 @@ use paths::{Part, Path};
 use std::alloc::{AllocError, Global};
 use std::collections::BTreeSet;
 
-/// The bridge behind which a bus is, by the parts of its path; none is where that is bus 0.
+/// Returns the path of the bridge above a bus, given the parts of that path. Returns `None` for bus
+/// 0.
 fn bridge_at(bus: &[Part]) -> Option<Path>
     requires { length bus.now < 16 }
     ensures { result ≡ bridge_at bus.now }
@@ -22,14 +23,14 @@ fn bridge_at(bus: &[Part]) -> Option<Path>
     Some(bridge)
 }
 
-/// The bridge behind which a function is, where it isn't on bus 0.
+/// Returns the path of the bridge above a function, or `None` if the function is on bus 0.
 fn bridge_above(path: &Path) -> Option<Path>
     ensures { result ≡ bridge_above path.now }
 {
     bridge_at(path.parent())
 }
 
-/// The bridges behind which these functions are.
+/// Returns the set of bridges directly above these functions.
 pub(crate) fn bridges_above(alloc: Global, paths: &[Path]) -> Result<BTreeSet<Path>, AllocError>
     ensures { IfOk result (IsFromIterResult path_cmp (filter_map bridge_above paths.now)) }
 {
@@ -39,7 +40,7 @@ pub(crate) fn bridges_above(alloc: Global, paths: &[Path]) -> Result<BTreeSet<Pa
         .collect(alloc)
 }
 
-/// The functions that guests have.
+/// Returns the set of paths in the guests' slots.
 pub(crate) fn given_paths(
     alloc: Global,
     guests: &[GuestEntry<'_>],

@@ -1,4 +1,4 @@
-//! The places of remarks.
+//! Remarks with their places in the file.
 ghost use Rattle.std.specs.Prelude.{◌≡◌, IfOk, map};
 ghost use Rattle.toml.specs.View.{table_view};
 ghost use Rattle.lists.specs.Elements.{Each};
@@ -8,7 +8,8 @@ use crate::remark::Remark;
 use diagnostics::{Other, Places, TextPlace, place_of, with_place};
 use std::alloc::{AllocError, Global};
 
-/// A remark, and its place, where that is known and was confirmed; with the other entry that it names.
+/// A remark, its place in the file if that could be confirmed, and the other entry that the remark
+/// refers to, if any.
 #[derive(Clone, Copy, Debug)]
 pub struct PlacedRemark {
     pub remark: Remark,
@@ -16,10 +17,10 @@ pub struct PlacedRemark {
     pub other: Option<Other>,
 }
 
-/// The key of the other entry at which its line is told.
+/// The key that locates the other entry: the I/O window of a bridge.
 const OTHER_KEY: &str = "io";
 
-/// A remark with its place.
+/// Finds the places of a remark.
 fn locate(alloc: Global, places: &Places<'_>, remark: Remark) -> Result<PlacedRemark, AllocError>
     ensures same { IfOk result (λ l. l.remark ≡ remark) }
     ensures located { IfOk result
@@ -34,7 +35,7 @@ fn locate(alloc: Global, places: &Places<'_>, remark: Remark) -> Result<PlacedRe
     })
 }
 
-/// The remarks with their places.
+/// Finds the places of all remarks.
 pub(crate) fn with_places(
     alloc: Global,
     places: &Places<'_>,

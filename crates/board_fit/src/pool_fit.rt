@@ -1,4 +1,4 @@
-//! How pools fit their apertures.
+//! Computes how well the pools fit their apertures.
 ghost use Rattle.std.specs.Prelude.{◌≡◌, IfOk};
 ghost use Rattle.model_board.specs.Board.{Board};
 ghost use Rattle.model_set_up.specs.FunctionTable.{board_in};
@@ -10,17 +10,17 @@ use headers::{Aperture, Apertures};
 use std::alloc::{AllocError, Global};
 use window_packing::{Pool, PoolUse, pool_use};
 
-/// How a pool fits its aperture.
+/// A pool with the size of its aperture and the part of it in use.
 #[derive(Clone, Copy, Debug)]
 pub struct PoolFit {
     pub pool: Pool,
-    /// How many bytes the aperture has, if the board has one for the pool.
+    /// The size of the aperture in bytes, or `None` if the board has no aperture for the pool.
     pub size: Option<u128>,
-    /// How much of it the pool takes, unless that is more than 2^63 bytes.
+    /// The part in use, or `None` if the pool needs more than 2^63 bytes.
     pub used: Option<PoolUse>,
 }
 
-/// How many bytes an aperture has.
+/// Returns the size of an aperture in bytes.
 fn size_of(aperture: Aperture) -> u128
     ensures { result ≡ size_of aperture }
 {
@@ -28,7 +28,7 @@ fn size_of(aperture: Aperture) -> u128
     end.saturating_sub(u128::from(aperture.first))
 }
 
-/// How many bytes the aperture of a pool has, if the board has one.
+/// Returns the size in bytes of the aperture of a pool, if the board has one.
 fn aperture_size(apertures: &Apertures, pool: Pool) -> Option<u128>
     ensures { result ≡ aperture_size apertures.now pool }
 {
@@ -42,7 +42,7 @@ fn aperture_size(apertures: &Apertures, pool: Pool) -> Option<u128>
     }
 }
 
-/// How a pool of a board with this table fits its aperture.
+/// Returns the fit of one pool, for a board with this function table.
 fn pool_fit(
     alloc: Global,
     pool: Pool,
@@ -60,7 +60,8 @@ fn pool_fit(
     })
 }
 
-/// The pools that are reported: the one that doesn't fit, if that is the fault; all, if there is no fault.
+/// Returns the pools to report: all pools if there is no fault, and the pool that doesn't fit if
+/// that is the fault.
 fn pools_of(fault: Option<Fault>) -> &'static [Pool]
     ensures { result.now ≡ pools_of fault }
 {
@@ -73,7 +74,7 @@ fn pools_of(fault: Option<Fault>) -> &'static [Pool]
     }
 }
 
-/// How these pools of a board with this table fit their apertures.
+/// Returns the fits of the pools to report, for a board with this function table.
 pub(crate) fn pool_fits(
     alloc: Global,
     table: &FunctionTable,

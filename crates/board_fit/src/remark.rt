@@ -1,28 +1,30 @@
-//! What is remarked of a board file that is accepted.
+//! Remarks on accepted board files.
 ghost use Rattle.std.specs.Prelude.{◌≡◌};
 ghost use Rattle.board_fit.specs.Remarks.{aperture_key, entry_of, key_of, other_of};
 
 use board_file::Entry;
 use window_packing::Pool;
 
-/// What may be a mistake and is no fault, or why a board can't be set up. Lists of the file begin at 0.
+/// A possible mistake in a board file, or a reason why its board can't be set up. List indices
+/// start at 0.
 #[derive(Clone, Copy, Debug)]
 pub enum Remark {
-    /// Nothing stands behind a bridge.
+    /// A bridge with nothing behind it, by its index.
     EmptyBridge(usize),
-    /// An endpoint is in no slot of a guest.
+    /// An endpoint that isn't in any guest's slots, by its index.
     EndpointOfNone(usize),
-    /// A guest has no slots.
+    /// A guest without slots, by its index.
     GuestWithoutSlots(usize),
-    /// An aperture is more than ten times what its pool uses.
+    /// An aperture more than ten times as large as the part of it in use.
     WideAperture(Pool),
-    /// More bridges than bus numbers: the first too many.
+    /// The first bridge for which no bus number is left, by its index.
     BridgeTooMany(usize),
-    /// A region of I/O, by its endpoint and its place in the list, is behind a bridge without an I/O window.
+    /// An I/O BAR behind a bridge without an I/O window: the indices of its endpoint, of the BAR in
+    /// the endpoint's list, and of the bridge.
     ClosedRegion(usize, usize, usize),
 }
 
-/// The key of the aperture of a pool.
+/// Returns the key of a pool's aperture in the host table.
 fn aperture_key(pool: Pool) -> &'static str
     ensures { result.now ≡ aperture_key pool }
 {
@@ -34,7 +36,7 @@ fn aperture_key(pool: Pool) -> &'static str
 }
 
 impl Remark {
-    /// The entry that it is about.
+    /// Returns the entry that the remark is about.
     pub(crate) fn entry(self) -> Entry
         ensures { result ≡ entry_of self }
     {
@@ -48,7 +50,7 @@ impl Remark {
         }
     }
 
-    /// The key at which the entry is shown.
+    /// Returns the key of the entry to point at.
     pub(crate) fn key(self) -> &'static str
         ensures { result.now ≡ key_of self }
     {
@@ -60,7 +62,7 @@ impl Remark {
         }
     }
 
-    /// The other entry that it names.
+    /// Returns the other entry that the remark refers to, if any.
     pub(crate) fn other(self) -> Option<Entry>
         ensures { result ≡ other_of self }
     {

@@ -1,4 +1,4 @@
-//! The text of a verdict.
+//! Renders verdicts as text.
 use crate::judging::Verdict;
 use crate::placed_remark::PlacedRemark;
 use crate::pool_fit::PoolFit;
@@ -9,7 +9,7 @@ use std::alloc::{AllocError, Global};
 use std::fmt;
 use window_packing::Pool;
 
-/// The name of a pool.
+/// Returns the name of a pool.
 fn name_of(pool: Pool) -> &'static str {
     match pool {
         Pool::Io => "I/O pool",
@@ -18,7 +18,7 @@ fn name_of(pool: Pool) -> &'static str {
     }
 }
 
-/// How a pool fits its aperture.
+/// Displays the fit of a pool.
 impl fmt::Display for PoolFit {
     fn fmt<W: fmt::Write>(&self, f: &mut fmt::Formatter<W>) -> fmt::Result {
         let pool = name_of(self.pool);
@@ -34,7 +34,7 @@ impl fmt::Display for PoolFit {
     }
 }
 
-/// Appends how much a pool needs that doesn't fit its aperture.
+/// Appends how much a pool needs if it doesn't fit its aperture.
 fn push_need(text: &mut String, fit: &PoolFit) -> Result<(), AllocError> {
     let pool = name_of(fit.pool);
     match fit.used {
@@ -47,7 +47,7 @@ fn push_need(text: &mut String, fit: &PoolFit) -> Result<(), AllocError> {
     }
 }
 
-/// What the remark says about its entry.
+/// Displays the remark without the entry.
 impl fmt::Display for Remark {
     fn fmt<W: fmt::Write>(&self, f: &mut fmt::Formatter<W>) -> fmt::Result {
         let said = match self {
@@ -62,7 +62,7 @@ impl fmt::Display for Remark {
     }
 }
 
-/// The word before the entry.
+/// Returns the label before the entry: `warning: ` unless the remark explains a fault.
 fn label_of(remark: Remark) -> &'static str {
     match remark {
         Remark::BridgeTooMany(_) | Remark::ClosedRegion(_, _, _) => "",
@@ -70,7 +70,7 @@ fn label_of(remark: Remark) -> &'static str {
     }
 }
 
-/// Appends the line of a remark, and the line of the file below it, if that is shown.
+/// Appends the line of a remark, followed by the line of the file if excerpts are shown.
 fn push_remark<'a>(
     alloc: Global,
     text: &mut String,
@@ -92,7 +92,7 @@ fn push_remark<'a>(
     push_below(alloc, text, &head)
 }
 
-/// Appends `ok` and a line for each pool, or the line of the fault.
+/// Appends the line of the fault, or `ok` and a line for each pool if there is no fault.
 fn push_head(text: &mut String, name: &str, verdict: &Verdict) -> Result<(), AllocError> {
     let Some(fault) = verdict.fault else {
         text.push_str("ok\n")?;
@@ -109,8 +109,8 @@ fn push_head(text: &mut String, name: &str, verdict: &Verdict) -> Result<(), All
     writeln!(text, " ({} {})", fault.number(), fault.words())
 }
 
-/// The text of a verdict: `ok` and a line for each pool, or the line of the fault, and then a line for each remark. It fails
-/// if memory runs out.
+/// Renders a verdict: the line of the fault, or `ok` and a line for each pool, and then a line for
+/// each remark. Fails only if memory is exhausted.
 pub fn verdict_text(
     alloc: Global,
     telling: &Telling<'_>,

@@ -1,10 +1,10 @@
-//! Of what a check warns.
+//! The choice of warnings.
 
-/// Of what a check warns, where a board can be set up.
+/// The warnings that a check gives for a board that can be set up.
 #[derive(Clone, Copy, Debug, PartialEq, Eq)]
 pub enum Warned {
-    /// Of what is likely a mistake.
+    /// Warnings about likely mistakes.
     Likely,
-    /// Of that, and of apertures of more than ten times what their pools use.
+    /// All warnings, including those about apertures more than ten times as large as needed.
     All,
 }

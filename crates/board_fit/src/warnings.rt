@@ -1,4 +1,4 @@
-//! What may be a mistake in a file, and is no fault.
+//! Finds possible mistakes in a file whose board can be set up.
 ghost use Rattle.std.specs.{Prelude.{◌≡◌, ◌&&◌, IfOk}, BTreeSet.contains};
 ghost use Rattle.paths.specs.PathOrders.{path_cmp};
 ghost use Rattle.board_file.specs.PathTexts.{is_path_text, path_at};
@@ -15,7 +15,7 @@ use std::alloc::{AllocError, Global};
 use std::collections::BTreeSet;
 use window_packing::PoolUse;
 
-/// The paths of all functions.
+/// Returns the paths of all functions, endpoints first.
 fn all_paths(alloc: Global, file: &FileEntries<'_>) -> Result<Vec<Path>, AllocError>
     ensures { IfOk result (λ v. v.items ≡ all_paths file.now) }
 {
@@ -24,14 +24,14 @@ fn all_paths(alloc: Global, file: &FileEntries<'_>) -> Result<Vec<Path>, AllocEr
     endpoints.chain(bridges).collect(alloc)
 }
 
-/// Whether the bridge at a path is one of those behind which something stands.
+/// Returns whether anything is behind the bridge at this path.
 fn is_filled(filled: &BTreeSet<Path>, at: &PathText<'_>) -> bool
     ensures { result ≡ contains path_cmp filled.now (path_at at.now) }
 {
     filled.contains(&at.path())
 }
 
-/// The bridges whose paths are none of these.
+/// Returns a remark for each bridge that is not in the set.
 fn bridges_outside(
     alloc: Global,
     filled: &BTreeSet<Path>,
@@ -47,7 +47,7 @@ fn bridges_outside(
         .collect(alloc)
 }
 
-/// The bridges behind which nothing stands.
+/// Returns a remark for each bridge with nothing behind it.
 fn empty_bridges(alloc: Global, file: &FileEntries<'_>) -> Result<Vec<Remark>, AllocError>
     ensures { IfOk result (λ v. v.items ≡ empty_bridges file.now) }
 {
@@ -56,14 +56,14 @@ fn empty_bridges(alloc: Global, file: &FileEntries<'_>) -> Result<Vec<Remark>, A
     bridges_outside(alloc, &filled, &file.bridges)
 }
 
-/// Whether the function at a path is one of those that guests have.
+/// Returns whether the function at this path is in a guest's slots.
 fn is_given(given: &BTreeSet<Path>, at: &PathText<'_>) -> bool
     ensures { result ≡ (is_path_text at.now && contains path_cmp given.now (path_at at.now)) }
 {
     at.is_path() && given.contains(&at.path())
 }
 
-/// The endpoints whose paths are none of these.
+/// Returns a remark for each endpoint that is not in the set.
 fn endpoints_outside(
     alloc: Global,
     given: &BTreeSet<Path>,
@@ -79,7 +79,8 @@ fn endpoints_outside(
         .collect(alloc)
 }
 
-/// The endpoints that no guest has, where there are guests.
+/// Returns a remark for each endpoint that isn't in any guest's slots. Returns none if the file has
+/// no guests.
 fn endpoints_of_none(alloc: Global, file: &FileEntries<'_>) -> Result<Vec<Remark>, AllocError>
     ensures { IfOk result (λ v. v.items ≡ endpoints_of_none file.now) }
 {
@@ -90,7 +91,7 @@ fn endpoints_of_none(alloc: Global, file: &FileEntries<'_>) -> Result<Vec<Remark
     endpoints_outside(alloc, &given, &file.endpoints)
 }
 
-/// The guests that have no slots.
+/// Returns a remark for each guest without slots.
 fn guests_without_slots(alloc: Global, guests: &[GuestEntry<'_>]) -> Result<Vec<Remark>, AllocError>
     ensures { IfOk result (λ v. v.items ≡ guests_without_slots guests.now) }
 {
@@ -102,14 +103,15 @@ fn guests_without_slots(alloc: Global, guests: &[GuestEntry<'_>]) -> Result<Vec<
         .collect(alloc)
 }
 
-/// Whether so many bytes are more than ten times what a pool uses, and it uses something.
+/// Returns whether an aperture of `size` bytes is more than ten times as large as the part in use.
+/// An unused aperture doesn't count.
 fn is_wide_use(size: u128, used: PoolUse) -> bool
     ensures { result ≡ is_wide_use size used }
 {
     used.extent != 0 && u128::from(used.extent) * 10 < size
 }
 
-/// Whether the aperture of a pool is so wide.
+/// Returns whether a pool's aperture is more than ten times as large as the part in use.
 fn is_wide(fit: &PoolFit) -> bool
     ensures { result ≡ is_wide fit.now }
 {
@@ -119,7 +121,7 @@ fn is_wide(fit: &PoolFit) -> bool
     }
 }
 
-/// The apertures that are so wide.
+/// Returns a remark for each aperture that is more than ten times as large as the part in use.
 fn all_wide_apertures(alloc: Global, fits: &[PoolFit]) -> Result<Vec<Remark>, AllocError>
     ensures { IfOk result (λ v. v.items ≡ all_wide_apertures fits.now) }
 {
@@ -129,7 +131,7 @@ fn all_wide_apertures(alloc: Global, fits: &[PoolFit]) -> Result<Vec<Remark>, Al
         .collect(alloc)
 }
 
-/// The same, if they are warned of.
+/// Returns the remarks on wide apertures if these warnings are selected.
 fn wide_apertures(
     alloc: Global,
     warned: Warned,
@@ -143,7 +145,7 @@ fn wide_apertures(
     }
 }
 
-/// What may be a mistake in a file, and is no fault, by how the pools of its board fit.
+/// Returns all possible mistakes in a file, given the fits of its pools.
 pub(crate) fn warnings(
     alloc: Global,
     warned: Warned,

@@ -1,4 +1,5 @@
-//! What is wrong with a board file, or that nothing is.
+//! Checks board files: the rules of the format first, then whether the declared board can be set
+//! up.
 ghost use Rattle.std.specs.Prelude.{◌≡◌, ◌≢◌, None, List, Ok, Err, IfOk, IfErr, IsUtf8, option_map};
 ghost use Rattle.toml.specs.{Errors.IsWithin, Parse.parse_document, View.table_view};
 ghost use Rattle.model_board.specs.AtReset.{IsAtReset};
@@ -17,14 +18,15 @@ use session::OpenFault;
 use std::alloc::{AllocError, Global};
 use toml::de::Error;
 
-/// What a check says about a board file, and the fault of the file or its board, if there is one.
+/// The result of checking a board file: the text to print, and the fault of the file or its board,
+/// if any.
 #[derive(Drop)]
 pub struct Checked {
     pub text: String,
     pub fault: Option<OpenFault>,
 }
 
-/// Bytes that are no document: where and why the reader gave up.
+/// Reports why the bytes can't be parsed as TOML, and where the parser stopped.
 fn refuse_bytes(
     alloc: Global,
     telling: &Telling<'_>,
@@ -45,7 +47,7 @@ fn refuse_bytes(
     }
 }
 
-/// A document that is refused: what is wrong with it.
+/// Reports each entry that breaks a rule of the board-file format.
 fn refuse(
     alloc: Global,
     telling: &Telling<'_>,
@@ -70,14 +72,14 @@ fn refuse(
     }
 }
 
-/// The fault of a board, as one of its file.
+/// Wraps a set-up fault of the board as an `OpenFault`.
 fn of_board(fault: Option<bus_scan::Fault>) -> Option<OpenFault>
     ensures { result ≡ option_map SetUp fault }
 {
     fault.map(OpenFault::SetUp)
 }
 
-/// A document that is accepted: the verdict on its board.
+/// Judges the board of an accepted file and renders the verdict.
 fn judge_board(
     alloc: Global,
     telling: &Telling<'_>,
@@ -97,7 +99,7 @@ fn judge_board(
     Ok(Checked { text, fault })
 }
 
-/// The same, where lack of memory is a fault of the board.
+/// Like `judge_board`, but reports exhausted memory as a set-up fault (299).
 fn accept(
     alloc: Global,
     telling: &Telling<'_>,
@@ -118,9 +120,9 @@ fn accept(
     }
 }
 
-/// Checks a board file: a line for each entry that breaks a rule, or the verdict on the board that the file declares.
-/// `name` is what the file is called. With excerpts, the line of the file is below what is said about an entry. It fails
-/// only if memory runs out (199 or 299).
+/// Checks a board file. The text has a line for each entry that breaks a rule, or the verdict on
+/// the declared board. `name` is the file name to print. With `Style::WithExcerpts`, the offending
+/// line of the file follows each message. Fails only if memory is exhausted (199 or 299).
 pub fn check_text(
     alloc: Global,
     style: Style,

@@ -1,4 +1,5 @@
-//! Regions of a guest's functions that hold an address and that Command doesn't open (PCI Local Bus 3.0, chapter 6.2.5).
+//! BARs of a guest's functions that contain an address while decoding is disabled in Command (PCI
+//! Local Bus 3.0, section 6.2.5).
 ghost use Rattle.std.specs.Prelude.{◌≡◌, ◌++◌, ◌<◌, map, length, IfOk, OnOk};
 ghost use Rattle.model_guests.specs.Slots.{slot_at};
 ghost use Rattle.model_lines.specs.WhyGuests.{closed_from};
@@ -10,26 +11,27 @@ use findings::opens;
 use monitor::Monitor;
 use std::alloc::{AllocError, Global};
 
-/// A region of a function in a guest's slot that its Command doesn't open.
+/// A BAR in one of a guest's slots whose address space is disabled in Command.
 #[derive(Clone, Copy, Debug, PartialEq, Eq)]
 pub struct ClosedInSlot {
     pub slot: usize,
-    /// The index of its base address register.
+    /// The index of the BAR, 0 to 5.
     pub register: usize,
     pub first: u64,
     pub size: u64,
-    /// What Command holds.
+    /// The value of the Command register.
     pub command: u16,
 }
 
-/// Whether a region holds an address.
+/// Returns whether a BAR contains an address of the given space.
 fn holds(region: &BasedRegion, space: Space, addr: u64) -> bool
     ensures { result ≡ base_holds (named_space space) addr (placed 0 region.now) }
 {
     region.offset_of(space, addr).is_some()
 }
 
-/// Adds those regions of a function that hold an address, with what its Command holds.
+/// Appends each BAR of a function that contains the address, together with the function's Command
+/// value.
 fn add_holding(
     closed: &mut Vec<ClosedInSlot>,
     space: Space,
@@ -58,7 +60,8 @@ fn add_holding(
     Ok(())
 }
 
-/// Adds the regions of the function in a slot that hold an address, if there is one, unless Command opens their space.
+/// Appends the BARs of the function in `slot` that contain the address. Appends nothing if the slot
+/// is empty or Command enables the space.
 fn add_slot(
     closed: &mut Vec<ClosedInSlot>,
     monitor: &Monitor,
@@ -81,7 +84,8 @@ fn add_slot(
     add_holding(closed, space, addr, slot, own.command, &own.regions)
 }
 
-/// All closed regions of a guest that hold an address, by slot, then by register.
+/// Returns every disabled BAR of a guest that contains the address, ordered by slot and then by BAR
+/// index.
 pub(crate) fn all_closed(
     alloc: Global,
     monitor: &Monitor,

@@ -1,4 +1,4 @@
-//! Why the program fails.
+//! The faults that end a run of the program, with their numbers and messages.
 ghost use Rattle.std.specs.Prelude.{◌≡◌, Some};
 ghost use Rattle.board_told.specs.{Faults.{number_of, words_of, of_open, of_run}, declared.fault.Fault.TheVariants.{File, SetUp}};
 
@@ -7,34 +7,34 @@ use session::{OpenFault, RunFault};
 use std::error::Error;
 use std::fmt;
 
-/// Why the program fails.
+/// The reason that a run of the program failed.
 #[derive(Clone, Copy, Debug, PartialEq, Eq)]
 pub enum Fault {
-    /// The board file is refused (101 to 112), or memory was out while it was read (199).
+    /// The board file is refused (101 to 112), or memory was exhausted while reading it (199).
     File(BoardFault),
-    /// Its board can't be set up (201 to 205), or memory was out while it was made, set up, reported, asked
-    /// about or given to guests (299).
+    /// The board can't be set up (201 to 205), or memory was exhausted while the board was built,
+    /// set up, reported, examined or assigned to guests (299).
     SetUp(bus_scan::Fault),
-    /// An audit tells a problem, where that is a fault.
+    /// An audit found a problem, and the run treats problems as a fault.
     NotInOrder,
-    /// Something is wrong or lacking in the registers of the board.
+    /// The board has a problem or an unmet requirement.
     NotReady,
-    /// A line was refused, where that is a fault.
+    /// A line was refused, and the run treats refused lines as a fault.
     RefusedLine,
-    /// A read of the script failed.
+    /// Reading the script failed.
     Read,
-    /// A write or flush of the output failed, or took no byte.
+    /// Writing or flushing the output failed, or a write accepted no bytes.
     Write,
-    /// The words of the command line are none that the program takes.
+    /// The command-line arguments are invalid.
     Usage,
     /// The board file can't be opened or read.
     BoardFile,
-    /// Out of memory while the words of the command line were read.
+    /// Memory was exhausted while reading the command-line arguments.
     WordMemory,
 }
 
 impl Fault {
-    /// The number of the fault's line.
+    /// Returns the number printed on the fault's line.
     pub fn number(self) -> u16
         ensures { result ≡ number_of self }
     {
@@ -52,7 +52,7 @@ impl Fault {
         }
     }
 
-    /// The words of the fault's line.
+    /// Returns the error message printed on the fault's line.
     pub fn words(self) -> &'static str
         ensures { result.now ≡ words_of self }
     {

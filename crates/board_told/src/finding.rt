@@ -1,4 +1,5 @@
-//! What an access of a guest finds (PCI Local Bus 3.0, chapters 3.2.2.3.2 and 6.2.5).
+//! Finds the target of a guest's access to a byte (PCI Local Bus 3.0, sections 3.2.2.3.2 and
+//! 6.2.5).
 ghost use Rattle.std.specs.Prelude.{◌≡◌, ◌<◌, None, length, IfOk, IfErr};
 ghost use Rattle.model_guests.specs.{Accesses.port, Lone.destination};
 ghost use Rattle.model_lines.specs.WhyGuests.{guest_finding, nobody, closed_from};
@@ -13,30 +14,31 @@ use monitor::{Hit, Monitor};
 use paths::{Bdf, Select};
 use std::alloc::{AllocError, Global};
 
-/// What an access of a byte finds.
+/// The target of a one-byte access by a guest.
 #[derive(Debug, Drop)]
 pub enum Finding {
-    /// A byte of a function in a slot.
+    /// A byte of a function in one of the guest's slots.
     Answers(Hit),
-    /// Nobody. These closed regions hold the address, by slot, then by register.
+    /// No function claims the address. The disabled BARs that contain the address are listed by
+    /// slot and then by BAR index.
     Nobody(Vec<ClosedInSlot>),
-    /// An empty slot.
+    /// The addressed slot is empty.
     Empty { slot: u64 },
-    /// The address latch selects what isn't the function of a slot.
+    /// CONFIG_ADDRESS selects a BDF that is not function 0 of a slot.
     NoSlot { at: Bdf },
 }
 
-/// Why it isn't told what an access finds.
+/// The reason that no finding could be made.
 #[derive(Clone, Copy, Debug, PartialEq, Eq)]
 pub enum WhyFault {
-    /// Such an access is refused.
+    /// The access itself would be refused.
     Refused(Refusal),
-    /// Out of memory.
+    /// Memory is exhausted (299).
     Memory,
 }
 
 impl WhyFault {
-    /// Its number.
+    /// Returns the error number.
     pub fn number(self) -> u16
         ensures { result ≡ fault_number self }
     {
@@ -47,7 +49,7 @@ impl WhyFault {
     }
 }
 
-/// That nobody answers an address, and the closed regions that hold it.
+/// Returns the finding for an unclaimed address, with the disabled BARs that contain the address.
 fn found_nobody(
     alloc: Global,
     monitor: &Monitor,
@@ -63,7 +65,7 @@ fn found_nobody(
     Ok(Finding::Nobody(all_closed(alloc, monitor, guest, space, addr)?))
 }
 
-/// What an access of a byte at a port finds that hits nothing.
+/// Returns the finding for an I/O port at which no function of the guest answers.
 fn lost_at_port(
     alloc: Global,
     monitor: &Monitor,
@@ -86,7 +88,7 @@ fn lost_at_port(
     }
 }
 
-/// What an access of a byte finds that hits nothing.
+/// Returns the finding for an access at which no function of the guest answers.
 fn lost(alloc: Global, monitor: &Monitor, guest: usize, at: At) -> Result<Finding, AllocError>
     requires { guest < length monitor.now.world.guests }
     ensures { let g = lone_asked monitor.now.world guest in
@@ -99,10 +101,12 @@ fn lost(alloc: Global, monitor: &Monitor, guest: usize, at: At) -> Result<Findin
     }
 }
 
-/// What an access of a byte of a guest finds: a byte of a function in one of its slots; or nobody, with each closed
-/// region of its functions that holds the address; or an empty slot; or what its address latch selects that is no slot.
-/// Or refuses it as a read of the byte: 303 for a slot above 31, an offset above 255 or a port above FFFFFFFFh; else
-/// 299 out of memory.
+/// Finds the target of a guest's access to one byte: a byte of a function in one of its slots,
+/// nobody (with the disabled BARs that contain the address), an empty slot, or a BDF selected by
+/// CONFIG_ADDRESS that isn't a slot.
+///
+/// Refused with 303 if a one-byte read would be: for a slot above 31, an offset above 255 or a port
+/// above FFFFFFFFh. Fails with 299 if memory is exhausted.
 pub fn find(alloc: Global, monitor: &Monitor, guest: usize, at: At) -> Result<Finding, WhyFault>
     requires { guest < length monitor.now.world.guests }
     ensures found { let g = lone_asked monitor.now.world guest in

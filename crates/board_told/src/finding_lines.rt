@@ -1,4 +1,4 @@
-//! Lines of what an access of a guest finds.
+//! Renders the finding for a guest's access as lines of text.
 ghost use Rattle.std.specs.Prelude.{OnOk, Some};
 ghost use Rattle.lists.specs.Texts.{Adds};
 ghost use Rattle.model_lines.specs.{WhyText.why_line, WhyGuests.{answers, target_text, finding_text}};
@@ -15,7 +15,7 @@ use monitor::Hit;
 use std::alloc::AllocError;
 use std::fmt;
 
-/// A place that is asked about.
+/// Displays the slot and offset, port or address of a query.
 #[derive(Clone, Copy)]
 struct ShownPlace(At);
 
@@ -31,7 +31,7 @@ impl fmt::Display for ShownPlace {
     }
 }
 
-/// A byte that answers.
+/// Displays the byte that answers an access.
 #[derive(Clone, Copy)]
 struct ShownHit(Hit);
 
@@ -50,7 +50,7 @@ impl fmt::Display for ShownHit {
     }
 }
 
-/// What is found.
+/// Displays a finding.
 #[derive(Clone, Copy)]
 struct ShownFinding<'a>(&'a Finding);
 
@@ -67,7 +67,7 @@ impl<'a> fmt::Display for ShownFinding<'a> {
     }
 }
 
-/// Appends the line of a place, and of what is found there.
+/// Appends the line with the queried place and its finding.
 pub(crate) fn push_head(text: &mut String, at: At, finding: &Finding) -> Result<(), AllocError>
     ensures { OnOk result (Adds text.old text.new
         (ended (why_line (head_text (target_of at) (finding_told finding.now))))) }
@@ -75,7 +75,7 @@ pub(crate) fn push_head(text: &mut String, at: At, finding: &Finding) -> Result<
     writeln!(text, "why: {}: {}", ShownPlace(at), ShownFinding(finding))
 }
 
-/// Appends the slot, the register and the place of a closed region.
+/// Appends the slot, index, address and size of a disabled BAR.
 fn push_place(text: &mut String, closed: &ClosedInSlot) -> Result<(), AllocError>
     ensures { OnOk result (Adds text.old text.new (place_line closed.now)) }
 {
@@ -89,7 +89,7 @@ fn push_place(text: &mut String, closed: &ClosedInSlot) -> Result<(), AllocError
     )
 }
 
-/// Appends the line of a closed region.
+/// Appends the line for a disabled BAR.
 fn push_closed(text: &mut String, closed: &ClosedInSlot) -> Result<(), AllocError>
     ensures { OnOk result (Adds text.old text.new (closed_line closed.now)) }
 {
@@ -98,7 +98,7 @@ fn push_closed(text: &mut String, closed: &ClosedInSlot) -> Result<(), AllocErro
     text.push('\n')
 }
 
-/// Appends the lines of closed regions.
+/// Appends a line for each disabled BAR.
 fn push_all_closed(text: &mut String, all: &[ClosedInSlot]) -> Result<(), AllocError>
     ensures { OnOk result (Adds text.old text.new (told_lines all.now)) }
 {
@@ -108,7 +108,8 @@ fn push_all_closed(text: &mut String, all: &[ClosedInSlot]) -> Result<(), AllocE
     Ok(())
 }
 
-/// Appends the lines of the closed regions that hold an address which nobody answers.
+/// Appends a line for each disabled BAR that contains an unclaimed address. Appends nothing for
+/// other findings.
 pub(crate) fn push_closed_of(text: &mut String, finding: &Finding) -> Result<(), AllocError>
     ensures { OnOk result (Adds text.old text.new
         (lines_of_closed (finding_told finding.now))) }

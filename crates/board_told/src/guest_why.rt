@@ -1,4 +1,4 @@
-//! The whole text, as lines or as JSON.
+//! Explains the target of a guest's access, as lines of text or as JSON.
 ghost use Rattle.std.specs.Prelude.{◌≡◌, ◌<◌, None, length, map, IfOk, IfErr, OnOk, string_bytes};
 ghost use Rattle.lists.specs.Texts.{Adds};
 ghost use Rattle.model_guests.specs.Text.{text_of_lines};
@@ -21,7 +21,8 @@ use paths::Latch;
 use serde_json::{Value, json};
 use std::alloc::{AllocError, Global};
 
-/// Appends the line of what a guest's address latch makes of a place, if that is a port and it makes something of it.
+/// Appends the line about the role of an I/O port in the configuration mechanism. Appends nothing
+/// for other ports and for other places.
 fn push_use_at(alloc: Global, text: &mut String, latch: Latch, at: At) -> Result<(), AllocError>
     ensures { OnOk result (Adds text.old text.new
         (text_of_lines (map why_line (target_lines latch (target_of at))))) }
@@ -32,7 +33,7 @@ fn push_use_at(alloc: Global, text: &mut String, latch: Latch, at: At) -> Result
     }
 }
 
-/// The text of what is found at a place.
+/// Returns the explanation as lines of text.
 fn text_of(alloc: Global, latch: Latch, at: At, finding: &Finding) -> Result<String, AllocError>
     ensures { IfOk result (λ t.
         string_bytes t ≡ text_told latch (target_of at) (finding_told finding.now)) }
@@ -62,7 +63,7 @@ impl HasValue for ClosedInSlot {
     }
 }
 
-/// What is found.
+/// Returns the JSON value of a finding.
 fn finding_value(alloc: Global, finding: &Finding) -> Result<Value, AllocError>
     ensures { IfOk result (λ v. view v ≡ finding_value (finding_told finding.now)) }
 {
@@ -84,7 +85,7 @@ fn finding_value(alloc: Global, finding: &Finding) -> Result<Value, AllocError>
     }
 }
 
-/// It at a place, beside what the address latch makes of that, as a JSON object on one line.
+/// Returns the explanation as a JSON object on one line.
 fn json_of(alloc: Global, latch: Latch, at: At, finding: &Finding) -> Result<String, AllocError>
     ensures { IfOk result (λ t.
         string_bytes t ≡ guest_json latch (target_of at) (finding_told finding.now)) }
@@ -96,11 +97,15 @@ fn json_of(alloc: Global, latch: Latch, at: At, finding: &Finding) -> Result<Str
     }
 }
 
-/// Why an access of a byte of a guest finds what it finds: at a port first a line for what its address latch makes of
-/// it, if it makes something of it; then a line for what is found, and one for each closed region of its functions that
-/// holds an address which nobody answers; or the same as a JSON object on one line. It tells of the guest's own functions
-/// and latch alone. Or refuses it as a read of the byte: 303 for a slot above 31, an offset above 255 or a port above
-/// FFFFFFFFh; else 299 out of memory.
+/// Explains why a guest's access to one byte reaches its target.
+///
+/// As lines, the text has a line about the port's role in the configuration mechanism (only for
+/// CONFIG_ADDRESS and CONFIG_DATA), a line with the finding, and a line for each disabled BAR of
+/// the guest that contains an unclaimed address. As JSON, the text is one object on one line. Only
+/// the guest's own functions and CONFIG_ADDRESS are considered.
+///
+/// Refused with 303 if a one-byte read would be: for a slot above 31, an offset above 255 or a port
+/// above FFFFFFFFh. Fails with 299 if memory is exhausted.
 pub fn guest_why_in(
     alloc: Global,
     form: ReportForm,

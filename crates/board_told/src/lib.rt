@@ -1,8 +1,9 @@
 //! Layer: program. Below: board_refusal, board_fit, session. Above: simulation, pciguest_c.
 //!
-//! What is told of a board, as lines or as JSON: the report of a board file, what is wrong with one, and all that is wrong
-//! and lacking in registers as they stand; why an access of a guest finds what it finds, or nobody, told of the guest's
-//! own functions and address latch alone; and faults by their numbers, with their words.
+//! Reports about a board, as lines or as JSON: the listing of a board file, the errors in one, and
+//! the problems and unmet requirements in the current registers. Also explains why a guest's access
+//! reaches its target, by the guest's own functions and CONFIG_ADDRESS only, and assigns numbers
+//! and messages to faults.
 #![tactic(auto)]
 
 ghost use Rattle.board_told.specs.Alone.{EqualGuests, EqualAlong};
@@ -28,8 +29,10 @@ pub use listing::{ReportForm, list_in};
 pub use monitor::{At, Monitor};
 pub use telling::{Question, audit_in, ready_in};
 
-/// Guests that hold the same are told the same, whatever stands on their boards and whoever else is there; and so they
-/// are after any calls, gifts, takings, loads and restarts of which the same is their own.
+/// Establishes that a guest's explanations depend only on the guest's own functions and
+/// CONFIG_ADDRESS. Two guests with equal state get equal explanations, on any boards and beside any
+/// other guests. They still do after any sequences of requests whose effects on the two guests are
+/// equal.
 pub fn told_alone()
     ensures equal { EqualGuests }
     ensures along { EqualAlong }

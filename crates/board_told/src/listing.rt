@@ -1,4 +1,4 @@
-//! The report of a board file.
+//! Lists the board that a board file declares, once it is set up.
 ghost use Rattle.std.specs.Prelude.{◌≡◌, IfOk, IfErr, string_bytes};
 ghost use Rattle.model_guests.specs.World.{World};
 ghost use Rattle.window_packing.specs.Readies.{IsReady};
@@ -13,16 +13,16 @@ use session::OpenFault;
 use std::alloc::{AllocError, Global};
 use window_packing::{Ready, set_up};
 
-/// The form of a report or of an audit.
+/// The output format of a report.
 #[derive(Clone, Copy, Debug, PartialEq, Eq)]
 pub enum ReportForm {
-    /// A line for each thing that is told.
+    /// Lines of text.
     Lines,
     /// A JSON object on one line.
     Json,
 }
 
-/// The board that a board file declares, once it is set up, with its guests.
+/// Reads a board file and sets up its board. Returns the board with its guests.
 fn ready_board(alloc: Global, board: &[u8]) -> Result<(Ready, Vec<GuestDecl>), OpenFault>
     ensures declared { IfOk result (λ v. IsReadyOf board.now v.0 v.1.items) }
     ensures file { IfErr result (OnFile (Refuses board.now)) }
@@ -33,7 +33,7 @@ fn ready_board(alloc: Global, board: &[u8]) -> Result<(Ready, Vec<GuestDecl>), O
     Ok((ready, guests))
 }
 
-/// The report of a board that is set up, with its guests, in a form.
+/// Renders the listing of a board that is set up and of its guests.
 fn report_in(
     alloc: Global,
     ready: &Ready,
@@ -50,9 +50,10 @@ fn report_in(
     }
 }
 
-/// The report in a form of the board that a board file declares, once it is set up.
+/// Reads a board file, sets up its board and returns the listing.
 ///
-/// A refusal is the file's (101 to 112), the board's (201 to 205), or out of memory (199 or 299).
+/// Fails if the file is refused (101 to 112), if the board can't be set up (201 to 205), or if
+/// memory is exhausted (199 or 299).
 pub fn list_in(alloc: Global, board: &[u8], form: ReportForm) -> Result<String, OpenFault>
     ensures report { IfOk result (λ t.
         (w : World) × IsSetUp board.now w × (string_bytes t ≡ report_in form w)) }

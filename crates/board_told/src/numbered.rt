@@ -1,11 +1,11 @@
-//! Faults by their numbers.
+//! Looks up faults by number.
 ghost use Rattle.std.specs.Prelude.{◌≡◌, ◌==◌, Some, find};
 ghost use Rattle.board_told.specs.Faults.{number_of, fault_numbered};
 
 use crate::fault::Fault;
 use board_file::BoardFault;
 
-/// All faults, by their numbers.
+/// All faults, in ascending order of their numbers.
 const ALL: [Fault; 27] = [
     Fault::File(BoardFault::NotToml),
     Fault::File(BoardFault::Key),
@@ -36,7 +36,7 @@ const ALL: [Fault; 27] = [
     Fault::WordMemory,
 ];
 
-/// The first of some faults that has a number.
+/// Returns the first of the faults with the given number.
 fn first_numbered(faults: &[Fault], number: u32) -> Option<Fault>
     ensures { result ≡ find (λ f. number_of f == number) faults.now }
 {
@@ -47,7 +47,7 @@ fn first_numbered(faults: &[Fault], number: u32) -> Option<Fault>
 }
 
 impl Fault {
-    /// The fault of a number, if there is one.
+    /// Returns the fault with the given number, if there is one.
     pub fn of_number(number: u32) -> Option<Fault>
         ensures found { result ≡ fault_numbered number }
         ensures each { (f : Fault) → number_of f ≡ number → result ≡ Some f }

@@ -1,4 +1,4 @@
-//! What answers a question of the registers of a board, by all that is wrong and all that is lacking there.
+//! Renders the problems and unmet requirements of a board's registers.
 ghost use Rattle.std.specs.Prelude.{◌≡◌, ◌+◌, IfOk, length, map, string_bytes};
 ghost use Rattle.findings.specs.Findings.{problem_of, lack_of};
 ghost use Rattle.board_told.specs.Telling.{audit_in, ready_in};
@@ -9,16 +9,16 @@ use json_texts::{lacks_json, problems_json};
 use session::CountedText;
 use std::alloc::{AllocError, Global};
 
-/// What is asked of a board as its registers stand.
+/// A question about the current registers of a board.
 #[derive(Clone, Copy)]
 pub enum Question {
-    /// What is wrong in its registers, in a form.
+    /// Lists the problems, in the given format.
     Audit(ReportForm),
-    /// What is wrong and what is lacking in them, in a form.
+    /// Lists the problems and the unmet requirements, in the given format.
     Ready(ReportForm),
 }
 
-/// These problems in a form, and how many there are.
+/// Renders the problems in the given format, and counts them.
 pub fn audit_in(
     alloc: Global,
     form: ReportForm,
@@ -40,7 +40,7 @@ pub fn audit_in(
     }
 }
 
-/// These problems and lacks in a form, and how many there are.
+/// Renders the problems and the unmet requirements in the given format, and counts both together.
 pub fn ready_in(
     alloc: Global,
     form: ReportForm,

@@ -1,4 +1,6 @@
-//! Places that were confirmed: with a mark there, the value that is meant is the mark.
+//! Places of values in a TOML text, confirmed by marks. Each scalar is replaced by a unique mark
+//! and the text is parsed again. A value's place is known if the parsed value is the mark of that
+//! place.
 ghost use Rattle.std.specs.{Prelude.{◌≡◌, IfOk, IfSome, List, Some, length, map, ℕ}, Option.ForSome};
 ghost use Rattle.toml.specs.{Parse.parse_document, View.table_view};
 ghost use Rattle.diagnostics.specs.{LineNumbers.{line_of, first_line}, Marks.with_marks, Places.{IsMarked, Stands, IsPlace, IsPlaceWithin}};
@@ -13,22 +15,23 @@ use crate::text_place::TextPlace;
 use std::alloc::{AllocError, Global};
 use toml::Table;
 
-/// The document with its mark in each place, and the numbers of the lines in which the places begin.
+/// The document with a mark at each place, and the line number of each place.
 #[derive(Drop)]
 struct Marked {
     table: Table,
     lines: Vec<usize>,
 }
 
-/// Where the values of a document stand in its text.
+/// The places of the scalars of a document in its text.
 #[derive(Drop)]
 pub struct Places<'a> {
-    /// The text.
+    /// The TOML text.
     pub text: &'a [u8],
-    /// The document that the text is.
+    /// The document parsed from `text`.
     pub document: &'a Table,
     places: Vec<Extent>,
-    /// The document with its mark in each place, if it has one shape with the document.
+    /// The document with a mark at each place, or `None` if its shape differs from that of
+    /// `document`.
     marked: Option<Marked>,
     ghost confirmed: { ForSome marked (λ m.
         IsMarked text.now (table_view document.now) places.items
@@ -37,7 +40,8 @@ pub struct Places<'a> {
         × m.lines.items ≡ map (first_line text.now) places.items) },
 }
 
-/// The document with its mark in each place, if it is one of the same shape.
+/// Parses the text with a mark at each place. Returns `None` if the result isn't a document of the
+/// same shape.
 fn marked_document(
     alloc: Global,
     text: &[u8],
@@ -63,7 +67,7 @@ fn marked_document(
     }
 }
 
-/// The line and the end of the place that begins there, if one does, by the lines in which they begin.
+/// Returns the line number and the end offset of the place that begins at `start`, if there is one.
 fn line_and_end(places: &[Extent], lines: &[usize], start: usize) -> Option<(usize, usize)>
     requires { length lines.now ≡ length places.now }
     ensures line { IfSome result (λ p.
@@ -84,7 +88,7 @@ fn line_and_end(places: &[Extent], lines: &[usize], start: usize) -> Option<(usi
 }
 
 impl<'a> Places<'a> {
-    /// The places of the scalars of a document. None are known where they could not be confirmed.
+    /// Finds the places of all scalars. No place is known if the marked document has another shape.
     pub fn new(alloc: Global, text: &'a [u8], document: &'a Table) -> Result<Self, AllocError>
         ensures text { IfOk result (λ p. p.text.now ≡ text.now) }
         ensures document { IfOk result (λ p. p.document.now ≡ document.now) }
@@ -99,7 +103,7 @@ impl<'a> Places<'a> {
         })
     }
 
-    /// The place of the scalar at the end of the way, where it is known.
+    /// Returns the place of the scalar at the end of a key path, if it could be confirmed.
     pub fn place(&self, way: &[Step<'_>]) -> Option<TextPlace>
         ensures { IfSome result
             (IsPlace self.now.text.now (table_view self.now.document.now) way.now) }
@@ -123,8 +127,8 @@ impl<'a> Places<'a> {
         None
     }
 
-    /// The place of the scalar at the end of the way, or of the first one inside the value there,
-    /// where it is known.
+    /// Returns the place of the scalar at the end of a key path, or of the first scalar inside the
+    /// value there. Returns `None` if the place couldn't be confirmed.
     pub fn place_within(
         &self,
         alloc: Global,

@@ -1,4 +1,4 @@
-//! From a value down to the first scalar inside it: the one that stands first in the text.
+//! Descends from a value to the first scalar inside it, in the order of the text.
 ghost use Rattle.std.specs.Prelude.{OnOk};
 ghost use Rattle.diagnostics.specs.Places.{GoesOn};
 
@@ -8,7 +8,7 @@ use std::alloc::AllocError;
 use toml::Table;
 use toml::value::Value;
 
-/// The earlier of two places, where one is known.
+/// Returns the smaller of two offsets, or the only one that is given.
 fn earlier(one: Option<usize>, other: Option<usize>) -> Option<usize> {
     match (one, other) {
         (Some(one), Some(other)) => Some(one.min(other)),
@@ -16,7 +16,7 @@ fn earlier(one: Option<usize>, other: Option<usize>) -> Option<usize> {
     }
 }
 
-/// Where the first mark inside a value stands, if there is one.
+/// Returns the offset of the first mark inside a value, if there is one.
 #[cycle(starts)]
 fn start_in(marked: &Value) -> Option<usize> {
     match marked {
@@ -46,7 +46,8 @@ fn start_in_table(table: &Table) -> Option<usize> {
     first
 }
 
-/// Appends the steps from a value with marks to the first scalar inside it, if there is one.
+/// Appends the steps from a marked value to the first scalar inside it. Appends nothing if there is
+/// no scalar.
 #[cycle(descent)]
 pub(crate) fn push_descent<'v>(way: &mut Vec<Step<'v>>, marked: &'v Value) -> Result<(), AllocError>
     ensures { OnOk result (GoesOn way.old.items way.new.items) }

@@ -1,4 +1,4 @@
-//! The places of entries, with their lines.
+//! Finds the places of board-file entries in the text.
 ghost use Rattle.std.specs.Prelude.{◌≡◌, IfOk, IfSome, map, option_map};
 ghost use Rattle.toml.specs.View.{table_view};
 ghost use Rattle.diagnostics.specs.EntryPlaces.{turn, way_of, way_to, entry_of, IsPlaceOf};
@@ -12,8 +12,8 @@ use board_file::tables::value_at;
 use std::alloc::{AllocError, Global};
 use std::fmt;
 
-/// An entry that is told of beside that of the problem, as an earlier one that has what another asks for itself,
-/// and its place, where that is known and was confirmed.
+/// A second entry that a message refers to, for example an earlier entry with the same path, and
+/// its place if that could be confirmed.
 #[derive(Clone, Copy, Debug)]
 pub struct Other {
     pub entry: Entry,
@@ -30,7 +30,7 @@ impl fmt::Display for Other {
     }
 }
 
-/// Such an entry after a colon, where there is one.
+/// Displays the second entry after a colon. Displays nothing if there isn't one.
 #[derive(Clone, Copy)]
 pub struct Beside(pub Option<Other>);
 
@@ -43,7 +43,7 @@ impl fmt::Display for Beside {
     }
 }
 
-/// The way to an entry.
+/// Returns the key path of an entry.
 fn way_of<'k>(alloc: Global, entry: Entry) -> Result<Vec<Step<'k>>, AllocError>
     ensures { IfOk result (λ v. map turn v.items ≡ way_of entry) }
 {
@@ -69,7 +69,7 @@ fn way_of<'k>(alloc: Global, entry: Entry) -> Result<Vec<Step<'k>>, AllocError>
     }
 }
 
-/// The way to the value at a key of an entry.
+/// Returns the key path of the value at `key` of an entry. The value of a slot is the entry itself.
 fn way_to<'k>(alloc: Global, entry: Entry, key: &'k str) -> Result<Vec<Step<'k>>, AllocError>
     ensures { IfOk result (λ v. map turn v.items ≡ way_to entry key.now) }
 {
@@ -81,8 +81,8 @@ fn way_to<'k>(alloc: Global, entry: Entry, key: &'k str) -> Result<Vec<Step<'k>>
     Ok(way)
 }
 
-/// The place of the value at a key of an entry, or where there is none of a value of the entry,
-/// where that is known and was confirmed.
+/// Returns the place of the value at `key` of an entry, or of the entry's first value if the key is
+/// missing. Returns `None` if the place couldn't be confirmed.
 pub fn place_of(
     alloc: Global,
     places: &Places<'_>,
@@ -101,7 +101,7 @@ pub fn place_of(
     }
 }
 
-/// Another entry that is told of at a key, with its place.
+/// Pairs an entry with the place of its value at `key`.
 pub fn with_place(
     alloc: Global,
     places: &Places<'_>,

@@ -1,9 +1,9 @@
-//! How entries are shown.
+//! Displays entries by their position in the file.
 
 use board_file::Entry;
 use std::fmt;
 
-/// Where an entry stands in its file.
+/// Displays an entry by its tables and indices, for example `endpoint[0].bar[1]`.
 #[derive(Clone, Copy)]
 pub(crate) struct EntryText(pub(crate) Entry);
 

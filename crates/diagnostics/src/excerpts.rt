@@ -1,4 +1,4 @@
-//! A line of the file with its number, and marks below a value in it.
+//! Excerpts of a file: a line with its number, and marks below a value.
 
 use crate::heads::Head;
 use crate::style::Style;
@@ -6,20 +6,21 @@ use crate::text_place::TextPlace;
 use board_file::tables::value_at;
 use std::alloc::{AllocError, Global};
 
-/// So many bytes of a line are shown before a place, and as many from it on.
+/// The maximum number of bytes of a line to show before a place, and from the place on.
 const MOST: usize = 60;
 
-/// The first bytes, or all.
+/// Returns the first `count` bytes, or all bytes if there are fewer.
 fn front(bytes: &[u8], count: usize) -> &[u8] {
     &bytes[..count.min(bytes.len())]
 }
 
-/// The bytes from an offset on.
+/// Returns the bytes from an offset on.
 fn from(bytes: &[u8], offset: usize) -> &[u8] {
     &bytes[offset.min(bytes.len())..]
 }
 
-/// The character that is shown for a byte: `?` at the first byte of one that isn't ASCII, none at its later ones.
+/// Returns the character to show for a byte. A character outside ASCII is shown as one `?`, at its
+/// first byte.
 fn character(byte: u8) -> Option<char> {
     match byte {
         b'\t' | b' '..=b'~' => Some(char::from(byte)),
@@ -28,7 +29,7 @@ fn character(byte: u8) -> Option<char> {
     }
 }
 
-/// Appends the characters of some bytes.
+/// Appends the printable form of the bytes.
 fn push_characters(text: &mut String, bytes: &[u8]) -> Result<(), AllocError> {
     for byte in bytes {
         if let Some(shown) = character(*byte) {
@@ -38,7 +39,7 @@ fn push_characters(text: &mut String, bytes: &[u8]) -> Result<(), AllocError> {
     Ok(())
 }
 
-/// Appends blanks below what is shown, and tabs below tabs.
+/// Appends blanks as wide as the shown text. Tabs are repeated, so that marks line up.
 fn push_blanks(text: &mut String, shown: &str) -> Result<(), AllocError> {
     for byte in shown.as_bytes() {
         text.push(if *byte == b'\t' { '\t' } else { ' ' })?;
@@ -46,7 +47,7 @@ fn push_blanks(text: &mut String, shown: &str) -> Result<(), AllocError> {
     Ok(())
 }
 
-/// Appends a mark for each character of some bytes, and at least one.
+/// Appends a `^` for each character to mark, and at least one.
 fn push_marks(text: &mut String, bytes: &[u8]) -> Result<(), AllocError> {
     text.push('^')?;
     for byte in from(bytes, 1) {
@@ -57,7 +58,7 @@ fn push_marks(text: &mut String, bytes: &[u8]) -> Result<(), AllocError> {
     Ok(())
 }
 
-/// What stands before an offset in its line, as it is shown.
+/// Returns the part of a line before an offset, in printable form and truncated on the left.
 fn shown_before(alloc: Global, text: &[u8], offset: usize) -> Result<String, AllocError> {
     let mut shown = String::new(alloc);
     let before = front(text, offset);
@@ -72,7 +73,7 @@ fn shown_before(alloc: Global, text: &[u8], offset: usize) -> Result<String, All
     Ok(shown)
 }
 
-/// What stands in the line of an offset from it on.
+/// Returns the part of a line from an offset on.
 fn line_after(text: &[u8], offset: usize) -> &[u8] {
     let after = from(text, offset);
     match after.iter().position(|byte| matches!(*byte, b'\n' | b'\r')) {
@@ -81,8 +82,8 @@ fn line_after(text: &[u8], offset: usize) -> &[u8] {
     }
 }
 
-/// Appends the line of the file at a place, where that is known and lines are shown, with marks below the value where
-/// there is one.
+/// Appends the line of the file with a place, and marks below the value if `has_value`. Appends
+/// nothing if excerpts are off or the place is unknown.
 pub fn push_shown_line(
     alloc: Global,
     shown: &mut String,
@@ -112,7 +113,7 @@ pub fn push_shown_line(
     Ok(())
 }
 
-/// The same below what begins with a head.
+/// Appends the line of the file that a message header points at.
 pub fn push_below(alloc: Global, shown: &mut String, head: &Head<'_>) -> Result<(), AllocError> {
     let has_value = value_at(head.document, head.entry, head.key).is_some();
     push_shown_line(

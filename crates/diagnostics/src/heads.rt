@@ -1,4 +1,4 @@
-//! What a line about an entry begins with.
+//! Headers of messages about entries.
 
 use crate::entry_texts::EntryText;
 use crate::shown::Shown;
@@ -10,7 +10,7 @@ use std::fmt;
 use toml::Table;
 use toml::value::Value;
 
-/// The number of the line of a place, where that is known.
+/// Displays a colon and the line number of a place. Displays nothing if the place is unknown.
 #[derive(Clone, Copy)]
 pub struct LineNumber(pub Option<TextPlace>);
 
@@ -23,13 +23,13 @@ impl fmt::Display for LineNumber {
     }
 }
 
-/// Whether no blank and no comment is in it.
+/// Returns whether the bytes contain no blank, no control character and no comment.
 fn is_one_word(bytes: &[u8]) -> bool {
     bytes.iter().all(|byte| b' ' < *byte && *byte != b'#')
 }
 
-/// What a line begins with that tells of an entry: the file with the line of the place, a label, the entry with its key
-/// and value, as the file writes that at its place, and what the entry belongs to.
+/// The header of a message: file name, line number, label, entry with key and value, and the owner
+/// of the entry. The value is shown as it is written in the file.
 #[derive(Clone, Copy)]
 pub struct Head<'a> {
     pub telling: Telling<'a>,
@@ -42,14 +42,16 @@ pub struct Head<'a> {
 }
 
 impl<'a> Head<'a> {
-    /// The value as the file writes it at its place, if it is written in one word.
+    /// Returns the text of the value in the file, if the place is known and the text is a single
+    /// word.
     fn written(&self) -> Option<&'a [u8]> {
         let place = self.place?;
         let word = self.bytes.get(place.start..place.end)?;
         if is_one_word(word) { Some(word) } else { None }
     }
 
-    /// The path or name of what the entry belongs to, unless the value says that.
+    /// Returns the path or name of the endpoint, bridge or guest that the entry belongs to. Returns
+    /// `None` for the keys `at` and `name`, whose value is already shown.
     fn owner(&self) -> Option<&'a str> {
         match self.key {
             "at" | "name" => None,

@@ -1,7 +1,7 @@
 //! Layer: files. Below: board_file. Above: board_refusal, board_fit.
 //!
-//! How an entry of a board file is told of: where it and its values stand in the text, how they are written, and the line
-//! of the file with a mark below a value.
+//! Diagnostics for board files: the places of entries and values in the text, message headers, and
+//! excerpts of lines with marks below a value.
 #![tactic(auto)]
 
 mod confirmation;

@@ -1,18 +1,18 @@
-//! Lines of a text.
+//! Line numbers of a text.
 ghost use Rattle.std.specs.Prelude.{◌≡◌, ◌≤◌, IfOk, IsTrue, length, map, count_by, ◌==◌};
 ghost use Rattle.diagnostics.specs.{LineNumbers.{is_line_feed, line_of, first_line}, Marks.are_in_order};
 
 use crate::scanning::Extent;
 use std::alloc::{AllocError, Global};
 
-/// How many line feeds a text has.
+/// Returns the number of line feeds in a text.
 fn line_feeds(text: &[u8]) -> usize
     ensures { result ≡ count_by is_line_feed text.now }
 {
     text.iter().filter(|byte| **byte == b'\n').count()
 }
 
-/// The number of the line in which an offset lies, the first line being 1.
+/// Returns the line number of an offset. The first line is 1.
 pub fn line_of(offset: usize, text: &[u8]) -> usize
     requires { offset ≤ length text.now }
     ensures { result ≡ line_of offset text.now }
@@ -20,7 +20,7 @@ pub fn line_of(offset: usize, text: &[u8]) -> usize
     1 + line_feeds(&text[..offset])
 }
 
-/// The numbers of the lines in which these places begin. The text is read once.
+/// Returns the line numbers at which these places begin, in a single pass over the text.
 pub(crate) fn first_lines(
     alloc: Global,
     text: &[u8],

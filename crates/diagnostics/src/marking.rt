@@ -1,4 +1,5 @@
-//! Texts with marks in place of values.
+//! Replaces the scalars of a text by marks. The mark of a place is the TOML string `"@N"`, where N
+//! is the offset at which the place begins.
 ghost use Rattle.std.specs.Prelude.{◌≡◌, ◌<◌, ◌^◌, ◌++◌, ℕ, true, IfOk, OnOk, IsTrue, Some, length, option_map};
 ghost use Rattle.toml.specs.View.{view};
 ghost use Rattle.diagnostics.specs.Marks.{are_in_order, mark, quoted, with_marks, is_mark};
@@ -8,7 +9,7 @@ use itoa::Buffer;
 use std::alloc::{AllocError, Global};
 use toml::value::Value;
 
-/// Whether the places lie in a text of this length, each after the one before.
+/// Returns whether the places are in ascending order, don't overlap and end within `len` bytes.
 pub(crate) fn are_in_order(len: usize, places: &[Extent]) -> bool
     ensures { result ≡ are_in_order 0 len places.now }
 {
@@ -22,7 +23,7 @@ pub(crate) fn are_in_order(len: usize, places: &[Extent]) -> bool
     from <= len
 }
 
-/// Appends the mark of a place, as a text of TOML.
+/// Appends the mark of a place, in quotes.
 fn push_mark(bytes: &mut Vec<u8>, start: usize) -> Result<(), AllocError>
     ensures { OnOk result (bytes.new.items ≡ bytes.old.items ++ quoted (mark start)) }
 {
@@ -33,7 +34,7 @@ fn push_mark(bytes: &mut Vec<u8>, start: usize) -> Result<(), AllocError>
     Ok(())
 }
 
-/// The text with its mark in each of these places.
+/// Returns the text with each place replaced by its mark.
 pub(crate) fn with_marks(
     alloc: Global,
     text: &[u8],
@@ -53,7 +54,7 @@ pub(crate) fn with_marks(
     Ok(bytes)
 }
 
-/// Whether the value is the mark of a place.
+/// Returns whether a value is the mark of the place that begins at `start`.
 pub(crate) fn is_mark(start: usize, value: Option<&Value>) -> bool
     ensures { result ≡ is_mark start (option_map (λ v. view v.now) value.entry) }
 {
@@ -69,7 +70,7 @@ pub(crate) fn is_mark(start: usize, value: Option<&Value>) -> bool
     }
 }
 
-/// Where the place begins whose mark the text is, if it is one.
+/// Returns the offset that a mark names, or `None` if the text isn't a mark.
 fn start_of(text: &str) -> Option<usize>
     ensures { (start : ℕ) → start < 2 ^ 64
         → text.now ≡ mark start → result ≡ Some start }
@@ -79,7 +80,7 @@ fn start_of(text: &str) -> Option<usize>
     Some(start as usize)
 }
 
-/// Where the place begins whose mark the value is, if it is one.
+/// Returns the offset that a marked value names, or `None` if the value isn't a mark.
 pub(crate) fn marked_start(value: &Value) -> Option<usize>
     ensures { (start : ℕ) → start < 2 ^ 64
         → is_mark start (Some (view value.now)) ≡ true → result ≡ Some start }

@@ -1,16 +1,17 @@
-//! Where the scalars of a TOML text stand. What is found here is confirmed before it is told.
+//! Scans a TOML text for its scalars. The scanner is only a heuristic: each place is confirmed
+//! before a message refers to it.
 ghost use Rattle.std.specs.{Prelude.{◌≡◌, ◌<◌, ◌≤◌, ◌+◌, ◌^◌, length, unwrap_or}, List.slice_get};
 
 use std::alloc::{AllocError, Global};
 
-/// A part of a text.
+/// A range of bytes of a text.
 #[derive(Clone, Copy)]
 pub(crate) struct Extent {
     pub(crate) start: usize,
     pub(crate) end: usize,
 }
 
-/// What comes next, outside texts and comments.
+/// The token expected next, outside strings and comments.
 #[derive(Clone, Copy, PartialEq, Eq)]
 enum Mode {
     Key,
@@ -18,27 +19,27 @@ enum Mode {
     After,
 }
 
-/// The quotes of a text.
+/// The delimiter of a string.
 #[derive(Clone, Copy)]
 struct Quotes {
     byte: u8,
-    /// How many stand before it, and behind it: 1 or 3.
+    /// The number of quotes on each side: 1 or 3.
     count: usize,
 }
 
-/// Where the scan of a document stands.
+/// The state of a scan.
 #[derive(Drop)]
 struct Scanner {
     mode: Mode,
-    /// The brackets that are open.
+    /// The open brackets, innermost last.
     brackets: Vec<u8>,
-    /// Where the text, comment or scalar ends that was seen last.
+    /// The end offset of the latest string, comment or scalar. Bytes before it are skipped.
     next: usize,
-    /// The scalars that were seen.
+    /// The scalars found so far.
     scalars: Vec<Extent>,
 }
 
-/// The byte so many places on, or 0.
+/// Returns the byte `places` after `at`, or 0 past the end of the text.
 fn byte_after(text: &[u8], at: usize, places: usize) -> u8
     requires { places ≤ 3 }
     ensures { result ≡ unwrap_or (slice_get text.now (at + places)) 0 }
@@ -52,14 +53,15 @@ fn byte_after(text: &[u8], at: usize, places: usize) -> u8
     }
 }
 
-/// Whether three of this byte stand there.
+/// Returns whether three copies of `byte` begin at `at`.
 fn are_three(text: &[u8], at: usize, byte: u8) -> bool {
     byte_after(text, at, 0) == byte
         && byte_after(text, at, 1) == byte
         && byte_after(text, at, 2) == byte
 }
 
-/// Whether the quotes that end a text stand there. Of more than three the last three do.
+/// Returns whether the closing quotes of a string begin at `at`. In a run of more than three
+/// quotes, the last three close the string.
 fn is_closed(text: &[u8], at: usize, quotes: Quotes) -> bool
     requires { at < length text.now }
 {
@@ -68,7 +70,8 @@ fn is_closed(text: &[u8], at: usize, quotes: Quotes) -> bool
             || are_three(text, at, quotes.byte) && byte_after(text, at, 3) != quotes.byte)
 }
 
-/// The end of a text with its quotes, from what stands behind the first of them on.
+/// Returns the end offset of a string, including its closing quotes. `from` is the offset after the
+/// opening quotes.
 fn text_end(text: &[u8], from: usize, quotes: Quotes) -> usize {
     let mut is_escaped = false;
     'bytes: for at in from..text.len() {
@@ -83,7 +86,7 @@ fn text_end(text: &[u8], from: usize, quotes: Quotes) -> usize {
     text.len()
 }
 
-/// The end of a comment.
+/// Returns the end offset of a comment.
 fn comment_end(text: &[u8], from: usize) -> usize {
     'bytes: for at in from..text.len() {
         if text[at] == b'\n' {
@@ -93,7 +96,7 @@ fn comment_end(text: &[u8], from: usize) -> usize {
     text.len()
 }
 
-/// The end of a scalar without quotes. Blanks may stand in it, and none at its end.
+/// Returns the end offset of a scalar without quotes. Trailing blanks aren't part of the scalar.
 fn bare_end(text: &[u8], from: usize) -> usize {
     let mut end = from;
     'bytes: for at in from..text.len() {
@@ -116,7 +119,7 @@ impl Scanner {
         }
     }
 
-    /// In an inline table.
+    /// Returns whether the innermost open bracket is that of an inline table.
     fn is_in_table(&self) -> bool {
         match self.brackets.last() {
             Some(byte) => *byte == b'{',
@@ -124,7 +127,7 @@ impl Scanner {
         }
     }
 
-    /// A byte of a key or a header.
+    /// Handles a byte of a key or a table header.
     fn in_key(&mut self, text: &[u8], at: usize)
         requires { at < length text.now }
     {
@@ -136,7 +139,7 @@ impl Scanner {
         }
     }
 
-    /// A scalar, from its first byte on.
+    /// Records the scalar that begins at `at`.
     fn take_scalar(&mut self, text: &[u8], at: usize) -> Result<(), AllocError>
         requires { at < length text.now }
     {
@@ -154,7 +157,7 @@ impl Scanner {
         Ok(())
     }
 
-    /// The first byte of a value.
+    /// Handles the first byte of a value.
     fn in_value(&mut self, text: &[u8], at: usize) -> Result<(), AllocError>
         requires { at < length text.now }
     {
@@ -169,14 +172,14 @@ impl Scanner {
         Ok(())
     }
 
-    /// The end of a line.
+    /// Handles the end of a line.
     fn end_line(&mut self) {
         if self.brackets.is_empty() {
             self.mode = Mode::Key;
         }
     }
 
-    /// A comma, or the bracket that ends an array or an inline table.
+    /// Handles a comma, or the bracket that closes an array or an inline table.
     fn end_item(&mut self, byte: u8) {
         self.mode = if byte != b',' {
             let _ = self.brackets.pop();
@@ -188,7 +191,7 @@ impl Scanner {
         };
     }
 
-    /// A byte that begins something.
+    /// Handles the first byte of a token.
     fn take_byte(&mut self, text: &[u8], at: usize) -> Result<(), AllocError>
         requires { at < length text.now }
     {
@@ -206,7 +209,7 @@ impl Scanner {
     }
 }
 
-/// The scalars of a text that is a document, as they follow each other.
+/// Returns the scalars of a TOML document in the order of the text.
 pub(crate) fn scalars(alloc: Global, text: &[u8]) -> Result<Vec<Extent>, AllocError> {
     let mut scanner = Scanner::new(alloc);
     'bytes: for at in 0..text.len() {

@@ -1,11 +1,11 @@
-//! Documents of one shape.
+//! Compares the shapes of documents.
 ghost use Rattle.std.specs.Prelude.{◌≡◌};
 ghost use Rattle.toml.specs.View.{view, array_view, table_view};
 ghost use Rattle.diagnostics.specs.Shapes.{have_one_shape, items_have_one_shape, members_have_one_shape};
 
 use toml::value::{Array, Table, Value};
 
-/// Two tables have the same keys, with values of one shape.
+/// Returns whether two tables have the same keys, with values of the same shape at each key.
 #[cycle(compare)]
 pub(crate) fn members_have_one_shape(table: &Table, other: &Table) -> bool
     ensures { result ≡ members_have_one_shape (table_view table.now) (table_view other.now) }

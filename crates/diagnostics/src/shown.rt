@@ -1,9 +1,9 @@
-//! How bytes are shown.
+//! Displays bytes of a file safely.
 
 use std::alloc::AllocError;
 use std::fmt;
 
-/// Bytes as they are shown: `?` for each that isn't printable ASCII.
+/// Displays bytes as text, with `?` for each byte that isn't printable ASCII.
 #[derive(Clone, Copy)]
 pub struct Shown<'a>(pub &'a [u8]);
 
@@ -20,7 +20,7 @@ impl<'a> fmt::Display for Shown<'a> {
     }
 }
 
-/// Appends bytes as they are shown.
+/// Appends bytes as text, with `?` for each byte that isn't printable ASCII.
 pub fn push_shown(text: &mut String, bytes: &[u8]) -> Result<(), AllocError> {
     write!(text, "{}", Shown(bytes))
 }

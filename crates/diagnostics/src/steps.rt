@@ -1,4 +1,4 @@
-//! Steps of a way through a document.
+//! Key paths through a TOML document.
 ghost use Rattle.std.specs.Prelude.{◌≡◌, ◌<◌, length, option_map};
 ghost use Rattle.toml.specs.{View.{view, table_view}, Data.{table, get_member}};
 ghost use Rattle.diagnostics.specs.Ways.{child, value_at};
@@ -6,16 +6,16 @@ ghost use Rattle.diagnostics.specs.Ways.{child, value_at};
 use toml::Table;
 use toml::value::Value;
 
-/// A step from a value to one inside it.
+/// A step from a value to one of its elements.
 #[derive(Clone, Copy)]
 pub enum Step<'a> {
-    /// To the value at a key of a table.
+    /// The value at a key of a table.
     Key(&'a str),
-    /// To an item of an array, the first being 0.
+    /// The element of an array, by its index from 0.
     Index(usize),
 }
 
-/// The value behind a step.
+/// Returns the element of a value that the step selects, if there is one.
 fn child<'v>(step: Step<'_>, value: &'v Value) -> Option<&'v Value>
     ensures { option_map (λ v. view v.now) result ≡ child step.entry (view value.now) }
 {
@@ -25,7 +25,7 @@ fn child<'v>(step: Step<'_>, value: &'v Value) -> Option<&'v Value>
     }
 }
 
-/// The value at the end of a way that begins at this value.
+/// Follows a key path from a value. Returns `None` if a step selects nothing.
 fn value_behind<'v>(way: &[Step<'_>], value: &'v Value) -> Option<&'v Value>
     ensures { option_map (λ v. view v.now) result ≡ value_at way.now (view value.now) }
 {
@@ -38,14 +38,14 @@ fn value_behind<'v>(way: &[Step<'_>], value: &'v Value) -> Option<&'v Value>
     }
 }
 
-/// The value at a key.
+/// Returns the value at a key of a table, if there is one.
 pub(crate) fn member<'v>(key: &str, table: &'v Table) -> Option<&'v Value>
     ensures { option_map (λ v. view v.now) result ≡ get_member key.now (table_view table.now) }
 {
     table.get(key)
 }
 
-/// The value at the end of a way of one step or more.
+/// Follows a key path of at least one step from the root of a document.
 pub(crate) fn value_at<'v>(way: &[Step<'_>], document: &'v Table) -> Option<&'v Value>
     requires { 0 < length way.now }
     ensures { option_map (λ v. view v.now) result

@@ -1,15 +1,15 @@
-//! How problems are told.
+//! The style of messages.
 
-/// How problems are told.
+/// The layout of messages.
 #[derive(Clone, Copy, Debug, PartialEq, Eq)]
 pub enum Style {
-    /// A line for each.
+    /// A single line for each message.
     Plain,
-    /// A line for each, and below it the line of the file in which it is, with a mark below the value.
+    /// A line for each message, followed by the line of the file with marks below the value.
     WithExcerpts,
 }
 
-/// How is told of a file, and how the file is called.
+/// The layout of messages, and the file name that they begin with.
 #[derive(Clone, Copy)]
 pub struct Telling<'a> {
     pub style: Style,

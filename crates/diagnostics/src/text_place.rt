@@ -1,7 +1,7 @@
-//! Where a value stands in a text.
+//! Places of values in a text.
 
-/// A part of a text: the line in which it begins, the first being 1, and the offsets of its first byte
-/// and of the byte behind its last.
+/// The place of a value in a text: its line number from 1, and its byte offsets. `end` is
+/// exclusive.
 #[derive(Clone, Copy, Debug)]
 pub struct TextPlace {
     pub line: usize,

@@ -1,4 +1,4 @@
-//! Finding who answers an address, and why no other region does.
+//! Explains which BAR answers an address, and why the other BARs that contain the address don't.
 ghost use Rattle.std.specs.Prelude.{◌≡◌, count_by, map, IfOk};
 ghost use Rattle.bars.specs.Kinds.{named_space};
 ghost use Rattle.model_board.specs.Routing.{routing};
@@ -15,14 +15,14 @@ use bridge_forward::RoutingRow;
 use host_bridge::Host;
 use std::alloc::{AllocError, Global};
 
-/// Whether a region stands where reset leaves it, and is closed.
+/// Returns whether a BAR is still at address 0 with decoding disabled, as after reset.
 fn is_as_at_reset(asked: &Asked, held: &Held) -> bool
     ensures { result ≡ is_held_as_at_reset (named_space asked.now.space) held.now }
 {
     held.region.region.base == 0 && !opens(held.command, asked.space)
 }
 
-/// What is told of those of these regions that don't stand where reset leaves them.
+/// Returns the causes for each BAR in the list, except those in their reset state.
 fn all_told(
     alloc: Global,
     host: &Host,
@@ -48,7 +48,7 @@ fn all_told(
     Ok(told)
 }
 
-/// How many of these regions stand where reset leaves them.
+/// Returns how many BARs in the list are in their reset state.
 fn count_at_reset(asked: &Asked, held: &[Held]) -> usize
     ensures { let left = is_held_as_at_reset (named_space asked.now.space) in
         result ≡ count_by left held.now }
@@ -56,9 +56,10 @@ fn count_at_reset(asked: &Asked, held: &[Held]) -> usize
     held.iter().filter(|one| is_as_at_reset(asked, one)).count()
 }
 
-/// Who answers an address as the registers stand, each bridge that forwards it, and each other region that holds it, in
-/// path order, then by register, with all that keeps it from answering. Those that stand where reset leaves them are
-/// counted, and nothing is asked of the bridges above them.
+/// Explains which BAR answers an address in the current registers. The result lists each bridge
+/// that forwards the address, and each other BAR that contains the address with everything that
+/// keeps it from answering, in path order and then by BAR index. BARs in their reset state (address
+/// 0, decoding disabled) are only counted.
 pub fn why_address(alloc: Global, host: &Host, space: Space, addr: u64) -> Result<Why, AllocError>
     ensures { let fs = host.now.state.functions in
         IfOk result (λ w. why_told w ≡ why fs (named_space space) addr) }

@@ -1,4 +1,4 @@
-//! What may answer addresses on a bus.
+//! Responders: the BARs and bridges that may claim addresses on a bus.
 ghost use Rattle.std.specs.{Prelude.◌≡◌, List.list_any};
 ghost use Rattle.bars.specs.Kinds.{named_space};
 ghost use Rattle.model_board.specs.Paths.{path_eq};
@@ -10,8 +10,8 @@ use bars::Space;
 use bridge_forward::{Part, Path, RoutingRow, Window};
 use std::marker::Model;
 
-/// An open region, told by its register, or a bridge in one of the spaces, with the addresses that it
-/// answers: up to two windows.
+/// An enabled BAR with its index, or a bridge in one of the two address spaces, with the addresses
+/// that it claims. A bridge may have two windows for memory.
 #[derive(Debug, Drop)]
 pub struct Agent {
     pub path: Path,
@@ -37,7 +37,7 @@ impl Model for Agent {
 }
 
 impl Agent {
-    /// The agent of an open region.
+    /// Returns the responder for an enabled BAR.
     pub(crate) fn of_region(region: &RegionNow) -> Agent
         ensures { result ≡ region_agent region.now }
     {
@@ -50,7 +50,7 @@ impl Agent {
         }
     }
 
-    /// The agent of a bridge in a space.
+    /// Returns the responder for a bridge in one address space.
     pub(crate) fn of_bridge(row: &RoutingRow, space: Space) -> Agent
         ensures { result ≡ bridge_agent row.now (named_space space) }
     {
@@ -64,7 +64,7 @@ impl Agent {
         }
     }
 
-    /// The same agent.
+    /// Returns a copy of the responder.
     pub(crate) fn copied(&self) -> Agent
         ensures { result ≡ self.now }
     {
@@ -77,14 +77,14 @@ impl Agent {
         }
     }
 
-    /// Whether the agent answers an address of its own space.
+    /// Returns whether the responder claims an address of its own space.
     pub(crate) fn answers(&self, addr: u64) -> bool
         ensures { result ≡ list_any (extent_holds addr) self.now.extents }
     {
         holds_any(self.one, self.other, addr)
     }
 
-    /// Whether both agents stand on one bus.
+    /// Returns whether both responders are on the same bus.
     pub(crate) fn is_beside(&self, other: &Agent) -> bool
         ensures { result ≡ on_one_bus self.now other.now }
     {
@@ -92,7 +92,7 @@ impl Agent {
     }
 }
 
-/// Whether two buses are one.
+/// Returns whether two bus paths are equal.
 fn is_same(xs: &[Part], ys: &[Part]) -> bool
     ensures { result ≡ path_eq xs.now ys.now }
 {

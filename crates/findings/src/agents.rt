@@ -1,4 +1,4 @@
-//! The agents of all rows.
+//! Collects the responders of all functions.
 ghost use Rattle.std.specs.Prelude.{◌≡◌, ◌++◌, map, IfOk, OnOk};
 ghost use Rattle.model_findings.specs.Agents.{region_agent, agents_of, agents};
 
@@ -9,7 +9,7 @@ use bars::Space;
 use bridge_forward::{Ranges, RoutingRow};
 use std::alloc::{AllocError, Global};
 
-/// Adds the agents of open regions.
+/// Appends the responders for enabled BARs.
 fn add_region_agents(told: &mut Vec<Agent>, regions: &[RegionNow]) -> Result<(), AllocError>
     ensures { OnOk result (told.new.items ≡ told.old.items ++ map region_agent regions.now) }
 {
@@ -19,7 +19,7 @@ fn add_region_agents(told: &mut Vec<Agent>, regions: &[RegionNow]) -> Result<(),
     Ok(())
 }
 
-/// Adds the agents of a function.
+/// Appends the responders for a function.
 fn add_agents(alloc: Global, told: &mut Vec<Agent>, row: &RoutingRow) -> Result<(), AllocError>
     ensures { OnOk result (told.new.items ≡ told.old.items ++ agents_of row.now) }
 {
@@ -37,7 +37,7 @@ fn add_agents(alloc: Global, told: &mut Vec<Agent>, row: &RoutingRow) -> Result<
     }
 }
 
-/// The agents of all functions.
+/// Returns the responders for all functions.
 pub(crate) fn agents(alloc: Global, rows: &[RoutingRow]) -> Result<Vec<Agent>, AllocError>
     ensures { IfOk result (λ v. v.items ≡ agents rows.now) }
 {

@@ -1,4 +1,4 @@
-//! All that is wrong in the registers of a board.
+//! Audits the registers of a board.
 ghost use Rattle.std.specs.Prelude.{◌≡◌, map, IfOk};
 ghost use Rattle.model_findings.specs.Problems.{problems, routing_problems};
 ghost use Rattle.findings.specs.Findings.{problem_of};
@@ -14,9 +14,9 @@ use bridge_forward::RoutingRow;
 use host_bridge::Host;
 use std::alloc::{AllocError, Global};
 
-/// What is wrong with the routing registers: open regions that are not forwarded, then agents of one
-/// bus that answer one address. Agents are compared two by two only on a bus on which a walk in the order
-/// of addresses sees that some are not apart.
+/// Returns the routing problems: enabled BARs that a bridge doesn't forward, then address conflicts
+/// between responders on the same bus. Pairs of responders are compared only on buses where a sweep
+/// through the sorted addresses found an overlap.
 fn routing_problems(alloc: Global, rows: &[RoutingRow]) -> Result<Vec<Problem>, AllocError>
     ensures { IfOk result (λ v. map problem_of v.items ≡ routing_problems rows.now) }
 {
@@ -29,8 +29,9 @@ fn routing_problems(alloc: Global, rows: &[RoutingRow]) -> Result<Vec<Problem>, 
     Ok(told)
 }
 
-/// All that is wrong in the registers of a board as they stand: open regions that are not forwarded,
-/// agents of one bus that answer one address, and functions that no cycle finds. Nothing changes.
+/// Returns every problem in the current registers of a board: enabled BARs that a bridge doesn't
+/// forward, address conflicts on a bus, and functions that no configuration cycle reaches. Leaves
+/// the host unchanged.
 pub fn problems(alloc: Global, host: &mut Host) -> Result<Vec<Problem>, AllocError>
     ensures told { IfOk result (λ v.
         map problem_of v.items ≡ problems host.old.state.functions) }

@@ -1,4 +1,4 @@
-//! The first bridge above a region that does what it mustn't with one of its addresses.
+//! Finds the first bridge above a BAR that mishandles one of the BAR's addresses.
 ghost use Rattle.std.specs.Prelude.{◌≡◌, ◌++◌, map, filter, flat_map, IfOk, OnOk};
 ghost use Rattle.lists.specs.Elements.{first_some};
 ghost use Rattle.model_board.specs.Paths.{leads_to};
@@ -11,14 +11,15 @@ use crate::regions::{Sort, add_regions};
 use bridge_forward::{Path, RoutingRow};
 use std::alloc::{AllocError, Global};
 
-/// What a bridge mustn't do: keep back a byte of an open region, or prefetch one that isn't prefetchable.
+/// A bridge's error: it doesn't forward all of an enabled BAR, or it prefetches from a BAR that
+/// isn't prefetchable.
 #[derive(Clone, Copy)]
 pub(crate) enum Charge {
     NotForwarded,
     Prefetched,
 }
 
-/// A region, the first bridge above it that is to blame, and the least address for which it is.
+/// A BAR, the first bridge above it that mishandles it, and the lowest address affected.
 #[derive(Drop)]
 pub(crate) struct Blame {
     pub(crate) region: RegionNow,
@@ -26,7 +27,7 @@ pub(crate) struct Blame {
     pub(crate) address: u64,
 }
 
-/// The sort of regions of which bridges are asked.
+/// Returns which BARs to check for this kind of error.
 fn sort_blamed(charge: Charge) -> Sort
     ensures { result ≡ sort_blamed charge }
 {
@@ -36,7 +37,7 @@ fn sort_blamed(charge: Charge) -> Sort
     }
 }
 
-/// The least address of a region for which a bridge is to blame.
+/// Returns the lowest address of a BAR that a bridge mishandles, if there is one.
 fn address_blamed(charge: Charge, row: &RoutingRow, region: &RegionNow) -> Option<u64>
     ensures { result ≡ address_blamed charge row.now region.now }
 {
@@ -46,7 +47,7 @@ fn address_blamed(charge: Charge, row: &RoutingRow, region: &RegionNow) -> Optio
     }
 }
 
-/// The blame of a bridge, if it is above the region.
+/// Returns the blame for a bridge, if it is above the BAR and mishandles it.
 fn blame_by(charge: Charge, row: &RoutingRow, region: &RegionNow) -> Option<Blame>
     ensures { result ≡ blame charge region.now row.now }
 {
@@ -61,7 +62,7 @@ fn blame_by(charge: Charge, row: &RoutingRow, region: &RegionNow) -> Option<Blam
     })
 }
 
-/// The blame of the first of these bridges that is to blame.
+/// Returns the blame for the first of these bridges that mishandles the BAR.
 fn first_blame(charge: Charge, above: &[&RoutingRow], region: &RegionNow) -> Option<Blame>
     ensures { result ≡ first_some (blame charge region.now) (map (λ r. r.now) above.now) }
 {
@@ -73,7 +74,7 @@ fn first_blame(charge: Charge, above: &[&RoutingRow], region: &RegionNow) -> Opt
     None
 }
 
-/// Adds the blames for regions below these bridges.
+/// Appends the blame for each of these BARs that one of the bridges mishandles.
 fn add_blames(
     told: &mut Vec<Blame>,
     charge: Charge,
@@ -92,7 +93,8 @@ fn add_blames(
     Ok(())
 }
 
-/// The rows that lead to a path. They are asked once for all regions of a function.
+/// Returns the rows of the bridges above a path. They are collected only once for all BARs of a
+/// function.
 fn rows_above<'a>(
     alloc: Global,
     rows: &'a [RoutingRow],
@@ -110,7 +112,7 @@ fn rows_above<'a>(
     Ok(above)
 }
 
-/// Adds the blames for the regions of a function.
+/// Appends the blames for the BARs of a function.
 fn add_function(
     alloc: Global,
     told: &mut Vec<Blame>,
@@ -127,7 +129,7 @@ fn add_function(
     add_blames(told, charge, &above, &regions)
 }
 
-/// The blames for all regions of the sort.
+/// Returns the blames for the BARs of all functions.
 pub(crate) fn all_blames(
     alloc: Global,
     charge: Charge,

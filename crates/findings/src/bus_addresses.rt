@@ -1,4 +1,4 @@
-//! The number by which a function is reached (PCI-to-PCI Bridge Architecture 1.2, chapter 3).
+//! Computes the BDF at which a function is reached (PCI-to-PCI Bridge Architecture 1.2, chapter 3).
 ghost use Rattle.std.specs.Prelude.{◌≡◌, ◌≤◌, ◌<◌, ◌+◌, ◌++◌, length};
 ghost use Rattle.model_findings.specs.{Orderly.IsStateOfBoard, Found.{bus_now, address_now}};
 ghost use Rattle.paths.specs.BusAddresses.{bus_address_of};
@@ -6,7 +6,7 @@ ghost use Rattle.paths.specs.BusAddresses.{bus_address_of};
 use host_bridge::{Bdf, Host};
 use paths::{Part, Path};
 
-/// A path that goes on by these parts.
+/// Returns the path extended by these parts.
 fn extended(path: Path, parts: &[Part]) -> Path
     requires { length path + length parts.now ≤ 16 }
     ensures { result ≡ path ++ parts.now }
@@ -21,7 +21,7 @@ fn extended(path: Path, parts: &[Part]) -> Path
     }
 }
 
-/// The path of these parts.
+/// Returns the path made of these parts.
 fn path_of(parts: &[Part]) -> Path
     requires some { 0 < length parts.now }
     requires few { length parts.now ≤ 16 }
@@ -33,7 +33,8 @@ fn path_of(parts: &[Part]) -> Path
     }
 }
 
-/// The number of a bus: what the bridge at these parts holds, and 0 for bus 0.
+/// Returns the number of a bus: 0 for bus 0, and the Secondary Bus Number of the bridge above for
+/// other buses.
 fn bus_of(host: &Host, bus: &[Part]) -> u8
     requires board { IsStateOfBoard host.now.state.functions }
     requires short { length bus.now < 16 }
@@ -48,7 +49,8 @@ fn bus_of(host: &Host, bus: &[Part]) -> u8
     }
 }
 
-/// The number of the function's bus, as the bridge above holds it, and its device and function.
+/// Returns the BDF of a function, with the Secondary Bus Number of the bridge above as the bus
+/// number.
 pub fn address_of(host: &Host, path: &Path) -> Bdf
     requires { IsStateOfBoard host.now.state.functions }
     ensures { bus_address_of result ≡ address_now host.now.state.functions path.now }

@@ -1,8 +1,9 @@
-//! Who answers an address, which bridges forward it, and what keeps other regions that hold it from answering.
+//! Explanations of an address: the BAR that answers, the bridges that forward the address, and the
+//! causes that keep other BARs from answering.
 use crate::region::RegionNow;
 use bridge_forward::{Claim, Path, Window};
 
-/// What a window of a bridge is for.
+/// The kind of a bridge window.
 #[derive(Clone, Copy, Debug, PartialEq, Eq)]
 pub enum WindowName {
     Io,
@@ -10,53 +11,55 @@ pub enum WindowName {
     Prefetchable,
 }
 
-/// A window that a bridge has, and its addresses: None where it is shut, as its base is above its limit.
+/// A window that a bridge implements, with its addresses. `None` means that the window is closed:
+/// its base is above its limit.
 #[derive(Clone, Copy, Debug)]
 pub struct NamedWindow {
     pub name: WindowName,
     pub window: Option<Window>,
 }
 
-/// What keeps a bridge from forwarding an address.
+/// The reason that a bridge doesn't forward an address.
 #[derive(Clone, Copy, Debug)]
 pub enum Hindrance {
-    /// Its Command doesn't open the space.
+    /// The bridge's Command register disables the space.
     Closes {
         command: u16,
     },
-    /// None of the windows that it has for the space, two at most, holds the address.
+    /// None of the bridge's windows for the space contains the address. A bridge has at most two.
     Misses {
         one: Option<NamedWindow>,
         other: Option<NamedWindow>,
     },
 }
 
-/// What keeps a region that holds an address from answering.
+/// A reason that a BAR which contains an address doesn't answer.
 #[derive(Debug, Drop)]
 pub enum Cause {
-    /// The Command of its function, which doesn't open its space.
+    /// The function's Command register disables the space.
     ClosedBy { command: u16 },
-    /// A bridge above it that doesn't forward the address.
+    /// A bridge above the function doesn't forward the address.
     StoppedAt { bridge: Path, hindrance: Hindrance },
 }
 
-/// A region that holds an address and doesn't answer it, with all that keeps it from that, the nearest to its function
-/// first. A region without a cause would answer, if no other did.
+/// A BAR that contains an address and doesn't answer, with the causes in order from the function up
+/// to bus 0. Without a cause, the BAR would answer if no other BAR did.
 #[derive(Debug, Drop)]
 pub struct Told {
     pub region: RegionNow,
     pub causes: Vec<Cause>,
 }
 
-/// A bridge that forwards an address, and the number that it holds for the bus behind it.
+/// A bridge that forwards an address, and its Secondary Bus Number.
 #[derive(Debug, Drop)]
 pub struct Forwarder {
     pub path: Path,
     pub bus: u8,
 }
 
-/// Who answers an address, each bridge that forwards it, down to where its way ends, all other regions that hold it, in
-/// path order, then by register, and of those that stand where reset leaves them how many they are.
+/// The explanation of an address: the BAR that answers, each bridge that forwards the address, and
+/// each other BAR that contains the address, in path order and then by BAR index. BARs in their
+/// reset state are only counted.
 #[derive(Debug, Drop)]
 pub struct Why {
     pub answer: Option<Claim>,

@@ -1,4 +1,4 @@
-//! Agents of one bus that answer one address.
+//! Finds address conflicts between responders on the same bus.
 ghost use Rattle.std.specs.{Prelude.{◌≡◌, ◌++◌, ◌&&◌, map, filter, flat_map, OnOk, IsTrue}, Option.{option_map, option_to_list}};
 ghost use Rattle.model_registers.specs.Decoding.{same_space};
 ghost use Rattle.model_findings.specs.{Agents.answers, Problems.{shared, contention, contentions}};
@@ -11,7 +11,7 @@ use crate::row::is_same_space;
 use bridge_forward::Window;
 use std::alloc::AllocError;
 
-/// The first address of a window, if both agents answer it.
+/// Returns the first address of a window if both responders claim it.
 fn if_shared(one: &Agent, other: &Agent, window: Option<Window>) -> Option<u64>
     requires { IsTrue (same_space one.now.space other.now.space) }
     ensures { option_to_list result
@@ -26,7 +26,7 @@ fn if_shared(one: &Agent, other: &Agent, window: Option<Window>) -> Option<u64>
     }
 }
 
-/// The least address that two agents both answer.
+/// Returns the lowest address that both responders claim.
 fn shared(one: &Agent, other: &Agent) -> Option<u64>
     ensures { result ≡ shared one.now other.now }
 {
@@ -40,7 +40,7 @@ fn shared(one: &Agent, other: &Agent) -> Option<u64>
     lesser(first, lesser(second, lesser(third, fourth)))
 }
 
-/// What is wrong between two agents.
+/// Returns the conflict between two responders, if they are on the same bus and share an address.
 fn contention(one: &Agent, other: &Agent) -> Option<Problem>
     ensures { option_to_list (option_map problem_of result) ≡ contention one.now other.now }
 {
@@ -55,7 +55,7 @@ fn contention(one: &Agent, other: &Agent) -> Option<Problem>
     })
 }
 
-/// Adds what is wrong between an agent and those after it.
+/// Appends the conflicts between a responder and those after it in the list.
 fn add_contentions(told: &mut Vec<Problem>, one: &Agent, others: &[Agent]) -> Result<(), AllocError>
     ensures { OnOk result (map problem_of told.new.items
         ≡ map problem_of told.old.items ++ flat_map (contention one.now) others.now) }
@@ -68,7 +68,7 @@ fn add_contentions(told: &mut Vec<Problem>, one: &Agent, others: &[Agent]) -> Re
     Ok(())
 }
 
-/// Adds what is wrong between all agents.
+/// Appends the conflicts between all pairs of responders.
 pub(crate) fn add_all_contentions(
     told: &mut Vec<Problem>,
     agents: &[Agent],

@@ -1,4 +1,5 @@
-//! The way of a configuration cycle (PCI-to-PCI Bridge Architecture 1.2, chapter 3).
+//! Follows a configuration cycle from bridge to bridge (PCI-to-PCI Bridge Architecture 1.2, chapter
+//! 3).
 ghost use Rattle.std.specs.{Prelude.{◌≡◌, ◌++◌, [], false, map, slice_get, unwrap_or, IfOk, OnOk}, Option.{option_and_then, option_map_or, option_to_list}};
 ghost use Rattle.model_board.specs.{Paths.{path_eq, parent}, State.BoardFunction, Cycles.{covers, taker}};
 ghost use Rattle.model_lines.specs.Ways.{takers, takers_down, way_end};
@@ -8,29 +9,30 @@ use bridge_forward::Path;
 use host_bridge::Host;
 use std::alloc::{AllocError, Global};
 
-/// Where a cycle for a bus ends: on the bus, or on one of which no bridge takes it. Each bus is told by the bridge
-/// above it; none is above bus 0.
+/// The end of a configuration cycle: its own bus, or a bus on which no bridge claims it. A bus is
+/// given by the bridge above it, and bus 0 by `None`.
 #[derive(Drop)]
 pub(crate) enum WayEnd {
     OnBus(Option<Path>),
     NoTaker(Option<Path>),
 }
 
-/// The bridges that take a cycle on each bus of its way, from a bus down, and where it ends.
+/// The bridges that claim a configuration cycle on each bus it passes, and the end of the cycle.
 #[derive(Drop)]
 pub(crate) struct Way {
     pub(crate) bridges: Vec<Path>,
     pub(crate) end: WayEnd,
 }
 
-/// A bridge that takes a cycle, and whether the bus behind it is the cycle's.
+/// A bridge that claims a configuration cycle. `is_last` is true if the bus behind it is the
+/// cycle's destination.
 #[derive(Drop)]
 pub(crate) struct Taken {
     path: Path,
     is_last: bool,
 }
 
-/// Whether a function stands on a bus.
+/// Returns whether a function is on the bus.
 fn is_on(path: &Path, bus: &Option<Path>) -> bool
     ensures { result ≡ path_eq (parent path.now) (unwrap_or bus.now []) }
 {
@@ -40,7 +42,7 @@ fn is_on(path: &Path, bus: &Option<Path>) -> bool
     }
 }
 
-/// Whether the function at an index is a bridge that takes cycles for a bus.
+/// Returns whether the function at an index is a bridge that claims cycles for bus `number`.
 fn covers_nth(host: &Host, index: usize, number: u8) -> bool
     ensures { let fs = host.now.state.functions in
         result ≡ option_map_or (covers number) (slice_get fs index) false }
@@ -54,7 +56,7 @@ fn covers_nth(host: &Host, index: usize, number: u8) -> bool
     secondary <= number && u32::from(number) <= subordinate
 }
 
-/// Whether the function at an index takes cycles for a bus, put on the bus where it stands.
+/// Returns whether the function at an index is on the bus and claims cycles for bus `number`.
 fn takes_nth(host: &Host, index: usize, bus: &Option<Path>, number: u8) -> bool
     ensures { let fs = host.now.state.functions in result
         ≡ option_map_or (is_taker (unwrap_or bus.now []) number) (slice_get fs index) false }
@@ -65,7 +67,7 @@ fn takes_nth(host: &Host, index: usize, bus: &Option<Path>, number: u8) -> bool
     }
 }
 
-/// The first bridge of a bus that takes cycles for another bus.
+/// Returns the index of the first bridge on the bus that claims cycles for bus `number`.
 fn taker(host: &Host, bus: &Option<Path>, number: u8) -> Option<usize>
     ensures { let fs = host.now.state.functions in
         option_and_then (slice_get fs) result ≡ taker fs (unwrap_or bus.now []) number }
@@ -78,7 +80,7 @@ fn taker(host: &Host, bus: &Option<Path>, number: u8) -> Option<usize>
     None
 }
 
-/// The same with its path, and whether it is the last.
+/// Returns the first bridge on the bus that claims cycles for bus `number`.
 fn next_bridge(host: &Host, bus: &Option<Path>, number: u8) -> Option<Taken>
     ensures { result ≡ taken host.now.state.functions (unwrap_or bus.now []) number }
 {
@@ -91,7 +93,8 @@ fn next_bridge(host: &Host, bus: &Option<Path>, number: u8) -> Option<Taken>
     })
 }
 
-/// The path of the function at an index, if that takes cycles for a bus, put on the bus where it stands.
+/// Returns the path of the function at an index if it is on the bus and claims cycles for bus
+/// `number`.
 fn taking_nth(host: &Host, index: usize, bus: &Option<Path>, number: u8) -> Option<Path>
     ensures { let one = option_to_list (slice_get host.now.state.functions index) in
         option_to_list result ≡ paths_taking (unwrap_or bus.now []) number one }
@@ -102,7 +105,8 @@ fn taking_nth(host: &Host, index: usize, bus: &Option<Path>, number: u8) -> Opti
     host.path_nth(index)
 }
 
-/// Adds all bridges of a bus that take cycles for another bus. The cycle goes through the first.
+/// Appends every bridge on the bus that claims cycles for bus `number`. The cycle passes through
+/// the first one.
 fn add_takers(
     told: &mut Vec<Path>,
     host: &Host,
@@ -121,7 +125,8 @@ fn add_takers(
     Ok(())
 }
 
-/// The way of a cycle for a bus that isn't bus 0, from bus 0 down. No function stands behind more than 15 bridges.
+/// Follows a cycle from bus 0 to another bus. Sixteen steps are enough, because at most 15 bridges
+/// are above a function.
 pub(crate) fn way_down(alloc: Global, host: &Host, number: u8) -> Result<Way, AllocError>
     ensures bridges { let fs = host.now.state.functions in IfOk result (λ w.
         w.bridges.items ≡ map (λ (f : BoardFunction). f.path) (takers_down fs number 16 [])) }

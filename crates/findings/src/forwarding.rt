@@ -1,4 +1,4 @@
-//! Open regions that a bridge above them doesn't forward.
+//! Finds enabled BARs that a bridge above them doesn't forward.
 ghost use Rattle.std.specs.Prelude.{◌≡◌, ◌++◌, map, OnOk};
 ghost use Rattle.model_findings.specs.Problems.{unforwarded};
 ghost use Rattle.findings.specs.{Blames.unforwarded_problem, Findings.problem_of};
@@ -11,7 +11,7 @@ use crate::row::forwarded;
 use bridge_forward::RoutingRow;
 use std::alloc::AllocError;
 
-/// The least byte of a region that a bridge doesn't forward.
+/// Returns the lowest address of a BAR that a bridge doesn't forward, if there is one.
 pub(crate) fn unforwarded(row: &RoutingRow, region: &RegionNow) -> Option<u64>
     ensures { result ≡ unforwarded row.now region.now }
 {
@@ -19,7 +19,7 @@ pub(crate) fn unforwarded(row: &RoutingRow, region: &RegionNow) -> Option<u64>
     first_missed(region, one, other)
 }
 
-/// Adds what is wrong with the forwarding to regions.
+/// Appends a problem for each BAR that a bridge doesn't forward.
 pub(crate) fn add_forwarding(told: &mut Vec<Problem>, blames: &[Blame]) -> Result<(), AllocError>
     ensures { OnOk result (map problem_of told.new.items
         ≡ map problem_of told.old.items ++ map unforwarded_problem blames.now) }

@@ -1,4 +1,5 @@
-//! What keeps a bridge from forwarding an address (PCI-to-PCI Bridge Architecture 1.2, chapters 3.2.5 and 4).
+//! Determines why a bridge doesn't forward an address (PCI-to-PCI Bridge Architecture 1.2, section
+//! 3.2.5 and chapter 4).
 ghost use Rattle.std.specs.{Prelude.{◌≡◌, map, option_map}, Option.option_to_list};
 ghost use Rattle.bars.specs.Kinds.{named_space};
 ghost use Rattle.model_board.specs.Routing.{row_forwards};
@@ -12,7 +13,7 @@ use bars::Space;
 use bridge_forward::{Ranges, RoutingRow, Window};
 use headers::{BridgeDecl, IoDecode, PrefDecode};
 
-/// Whether a bridge forwards an address. Nothing else does.
+/// Returns whether the function is a bridge that forwards the address.
 pub(crate) fn forwards(row: &RoutingRow, space: Space, addr: u64) -> bool
     ensures { result ≡ row_forwards (named_space space) addr row.now }
 {
@@ -28,7 +29,7 @@ pub(crate) fn forwards(row: &RoutingRow, space: Space, addr: u64) -> bool
     }
 }
 
-/// The I/O window, if the bridge has one.
+/// Returns the I/O window, if the bridge implements one.
 fn io_window(decl: &BridgeDecl, window: Option<Window>) -> Option<NamedWindow>
     ensures { map window_told (option_to_list result)
         ≡ io_windows decl.now.io (option_map window_of window) }
@@ -42,7 +43,7 @@ fn io_window(decl: &BridgeDecl, window: Option<Window>) -> Option<NamedWindow>
     }
 }
 
-/// The prefetchable window, if the bridge has one.
+/// Returns the prefetchable window, if the bridge implements one.
 fn pref_window(decl: &BridgeDecl, window: Option<Window>) -> Option<NamedWindow>
     ensures { map window_told (option_to_list result)
         ≡ pref_windows decl.now.pref (option_map window_of window) }
@@ -56,7 +57,7 @@ fn pref_window(decl: &BridgeDecl, window: Option<Window>) -> Option<NamedWindow>
     }
 }
 
-/// The windows that a bridge has for a space. Only that of memory is always there.
+/// Returns the bridge's windows for a space. Only the memory window is mandatory.
 fn windows(
     decl: &BridgeDecl,
     ranges: &Ranges,
@@ -80,7 +81,8 @@ fn windows(
     }
 }
 
-/// What keeps a bridge from forwarding an address that it doesn't forward.
+/// Returns the reason that a bridge doesn't forward an address. The caller has checked that it
+/// doesn't.
 pub(crate) fn hindrance_of(row: &RoutingRow, decl: Option<BridgeDecl>, space: Space) -> Hindrance
     ensures { hindrance_told result ≡ row_hindrance (named_space space) decl row.now }
 {

@@ -1,4 +1,4 @@
-//! Regions that hold an address and don't answer it.
+//! Finds the BARs that contain an address without answering it.
 ghost use Rattle.std.specs.Prelude.{◌≡◌, ◌++◌, map, IfOk, OnOk};
 ghost use Rattle.bars.specs.Kinds.{named_space};
 ghost use Rattle.model_findings.specs.OpenRegions.{region_now};
@@ -11,7 +11,7 @@ use bars::Space;
 use bridge_forward::{Claim, Path, Ranges, RoutingRegion, RoutingRow};
 use std::alloc::{AllocError, Global};
 
-/// An address that is asked about, and who answers it.
+/// The queried address, and the BAR that answers it.
 #[derive(Drop)]
 pub(crate) struct Asked {
     pub(crate) space: Space,
@@ -19,14 +19,14 @@ pub(crate) struct Asked {
     pub(crate) answer: Option<Claim>,
 }
 
-/// A region, and the Command of its function.
+/// A BAR, and the Command value of its function.
 #[derive(Drop)]
 pub(crate) struct Held {
     pub(crate) region: RegionNow,
     pub(crate) command: u16,
 }
 
-/// Whether a region is the one that answers.
+/// Returns whether this BAR is the one that answers.
 fn is_answer(answer: &Option<Claim>, region: &RegionNow) -> bool
     ensures { result ≡ is_answer answer.now region.now }
 {
@@ -36,7 +36,7 @@ fn is_answer(answer: &Option<Claim>, region: &RegionNow) -> bool
     }
 }
 
-/// Whether a region holds the address and doesn't answer it.
+/// Returns whether the BAR contains the address without answering it.
 fn is_held(asked: &Asked, region: &RegionNow) -> bool
     ensures { let space = named_space asked.now.space in
         result ≡ is_held space asked.now.addr asked.now.answer region.now }
@@ -46,7 +46,7 @@ fn is_held(asked: &Asked, region: &RegionNow) -> bool
         && !is_answer(&asked.answer, region)
 }
 
-/// Adds those regions of a function that hold the address and don't answer it.
+/// Appends each of these BARs that contains the address without answering it.
 fn add_regions(
     held: &mut Vec<Held>,
     asked: &Asked,
@@ -74,7 +74,7 @@ fn add_regions(
     Ok(())
 }
 
-/// Adds the regions of a function that hold the address and don't answer it.
+/// Appends the BARs of a function that contain the address without answering it.
 fn add_function(held: &mut Vec<Held>, asked: &Asked, row: &RoutingRow) -> Result<(), AllocError>
     ensures { let space = named_space asked.now.space in OnOk result (held.new.items
         ≡ held.old.items ++ held_of space asked.now.addr asked.now.answer row.now) }
@@ -85,7 +85,8 @@ fn add_function(held: &mut Vec<Held>, asked: &Asked, row: &RoutingRow) -> Result
     }
 }
 
-/// All regions that hold the address and don't answer it, in path order, then by register.
+/// Returns every BAR that contains the address without answering it, in path order and then by BAR
+/// index.
 pub(crate) fn all_held(
     alloc: Global,
     asked: &Asked,

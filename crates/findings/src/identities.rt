@@ -1,4 +1,4 @@
-//! Who made a function and what it is (PCI Local Bus 3.0, chapters 6.2.1 and 6.2.4).
+//! Reads the identity registers of a function (PCI Local Bus 3.0, sections 6.2.1 and 6.2.4).
 ghost use Rattle.std.specs.Prelude.{◌≡◌, ◌≤◌, ◌+◌, ◌%◌, option_map, slice_get};
 ghost use Rattle.model_board.specs.State.{BoardFunction};
 ghost use Rattle.model_handoff.specs.Functions.{subsystem_number};
@@ -6,7 +6,7 @@ ghost use Rattle.findings.specs.Identities.{identity_told, identity_nth};
 
 use host_bridge::Host;
 
-/// The identity registers of a function. A bridge has no subsystem, and both numbers are 0.
+/// The identity registers of a function. For a bridge, `subvendor` and `subsystem` are 0.
 #[derive(Clone, Copy, Debug, PartialEq, Eq)]
 pub struct Identity {
     pub vendor: u32,
@@ -17,7 +17,8 @@ pub struct Identity {
     pub subsystem: u32,
 }
 
-/// A number of the subsystem of the function at an index: 0 where it is a bridge.
+/// Reads the 16-bit subsystem register at `off` of the function at an index. Returns 0 for a
+/// bridge.
 fn subsystem_number(host: &Host, index: usize, off: u8) -> Option<u32>
     requires { off % 4 + 2 ≤ 4 }
     ensures { let fs = host.now.state.functions in
@@ -30,7 +31,7 @@ fn subsystem_number(host: &Host, index: usize, off: u8) -> Option<u32>
     }
 }
 
-/// The identity of the function at an index.
+/// Reads the identity registers of the function at an index, if there is one.
 pub fn identity_nth(host: &Host, index: usize) -> Option<Identity>
     ensures { option_map identity_told result ≡ identity_nth host.now.state.functions index }
 {

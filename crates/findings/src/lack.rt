@@ -1,27 +1,27 @@
-//! What a register state lacks.
+//! Requirements that a board's registers don't meet.
 use crate::region::RegionNow;
 use paths::Path;
 
-/// A lack, with its witness.
+/// An unmet requirement, with the evidence for it.
 #[derive(Debug, Drop)]
 pub enum Lack {
-    /// A region whose space Command doesn't open.
+    /// A BAR whose space is disabled in Command.
     NotOpen {
         region: RegionNow,
     },
-    /// An open region, and its least address that no aperture of its space has.
+    /// An enabled BAR, and its lowest address outside the apertures of its space.
     OutsideApertures {
         region: RegionNow,
         address: u64,
     },
-    /// An open memory region that isn't prefetchable, the first bridge above it that forwards some of it
-    /// by its prefetchable window alone, and the least address that it does.
+    /// An enabled memory BAR that isn't prefetchable, the first bridge above it that forwards part
+    /// of it only through the prefetchable window, and the lowest address in that part.
     Prefetched {
         region: RegionNow,
         bridge: Path,
         address: u64,
     },
-    /// A bridge, the Primary Bus Number that it holds, and the number of the bus that it stands on.
+    /// A bridge, its Primary Bus Number, and the number of the bus that it is on.
     OtherPrimary {
         path: Path,
         held: u8,

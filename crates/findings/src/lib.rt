@@ -1,14 +1,15 @@
 //! Layer: findings. Below: model_lines, host_bridge. Above: findings_told, monitor, json_texts.
 //!
-//! What is to be said of a board's registers as they stand. An audit finds which open regions are not forwarded, which agents
-//! of one bus answer one address, and which functions no cycle finds. What a board lacks that is to be driven: regions that
-//! are closed, outside the apertures or prefetched where they mustn't be, and bridges that hold another Primary Bus Number.
+//! Diagnoses the current registers of a board. An audit finds the problems: enabled BARs that
+//! aren't forwarded, address conflicts on a bus, and functions that no configuration cycle reaches.
+//! A second list has the requirements that aren't met yet: disabled BARs, BARs outside the
+//! apertures, BARs that are prefetched but mustn't be, and wrong Primary Bus Numbers.
 //!
-//! And why an address of memory or an I/O port, or a configuration number, finds what it finds, or nobody: who answers, and each
-//! other region that holds the address, with what keeps it from answering; the bridges that take a cycle, and what is missing
-//! where it ends.
+//! Also explains the result of an access. For a memory address or an I/O port, names the BAR that
+//! answers and what keeps every other BAR that contains the address from answering. For a BDF,
+//! names the bridges that claim the configuration cycle and what is missing at its end.
 //!
-//! And what a function is, by which number it is reached, and the text of its path, by calls that take no memory.
+//! Calls that don't allocate return a function's identity, its BDF and the text of its path.
 #![tactic(auto)]
 
 mod address_why;

@@ -1,4 +1,4 @@
-//! The least address of a region that some windows leave out.
+//! Finds the lowest address of a BAR that is outside the given windows.
 ghost use Rattle.std.specs.{Prelude.{◌≡◌, ◌&&◌, not, map, filter}, Option.{option_map, option_to_list}, List.list_any};
 ghost use Rattle.model_set_up.specs.PlacedRegions.{holds};
 ghost use Rattle.model_findings.specs.Agents.{extent_holds};
@@ -8,7 +8,7 @@ use crate::region::RegionNow;
 use crate::row::holds_any;
 use bridge_forward::Window;
 
-/// The lesser of two addresses that may be there.
+/// Returns the smaller of two addresses, or the only one that is given.
 pub(crate) fn lesser(one: Option<u64>, other: Option<u64>) -> Option<u64>
     ensures { result ≡ least_of one other }
 {
@@ -19,7 +19,7 @@ pub(crate) fn lesser(one: Option<u64>, other: Option<u64>) -> Option<u64>
     }
 }
 
-/// An address, if the region holds it and none of two windows does.
+/// Returns the address if it is in the BAR and in neither window.
 fn if_lost(
     region: &RegionNow,
     one: Option<Window>,
@@ -38,7 +38,7 @@ fn if_lost(
     }
 }
 
-/// The address after a window, if the region holds it and none of two windows does.
+/// Returns the address after a window if it is in the BAR and in neither of the two windows.
 fn if_end_lost(
     region: &RegionNow,
     one: Option<Window>,
@@ -58,7 +58,7 @@ fn if_end_lost(
     }
 }
 
-/// The least address of a region that neither of two windows holds.
+/// Returns the lowest address of a BAR that is in neither window, if there is one.
 pub(crate) fn first_missed(
     region: &RegionNow,
     one: Option<Window>,

@@ -1,4 +1,5 @@
-//! Why a configuration number reaches what it reaches (PCI-to-PCI Bridge Architecture 1.2, chapter 3).
+//! Explains which function a configuration cycle reaches (PCI-to-PCI Bridge Architecture 1.2,
+//! chapter 3).
 ghost use Rattle.std.specs.Prelude.{◌≡◌, map, option_map, IfOk};
 ghost use Rattle.model_board.specs.{Cycles.reached, State.BoardFunction, Routing.routing};
 ghost use Rattle.model_lines.specs.Ways.{takers_on_way, end_of, missing_at, why_number};
@@ -11,15 +12,16 @@ use bridge_forward::{Path, RoutingRow};
 use host_bridge::{Bdf, Host};
 use std::alloc::{AllocError, Global};
 
-/// What is missing where a cycle ends. A bus is told by the bridge above it; none is above bus 0.
+/// What is missing at the end of a configuration cycle. A bus is given by the bridge above it, and
+/// bus 0 by `None`.
 #[derive(Debug, Drop)]
 pub enum Missing {
-    /// No bridge of a bus takes cycles for another bus.
+    /// No bridge on the bus claims cycles for bus number `bus`.
     NoBridge {
         behind: Option<Path>,
         bus: u8,
     },
-    /// No such function stands on a bus.
+    /// The bus doesn't have this device and function.
     NoFunction {
         behind: Option<Path>,
         device: u8,
@@ -27,8 +29,9 @@ pub enum Missing {
     },
 }
 
-/// The function that a configuration number reaches, all bridges that take its cycle, what is missing where it reaches
-/// nothing, and the functions that have the number by the bridge above them and aren't found by it.
+/// The explanation of a BDF: the function that it reaches, the bridges that claim its cycle, what
+/// is missing if it reaches no function, and the functions that have this BDF but aren't reached by
+/// it.
 #[derive(Debug, Drop)]
 pub struct WhyNumber {
     pub reached: Option<Path>,
@@ -37,7 +40,7 @@ pub struct WhyNumber {
     pub not_found: Vec<Path>,
 }
 
-/// The way of a cycle from bus 0 down.
+/// Follows the configuration cycle for a BDF from bus 0.
 fn way_of(alloc: Global, host: &Host, at: Bdf) -> Result<Way, AllocError>
     ensures bridges { let fs = host.now.state.functions in
         let bridges = takers_on_way fs (bus_address_of at) in
@@ -54,7 +57,7 @@ fn way_of(alloc: Global, host: &Host, at: Bdf) -> Result<Way, AllocError>
     way_down(alloc, host, at.bus)
 }
 
-/// The path of the function that a number reaches.
+/// Returns the path of the function that a BDF reaches, if any.
 fn path_reached(host: &mut Host, at: Bdf) -> Option<Path>
     ensures path { let fs = host.old.state.functions in result
         ≡ option_map (λ (f : BoardFunction). f.path) (reached fs (bus_address_of at)) }
@@ -64,7 +67,7 @@ fn path_reached(host: &mut Host, at: Bdf) -> Option<Path>
     host.path_nth(index)
 }
 
-/// What is missing at the end of a way.
+/// Returns what is missing at the end of a configuration cycle.
 fn missing_at(end: WayEnd, at: Bdf) -> Missing
     ensures { missing_told result ≡ missing_at (end_told end) (bus_address_of at) }
 {
@@ -81,7 +84,7 @@ fn missing_at(end: WayEnd, at: Bdf) -> Missing
     }
 }
 
-/// What is missing, unless something is reached.
+/// Returns what is missing, or `None` if a function is reached.
 fn missing_if(reached: &Option<Path>, end: WayEnd, at: Bdf) -> Option<Missing>
     ensures { option_map missing_told result
         ≡ missing_by reached.now (end_told end) (bus_address_of at) }
@@ -92,7 +95,8 @@ fn missing_if(reached: &Option<Path>, end: WayEnd, at: Bdf) -> Option<Missing>
     }
 }
 
-/// Whether a function has this number by the bridge above it, and isn't the one that is reached.
+/// Returns whether a function has this BDF, by the bridge above it, but isn't the function that is
+/// reached.
 fn is_unfound(
     host: &Host,
     rows: &[RoutingRow],
@@ -107,7 +111,7 @@ fn is_unfound(
     address_now(host, rows, path) == at && !is_there(reached, path)
 }
 
-/// The functions that have this number by the bridge above them and aren't reached.
+/// Returns the functions that have this BDF, by the bridges above them, but aren't reached by it.
 fn unfound(
     alloc: Global,
     host: &Host,
@@ -127,9 +131,10 @@ fn unfound(
     Ok(told)
 }
 
-/// What a configuration number reaches as the registers stand, all bridges that take its cycle, from bus 0 down, what is
-/// missing where it reaches nothing, and which functions have the number and aren't found by it. Nothing changes, also
-/// where memory is out.
+/// Explains which function a BDF reaches in the current registers. The result lists every bridge
+/// that claims the cycle, starting at bus 0, what is missing if no function is reached, and the
+/// functions that have this BDF but aren't reached by it. Leaves the host unchanged, even if memory
+/// is exhausted.
 pub fn why_number(alloc: Global, host: &mut Host, at: Bdf) -> Result<WhyNumber, AllocError>
     ensures told { let fs = host.old.state.functions in
         IfOk result (λ w. number_told w ≡ why_number fs (bus_address_of at)) }

@@ -1,4 +1,5 @@
-//! Which functions no configuration cycle finds (PCI-to-PCI Bridge Architecture 1.2, chapter 3).
+//! Finds functions that no configuration cycle reaches (PCI-to-PCI Bridge Architecture 1.2, chapter
+//! 3).
 ghost use Rattle.std.specs.{Prelude.{◌≡◌, ◌++◌, map, position, slice_get, OnOk, option_map}, Option.{option_and_then, option_to_list}};
 ghost use Rattle.model_board.specs.Routing.{routing, RoutingRow as RowValue};
 ghost use Rattle.model_findings.specs.{Found.{bus_now, address_now}, Problems.numbering_problems};
@@ -10,7 +11,7 @@ use bridge_forward::{Part, Path, Ranges, RoutingRow};
 use host_bridge::{Bdf, Host};
 use std::alloc::AllocError;
 
-/// Whether a bridge stands at these parts.
+/// Returns whether the row is that of a bridge at this path.
 fn is_bridge_at(row: &RoutingRow, bus: &[Part]) -> bool
     ensures { result ≡ is_bridge_row bus.now row.now }
 {
@@ -20,14 +21,15 @@ fn is_bridge_at(row: &RoutingRow, bus: &[Part]) -> bool
     }
 }
 
-/// The index of the bridge above a bus.
+/// Returns the index of the bridge above a bus.
 fn bridge_index(rows: &[RoutingRow], bus: &[Part]) -> Option<usize>
     ensures { result ≡ position (is_bridge_row bus.now) rows.now }
 {
     rows.iter().position(|row| is_bridge_at(row, bus))
 }
 
-/// The number of a bus: what the bridge above it holds, and 0 for bus 0.
+/// Returns the number of a bus: 0 for bus 0, and the Secondary Bus Number of the bridge above for
+/// other buses.
 fn bus_now(host: &Host, rows: &[RoutingRow], bus: &[Part]) -> u8
     requires { rows.now ≡ routing host.now.state.functions }
     ensures { result ≡ bus_now host.now.state.functions bus.now }
@@ -41,8 +43,8 @@ fn bus_now(host: &Host, rows: &[RoutingRow], bus: &[Part]) -> u8
     }
 }
 
-/// The number by which a function is looked for: that of its bus, as the bridge above it holds it, and its
-/// device and function. The rows are the host's.
+/// Returns the BDF of a function, with the Secondary Bus Number of the bridge above as the bus
+/// number. The rows must be those of the host.
 pub(crate) fn address_now(host: &Host, rows: &[RoutingRow], path: &Path) -> Bdf
     requires { rows.now ≡ routing host.now.state.functions }
     ensures { bus_address_of result ≡ address_now host.now.state.functions path.now }
@@ -55,7 +57,7 @@ pub(crate) fn address_now(host: &Host, rows: &[RoutingRow], path: &Path) -> Bdf
     }
 }
 
-/// The path at an index, if there is one.
+/// Returns the path at an index, if there is one.
 fn path_at(rows: &[RoutingRow], index: Option<usize>) -> Option<Path>
     ensures { result
         ≡ option_map (λ (r : RowValue). r.path) (option_and_then (slice_get rows.now) index) }
@@ -68,7 +70,7 @@ fn path_at(rows: &[RoutingRow], index: Option<usize>) -> Option<Path>
     Some(row.path.copied())
 }
 
-/// Whether this is the path that was reached.
+/// Returns whether the function that was reached is the one at `path`.
 pub(crate) fn is_there(instead: &Option<Path>, path: &Path) -> bool
     ensures { result ≡ is_there path.now instead.now }
 {
@@ -78,7 +80,7 @@ pub(crate) fn is_there(instead: &Option<Path>, path: &Path) -> bool
     }
 }
 
-/// What is wrong with the numbers of the function at a path.
+/// Returns a problem if the function at a path isn't reached by its BDF.
 fn numbering_problem(host: &mut Host, rows: &[RoutingRow], path: &Path) -> Option<Problem>
     requires { rows.now ≡ routing host.old.state.functions }
     ensures told { option_to_list (option_map problem_of result)
@@ -98,7 +100,7 @@ fn numbering_problem(host: &mut Host, rows: &[RoutingRow], path: &Path) -> Optio
     })
 }
 
-/// Adds the functions that no cycle finds.
+/// Appends a problem for each function that no configuration cycle reaches.
 pub(crate) fn add_numbering(
     told: &mut Vec<Problem>,
     host: &mut Host,

@@ -1,4 +1,4 @@
-//! Open regions with addresses in no aperture of their space.
+//! Finds enabled BARs that are partly outside the apertures of their space.
 ghost use Rattle.std.specs.{Prelude.{◌≡◌, ◌++◌, flat_map, OnOk, map}, Option.{option_map, option_to_list}};
 ghost use Rattle.bars.specs.Kinds.{named_space};
 ghost use Rattle.model_findings.specs.Lacks.{aperture_extent, aperture_extents, outside_lack};
@@ -12,7 +12,7 @@ use bridge_forward::Window;
 use headers::{Aperture, Apertures};
 use std::alloc::AllocError;
 
-/// The addresses of an aperture.
+/// Returns the addresses of an aperture.
 fn window_of(aperture: Aperture) -> Window
     ensures { extent_of result ≡ aperture_extent aperture }
 {
@@ -22,7 +22,7 @@ fn window_of(aperture: Aperture) -> Window
     }
 }
 
-/// The addresses of a space that may be given out: up to two windows.
+/// Returns the apertures of a space. Memory may have two.
 fn apertures_for(apertures: &Apertures, space: Space) -> (Option<Window>, Option<Window>)
     ensures { extents_of result.0 result.1 ≡ aperture_extents apertures.now (named_space space) }
 {
@@ -35,7 +35,7 @@ fn apertures_for(apertures: &Apertures, space: Space) -> (Option<Window>, Option
     }
 }
 
-/// What is lacking of a region that isn't inside the apertures.
+/// Returns an unmet requirement if part of the BAR is outside the apertures.
 fn outside_lack(apertures: &Apertures, region: &RegionNow) -> Option<Lack>
     ensures { option_to_list (option_map lack_of result) ≡ outside_lack apertures.now region.now }
 {
@@ -47,7 +47,7 @@ fn outside_lack(apertures: &Apertures, region: &RegionNow) -> Option<Lack>
     })
 }
 
-/// Adds what is lacking of those regions that aren't inside the apertures.
+/// Appends an unmet requirement for each BAR that is partly outside the apertures.
 pub(crate) fn add_outside(
     told: &mut Vec<Lack>,
     apertures: &Apertures,

@@ -1,14 +1,14 @@
-//! The text of a path, as board files and reports have it.
+//! Writes a path as text, in the form that board files and reports use.
 ghost use Rattle.std.specs.{Prelude.{◌≡◌, ◌≤◌, ◌<◌, ◌+◌, ◌*◌, ◌++◌, length, map, decimal}, List.join_with_byte};
 ghost use Rattle.model_guests.specs.PathTexts.{part_text, path_text};
 
 use arrayvec::ArrayVec;
 use paths::{Part, Path};
 
-/// The longest text has sixteen parts of four bytes, and a slash between each two.
+/// The text of a path. The longest has sixteen parts of four bytes, separated by slashes.
 pub type PathBytes = ArrayVec<u8, 79>;
 
-/// The decimal digits of a device or a function.
+/// Returns the decimal digits of a device or function number.
 fn number_text(number: u8) -> &'static [u8]
     requires { number < 16 }
     ensures text { result.now ≡ decimal number }
@@ -43,7 +43,7 @@ fn push_all(text: &mut PathBytes, bytes: &[u8])
     let _ = text.try_extend_from_slice(bytes);
 }
 
-/// Appends a device and a function with a dot between them.
+/// Appends a device and a function number, separated by a dot.
 fn push_part(text: &mut PathBytes, part: Part)
     requires { length text.old.items + 4 ≤ 79 }
     ensures items { text.new.items ≡ text.old.items ++ part_text part }
@@ -54,7 +54,7 @@ fn push_part(text: &mut PathBytes, part: Part)
     push_all(text, number_text(part.function()));
 }
 
-/// Appends parts with a slash between each two.
+/// Appends parts, separated by slashes.
 fn push_parts(text: &mut PathBytes, parts: &[Part])
     requires { length text.old.items + 5 * length parts.now ≤ 80 }
     ensures { text.new.items ≡ text.old.items ++ join_with_byte 47 (map part_text parts.now) }
@@ -70,7 +70,7 @@ fn push_parts(text: &mut PathBytes, parts: &[Part])
     }
 }
 
-/// The text of a path, without memory.
+/// Returns the text of a path without allocating.
 pub fn path_text(path: &Path) -> PathBytes
     ensures { result.items ≡ path_text path.now }
 {

@@ -1,4 +1,5 @@
-//! What the address latch makes of an I/O port (PCI Local Bus 3.0, chapter 3.2.2.3.2).
+//! Determines the role of an I/O port in the configuration mechanism (PCI Local Bus 3.0, section
+//! 3.2.2.3.2).
 ghost use Rattle.std.specs.Prelude.{◌≡◌};
 ghost use Rattle.model_lines.specs.WhyPorts.{port_use};
 ghost use Rattle.findings.specs.WhyTold.{use_told};
@@ -6,19 +7,19 @@ ghost use Rattle.findings.specs.WhyTold.{use_told};
 use host_bridge::Bdf;
 use paths::Latch;
 
-/// What the address latch makes of an I/O port.
+/// The role of an I/O port in the configuration mechanism.
 #[derive(Clone, Copy, Debug, PartialEq, Eq)]
 pub enum PortUse {
-    /// 4 bytes are the latch; fewer are those of a port like others.
+    /// CONFIG_ADDRESS. Only accesses of 4 bytes reach it; smaller ones go to an ordinary port.
     HoldsLatch,
-    /// A byte of configuration space, which the latch selects.
+    /// CONFIG_DATA: a byte of the configuration space that CONFIG_ADDRESS selects.
     ShowsData { at: Bdf, offset: u8 },
-    /// A port like others, as the latch isn't enabled.
+    /// CONFIG_DATA while CONFIG_ADDRESS isn't enabled: an ordinary port.
     HidesData,
     LikeOthers,
 }
 
-/// What a latch makes of a port.
+/// Returns the role of a port, given the value of CONFIG_ADDRESS.
 pub fn port_use(latch: Latch, port: u64) -> PortUse
     ensures { use_told result ≡ port_use latch port }
 {

@@ -1,5 +1,5 @@
-//! What a bridge forwards of a region by its prefetchable window alone (PCI-to-PCI Bridge Architecture 1.2,
-//! chapter 4).
+//! Finds BAR addresses that a bridge forwards only through its prefetchable window (PCI-to-PCI
+//! Bridge Architecture 1.2, chapter 4).
 ghost use Rattle.std.specs.{Prelude.{◌≡◌, [], ◌∷◌, ◌++◌, ◌&&◌, map, filter, OnOk}, Option.{option_map, option_to_list}};
 ghost use Rattle.model_set_up.specs.PlacedRegions.{holds};
 ghost use Rattle.model_findings.specs.Lacks.{prefetches, prefetch_edges, first_prefetched};
@@ -14,7 +14,8 @@ use bars::Space;
 use bridge_forward::{Ranges, RoutingRow, Window};
 use std::alloc::AllocError;
 
-/// Whether a bridge forwards an address by its prefetchable window, and not by its memory window.
+/// Returns whether a bridge forwards an address through its prefetchable window and not through its
+/// memory window.
 fn prefetches(row: &RoutingRow, addr: u64) -> bool
     ensures { result ≡ prefetches addr row.now }
 {
@@ -26,7 +27,7 @@ fn prefetches(row: &RoutingRow, addr: u64) -> bool
     }
 }
 
-/// The memory window of a bridge, and its prefetchable one.
+/// Returns the memory window and the prefetchable window of a bridge.
 fn memory_windows(row: &RoutingRow) -> (Option<Window>, Option<Window>)
     ensures { prefetch_edges row.now
         ≡ map (λ e. e.first) (option_to_list (option_map extent_of result.1))
@@ -38,7 +39,7 @@ fn memory_windows(row: &RoutingRow) -> (Option<Window>, Option<Window>)
     }
 }
 
-/// An address, if the region holds it and the bridge prefetches it.
+/// Returns the address if it is in the BAR and the bridge prefetches it.
 fn if_prefetched(row: &RoutingRow, region: &RegionNow, addr: u64) -> Option<u64>
     ensures { let q = region.now in option_to_list result
         ≡ filter (λ n. holds q.space n q && prefetches n row.now) (addr ∷ []) }
@@ -50,7 +51,7 @@ fn if_prefetched(row: &RoutingRow, region: &RegionNow, addr: u64) -> Option<u64>
     }
 }
 
-/// The first address of a window, if the region holds it and the bridge prefetches it.
+/// Returns the first address of a window if it is in the BAR and the bridge prefetches it.
 fn if_first_prefetched(row: &RoutingRow, region: &RegionNow, window: Option<Window>) -> Option<u64>
     ensures { let q = region.now in option_to_list result
         ≡ filter (λ n. holds q.space n q && prefetches n row.now)
@@ -59,7 +60,7 @@ fn if_first_prefetched(row: &RoutingRow, region: &RegionNow, window: Option<Wind
     if_prefetched(row, region, window?.first)
 }
 
-/// The address after a window, if the region holds it and the bridge prefetches it.
+/// Returns the address after a window if it is in the BAR and the bridge prefetches it.
 fn if_end_prefetched(row: &RoutingRow, region: &RegionNow, window: Option<Window>) -> Option<u64>
     ensures { let q = region.now in option_to_list result
         ≡ filter (λ n. holds q.space n q && prefetches n row.now)
@@ -73,7 +74,7 @@ fn if_end_prefetched(row: &RoutingRow, region: &RegionNow, window: Option<Window
     }
 }
 
-/// The least address of a region that a bridge prefetches.
+/// Returns the lowest address of a BAR that a bridge prefetches, if there is one.
 pub(crate) fn first_prefetched(row: &RoutingRow, region: &RegionNow) -> Option<u64>
     ensures { result ≡ first_prefetched row.now region.now }
 {
@@ -84,7 +85,7 @@ pub(crate) fn first_prefetched(row: &RoutingRow, region: &RegionNow) -> Option<u
     lesser(base, lesser(first, end))
 }
 
-/// Adds what is lacking of regions that bridges prefetch.
+/// Appends an unmet requirement for each BAR that a bridge prefetches.
 pub(crate) fn add_prefetched(told: &mut Vec<Lack>, blames: &[Blame]) -> Result<(), AllocError>
     ensures { OnOk result (map lack_of told.new.items
         ≡ map lack_of told.old.items ++ map prefetched_lack blames.now) }

@@ -1,4 +1,5 @@
-//! Bridges that don't hold the number of their bus (PCI-to-PCI Bridge Architecture 1.2, chapter 3.2.5.2).
+//! Finds bridges with a wrong Primary Bus Number (PCI-to-PCI Bridge Architecture 1.2, section
+//! 3.2.5.2).
 ghost use Rattle.std.specs.{Prelude.{◌≡◌, ◌++◌, map, flat_map, slice_get, OnOk, option_map}, Option.option_to_list};
 ghost use Rattle.model_board.specs.Routing.{routing};
 ghost use Rattle.model_findings.specs.Lacks.{primary_lack};
@@ -10,7 +11,8 @@ use bridge_forward::RoutingRow;
 use host_bridge::Host;
 use std::alloc::AllocError;
 
-/// What is lacking of the bridge at an index, if one stands there.
+/// Returns an unmet requirement if the function at an index is a bridge with a wrong Primary Bus
+/// Number.
 fn primary_lack(host: &Host, rows: &[RoutingRow], index: usize) -> Option<Lack>
     requires { rows.now ≡ routing host.now.state.functions }
     ensures { let fs = host.now.state.functions in option_to_list (option_map lack_of result)
@@ -32,7 +34,7 @@ fn primary_lack(host: &Host, rows: &[RoutingRow], index: usize) -> Option<Lack>
     })
 }
 
-/// Adds what is lacking of bridges' numbers.
+/// Appends an unmet requirement for each bridge with a wrong Primary Bus Number.
 pub(crate) fn add_primaries(
     told: &mut Vec<Lack>,
     host: &Host,

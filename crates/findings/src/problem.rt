@@ -1,26 +1,27 @@
-//! What is wrong in a register state.
+//! Problems in the registers of a board.
 use crate::agent::Agent;
 use crate::region::RegionNow;
 use host_bridge::Bdf;
 use paths::Path;
 
-/// A problem, with its witness.
+/// A problem, with the evidence for it.
 #[derive(Debug, Drop)]
 pub enum Problem {
-    /// An open region, the first bridge above it that doesn't forward all of it, and the least byte
-    /// that it doesn't.
+    /// An enabled BAR, the first bridge above it that doesn't forward all of it, and the lowest
+    /// address that isn't forwarded.
     NotForwarded {
         region: RegionNow,
         bridge: Path,
         address: u64,
     },
-    /// Two agents of one bus, and the least address that both answer.
+    /// Two responders on the same bus, and the lowest address that both claim.
     Contended {
         one: Agent,
         other: Agent,
         address: u64,
     },
-    /// A function, its number, and what configuration accesses at that number reach in its place.
+    /// A function that isn't reached by its BDF, and the function that configuration accesses to
+    /// this BDF reach instead, if any.
     NotFound {
         path: Path,
         address: Bdf,

@@ -1,4 +1,4 @@
-//! Finding what is lacking.
+//! Finds the requirements that a board doesn't meet yet.
 ghost use Rattle.std.specs.Prelude.{◌≡◌, ◌++◌, map, IfOk, OnOk};
 ghost use Rattle.model_findings.specs.Lacks.{not_open, lacks, is_ready};
 ghost use Rattle.findings.specs.Findings.{lack_of};
@@ -15,7 +15,7 @@ use headers::Apertures;
 use host_bridge::Host;
 use std::alloc::{AllocError, Global};
 
-/// Adds what is lacking of closed regions.
+/// Appends an unmet requirement for each disabled BAR.
 fn add_closed(told: &mut Vec<Lack>, closed: &[RegionNow]) -> Result<(), AllocError>
     ensures { OnOk result (map lack_of told.new.items
         ≡ map lack_of told.old.items ++ map not_open closed.now) }
@@ -28,9 +28,9 @@ fn add_closed(told: &mut Vec<Lack>, closed: &[RegionNow]) -> Result<(), AllocErr
     Ok(())
 }
 
-/// All that an operating system would still have to do about the registers of a board as they stand, beside
-/// the problems of an audit: regions that are closed, open ones that aren't inside these apertures, those that
-/// aren't prefetchable and are prefetched, and bridges that hold another Primary Bus Number.
+/// Returns everything that an operating system would still have to set up on a board, apart from
+/// the problems of an audit: disabled BARs, enabled BARs outside the apertures, BARs that are
+/// prefetched but mustn't be, and wrong Primary Bus Numbers.
 pub fn lacks(alloc: Global, host: &Host, apertures: &Apertures) -> Result<Vec<Lack>, AllocError>
     ensures { let fs = host.now.state.functions in
         IfOk result (λ v. map lack_of v.items ≡ lacks apertures.now fs) }
@@ -47,7 +47,7 @@ pub fn lacks(alloc: Global, host: &Host, apertures: &Apertures) -> Result<Vec<La
     Ok(told)
 }
 
-/// Whether there is neither a problem nor a lack, by these apertures. Nothing changes.
+/// Returns whether a board has neither problems nor unmet requirements. Leaves the host unchanged.
 pub fn is_ready(alloc: Global, host: &mut Host, apertures: &Apertures) -> Result<bool, AllocError>
     ensures ready { let fs = host.old.state.functions in
         IfOk result (λ b. b ≡ is_ready apertures.now fs) }

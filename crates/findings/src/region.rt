@@ -1,4 +1,4 @@
-//! A region where its register says now.
+//! BARs at their current addresses.
 ghost use Rattle.std.specs.{Prelude.{◌≡◌, ◌+◌, [], ◌∷◌, filter}, Option.option_to_list};
 ghost use Rattle.model_set_up.specs.PlacedRegions.{holds};
 ghost use Rattle.findings.specs.Extents.{extent_of};
@@ -7,7 +7,7 @@ use crate::row::holds;
 use bridge_forward::{Path, RoutingRegion, Window};
 use std::marker::Model;
 
-/// A region where its register says now, and the path of its endpoint.
+/// A BAR at its current address, and the path of its endpoint.
 #[derive(Debug, Drop)]
 pub struct RegionNow {
     pub path: Path,
@@ -24,7 +24,7 @@ impl Model for RegionNow {
     ghost view = { λ r. region_now r.path (base_of r.region) };
 }
 
-/// The addresses of a region.
+/// Returns the addresses of a BAR.
 pub(crate) fn extent(region: RoutingRegion) -> Window
     ensures { extent_of result ≡ record { first = region.base; end = region.base + region.size } }
 {
@@ -35,14 +35,14 @@ pub(crate) fn extent(region: RoutingRegion) -> Window
 }
 
 impl RegionNow {
-    /// Whether the region holds an address of its space.
+    /// Returns whether the BAR contains an address of its space.
     pub fn holds(&self, addr: u64) -> bool
         ensures { result ≡ holds self.now.space addr self.now }
     {
         holds(extent(self.region), addr)
     }
 
-    /// The address after a window, if the region holds it.
+    /// Returns the address after a window if it is in the BAR.
     pub fn end_held(&self, window: Window) -> Option<u64>
         ensures { option_to_list result
             ≡ filter (λ n. holds self.now.space n self.now) ((extent_of window).end ∷ []) }
@@ -52,7 +52,7 @@ impl RegionNow {
         if holds(held, end) { Some(end) } else { None }
     }
 
-    /// The same region.
+    /// Returns a copy.
     pub fn copied(&self) -> RegionNow
         ensures { result ≡ self.now }
     {

@@ -1,4 +1,5 @@
-//! The regions of functions as their registers say, by what is asked of them (PCI Local Bus 3.0, chapters 6.2.2 and 6.2.5).
+//! Selects BARs by their kind and by the Command register (PCI Local Bus 3.0, sections 6.2.2 and
+//! 6.2.5).
 ghost use Rattle.std.specs.Prelude.{◌≡◌, ◌++◌, map, IfOk, OnOk};
 ghost use Rattle.bars.specs.Kinds.{kind_of};
 ghost use Rattle.model_findings.specs.Lacks.{is_plain};
@@ -11,7 +12,8 @@ use bars::Kind;
 use bridge_forward::{Path, Ranges, RoutingRegion, RoutingRow};
 use std::alloc::{AllocError, Global};
 
-/// Regions whose space Command opens, those whose space it doesn't, and open memory that isn't prefetchable.
+/// The BARs to select: enabled BARs, disabled BARs, or enabled memory BARs that aren't
+/// prefetchable.
 #[derive(Clone, Copy)]
 pub(crate) enum Sort {
     Open,
@@ -19,7 +21,7 @@ pub(crate) enum Sort {
     Plain,
 }
 
-/// Whether it is memory that isn't prefetchable.
+/// Returns whether this is the kind of a memory BAR that isn't prefetchable.
 fn is_plain(kind: Kind) -> bool
     ensures { result ≡ is_plain (kind_of kind) }
 {
@@ -30,7 +32,7 @@ fn is_plain(kind: Kind) -> bool
     }
 }
 
-/// Whether a region is of a sort, by the word of its function's Command register.
+/// Returns whether a BAR is to be selected, given the Command value of its function.
 fn is_of_sort(sort: Sort, command: u16, region: RoutingRegion) -> bool
     ensures { result ≡ is_of_sort sort command (base_of region) }
 {
@@ -42,7 +44,7 @@ fn is_of_sort(sort: Sort, command: u16, region: RoutingRegion) -> bool
     }
 }
 
-/// Adds those regions that are of a sort.
+/// Appends those of these BARs that are to be selected.
 fn add_among(
     told: &mut Vec<RegionNow>,
     sort: Sort,
@@ -65,7 +67,7 @@ fn add_among(
     Ok(())
 }
 
-/// Adds the regions of a function that are of a sort.
+/// Appends the selected BARs of a function.
 pub(crate) fn add_regions(
     told: &mut Vec<RegionNow>,
     sort: Sort,
@@ -79,7 +81,7 @@ pub(crate) fn add_regions(
     }
 }
 
-/// The regions of all functions that are of a sort.
+/// Returns the selected BARs of all functions.
 pub(crate) fn all_regions(
     alloc: Global,
     sort: Sort,

@@ -1,4 +1,4 @@
-//! What routing registers say of one function.
+//! Interprets the routing registers of a function.
 ghost use Rattle.std.specs.{Prelude.{◌≡◌, option_map}, List.list_any};
 ghost use Rattle.bars.specs.Kinds.{named_space};
 ghost use Rattle.model_registers.specs.Decoding.{opens_space, same_space};
@@ -10,28 +10,28 @@ ghost use Rattle.findings.specs.Extents.{extent_of, extents_of};
 use bars::Space;
 use bridge_forward::{Ranges, RoutingRow, Window};
 
-/// Whether the word of the Command register opens a space.
+/// Returns whether a Command value enables the space.
 pub fn opens(command: u16, space: Space) -> bool
     ensures { result ≡ opens_space command (named_space space) }
 {
     command & space.command_bit() != 0
 }
 
-/// Whether two spaces are one.
+/// Returns whether two spaces are equal.
 pub(crate) fn is_same_space(x: Space, y: Space) -> bool
     ensures { result ≡ same_space (named_space x) (named_space y) }
 {
     matches!((x, y), (Space::Io, Space::Io) | (Space::Mem, Space::Mem))
 }
 
-/// Whether an address lies in a window.
+/// Returns whether a window contains an address.
 pub(crate) fn holds(window: Window, addr: u64) -> bool
     ensures { result ≡ extent_holds addr (extent_of window) }
 {
     window.first <= addr && addr <= window.last
 }
 
-/// Whether an address lies in a window, if there is one.
+/// Returns whether there is a window and it contains the address.
 pub fn is_in(window: Option<Window>, addr: u64) -> bool
     ensures { result ≡ is_in addr (option_map window_of window) }
 {
@@ -41,14 +41,14 @@ pub fn is_in(window: Option<Window>, addr: u64) -> bool
     }
 }
 
-/// Whether one of two windows holds an address.
+/// Returns whether either of two windows contains an address.
 pub(crate) fn holds_any(one: Option<Window>, other: Option<Window>, addr: u64) -> bool
     ensures { result ≡ list_any (extent_holds addr) (extents_of one other) }
 {
     one.is_some_and(|w| holds(w, addr)) || other.is_some_and(|w| holds(w, addr))
 }
 
-/// What a bridge forwards of a space: up to two windows.
+/// Returns the windows through which a bridge forwards a space. There are two for memory at most.
 pub(crate) fn forwarded(row: &RoutingRow, space: Space) -> (Option<Window>, Option<Window>)
     ensures { extents_of result.0 result.1 ≡ forwarded_extents (named_space space) row.now }
 {

@@ -1,4 +1,5 @@
-//! Agents that may answer one address, found by a walk over what they answer in the order of addresses.
+//! Narrows the search for address conflicts: a sweep through all claimed addresses in order finds
+//! the buses on which addresses overlap.
 ghost use Rattle.std.specs.{Prelude.{◌≡◌, ℕ, ◌++◌, ◌^◌, ◌<◌, IfOk, OnOk, IsTrue, map, filter}, Option.option_to_list, List.Sorted.{IsNonDecreasingBy, IsPermutation}};
 ghost use Rattle.model_findings.specs.Problems.{contentions};
 ghost use Rattle.findings.specs.Spans.{bus_key, group_of, key_of, window_span, agent_spans, spans_from, EndsBefore, crowds, AreApartBut, is_crowded};
@@ -8,8 +9,8 @@ use bars::Space;
 use bridge_forward::{Part, Window};
 use std::alloc::{AllocError, Global};
 
-/// Addresses that an agent answers: the agent's index, a number of its bus and space, and the first
-/// and last address.
+/// A range of addresses that a responder claims. `agent` is the responder's index, `group` is a
+/// hash of its bus and space, and `last` is inclusive.
 #[derive(Clone, Copy)]
 pub(crate) struct Span {
     pub(crate) agent: usize,
@@ -18,7 +19,8 @@ pub(crate) struct Span {
     pub(crate) last: u64,
 }
 
-/// A number of a bus. Two buses may have one number, and are then only looked at more closely.
+/// Returns a hash of a bus. A collision is harmless: responders with equal hashes are only compared
+/// more closely.
 fn bus_key(bus: &[Part]) -> u64
     ensures value { result ≡ bus_key bus.now }
     ensures small { result < 2 ^ 32 }
@@ -32,7 +34,7 @@ fn bus_key(bus: &[Part]) -> u64
     }
 }
 
-/// A number of an agent's bus and space.
+/// Returns a hash of a responder's bus and space.
 fn group_of(agent: &Agent) -> u64
     ensures { result ≡ group_of agent.now }
 {
@@ -43,7 +45,7 @@ fn group_of(agent: &Agent) -> u64
     bus_key(agent.path.parent()) * 2 + space
 }
 
-/// Adds the addresses of a window.
+/// Appends the addresses of a window, if there is one.
 fn add_span(
     spans: &mut Vec<Span>,
     agent: usize,
@@ -64,7 +66,7 @@ fn add_span(
     Ok(())
 }
 
-/// Adds what an agent answers.
+/// Appends the addresses that a responder claims.
 fn add_agent(spans: &mut Vec<Span>, index: usize, agent: &Agent) -> Result<(), AllocError>
     ensures { OnOk result (spans.new.items ≡ spans.old.items ++ agent_spans index agent.now) }
 {
@@ -73,7 +75,7 @@ fn add_agent(spans: &mut Vec<Span>, index: usize, agent: &Agent) -> Result<(), A
     add_span(spans, index, group, agent.other)
 }
 
-/// What all agents answer.
+/// Returns the addresses that all responders claim.
 fn spans_of(alloc: Global, agents: &[Agent]) -> Result<Vec<Span>, AllocError>
     ensures { IfOk result (λ v. v.items ≡ spans_from 0 agents.now) }
 {
@@ -84,14 +86,14 @@ fn spans_of(alloc: Global, agents: &[Agent]) -> Result<Vec<Span>, AllocError>
     Ok(spans)
 }
 
-/// The order of spans: by bus and space, and then by first address.
+/// Returns the sort key of a span: its bus and space, then its first address.
 fn key_of(span: &Span) -> u128
     ensures { result ≡ key_of span.now }
 {
     u128::from(span.group) * 0x1_0000_0000_0000_0000 + u128::from(span.first)
 }
 
-/// What all agents answer, in order.
+/// Returns the addresses that all responders claim, in ascending order within each bus and space.
 fn sorted_spans(alloc: Global, agents: &[Agent]) -> Result<Vec<Span>, AllocError>
     ensures all { IfOk result (λ v. IsPermutation (spans_from 0 agents.now) v.items) }
     ensures rising { IfOk result (λ v. IsNonDecreasingBy key_of v.items) }
@@ -101,14 +103,14 @@ fn sorted_spans(alloc: Global, agents: &[Agent]) -> Result<Vec<Span>, AllocError
     Ok(spans)
 }
 
-/// Whether a span ends before the next one begins, unless that is of another bus or space.
+/// Returns whether a span ends before the next one begins, or belongs to another bus or space.
 fn is_before(before: Span, here: Span) -> bool
     ensures { IsTrue result → EndsBefore before here }
 {
     before.group != here.group || before.last < here.first
 }
 
-/// Adds a bus and space, unless it was the last one added.
+/// Appends a group, unless it is the last one in the list.
 fn add_group(groups: &mut Vec<u64>, group: u64) -> Result<(), AllocError>
     ensures added { OnOk result (IsTrue (crowds groups.new.items group)) }
     ensures kept { OnOk result ((g : ℕ) → IsTrue (crowds groups.old.items g) →
@@ -121,7 +123,7 @@ fn add_group(groups: &mut Vec<u64>, group: u64) -> Result<(), AllocError>
     Ok(())
 }
 
-/// The buses and spaces in which a span doesn't end before the next one begins.
+/// Returns the groups in which a span overlaps the next one.
 fn crowded_groups(alloc: Global, spans: &[Span]) -> Result<Vec<u64>, AllocError>
     ensures { IfOk result (λ v. AreApartBut v.items spans.now) }
 {
@@ -134,15 +136,15 @@ fn crowded_groups(alloc: Global, spans: &[Span]) -> Result<Vec<u64>, AllocError>
     Ok(groups)
 }
 
-/// Whether this is one of the buses and spaces.
+/// Returns whether the list contains a group.
 fn crowds(groups: &[u64], group: u64) -> bool
     ensures { result ≡ crowds groups.now group }
 {
     groups.iter().any(|crowded| *crowded == group)
 }
 
-/// The agents of those buses and spaces in which a walk in the order of addresses sees that some may answer
-/// one address. No other agent shares an address with any.
+/// Returns the responders in groups whose addresses overlap. No other responder shares an address
+/// with any.
 pub(crate) fn crowded(alloc: Global, agents: &[Agent]) -> Result<Vec<Agent>, AllocError>
     ensures { IfOk result (λ v. contentions v.items ≡ contentions agents.now) }
 {
@@ -151,7 +153,7 @@ pub(crate) fn crowded(alloc: Global, agents: &[Agent]) -> Result<Vec<Agent>, All
     crowded_agents(alloc, agents, &groups)
 }
 
-/// The agents of some buses and spaces.
+/// Returns the responders in the given groups.
 fn crowded_agents(alloc: Global, agents: &[Agent], groups: &[u64]) -> Result<Vec<Agent>, AllocError>
     ensures { IfOk result (λ v. v.items ≡ filter (is_crowded groups.now) agents.now) }
 {

@@ -1,4 +1,4 @@
-//! What keeps a region that holds an address from answering it.
+//! Finds everything that keeps a BAR from answering an address that it contains.
 ghost use Rattle.std.specs.{Prelude.{◌≡◌, map, slice_get, option_map, IfOk}, Option.option_to_list};
 ghost use Rattle.bars.specs.Kinds.{named_space};
 ghost use Rattle.model_board.specs.Routing.{routing};
@@ -14,8 +14,9 @@ use bridge_forward::{Path, RoutingRow};
 use host_bridge::Host;
 use std::alloc::{AllocError, Global};
 
-/// What keeps the address from a path at the function at an index, whose row is given, if that is above the path and
-/// doesn't forward it. Most functions are not above: what is declared of them isn't asked for.
+/// Returns the cause if the function at an index is a bridge above the path that doesn't forward
+/// the address. `row` must be the row of that function. Its declaration is read only if the bridge
+/// is above the path, which is rare.
 fn stop(host: &Host, index: usize, row: &RoutingRow, asked: &Asked, path: &Path) -> Option<Cause>
     ensures { let space = named_space asked.now.space in
         let decl = declared_bridge_nth host.now.state.functions index in
@@ -31,7 +32,7 @@ fn stop(host: &Host, index: usize, row: &RoutingRow, asked: &Asked, path: &Path)
     })
 }
 
-/// The same of the function at an index.
+/// Looks up the row of the function at an index and returns the cause, as `stop` does.
 fn stop_nth(
     host: &Host,
     rows: &[RoutingRow],
@@ -50,7 +51,7 @@ fn stop_nth(
     stop(host, index, &rows[index], asked, path)
 }
 
-/// What keeps the address from a path at each bridge above it that doesn't forward it, from bus 0 down.
+/// Returns a cause for each bridge above a path that doesn't forward the address, from bus 0 down.
 fn stops(
     alloc: Global,
     host: &Host,
@@ -72,7 +73,8 @@ fn stops(
     Ok(causes)
 }
 
-/// All that keeps a region that holds the address from answering it, the nearest to its function first.
+/// Returns everything that keeps a BAR from answering the address, in order from its function up to
+/// bus 0.
 pub(crate) fn causes_of(
     alloc: Global,
     host: &Host,

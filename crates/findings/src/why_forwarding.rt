@@ -1,4 +1,5 @@
-//! The bridges that forward an address, down to where its way ends (PCI-to-PCI Bridge Architecture 1.2, chapter 4).
+//! Finds the bridges that an address passes through (PCI-to-PCI Bridge Architecture 1.2, chapter
+//! 4).
 ghost use Rattle.std.specs.{Prelude.{◌≡◌, ◌&&◌, map, slice_get, option_map, IfOk}, Option.option_to_list};
 ghost use Rattle.bars.specs.Kinds.{named_space};
 ghost use Rattle.model_board.specs.Routing.{routing, row_forwards, is_routed};
@@ -13,7 +14,7 @@ use bridge_forward::{Path, RoutingRow};
 use host_bridge::Host;
 use std::alloc::{AllocError, Global};
 
-/// Whether each bridge above a path forwards the address.
+/// Returns whether every bridge above a path forwards the address.
 fn is_routed(rows: &[RoutingRow], asked: &Asked, path: &Path) -> bool
     ensures { let space = named_space asked.now.space in
         result ≡ is_routed rows.now path.now space asked.now.addr }
@@ -21,7 +22,8 @@ fn is_routed(rows: &[RoutingRow], asked: &Asked, path: &Path) -> bool
     rows.iter().all(|row| !row.path.leads_to(path) || forwards(row, asked.space, asked.addr))
 }
 
-/// Whether it is a bridge that forwards the address, as each bridge above it does.
+/// Returns whether the function is a bridge that forwards the address and that the address reaches
+/// from bus 0.
 fn passes_on(rows: &[RoutingRow], asked: &Asked, row: &RoutingRow) -> bool
     ensures { let space = named_space asked.now.space in let addr = asked.now.addr in result
         ≡ (row_forwards space addr row.now && is_routed rows.now row.now.path space addr) }
@@ -29,7 +31,8 @@ fn passes_on(rows: &[RoutingRow], asked: &Asked, row: &RoutingRow) -> bool
     forwards(row, asked.space, asked.addr) && is_routed(rows, asked, &row.path)
 }
 
-/// The function at an index, whose row is given, if it is such a bridge.
+/// Returns the function at an index as a forwarder, if the address passes through it. `row` must be
+/// the row of that function.
 fn forwarder(
     host: &Host,
     rows: &[RoutingRow],
@@ -51,7 +54,7 @@ fn forwarder(
     })
 }
 
-/// The same of the function at an index.
+/// Looks up the row of the function at an index and returns it as a forwarder, as `forwarder` does.
 fn forwarder_nth(host: &Host, rows: &[RoutingRow], asked: &Asked, index: usize) -> Option<Forwarder>
     requires { rows.now ≡ routing host.now.state.functions }
     ensures { let space = named_space asked.now.space in let fs = host.now.state.functions in
@@ -65,7 +68,7 @@ fn forwarder_nth(host: &Host, rows: &[RoutingRow], asked: &Asked, index: usize) 
     forwarder(host, rows, asked, index, &rows[index])
 }
 
-/// All such bridges, in path order.
+/// Returns every bridge that the address passes through, in path order.
 pub(crate) fn forwarders(
     alloc: Global,
     host: &Host,

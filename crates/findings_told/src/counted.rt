@@ -1,4 +1,4 @@
-//! The text of what is found, with its count.
+//! Renders findings as lines of text and counts them.
 ghost use Rattle.std.specs.Prelude.{◌≡◌, ◌+◌, length, map, IfOk, string_bytes};
 ghost use Rattle.model_findings.specs.{AuditText.{audit_text, audit}, Problems.problems, Lacks.lack_count, ReadyText.{ready_text, ready_report}};
 ghost use Rattle.findings.specs.Findings.{problem_of, lack_of};
@@ -10,7 +10,8 @@ use headers::Apertures;
 use host_bridge::Host;
 use std::alloc::{AllocError, Global};
 
-/// What is wrong or lacking in the registers of a board: its text, and how many problems and lacks it tells.
+/// The text about a board's problems, or about its problems and unmet requirements, with their
+/// number.
 #[derive(Drop)]
 pub struct CountedText {
     pub text: String,
@@ -18,7 +19,7 @@ pub struct CountedText {
 }
 
 impl CountedText {
-    /// A line for each problem, in their order, and a last line `audit: ok` or `audit: N problems`.
+    /// Renders a line for each problem and a last line such as `audit: ok` or `audit: 2 problems`.
     pub fn of_problems(alloc: Global, problems: &[Problem]) -> Result<CountedText, AllocError>
         ensures text { IfOk result (λ t.
             string_bytes t.text ≡ audit_text (map problem_of problems.now)) }
@@ -31,8 +32,8 @@ impl CountedText {
         Ok(CountedText { text, count })
     }
 
-    /// A line for each problem and each lack, in their order, and a last line `ready: ok`, or as `ready: 2
-    /// problems, 5 lacks` with what there is.
+    /// Renders a line for each problem and each unmet requirement, and a last line such as `ready:
+    /// ok` or `ready: 2 problems, 5 lacks`.
     pub fn of_lacks(
         alloc: Global,
         problems: &[Problem],
@@ -52,7 +53,8 @@ impl CountedText {
     }
 }
 
-/// All that is wrong in the registers of a board as they stand. Nothing changes, also where memory is out.
+/// Audits the current registers of a board and renders the result. Leaves the host unchanged, even
+/// if memory is exhausted.
 pub fn audit_text(alloc: Global, host: &mut Host) -> Result<CountedText, AllocError>
     ensures text { IfOk result (λ t. string_bytes t.text ≡ audit host.old.state.functions) }
     ensures count { IfOk result (λ t. t.count ≡ length (problems host.old.state.functions)) }
@@ -62,7 +64,8 @@ pub fn audit_text(alloc: Global, host: &mut Host) -> Result<CountedText, AllocEr
     CountedText::of_problems(alloc, &found)
 }
 
-/// Whether a board is ready as its registers stand, by these apertures. Nothing changes, also where memory is out.
+/// Checks whether a board is ready, given its apertures, and renders the result. Leaves the host
+/// unchanged, even if memory is exhausted.
 pub fn ready_text(
     alloc: Global,
     host: &mut Host,

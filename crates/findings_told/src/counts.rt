@@ -1,9 +1,9 @@
-//! How many there are of something.
+//! Displays counts.
 ghost use Rattle.std.specs.Prelude.{◌≡◌, ◌++◌, ◌==◌, Some, if◌then◌else◌, decimal};
 
 use std::fmt;
 
-/// A number with the word behind it, by whether it is one.
+/// Displays a count followed by the singular or plural noun.
 #[derive(Clone, Copy)]
 pub(crate) struct Counted<'a> {
     pub(crate) count: usize,

@@ -1,4 +1,4 @@
-//! The lines of lacks, and the line that counts them and problems.
+//! Renders unmet requirements, and the line that counts them and the problems.
 ghost use Rattle.std.specs.Prelude.{OnOk};
 ghost use Rattle.lists.specs.Texts.{Adds};
 ghost use Rattle.model_findings.specs.ReadyText.{lack_text, ready_total, ready_line};
@@ -13,7 +13,7 @@ use findings::Lack;
 use report::{ShownPath, TwoDigits};
 use std::alloc::AllocError;
 
-/// Appends what is lacking.
+/// Appends the description of an unmet requirement.
 fn push_told(text: &mut String, lack: &Lack) -> Result<(), AllocError>
     ensures { OnOk result (Adds text.old text.new (lack_text (lack_of lack.now))) }
 {
@@ -41,7 +41,7 @@ fn push_told(text: &mut String, lack: &Lack) -> Result<(), AllocError>
     }
 }
 
-/// Appends the line of a lack.
+/// Appends the line of an unmet requirement.
 fn push_lack(text: &mut String, lack: &Lack) -> Result<(), AllocError>
     ensures { OnOk result (Adds text.old text.new
         (ended (ready_line (lack_text (lack_of lack.now))))) }
@@ -51,7 +51,7 @@ fn push_lack(text: &mut String, lack: &Lack) -> Result<(), AllocError>
     text.push('\n')
 }
 
-/// Appends the lines of all lacks.
+/// Appends the lines of all unmet requirements.
 pub(crate) fn push_lacks(text: &mut String, lacks: &[Lack]) -> Result<(), AllocError>
     ensures { OnOk result (Adds text.old text.new (lack_lines lacks.now)) }
 {
@@ -61,7 +61,7 @@ pub(crate) fn push_lacks(text: &mut String, lacks: &[Lack]) -> Result<(), AllocE
     Ok(())
 }
 
-/// Appends the line that counts problems and lacks.
+/// Appends the line that counts the problems and the unmet requirements.
 pub(crate) fn push_ready_count(
     text: &mut String,
     problems: usize,

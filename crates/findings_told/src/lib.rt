@@ -1,10 +1,10 @@
 //! Layer: findings. Below: findings, report. Above: session.
 //!
-//! The texts of an audit and of what a board lacks that is to be driven: a line for each problem of its registers as they
-//! stand and for each lack, and a last line that counts them.
+//! Renders findings about a board as lines of text: a line for each problem and each unmet
+//! requirement in the current registers, and a last line that counts them.
 //!
-//! And those of why an address, an I/O port or a configuration number finds what it finds on a board: a line for who answers,
-//! and one for each cause.
+//! Also renders the explanation of an address, an I/O port or a BDF: a line for the target of the
+//! access, and a line for each cause.
 #![tactic(auto)]
 
 mod counted;

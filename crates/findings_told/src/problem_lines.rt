@@ -1,4 +1,4 @@
-//! The lines of problems, and the line that counts them.
+//! Renders problems, and the line that counts them.
 ghost use Rattle.std.specs.Prelude.{OnOk, Some};
 ghost use Rattle.lists.specs.Texts.{Adds};
 ghost use Rattle.paths.specs.BusAddresses.{bus_address_of};
@@ -15,7 +15,7 @@ use report::{Numbers, ShownPath};
 use std::alloc::AllocError;
 use std::fmt;
 
-/// The path of an agent, and its register, if it has one.
+/// Displays the path of a responder, with the index of its BAR unless it is a bridge.
 #[derive(Clone, Copy)]
 struct ShownAgent<'a>(&'a Agent);
 
@@ -32,7 +32,7 @@ impl<'a> fmt::Display for ShownAgent<'a> {
     }
 }
 
-/// Appends what is wrong with the forwarding to a region.
+/// Appends the description of a BAR that a bridge doesn't forward.
 fn push_not_forwarded(
     text: &mut String,
     region: &RegionNow,
@@ -47,7 +47,7 @@ fn push_not_forwarded(
     write!(text, " is not forwarded by {}", ShownPath(bridge))
 }
 
-/// Appends what is wrong between two agents.
+/// Appends the description of an address conflict between two responders.
 fn push_contended(
     text: &mut String,
     one: &Agent,
@@ -64,7 +64,7 @@ fn push_contended(
     write!(text, "{one} and {other} both answer {space} {address}")
 }
 
-/// Appends what is wrong with the number of a function.
+/// Appends the description of a function that isn't reached by its BDF.
 fn push_not_found(
     text: &mut String,
     path: &Path,
@@ -84,7 +84,7 @@ fn push_not_found(
     write!(text, "{path}: a cycle for {number} reaches {reached}")
 }
 
-/// Appends what is wrong.
+/// Appends the description of a problem.
 fn push_told(text: &mut String, problem: &Problem) -> Result<(), AllocError>
     ensures { OnOk result (Adds text.old text.new (problem_text (problem_of problem.now))) }
 {
@@ -127,7 +127,7 @@ pub(crate) fn push_problems(text: &mut String, problems: &[Problem]) -> Result<(
     Ok(())
 }
 
-/// Some problems by their count.
+/// Displays the number of problems, or `ok` if there are none.
 #[derive(Clone, Copy)]
 pub(crate) struct ProblemCount(pub(crate) usize);
 

@@ -1,4 +1,4 @@
-//! Where something stands: regions, spaces and what is reached.
+//! Displays BARs, spaces, BDFs and paths.
 ghost use Rattle.std.specs.{Prelude.{◌≡◌, Some, codes, option_map}, Option.option_map_or};
 ghost use Rattle.bars.specs.Kinds.{named_space};
 ghost use Rattle.model_guests.specs.PathTexts.{hexadecimal, path_text};
@@ -10,7 +10,7 @@ use paths::Path;
 use report::{Numbers, ShownPath};
 use std::fmt;
 
-/// The path of a region, its register, and where it stands.
+/// Displays a BAR by its path, index, address and size.
 #[derive(Clone, Copy)]
 pub(crate) struct ShownRegion<'a>(pub(crate) &'a RegionNow);
 
@@ -27,7 +27,7 @@ impl<'a> fmt::Display for ShownRegion<'a> {
     }
 }
 
-/// The name of a space.
+/// Returns the name of a space.
 pub(crate) fn space_name(space: Space) -> &'static str
     ensures { result.now ≡ space_text (named_space space) }
 {
@@ -37,7 +37,7 @@ pub(crate) fn space_name(space: Space) -> &'static str
     }
 }
 
-/// A number in hexadecimal digits.
+/// Displays a number in hexadecimal, with the prefix `0x`.
 #[derive(Clone, Copy)]
 pub(crate) struct Hexadecimal(pub(crate) u64);
 
@@ -50,7 +50,7 @@ impl fmt::Display for Hexadecimal {
     }
 }
 
-/// The numbers of a function, as they are shown.
+/// Converts a BDF into a form that can be displayed.
 pub fn numbers(at: Bdf) -> Numbers
     ensures { result ≡ record { bus = at.bus; device = at.device; function = at.function } }
 {
@@ -61,7 +61,7 @@ pub fn numbers(at: Bdf) -> Numbers
     }
 }
 
-/// A path, or `nothing`.
+/// Displays a path, or `nothing` if there is none.
 #[derive(Clone, Copy)]
 pub(crate) struct Reached<'a>(pub(crate) &'a Option<Path>);
 

@@ -1,4 +1,4 @@
-//! What the lines of an address say.
+//! Renders the explanation of an address.
 ghost use Rattle.std.specs.Prelude.{◌≡◌, OnOk, Some, map};
 ghost use Rattle.lists.specs.Texts.{Adds};
 ghost use Rattle.bars.specs.Kinds.{named_space};
@@ -15,7 +15,7 @@ use report::{ShownPath, TwoDigits};
 use std::alloc::AllocError;
 use std::fmt;
 
-/// What keeps a bridge from forwarding an address.
+/// Displays the reason that a bridge doesn't forward an address.
 #[derive(Clone, Copy)]
 struct ShownHindrance {
     space: Space,
@@ -37,7 +37,7 @@ impl fmt::Display for ShownHindrance {
     }
 }
 
-/// A cause that keeps a region from answering.
+/// Displays a reason that a BAR doesn't answer.
 #[derive(Clone, Copy)]
 struct ShownCause<'a> {
     space: Space,
@@ -62,7 +62,7 @@ impl<'a> fmt::Display for ShownCause<'a> {
     }
 }
 
-/// All that keeps a region from answering.
+/// Displays all reasons that a BAR doesn't answer, separated by semicolons.
 #[derive(Clone, Copy)]
 struct ShownCauses<'a> {
     space: Space,
@@ -85,7 +85,7 @@ impl<'a> fmt::Display for ShownCauses<'a> {
     }
 }
 
-/// A region that holds the address, and what keeps it from answering.
+/// Displays a BAR that contains the address, with the reasons that it doesn't answer.
 #[derive(Clone, Copy)]
 pub(crate) struct ShownTold<'a> {
     pub(crate) space: Space,
@@ -105,7 +105,7 @@ impl<'a> fmt::Display for ShownTold<'a> {
     }
 }
 
-/// Where an address lands.
+/// Displays the BAR and the offset at which an address is answered.
 #[derive(Clone, Copy)]
 struct ShownClaim<'a>(&'a Claim);
 
@@ -121,7 +121,8 @@ impl<'a> fmt::Display for ShownClaim<'a> {
     }
 }
 
-/// That no region answers, or nobody, if no bridge forwards the address either.
+/// Returns the text for an address that no BAR answers. It differs if a bridge forwards the
+/// address.
 fn no_claim(forwarders: &[Forwarder]) -> &'static str
     ensures { result.now ≡ no_claim_text (map forwarder_told forwarders.now) }
 {
@@ -131,7 +132,7 @@ fn no_claim(forwarders: &[Forwarder]) -> &'static str
     }
 }
 
-/// Who answers an address.
+/// Displays the BAR that answers an address, or that none does.
 #[derive(Clone, Copy)]
 struct ShownAnswer<'a>(&'a Why);
 
@@ -146,7 +147,7 @@ impl<'a> fmt::Display for ShownAnswer<'a> {
     }
 }
 
-/// An address, and who answers it.
+/// Displays an address and the BAR that answers it.
 #[derive(Clone, Copy)]
 pub(crate) struct ShownAddress<'a> {
     pub(crate) space: Space,
@@ -164,7 +165,7 @@ impl<'a> fmt::Display for ShownAddress<'a> {
     }
 }
 
-/// Appends a bridge that forwards an address.
+/// Appends the description of a bridge that forwards an address, with its Secondary Bus Number.
 pub(crate) fn push_forwarder(text: &mut String, forwarder: &Forwarder) -> Result<(), AllocError>
     ensures { OnOk result (Adds text.old text.new
         (forwarder_text (forwarder_told forwarder.now))) }

@@ -1,4 +1,4 @@
-//! A line of why an address, a configuration number or an I/O port finds what it finds.
+//! Renders single lines of an explanation.
 ghost use Rattle.std.specs.Prelude.{OnOk, map};
 ghost use Rattle.lists.specs.Texts.{Adds};
 ghost use Rattle.model_guests.specs.Text.{ended, text_of_lines};
@@ -16,32 +16,33 @@ use findings::{Bdf, Forwarder, Missing, PortUse, Told, Why, WhyNumber};
 use report::{ShownPath, TwoDigits};
 use std::alloc::AllocError;
 
-/// A line, beside its first word.
+/// A line of an explanation, without the leading `why: `.
 #[derive(Clone, Copy)]
 pub(crate) enum Line<'a> {
-    /// What the latch, which holds this, makes of a port of which it makes something.
+    /// The role of an I/O port in the configuration mechanism: the value of CONFIG_ADDRESS, the
+    /// port and its role.
     Port(u32, u64, &'a PortUse),
-    /// Who answers an address.
+    /// The BAR that answers an address.
     Address(Space, u64, &'a Why),
-    /// A bridge that forwards it.
+    /// A bridge that forwards the address.
     Forwarder(&'a Forwarder),
-    /// A region that holds it and doesn't answer it.
+    /// A BAR that contains the address without answering it.
     Region(Space, &'a Told),
-    /// How many of these are as at reset.
+    /// The number of these BARs that are in their reset state.
     AtReset(usize),
-    /// What a configuration number reaches.
+    /// The function that a BDF reaches.
     Number(&'a Bdf, &'a WhyNumber),
-    /// A bridge that takes its cycle, for this bus.
+    /// A bridge that claims the configuration cycle, with the cycle's bus number.
     Taker(u8, &'a Path),
-    /// What is missing where it reaches nothing.
+    /// What is missing if the BDF reaches no function.
     Missing(&'a Missing),
-    /// A function that has the number and isn't found by it.
+    /// A function that has this BDF but isn't reached by it.
     NotFound(&'a Path),
-    /// How many lines are above this one.
+    /// The number of lines above this one.
     Total(usize),
 }
 
-/// Appends what a line says.
+/// Appends the text of a line, without the leading `why: `.
 fn push_said(text: &mut String, line: Line) -> Result<(), AllocError>
     ensures { OnOk result (Adds text.old text.new (line_text line.entry)) }
 {
@@ -86,7 +87,7 @@ fn push_line(text: &mut String, line: Line) -> Result<(), AllocError>
     text.push('\n')
 }
 
-/// Appends lines.
+/// Appends several lines.
 pub(crate) fn push_lines(text: &mut String, lines: &[Line]) -> Result<(), AllocError>
     ensures { OnOk result (Adds text.old text.new
         (text_of_lines (map why_line (map line_text lines.now)))) }

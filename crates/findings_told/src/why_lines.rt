@@ -1,4 +1,4 @@
-//! The lines of an address, of a configuration number and of a port, one by one.
+//! Collects the lines of an explanation.
 ghost use Rattle.std.specs.Prelude.{◌≡◌, ◌++◌, map, OnOk};
 ghost use Rattle.bars.specs.Kinds.{named_space};
 ghost use Rattle.paths.specs.BusAddresses.{bus_address_of};
@@ -12,7 +12,7 @@ use bridge_forward::Path;
 use findings::{Bdf, Forwarder, PortUse, Told, Why, WhyNumber};
 use std::alloc::AllocError;
 
-/// Adds the bridges that forward an address.
+/// Adds a line for each bridge that forwards an address.
 fn add_forwarders<'a>(lines: &mut Vec<Line<'a>>, all: &'a [Forwarder]) -> Result<(), AllocError>
     ensures { OnOk result (map line_text lines.new.items ≡ map line_text lines.old.items
         ++ map forwarder_text (map forwarder_told all.now)) }
@@ -23,7 +23,7 @@ fn add_forwarders<'a>(lines: &mut Vec<Line<'a>>, all: &'a [Forwarder]) -> Result
     Ok(())
 }
 
-/// Adds the other regions that hold an address.
+/// Adds a line for each other BAR that contains an address.
 fn add_regions<'a>(
     lines: &mut Vec<Line<'a>>,
     space: Space,
@@ -38,7 +38,7 @@ fn add_regions<'a>(
     Ok(())
 }
 
-/// Adds the lines of an address.
+/// Adds the lines that explain an address.
 pub(crate) fn add_address<'a>(
     lines: &mut Vec<Line<'a>>,
     space: Space,
@@ -57,7 +57,7 @@ pub(crate) fn add_address<'a>(
     Ok(())
 }
 
-/// Adds the bridges that take the cycle of a number.
+/// Adds a line for each bridge that claims the configuration cycle for a BDF.
 fn add_takers<'a>(
     lines: &mut Vec<Line<'a>>,
     at: &Bdf,
@@ -72,7 +72,7 @@ fn add_takers<'a>(
     Ok(())
 }
 
-/// Adds the functions that have a number and aren't found by it.
+/// Adds a line for each function that has a BDF but isn't reached by it.
 fn add_not_found<'a>(lines: &mut Vec<Line<'a>>, paths: &'a [Path]) -> Result<(), AllocError>
     ensures { OnOk result (map line_text lines.new.items ≡ map line_text lines.old.items
         ++ map not_found_text paths.now) }
@@ -83,7 +83,7 @@ fn add_not_found<'a>(lines: &mut Vec<Line<'a>>, paths: &'a [Path]) -> Result<(),
     Ok(())
 }
 
-/// Adds the lines of a configuration number.
+/// Adds the lines that explain a BDF.
 pub(crate) fn add_number<'a>(
     lines: &mut Vec<Line<'a>>,
     at: &'a Bdf,
@@ -100,7 +100,8 @@ pub(crate) fn add_number<'a>(
     add_not_found(lines, &why.not_found)
 }
 
-/// Adds the line of what the latch makes of a port, if it makes something of it.
+/// Adds the line about the role of a port in the configuration mechanism. Adds nothing for an
+/// ordinary port.
 pub(crate) fn add_use<'a>(
     lines: &mut Vec<Line<'a>>,
     latch: u32,

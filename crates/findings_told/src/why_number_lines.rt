@@ -1,4 +1,4 @@
-//! What the lines of a configuration number say.
+//! Renders the explanation of a BDF.
 ghost use Rattle.std.specs.Prelude.{◌≡◌, [], OnOk, Some, unwrap_or};
 ghost use Rattle.lists.specs.Texts.{Adds};
 ghost use Rattle.model_board.specs.Paths.{parent};
@@ -11,7 +11,7 @@ use report::{ShownPath, TwoDigits};
 use std::alloc::AllocError;
 use std::fmt;
 
-/// Where a bus is.
+/// Displays a bus by the bridge above it.
 #[derive(Clone, Copy)]
 struct ShownBus<'a>(&'a Option<Path>);
 
@@ -22,7 +22,7 @@ impl<'a> fmt::Display for ShownBus<'a> {
         match self.0 {
             None => write!(f, "on bus 00"),
             Some(path) => {
-                // A path has a part.
+                // A path has at least one part.
                 prove!(!path.parts().is_empty());
                 write!(f, "behind {}", ShownPath(path))
             }
@@ -30,7 +30,7 @@ impl<'a> fmt::Display for ShownBus<'a> {
     }
 }
 
-/// What is missing.
+/// Displays what is missing at the end of a configuration cycle.
 #[derive(Clone, Copy)]
 pub(crate) struct ShownMissing<'a>(pub(crate) &'a Missing);
 
@@ -52,7 +52,7 @@ impl<'a> fmt::Display for ShownMissing<'a> {
     }
 }
 
-/// The path of the bridge above a function. None is above bus 0.
+/// Returns the path of the bridge above a function, or `None` if the function is on bus 0.
 fn bridge_above(path: &Path) -> Option<Path>
     ensures { unwrap_or result [] ≡ parent path.now }
 {
@@ -67,7 +67,8 @@ fn bridge_above(path: &Path) -> Option<Path>
     Some(above)
 }
 
-/// Appends a function that has a number by the bridge above it.
+/// Appends the description of a function that has a BDF but isn't reached by it, with the bridge
+/// that its bus number comes from.
 pub(crate) fn push_not_found(text: &mut String, path: &Path) -> Result<(), AllocError>
     ensures { OnOk result (Adds text.old text.new (not_found_text path.now)) }
 {

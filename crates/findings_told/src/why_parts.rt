@@ -1,4 +1,4 @@
-//! Parts of lines.
+//! Displays parts of an explanation: Command values and bridge windows.
 ghost use Rattle.std.specs.{Prelude.{◌≡◌, Some, codes, option_map}, Option.option_map_or};
 ghost use Rattle.bridge_forward.specs.RoutingRows.{window_of};
 ghost use Rattle.model_lines.specs.WhyText.{command_text, name_text, range_text, window_text, windows_text};
@@ -9,7 +9,7 @@ use findings::{NamedWindow, WindowName};
 use report::FourDigits;
 use std::fmt;
 
-/// What a Command register holds.
+/// Displays the value of a Command register.
 #[derive(Clone, Copy)]
 pub struct ShownCommand(pub u16);
 
@@ -21,7 +21,7 @@ impl fmt::Display for ShownCommand {
     }
 }
 
-/// What a window is for.
+/// Returns the name of a window.
 fn window_name(name: WindowName) -> &'static str
     ensures { result.now ≡ name_text (name_told name) }
 {
@@ -32,7 +32,7 @@ fn window_name(name: WindowName) -> &'static str
     }
 }
 
-/// The addresses of a window, or `shut`.
+/// Displays the addresses of a window, or `shut` if its base is above its limit.
 #[derive(Clone, Copy)]
 struct ShownRange(Option<Window>);
 
@@ -52,7 +52,7 @@ impl fmt::Display for ShownRange {
     }
 }
 
-/// A window.
+/// Displays the name and the addresses of a window.
 #[derive(Clone, Copy)]
 struct ShownWindow(NamedWindow);
 
@@ -65,7 +65,7 @@ impl fmt::Display for ShownWindow {
     }
 }
 
-/// The windows that a bridge has.
+/// Displays up to two windows of a bridge.
 #[derive(Clone, Copy)]
 pub(crate) struct ShownWindows {
     pub(crate) one: Option<NamedWindow>,

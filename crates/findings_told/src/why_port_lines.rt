@@ -1,4 +1,4 @@
-//! What the address latch makes of an I/O port.
+//! Renders the role of an I/O port in the configuration mechanism.
 ghost use Rattle.std.specs.Prelude.{OnOk, Some};
 ghost use Rattle.lists.specs.Texts.{Adds};
 ghost use Rattle.model_lines.specs.WhyPorts.{port_text, latch_text};
@@ -10,7 +10,7 @@ use findings::PortUse;
 use std::alloc::AllocError;
 use std::fmt;
 
-/// A port.
+/// Displays a port followed by a colon.
 #[derive(Clone, Copy)]
 struct ShownPort(u64);
 
@@ -23,7 +23,7 @@ impl fmt::Display for ShownPort {
     }
 }
 
-/// What the latch holds.
+/// Displays the value of CONFIG_ADDRESS.
 #[derive(Clone, Copy)]
 struct ShownLatch(u32);
 
@@ -36,7 +36,7 @@ impl fmt::Display for ShownLatch {
     }
 }
 
-/// Appends what the latch makes of a port, if it makes something of it.
+/// Appends the role of a port. Appends nothing for an ordinary port.
 pub(crate) fn push_port(
     text: &mut String,
     latch: u32,

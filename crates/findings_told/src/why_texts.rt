@@ -1,4 +1,4 @@
-//! The whole texts.
+//! Renders whole explanations.
 ghost use Rattle.std.specs.Prelude.{◌≡◌, ◌++◌, map, IfOk, OnOk, string_bytes};
 ghost use Rattle.lists.specs.Texts.{Adds};
 ghost use Rattle.bars.specs.Kinds.{named_space};
@@ -16,7 +16,8 @@ use host_bridge::Host;
 use paths::Latch;
 use std::alloc::{AllocError, Global};
 
-/// Appends the line of what the latch makes of a port, if it makes something of it.
+/// Appends the line about the role of a port in the configuration mechanism. Appends nothing for an
+/// ordinary port.
 pub fn push_use(
     alloc: Global,
     text: &mut String,
@@ -32,7 +33,7 @@ pub fn push_use(
     push_lines(text, &lines)
 }
 
-/// The text of these lines, with a last one that counts them.
+/// Renders the lines, followed by a line that counts them.
 fn counted_text(alloc: Global, lines: &mut Vec<Line>) -> Result<String, AllocError>
     ensures { IfOk result (λ t.
         string_bytes t ≡ whole_text (map line_text lines.old.items)) }
@@ -44,7 +45,8 @@ fn counted_text(alloc: Global, lines: &mut Vec<Line>) -> Result<String, AllocErr
     Ok(text)
 }
 
-/// The text of an address, after what the latch makes of it, if it is a port.
+/// Renders the explanation of an address. If the address is a port with a role in the configuration
+/// mechanism, its line comes first.
 fn address_text(
     alloc: Global,
     host: &Host,
@@ -63,7 +65,8 @@ fn address_text(
     counted_text(alloc, &mut lines)
 }
 
-/// The text of a configuration number, after what the latch makes of the port that shows it.
+/// Renders the explanation of a BDF. The line about the port that selects it comes first, if there
+/// is one.
 fn number_text(
     alloc: Global,
     host: &mut Host,
@@ -83,9 +86,10 @@ fn number_text(
     counted_text(alloc, &mut lines)
 }
 
-/// Why an address finds what it finds as the registers stand, or nobody: a line for who answers, one for each bridge that
-/// forwards it, one for each other region that holds it, with all that keeps it from answering, one for how many stand
-/// where reset leaves them, and a last one that counts these.
+/// Explains which BAR answers an address in the current registers. The text has a line for the
+/// answer, one for each bridge that forwards the address, one for each other BAR that contains the
+/// address with everything that keeps it from answering, one with the number of BARs in their reset
+/// state, and a last line that counts the others.
 pub fn why_text(alloc: Global, host: &Host, space: Space, addr: u64) -> Result<String, AllocError>
     ensures { let fs = host.now.state.functions in
         IfOk result (λ t. string_bytes t ≡ why_text fs (named_space space) addr) }
@@ -93,9 +97,10 @@ pub fn why_text(alloc: Global, host: &Host, space: Space, addr: u64) -> Result<S
     address_text(alloc, host, space, addr, &PortUse::LikeOthers)
 }
 
-/// Why a configuration number reaches what it reaches as the registers stand, or nothing: a line for what is
-/// reached, one for each bridge that takes its cycle, one for what is missing, one for each function that has the number
-/// and isn't found by it, and a last one that counts these. Nothing changes, also where memory is out.
+/// Explains which function a BDF reaches in the current registers. The text has a line for that
+/// function, one for each bridge that claims the cycle, one for what is missing, one for each
+/// function that has this BDF but isn't reached by it, and a last line that counts the others.
+/// Leaves the host unchanged, even if memory is exhausted.
 pub fn why_number_text(alloc: Global, host: &mut Host, at: Bdf) -> Result<String, AllocError>
     ensures text { let fs = host.old.state.functions in
         IfOk result (λ t. string_bytes t ≡ why_number_text fs (bus_address_of at)) }
@@ -104,9 +109,10 @@ pub fn why_number_text(alloc: Global, host: &mut Host, at: Bdf) -> Result<String
     number_text(alloc, host, at, 0, &PortUse::LikeOthers)
 }
 
-/// Why an I/O port finds what it finds as the registers stand: first a line for what the address latch makes of it, if
-/// it makes something of it, then the lines of the configuration number that it shows, or of a port like others, and a
-/// last one that counts all. Nothing changes, also where memory is out.
+/// Explains an access to an I/O port in the current registers. The text has a line about the port's
+/// role in the configuration mechanism (only for CONFIG_ADDRESS and CONFIG_DATA), then the
+/// explanation of the BDF that CONFIG_ADDRESS selects or that of an ordinary port, and a last line
+/// that counts the others. Leaves the host unchanged, even if memory is exhausted.
 pub fn why_port_text(alloc: Global, host: &mut Host, port: u32) -> Result<String, AllocError>
     ensures text { IfOk result (λ t. string_bytes t ≡ why_port_text host.old.state port) }
     ensures after { host.new ≡ host.old }

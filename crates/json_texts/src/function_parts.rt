@@ -1,4 +1,4 @@
-//! The values of a region, an interrupt and a window.
+//! Builds the JSON values of BARs, interrupts and windows.
 ghost use Rattle.std.specs.Prelude.{◌≡◌, ◌≤◌, IfOk, map};
 ghost use Rattle.serde_json.specs.View.{view};
 ghost use Rattle.bars.specs.Slots.{placed, bases_from};
@@ -13,7 +13,7 @@ use serde_json::{Value, json};
 use std::alloc::{AllocError, Global};
 use window_packing::{WindowSetting, Writes};
 
-/// A region, whose first register has this index.
+/// Returns the value of a BAR. `index` is that of its first register.
 fn region_value(alloc: Global, index: usize, region: &BasedRegion) -> Result<Value, AllocError>
     ensures { IfOk result (λ v. view v ≡ region_value (placed index region.now)) }
 {
@@ -23,7 +23,7 @@ fn region_value(alloc: Global, index: usize, region: &BasedRegion) -> Result<Val
     json!(in alloc; {"bar": index, "kind": kind, "base": base, "size": size})
 }
 
-/// Regions, each at the index of its first register.
+/// Returns the values of a function's BARs, each with the index of its first register.
 fn region_values(alloc: Global, bases: &[Option<BasedRegion>]) -> Result<Vec<Value>, AllocError>
     ensures { IfOk result (λ v. map view v.items ≡ map region_value (bases_from 0 bases.now)) }
 {
@@ -36,7 +36,7 @@ fn region_values(alloc: Global, bases: &[Option<BasedRegion>]) -> Result<Vec<Val
     Ok(values)
 }
 
-/// The regions that were written into an endpoint.
+/// Returns the values of the BARs written into an endpoint. Returns none for a bridge.
 pub(crate) fn written_regions(alloc: Global, writes: &Writes) -> Result<Vec<Value>, AllocError>
     ensures { IfOk result (λ v. map view v.items ≡ written_regions (writes_of writes.now)) }
 {
@@ -46,7 +46,7 @@ pub(crate) fn written_regions(alloc: Global, writes: &Writes) -> Result<Vec<Valu
     }
 }
 
-/// An interrupt pin, with the device on bus 0 that it reaches and the pin there.
+/// Returns the value of an interrupt pin, with the device and the pin on bus 0 that it reaches.
 fn pin_value(alloc: Global, path: &Path, pin: u8) -> Result<Value, AllocError>
     requires least { 1 ≤ pin }
     requires most { pin ≤ 4 }
@@ -58,8 +58,8 @@ fn pin_value(alloc: Global, path: &Path, pin: u8) -> Result<Value, AllocError>
     json!(in alloc; {"pin": pin, "root_device": device, "root_pin": root})
 }
 
-/// An interrupt pin, or `null` for pin 0, which says that the function has no pin, and above 4, which is
-/// no pin.
+/// Returns the value of an interrupt pin. Returns `null` for pin 0, which means no pin, and for the
+/// invalid pins above 4.
 pub(crate) fn known_interrupt(alloc: Global, path: &Path, pin: u8) -> Result<Value, AllocError>
     ensures { IfOk result (λ v. view v ≡ known_interrupt path.now pin) }
 {
@@ -69,7 +69,7 @@ pub(crate) fn known_interrupt(alloc: Global, path: &Path, pin: u8) -> Result<Val
     pin_value(alloc, path, pin)
 }
 
-/// A window, or `null` if it has no items.
+/// Returns the value of a window, or `null` if its base is above its limit.
 fn named_window(alloc: Global, window: &WindowSetting) -> Result<Value, AllocError>
     ensures { IfOk result (λ v. view v ≡ named_window window.now) }
 {
@@ -81,7 +81,7 @@ fn named_window(alloc: Global, window: &WindowSetting) -> Result<Value, AllocErr
     json!(in alloc; {"first": first, "last": last})
 }
 
-/// The windows of a bridge.
+/// Returns the value of a bridge's windows.
 fn windows_value(
     alloc: Global,
     io: &WindowSetting,
@@ -97,7 +97,7 @@ fn windows_value(
     json!(in alloc; {"io": io, "mem": mem, "pref": pref})
 }
 
-/// The windows that were written into a bridge.
+/// Returns the value of the windows written into a bridge, or `null` for an endpoint.
 pub(crate) fn written_windows(alloc: Global, writes: &Writes) -> Result<Value, AllocError>
     ensures { IfOk result (λ v. view v ≡ written_windows (writes_of writes.now)) }
 {

@@ -1,5 +1,5 @@
-//! The values of functions. Their members are put together in parts, since no proof was found of nine at
-//! once.
+//! Builds the JSON values of functions. The members are added in small groups, because no proof was
+//! found for all nine at once.
 ghost use Rattle.std.specs.Prelude.{◌≡◌, IfOk, OnOk, map};
 ghost use Rattle.serde_json.specs.View.{view, members_view};
 ghost use Rattle.window_packing.specs.Plans.{writes_of};
@@ -12,7 +12,7 @@ use serde_json::{Map, Value, json, put};
 use std::alloc::{AllocError, Global};
 use window_packing::{Setting, Writes};
 
-/// The members of a function's numbers and of its path.
+/// Returns the members for a function's BDF and path.
 fn place_members(alloc: Global, row: &FunctionRow) -> Result<Map<String, Value>, AllocError>
     ensures { IfOk result
         (λ m. members_view m.entries ≡ place_members row.now.bus row.now.path) }
@@ -29,7 +29,7 @@ fn place_members(alloc: Global, row: &FunctionRow) -> Result<Map<String, Value>,
     Ok(members)
 }
 
-/// Puts a function's type, Vendor ID and Device ID beside other members.
+/// Adds a function's type, Vendor ID and Device ID to other members.
 fn put_identity(
     members: &mut Map<String, Value>,
     alloc: Global,
@@ -45,7 +45,7 @@ fn put_identity(
     put(members, alloc, "device_id", Value::from(row.device))
 }
 
-/// An endpoint with this interrupt pin.
+/// Returns the value of an endpoint with this interrupt pin.
 fn endpoint_value(
     alloc: Global,
     row: &FunctionRow,
@@ -66,7 +66,7 @@ fn endpoint_value(
     Ok(Value::Object(members))
 }
 
-/// Primary, Secondary and Subordinate Bus Number.
+/// Returns the value of a bridge's Primary, Secondary and Subordinate Bus Numbers.
 fn buses_value(
     alloc: Global,
     primary: u8,
@@ -78,7 +78,7 @@ fn buses_value(
     json!(in alloc; {"primary": primary, "secondary": secondary, "subordinate": subordinate})
 }
 
-/// A bridge with these numbers of the buses behind it, the first and the last.
+/// Returns the value of a bridge with these bus numbers.
 fn bridge_value(
     alloc: Global,
     row: &FunctionRow,
@@ -100,7 +100,7 @@ fn bridge_value(
     Ok(Value::Object(members))
 }
 
-/// A function with what was written into it.
+/// Returns the value of a function with the registers written into it.
 fn function_value(alloc: Global, row: &FunctionRow, writes: &Writes) -> Result<Value, AllocError>
     ensures { IfOk result (λ v. view v ≡ function_value row.now (writes_of writes.now)) }
 {
@@ -114,7 +114,7 @@ fn function_value(alloc: Global, row: &FunctionRow, writes: &Writes) -> Result<V
     }
 }
 
-/// All functions, each with what was written into it.
+/// Returns the values of all functions, each with the registers written into it.
 pub(crate) fn function_values(
     alloc: Global,
     rows: &[FunctionRow],

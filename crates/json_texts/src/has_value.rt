@@ -1,13 +1,14 @@
-//! Values one after the other.
+//! Converts values and lists to JSON.
 ghost use Rattle.std.specs.Prelude.{◌≡◌, IfOk, map};
 ghost use Rattle.serde_json.specs.{Data.Data, View.view};
 
 use serde_json::Value;
 use std::alloc::{AllocError, Global};
 
-/// What is told as a JSON value.
+/// A type whose values can be converted to JSON.
 pub trait HasValue {
-    /// What it tells in the definitions' words, and the value of that.
+    /// The type that stands for `Self` in the model, the conversion to it, and the JSON value of a
+    /// model value.
     ghost Told: { Type 0 };
 
     ghost told: { Self → Told };
@@ -18,7 +19,7 @@ pub trait HasValue {
         ensures { IfOk result (λ v. view v ≡ shown (told self.now)) };
 }
 
-/// The values of these, in their order.
+/// Returns the JSON values of a list, in the same order.
 pub fn values<T: HasValue>(alloc: Global, all: &[T]) -> Result<Vec<Value>, AllocError>
     ensures { IfOk result (λ v. map view v.items ≡ map T.shown (map T.told all.now)) }
 {

@@ -1,4 +1,4 @@
-//! The values of lacks.
+//! Builds the JSON values of unmet requirements.
 ghost use Rattle.std.specs.Prelude.{◌≡◌, IfOk};
 ghost use Rattle.serde_json.specs.View.{view};
 ghost use Rattle.model_findings.specs.Lacks.{outside_apertures, prefetched_by, other_primary, not_open};
@@ -13,7 +13,7 @@ use paths::Path;
 use serde_json::{Value, json};
 use std::alloc::{AllocError, Global};
 
-/// A region that isn't open.
+/// Returns the value of a disabled BAR.
 fn not_open(alloc: Global, region: &RegionNow) -> Result<Value, AllocError>
     ensures { IfOk result (λ v. view v ≡ lack_value (not_open region.now)) }
 {
@@ -21,7 +21,7 @@ fn not_open(alloc: Global, region: &RegionNow) -> Result<Value, AllocError>
     json!(in alloc; {"region": region, "type": "closed"})
 }
 
-/// A region outside the apertures.
+/// Returns the value of a BAR outside the apertures.
 fn outside(alloc: Global, region: &RegionNow, address: u64) -> Result<Value, AllocError>
     ensures { IfOk result (λ v. view v ≡ lack_value (outside_apertures region.now address)) }
 {
@@ -29,7 +29,7 @@ fn outside(alloc: Global, region: &RegionNow, address: u64) -> Result<Value, All
     json!(in alloc; {"address": address, "region": region, "type": "outside apertures"})
 }
 
-/// A region that a bridge prefetches.
+/// Returns the value of a BAR that a bridge prefetches.
 fn prefetched(
     alloc: Global,
     region: &RegionNow,
@@ -49,7 +49,7 @@ fn prefetched(
     })
 }
 
-/// A bridge that holds another Primary Bus Number.
+/// Returns the value of a bridge with a wrong Primary Bus Number.
 fn primary(alloc: Global, path: &Path, held: u8, number: u8) -> Result<Value, AllocError>
     ensures { IfOk result (λ v. view v ≡ lack_value (other_primary path.now held number)) }
 {

@@ -1,8 +1,8 @@
 //! Layer: program. Below: findings, report. Above: session.
 //!
-//! The report of a board that is set up, and an audit of one in any register state, as JSON on one line: its functions with
-//! their regions, interrupts and windows, and its guests; all that is wrong in its registers and all that is lacking
-//! there, each with its witness; and why an address, a port or a configuration number finds what it finds.
+//! Reports about a board as JSON, each on one line: its functions with BARs, interrupts and
+//! windows, and its guests; the problems and unmet requirements in its current registers, each with
+//! the evidence for it; and explanations of an address, a port or a BDF.
 #![tactic(auto)]
 
 mod function_parts;

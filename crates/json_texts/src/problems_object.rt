@@ -1,4 +1,4 @@
-//! The whole values, and their texts.
+//! Renders problems and unmet requirements as JSON.
 ghost use Rattle.std.specs.Prelude.{◌≡◌, ◌++◌, ◌∷◌, [], false, IfOk, map, string_bytes};
 ghost use Rattle.serde_json.specs.{View.view, Written.{compact_text, has_float}};
 ghost use Rattle.findings.specs.Findings.{problem_of, lack_of};
@@ -9,7 +9,7 @@ use findings::{Lack, Problem};
 use serde_json::{Value, json};
 use std::alloc::{AllocError, Global};
 
-/// The value of problems.
+/// Returns the JSON object for the problems.
 fn problems_value(alloc: Global, problems: &[Problem]) -> Result<Value, AllocError>
     ensures { IfOk result (λ v. view v ≡ problems_value (map problem_of problems.now)) }
 {
@@ -17,7 +17,7 @@ fn problems_value(alloc: Global, problems: &[Problem]) -> Result<Value, AllocErr
     json!(in alloc; {"problems": problems})
 }
 
-/// The value of problems and lacks.
+/// Returns the JSON object for the problems and the unmet requirements.
 fn lacks_value(alloc: Global, problems: &[Problem], lacks: &[Lack]) -> Result<Value, AllocError>
     ensures { IfOk result (λ v. view v
         ≡ lacks_value (map problem_of problems.now) (map lack_of lacks.now)) }
@@ -27,7 +27,7 @@ fn lacks_value(alloc: Global, problems: &[Problem], lacks: &[Lack]) -> Result<Va
     json!(in alloc; {"lacks": lacks, "problems": wrong})
 }
 
-/// A value without floats on one line.
+/// Renders a JSON value on one line. The value must not contain floating-point numbers.
 pub(crate) fn line_of(alloc: Global, value: &Value) -> Result<String, AllocError>
     requires { has_float (view value.now) ≡ false }
     ensures { IfOk result (λ t. string_bytes t ≡ compact_text (view value.now) ++ 10 ∷ []) }
@@ -37,7 +37,8 @@ pub(crate) fn line_of(alloc: Global, value: &Value) -> Result<String, AllocError
     Ok(text)
 }
 
-/// These problems as a JSON object on one line, in their order. Only lack of memory refuses it.
+/// Renders the problems as a JSON object on one line, in their order. Fails only if memory is
+/// exhausted.
 #[tactic(auto, using(crate::proofs::NoFloatsInAudits::none_in_problems))]
 pub fn problems_json(alloc: Global, problems: &[Problem]) -> Result<String, AllocError>
     ensures { IfOk result (λ t. string_bytes t ≡ problems_json (map problem_of problems.now)) }
@@ -46,7 +47,8 @@ pub fn problems_json(alloc: Global, problems: &[Problem]) -> Result<String, Allo
     line_of(alloc, &value)
 }
 
-/// These problems and lacks as a JSON object on one line, each in their order. Only lack of memory refuses it.
+/// Renders the problems and the unmet requirements as a JSON object on one line, each in their
+/// order. Fails only if memory is exhausted.
 #[tactic(auto, using(crate::proofs::NoFloatsInAudits::none_in_lacks))]
 pub fn lacks_json(alloc: Global, problems: &[Problem], lacks: &[Lack]) -> Result<String, AllocError>
     ensures { IfOk result (λ t. string_bytes t

@@ -1,4 +1,4 @@
-//! The whole value, and its text.
+//! Renders the listing of a board as JSON.
 ghost use Rattle.std.specs.Prelude.{◌≡◌, IfOk, string_bytes};
 ghost use Rattle.serde_json.specs.View.{view};
 ghost use Rattle.json_texts.specs.ReportValue.{value_line, report_value};
@@ -12,7 +12,7 @@ use serde_json::{Value, json};
 use std::alloc::{AllocError, Global};
 use window_packing::Plan;
 
-/// The value, from what was found and placed.
+/// Returns the JSON object for a board that is set up.
 fn report_value(
     alloc: Global,
     table: &FunctionTable,
@@ -34,8 +34,8 @@ fn report_value(
     })
 }
 
-/// The report of a board that is set up as JSON on one line, from its table, its plan and its guests. Only
-/// lack of memory refuses it.
+/// Renders the listing of a board that is set up as a JSON object on one line, from its function
+/// table, its plan and its guests. Fails only if memory is exhausted.
 pub fn report_json(
     alloc: Global,
     table: &FunctionTable,

@@ -1,4 +1,4 @@
-//! Why an address, a port or a configuration number finds what it finds.
+//! Explains an address, a port or a BDF as JSON.
 ghost use Rattle.std.specs.{Prelude.{◌≡◌, [], IfOk, map, option_map, unwrap_or, false, string_bytes}, Option.option_map_or};
 ghost use Rattle.serde_json.specs.{Data.null, View.view, Written.has_float};
 ghost use Rattle.bars.specs.Kinds.{named_space};
@@ -59,7 +59,7 @@ impl HasValue for NamedWindow {
     }
 }
 
-/// The windows that a bridge has for a space.
+/// Returns the values of a bridge's windows for a space.
 fn window_values(
     alloc: Global,
     one: &Option<NamedWindow>,
@@ -134,7 +134,7 @@ impl HasValue for Forwarder {
     }
 }
 
-/// What answers, or `null` where nothing does.
+/// Returns the value of the BAR that answers, or `null` if none does.
 fn answer_value(alloc: Global, answer: &Option<Claim>) -> Result<Value, AllocError>
     ensures { IfOk result (λ v. view v ≡ option_map_or claim_value answer.now null) }
 {
@@ -145,7 +145,7 @@ fn answer_value(alloc: Global, answer: &Option<Claim>) -> Result<Value, AllocErr
     json!(in alloc; {"bar": claim.region, "offset": claim.offset, "path": path})
 }
 
-/// Why an address finds what it finds.
+/// Returns the value that explains an address.
 fn address_value(alloc: Global, host: &Host, space: Space, addr: u64) -> Result<Value, AllocError>
     ensures { let fs = host.now.state.functions in
         IfOk result (λ v. view v ≡ address_value (why fs (named_space space) addr)) }
@@ -162,19 +162,20 @@ fn address_value(alloc: Global, host: &Host, space: Space, addr: u64) -> Result<
     })
 }
 
-/// Where a bus is: behind a bridge, or, by `null`, bus 0.
+/// Returns the path of the bridge above a bus, or `null` for bus 0.
 fn behind_value(alloc: Global, behind: &Option<Path>) -> Result<Value, AllocError>
     ensures { IfOk result (λ v. view v ≡ behind_value (unwrap_or behind.now [])) }
 {
     let Some(path) = behind else {
         return Ok(Value::Null);
     };
-    // A path has a part.
+    // A path has at least one part.
     prove!(!path.parts().is_empty());
     path_value(alloc, path)
 }
 
-/// What is missing where a cycle ends, or `null` where nothing is.
+/// Returns the value of what is missing at the end of a configuration cycle, or `null` if nothing
+/// is.
 fn missing_value(alloc: Global, missing: &Option<Missing>) -> Result<Value, AllocError>
     ensures { IfOk result (λ v.
         view v ≡ option_map_or missing_value (option_map missing_told missing.now) null) }
@@ -198,7 +199,7 @@ fn missing_value(alloc: Global, missing: &Option<Missing>) -> Result<Value, Allo
     }
 }
 
-/// Why a configuration number reaches what it reaches.
+/// Returns the value that explains a BDF.
 fn way_value(alloc: Global, host: &mut Host, at: Bdf) -> Result<Value, AllocError>
     ensures value { let fs = host.old.state.functions in
         IfOk result (λ v. view v ≡ way_value (why_number fs (bus_address_of at))) }
@@ -217,7 +218,8 @@ fn way_value(alloc: Global, host: &mut Host, at: Bdf) -> Result<Value, AllocErro
     })
 }
 
-/// What is found, beside what the address latch makes of the port, or `null` where it makes nothing of it.
+/// Returns an object with the explanation and the port's role in the configuration mechanism. The
+/// role is `null` for an ordinary port.
 fn why_value(alloc: Global, used: PortUse, found: Value) -> Result<Value, AllocError>
     ensures { IfOk result (λ v. view v ≡ why_value (use_told used) (view found)) }
 {
@@ -233,7 +235,8 @@ fn why_value(alloc: Global, used: PortUse, found: Value) -> Result<Value, AllocE
     }
 }
 
-/// That as a JSON object on one line. Only lack of memory refuses it.
+/// Renders an explanation and the port's role in the configuration mechanism as a JSON object on
+/// one line. Fails only if memory is exhausted.
 #[tactic(auto, using(crate::proofs::NoFloatsInWhy::none_in_why))]
 pub fn why_json(alloc: Global, used: PortUse, found: Value) -> Result<String, AllocError>
     requires { has_float (view found) ≡ false }
@@ -243,7 +246,7 @@ pub fn why_json(alloc: Global, used: PortUse, found: Value) -> Result<String, Al
     line_of(alloc, &value)
 }
 
-/// Why a port finds what it finds.
+/// Renders the explanation of a port.
 fn port_json(alloc: Global, host: &mut Host, port: u64) -> Result<String, AllocError>
     ensures text { let s = host.old.state in
         IfOk result (λ t. string_bytes t ≡ port_json s port (port_use s.latch port)) }
@@ -258,8 +261,9 @@ fn port_json(alloc: Global, host: &mut Host, port: u64) -> Result<String, AllocE
     }
 }
 
-/// Why an address, a port or a configuration number finds what it finds as the registers stand, or nothing, as a JSON
-/// object on one line. Of a number the offset is of no matter. Nothing changes, also where memory is out.
+/// Explains an address, a port or a BDF in the current registers, as a JSON object on one line. The
+/// offset into configuration space doesn't matter. Leaves the host unchanged, even if memory is
+/// exhausted.
 pub fn host_why_json(alloc: Global, host: &mut Host, at: HostAt) -> Result<String, AllocError>
     ensures text { IfOk result (λ t.
         string_bytes t ≡ host_why_json host.old.state (host_target_of at)) }
