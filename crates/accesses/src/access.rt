@@ -1,9 +1,10 @@
-//! What guests and the host ask, and what they are answered.
+//! The accesses of guests and the host, and the replies to them.
 use crate::refusal::Refusal;
 use config_bytes::Op;
 use paths::Bdf;
 
-/// Where a guest's access goes, by the guest's own view. No number is in range for certain.
+/// The target of a guest's access, in the guest's own address spaces. The fields aren't validated
+/// yet.
 #[derive(Clone, Copy, Debug, PartialEq, Eq)]
 pub enum At {
     /// A byte offset in the configuration space of the function in a slot.
@@ -14,7 +15,7 @@ pub enum At {
     Mem { addr: u64 },
 }
 
-/// One access of a guest. Its width is in bytes, and may be any number.
+/// A guest's access. The width is in bytes and isn't validated yet.
 #[derive(Clone, Copy, Debug, PartialEq, Eq)]
 pub struct Access {
     pub at: At,
@@ -22,19 +23,19 @@ pub struct Access {
     pub op: Op,
 }
 
-/// The answer to an access, a raise or a read by the host.
+/// The reply to an access, to a raise, or to a read by the host.
 #[derive(Clone, Copy, Debug, PartialEq, Eq)]
 pub enum Reply {
-    /// What a read gave, and its width in bytes.
+    /// The value read, and its width in bytes.
     Value(u32, u64),
     Done,
     Refused(Refusal),
 }
 
-/// Where a read by the host goes, by physical numbers.
+/// The target of a read by the host, in the board's physical address spaces.
 #[derive(Clone, Copy, Debug, PartialEq, Eq)]
 pub enum HostAt {
-    /// A byte offset in the configuration space of the function at a bus number.
+    /// A byte offset in the configuration space of the function at a BDF.
     Config { bdf: Bdf, off: u64 },
     /// An I/O port.
     Io { port: u64 },
@@ -42,7 +43,7 @@ pub enum HostAt {
     Mem { addr: u64 },
 }
 
-/// A read by the host. Its width is in bytes, and may be any number.
+/// A read by the host. The width is in bytes and isn't validated yet.
 #[derive(Clone, Copy, Debug, PartialEq, Eq)]
 pub struct HostAccess {
     pub at: HostAt,

@@ -1,4 +1,4 @@
-//! The checks of accesses, and the answer where there is nothing.
+//! Validation of accesses, and the reply to an access that no function claims.
 ghost use Rattle.std.specs.Prelude.{◌≡◌, Option, [], None, option_map};
 ghost use Rattle.model_registers.specs.ByteEnables.{IsWidth};
 ghost use Rattle.model_guests.specs.{Slots.{place_number, is_out_of_range, access_fault, fault_of, perform}, HostReads.{host_number, is_out_of_host_range, host_fault}};
@@ -8,12 +8,13 @@ use crate::access::{Access, At, HostAccess, HostAt, Reply};
 use crate::refusal::Refusal;
 use config_bytes::{Op, all_ones};
 
-/// The first of three checks that fails: the width is 1, 2 or 4; the number is a multiple of the width; it
-/// is in range.
+/// Returns the first failed check: the width is 1, 2 or 4, the offset, port or address is a
+/// multiple of the width, and it is in range.
 fn first_fault(width: u64, number: u64, is_out_of_range: bool) -> Option<Refusal>
     ensures { option_map number_of result ≡ access_fault width number is_out_of_range }
 {
-    // For each width apart: a remainder by a constant is a mask, and by a variable a slow division.
+    // One arm for each width: a remainder by a constant compiles to a mask, by a variable to a slow
+    // division.
     let remainder = match width {
         1 => number % 1,
         2 => number % 2,
@@ -30,7 +31,7 @@ fn first_fault(width: u64, number: u64, is_out_of_range: bool) -> Option<Refusal
 }
 
 impl At {
-    /// The offset, port or address, which the width of an access has to divide.
+    /// Returns the offset, port or address, which must be a multiple of the access width.
     fn number(self) -> u64
         ensures { result ≡ place_number (target_of self) }
     {
@@ -41,7 +42,7 @@ impl At {
         }
     }
 
-    /// Whether the slot is above 31, the offset above 255 or the port above FFFFFFFFh.
+    /// Returns whether the slot is above 31, the offset above 255 or the port above FFFFFFFFh.
     fn is_out_of_range(self) -> bool
         ensures { result ≡ is_out_of_range (target_of self) }
     {
@@ -54,9 +55,9 @@ impl At {
 }
 
 impl Access {
-    /// The first check that the access fails: 302 its width is not 1, 2 or 4; 301 its offset, port or
-    /// address is no multiple of the width; 303 its slot is above 31, its offset above 255 or its port
-    /// above FFFFFFFFh.
+    /// Returns the first check that the access fails: 302 if its width is not 1, 2 or 4; 301 if its
+    /// offset, port or address is not a multiple of the width; 303 if its slot is above 31, its
+    /// offset above 255 or its port above FFFFFFFFh.
     pub fn fault(&self) -> Option<Refusal>
         ensures { option_map number_of result ≡ fault_of (access_of self.now) }
     {
@@ -87,8 +88,9 @@ impl HostAt {
 }
 
 impl HostAccess {
-    /// The first check that the read fails: 302 its width is not 1, 2 or 4; 301 its offset, port or
-    /// address is no multiple of the width; 303 its offset is above 255 or its port above FFFFFFFFh.
+    /// Returns the first check that the read fails: 302 if its width is not 1, 2 or 4; 301 if its
+    /// offset, port or address is not a multiple of the width; 303 if its offset is above 255 or
+    /// its port above FFFFFFFFh.
     pub fn fault(&self) -> Option<Refusal>
         ensures { option_map number_of result ≡ host_fault (host_access_of self.now) }
     {
@@ -96,7 +98,8 @@ impl HostAccess {
     }
 }
 
-/// The answer where there is nothing: a read gives all ones, and a write is dropped.
+/// Returns the reply to an unclaimed access, as after a master abort: a read returns all ones, and
+/// a write is dropped.
 pub fn nothing(op: Op, width: u64) -> Reply
     requires { IsWidth width }
     ensures reply { reply_of result ≡ perform (op_of op) width [] None }

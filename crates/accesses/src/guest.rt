@@ -1,12 +1,12 @@
-//! The guests of a board.
+//! Guest names and guest declarations.
 use arrayvec::{ArrayString, ArrayVec};
 use paths::Path;
 use std::marker::Model;
 
-/// Guests' names, in the order of the guests: at most 32, each of at most 16 bytes.
+/// The guests' names, in the order of the guests: at most 32, each at most 16 bytes long.
 pub type Names = ArrayVec<ArrayString<16>, 32>;
 
-/// A guest: its name, and the paths of the endpoints in its slots, slot 0 first.
+/// A guest's name, and the paths of the endpoints assigned to its slots, slot 0 first.
 #[derive(Debug, Drop)]
 pub struct GuestDecl {
     pub name: ArrayString<16>,

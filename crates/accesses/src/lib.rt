@@ -1,6 +1,6 @@
 //! Layer: guests. Below: model_guests, paths, headers. Above: monitor, lines, board_file, report.
 //!
-//! What guests and the host ask of a board, what they are answered, and the guests of a board.
+//! Accesses of guests and the host, replies, refusals, and guest declarations.
 #![tactic(auto)]
 
 mod access;

@@ -1,31 +1,32 @@
-//! Why an event or a line is refused.
+//! Refusals of accesses, device events and script lines.
 ghost use Rattle.std.specs.Prelude.{◌≡◌, ◌≤◌, ◌++◌, codes, decimal, length};
 ghost use Rattle.model_guests.specs.Replies.{refusal_words};
 ghost use Rattle.accesses.specs.Refusals.{number_of, refusal_numbered};
 
-/// Why an access, a raise, a move, a question or a line is refused. Each has a number and words.
+/// The reason why an access, a raise, a move, a query or a line is refused. Each has a number and a
+/// message.
 #[derive(Clone, Copy, Debug, PartialEq, Eq)]
 pub enum Refusal {
-    /// 301: an offset, port or address is no multiple of the width.
+    /// 301: the offset, port or address is not a multiple of the width.
     Misaligned,
-    /// 302: a width is not 1, 2 or 4.
+    /// 302: the width is not 1, 2 or 4.
     Width,
     /// 303: a slot, offset, port or register is out of range.
     Range,
-    /// 401: a line has none of the forms.
+    /// 401: the line doesn't match the grammar.
     BadLine,
-    /// 402: a line's first word names no guest.
+    /// 402: the first word of the line isn't the name of a guest.
     UnknownGuest,
-    /// 403: a line is longer than 200 bytes.
+    /// 403: the line is longer than 200 bytes.
     LongLine,
-    /// 601: no function is in the slot.
+    /// 601: the slot is empty.
     EmptySlot,
-    /// 602: a function is in the slot to which another is to be moved.
+    /// 602: the slot to which a function is to be moved is occupied.
     SlotTaken,
 }
 
 impl Refusal {
-    /// Its number.
+    /// Returns the number of the refusal.
     pub fn number(self) -> u16
         ensures { result ≡ number_of self }
     {
@@ -41,7 +42,7 @@ impl Refusal {
         }
     }
 
-    /// The refusal of a number, if there is one.
+    /// Returns the refusal with this number, if there is one.
     pub fn of_number(number: u32) -> Option<Refusal>
         ensures { result ≡ refusal_numbered number }
     {
@@ -58,7 +59,7 @@ impl Refusal {
         }
     }
 
-    /// What a reply says of it: `refused`, its number and its words.
+    /// Returns the text of the refusal in a reply: `refused`, the number and the message.
     pub fn text(self) -> &'static [u8]
         ensures text { result.now ≡ codes "refused " ++ decimal (number_of self) ++ codes " "
             ++ refusal_words (number_of self) }

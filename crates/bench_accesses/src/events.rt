@@ -1,4 +1,4 @@
-//! The times of a guest's events.
+//! Timing of a guest's accesses.
 ghost use Rattle.std.specs.Prelude.{◌≡◌, ◌<◌, ◌≤◌, length};
 
 use crate::row::{CALLS, show};
@@ -7,7 +7,8 @@ use std::io;
 use std::rt::Clock;
 use std::time::Instant;
 
-/// The answer of four bytes to what the first guest asks; 0 where it is no number.
+/// Performs a 4-byte access of the first guest. Returns the value read, or 0 for a write or a
+/// refusal.
 fn ask(monitor: &mut Monitor, at: At, op: Op) -> u32
     requires { 0 < length monitor.old.world.guests }
     ensures { length monitor.new.world.guests ≡ length monitor.old.world.guests }
@@ -19,7 +20,8 @@ fn ask(monitor: &mut Monitor, at: At, op: Op) -> u32
     }
 }
 
-/// Whether a region of memory begins at a base address register, found by writing all ones to it.
+/// Returns whether a memory region begins at a base address register, by writing all ones and
+/// reading the register.
 fn is_of_memory(monitor: &mut Monitor, register: At) -> bool
     requires { 0 < length monitor.old.world.guests }
     ensures { length monitor.new.world.guests ≡ length monitor.old.world.guests }
@@ -29,8 +31,8 @@ fn is_of_memory(monitor: &mut Monitor, register: At) -> bool
     shown != 0 && shown % 2 == 0
 }
 
-/// Puts the first region of memory of the function in a slot at an address and opens it, as a guest's
-/// driver does.
+/// Programs the first memory region of the function in a slot with an address and enables it, as a
+/// guest's driver does.
 fn open_region(monitor: &mut Monitor, slot: u64, base: u32)
     requires { 0 < length monitor.old.world.guests }
     ensures { length monitor.new.world.guests ≡ length monitor.old.world.guests }
@@ -49,14 +51,15 @@ fn open_region(monitor: &mut Monitor, slot: u64, base: u32)
     }
 }
 
-/// Where the guest has the region of a slot: each 64 MB past the one before.
+/// Returns the address for the region of a slot: 64 MB for slot 0, and 64 MB more for each further
+/// slot.
 fn base_of(slot: u8) -> u32
     requires { slot < 32 }
 {
     (1 + u32::from(slot)) << 26
 }
 
-/// Opens a region of each slot below a count, and writes into its first sixteen words.
+/// Enables a region for each slot below a count, and writes to its first sixteen words.
 fn open_all(monitor: &mut Monitor, slots: u8)
     requires guest { 0 < length monitor.old.world.guests }
     requires slots { slots ≤ 32 }
@@ -72,7 +75,7 @@ fn open_all(monitor: &mut Monitor, slots: u8)
     }
 }
 
-/// The sum of reads of configuration words of the function in a slot.
+/// Reads configuration words of the function in a slot, and returns their sum.
 fn read_configuration(monitor: &mut Monitor, slot: u8) -> u64
     requires { 0 < length monitor.old.world.guests }
     ensures { length monitor.new.world.guests ≡ length monitor.old.world.guests }
@@ -88,7 +91,7 @@ fn read_configuration(monitor: &mut Monitor, slot: u8) -> u64
     sum
 }
 
-/// The sum of reads of memory in the region of a slot.
+/// Reads memory words in the region of a slot, and returns their sum.
 fn read_memory(monitor: &mut Monitor, slot: u8) -> u64
     requires guest { 0 < length monitor.old.world.guests }
     requires slot { slot < 32 }
@@ -103,7 +106,7 @@ fn read_memory(monitor: &mut Monitor, slot: u8) -> u64
     sum
 }
 
-/// Writes memory in the region of a slot, and gives the last word that was written.
+/// Writes memory words in the region of a slot, and returns the first word of the region.
 fn write_memory(monitor: &mut Monitor, slot: u8) -> u64
     requires guest { 0 < length monitor.old.world.guests }
     requires slot { slot < 32 }
@@ -117,8 +120,8 @@ fn write_memory(monitor: &mut Monitor, slot: u8) -> u64
     u64::from(ask(monitor, At::Mem { addr: base }, Op::Read))
 }
 
-/// Prints the times and the sums of a guest's configuration reads, and of its reads and writes of memory
-/// in its first slot and in its last one.
+/// Prints the time per access and the sum for a guest's configuration reads, for memory reads and
+/// writes in its first slot, and for memory reads in its last slot.
 pub(crate) fn measure_events(
     rt: &(impl Clock + Print),
     monitor: &mut Monitor,

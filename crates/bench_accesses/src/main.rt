@@ -1,7 +1,8 @@
 //! Layer: tests. Below: monitor, board_file.
 //!
-//! What one access of a board and one event of a guest cost: `bench_accesses BOARD` prints it as a row of
-//! numbers, in nanoseconds, and with no word it prints nothing.
+//! Measures the cost of one access to a board and of one access of a guest. `bench_accesses BOARD`
+//! prints a row of numbers, in nanoseconds and each with a checksum. Without an argument it prints
+//! nothing.
 #![tactic(auto)]
 
 ghost use Rattle.std.specs.Prelude.{◌≡◌, length, IfSome};
@@ -25,7 +26,7 @@ use std::rt::{Clock, Env, Files};
 use std::{env, fs};
 use window_packing::{Ready, set_up};
 
-/// The bytes of the file at a path.
+/// Reads the file at a path.
 fn bytes_of(rt: &impl Files, alloc: Global, path: &str) -> Option<Vec<u8>> {
     let mut file = fs::open(rt, path).ok()?;
     let mut bytes = Vec::new(alloc);
@@ -33,7 +34,7 @@ fn bytes_of(rt: &impl Files, alloc: Global, path: &str) -> Option<Vec<u8>> {
     Some(bytes)
 }
 
-/// Measures a board that is set up. None where it has no region of memory.
+/// Measures a board after set-up. Returns None if the board has no memory region.
 fn measure_ready(rt: &(impl Clock + Print), alloc: Global, ready: Ready) -> Option<()> {
     let target = last_target(&ready)?;
     let Ok(table) = Table::build(alloc, &ready) else {
@@ -43,7 +44,7 @@ fn measure_ready(rt: &(impl Clock + Print), alloc: Global, ready: Ready) -> Opti
     measure(rt, &mut host, &table, target).ok()
 }
 
-/// A board that is set up, and its guests. None where the file or its board is refused.
+/// Returns a board after set-up, and its guests. Returns None if the file or its board is refused.
 fn ready_of(alloc: Global, board: &[u8]) -> Option<(Ready, Vec<GuestDecl>)>
     ensures { IfSome result (λ r. HasLawfulGuests (world_of r.0 r.1.items)) }
 {
@@ -56,14 +57,14 @@ fn ready_of(alloc: Global, board: &[u8]) -> Option<(Ready, Vec<GuestDecl>)>
     Some((ready, guests))
 }
 
-/// How many guests a monitor has.
+/// Returns the number of guests of a monitor.
 fn count(monitor: &Monitor) -> usize
     ensures { result ≡ length monitor.now.world.guests }
 {
     monitor.names().len()
 }
 
-/// Measures events of the first guest of a board. None where it has no function.
+/// Measures accesses of the first guest of a board. Returns None if the guest has no function.
 fn measure_guest(rt: &(impl Clock + Print), alloc: Global, board: &[u8]) -> Option<()> {
     let (ready, guests) = ready_of(alloc, board)?;
     let slots = guests.first()?.slots.len();
@@ -74,8 +75,8 @@ fn measure_guest(rt: &(impl Clock + Print), alloc: Global, board: &[u8]) -> Opti
     measure_events(rt, &mut monitor, slots as u8).ok()
 }
 
-/// Measures over the board file that the word names. None where the board has no region of memory or no guest, or
-/// can't be set up.
+/// Measures the board file that the argument names. Returns None if its board has no memory region
+/// or no guest, or can't be set up.
 fn serve(rt: &(impl AllocGlobal + Clock + Env + Files + Print)) -> Option<()> {
     let alloc = rt.alloc();
     let words: Vec<String> = env::args(rt).ok()?.collect(alloc).ok()?;

@@ -1,4 +1,4 @@
-//! The times of a board.
+//! Timing of accesses to a board.
 ghost use Rattle.std.specs.Prelude.{◌≡◌};
 ghost use Rattle.claim_table.specs.Tables.{FitsTable};
 
@@ -10,11 +10,11 @@ use std::io;
 use std::rt::Clock;
 use std::time::Instant;
 
-/// Calls that are timed together.
+/// The number of calls that are timed together.
 pub(crate) const CALLS: u64 = 400_000;
 
-/// The sum of reads of configuration words, so that no call can be left out. The host stays but for its
-/// address latch.
+/// Reads configuration words, and returns their sum, so that the compiler can't remove a call.
+/// Changes only CONFIG_ADDRESS of the host.
 fn read_configuration(host: &mut Host, target: Target) -> u64
     ensures { host.new.state.functions ≡ host.old.state.functions }
 {
@@ -26,7 +26,7 @@ fn read_configuration(host: &mut Host, target: Target) -> u64
     sum
 }
 
-/// The sum of the offsets of claims by a route.
+/// Looks up the claims of addresses by a route, and returns the sum of their offsets.
 fn find_claims<R: Route>(host: &Host, route: &R, target: Target) -> u64
     requires { R.fits route.now host.now }
 {
@@ -40,7 +40,7 @@ fn find_claims<R: Route>(host: &Host, route: &R, target: Target) -> u64
     sum
 }
 
-/// The sum of reads of memory by a route. The host stays.
+/// Reads memory words by a route, and returns their sum. The host isn't changed.
 fn read_memory<R: Route>(host: &mut Host, route: &R, target: Target) -> u64
     requires { R.fits route.now host.old }
     ensures { host.new ≡ host.old }
@@ -53,14 +53,14 @@ fn read_memory<R: Route>(host: &mut Host, route: &R, target: Target) -> u64
     sum
 }
 
-/// Prints what one of the calls took that began at `since`, and the sum of what they answered.
+/// Prints the time per call since `since`, in nanoseconds, and the sum of the results.
 pub(crate) fn show(rt: &(impl Clock + Print), since: &Instant, sum: u64) -> io::Result<()> {
     let passed = since.elapsed(rt)?.as_nanos() / u128::from(CALLS);
     print!(rt; "{passed} {sum} ")
 }
 
-/// Prints the times and the sums of configuration reads, and of claims and reads of memory by each
-/// route.
+/// Prints the times and the sums for claims and memory reads by each route, and for configuration
+/// reads.
 pub(crate) fn measure(
     rt: &(impl Clock + Print),
     host: &mut Host,

@@ -1,11 +1,11 @@
-//! What the timed accesses ask for.
+//! The target of the timed accesses.
 ghost use Rattle.std.specs.Prelude.{◌≡◌, ◌%◌, ◌^◌, ◌<◌};
 
 use bars::{BasedRegion, Space};
 use host_bridge::Bdf;
 use window_packing::{Ready, Setting, Writes};
 
-/// A function, and a multiple of 4 in memory, below 2^63.
+/// A function, and a memory address that is a multiple of 4 and below 2^63.
 #[derive(Clone, Copy)]
 pub(crate) struct Target {
     pub(crate) at: Bdf,
@@ -14,7 +14,7 @@ pub(crate) struct Target {
     pub(crate) ghost below: { addr < 2 ^ 63 },
 }
 
-/// The target in a region, if it lies in memory.
+/// Returns the target in a region, if it is a memory region.
 fn target_at(at: Bdf, placed: Option<BasedRegion>) -> Option<Target> {
     let region = placed?;
     let addr = region.base;
@@ -25,7 +25,7 @@ fn target_at(at: Bdf, placed: Option<BasedRegion>) -> Option<Target> {
     }
 }
 
-/// The target in a function that was set up, if it has a region of memory.
+/// Returns the target in a function after set-up, if it has a memory region.
 fn target_in(setting: &Setting) -> Option<Target> {
     match &setting.writes {
         Writes::Endpoint { command: _, bases } => {
@@ -44,7 +44,7 @@ fn target_in(setting: &Setting) -> Option<Target> {
     }
 }
 
-/// The last target of a board in path order: the one that a walk comes to last.
+/// Returns the last target of a board in path order, which a walk over the board reaches last.
 pub(crate) fn last_target(ready: &Ready) -> Option<Target> {
     let mut last = None;
     for setting in ready.plan().settings() {

@@ -1,6 +1,7 @@
 //! Layer: tests. Below: host_bridge.
 //!
-//! Which devices answer, by the host bridge's contracts alone: an example of a crate of one's own.
+//! An example of a crate that uses only the contracts of the host bridge: it finds out which
+//! devices are present.
 #![tactic(auto)]
 
 ghost use Rattle.std.specs.Prelude.{◌≡◌};
@@ -10,8 +11,8 @@ ghost use Rattle.example_presence.specs.Presence.{is_present, devices_below};
 
 use host_bridge::{Bdf, Host};
 
-/// Whether a function answers at a physical number: a read of its Vendor ID (configuration offset 0)
-/// shows something else than all ones. The address latch is 0 afterwards, and nothing else changes.
+/// Returns whether a function is present at a BDF: a read of its Vendor ID (configuration offset 0)
+/// returns something else than all ones. Leaves CONFIG_ADDRESS 0, and changes nothing else.
 pub fn is_present(host: &mut Host, at: Bdf) -> bool
     ensures value { result ≡ is_present host.old.state.functions (bus_address_of at) }
     ensures after { host.new ≡ with_latch 0 host.old }
@@ -19,7 +20,8 @@ pub fn is_present(host: &mut Host, at: Bdf) -> bool
     host.config_read(at, 0, 0b0011) != 0xffff
 }
 
-/// How many devices of bus 0 have a function 0 that answers. Registers and apertures stay.
+/// Returns the number of devices on bus 0 whose function 0 is present. Registers and apertures
+/// aren't changed.
 pub fn devices(host: &mut Host) -> u8
     ensures value { result ≡ devices_below host.old.state.functions 32 }
     ensures registers { host.new.state.functions ≡ host.old.state.functions }

@@ -1,6 +1,7 @@
 //! Layer: guests. Below: paths, headers. Above: images.
 //!
-//! A function as a guest sees it: the registers of which the guest has its own copies.
+//! A function as its guest sees it: Command, Header Type and the base address registers are the
+//! guest's own copies, and all other registers are the board's.
 #![tactic(auto)]
 
 ghost use Rattle.guest_functions.specs.CopyLaws.{OtherCell, HandedRead, BlockRead, CopiedWrite, BlockWrite, CopiedRaise, HiddenRaise, CopiesStay, SameCopies, CopiesHeld, RaisedHeld, WrittenHeld, BlockWrittenHeld, LawfulCopies, SumOfBytes, EnabledBytesFit};
@@ -11,8 +12,8 @@ mod word;
 pub use paths::{Latch, Select};
 pub use virtual_function::VirtualFunction;
 
-/// The board's file with a guest's own copies put in: what it reads is the copies with the bytes that
-/// are handed on, and a write or a raise of it is one of each.
+/// Proves how a guest's copies combine with the board's register file: a read returns the copied
+/// bytes together with the forwarded bytes, and a write or a raise changes each side separately.
 pub fn copied_files()
     ensures other_cell { OtherCell }
     ensures handed_read { HandedRead }
@@ -25,8 +26,9 @@ pub fn copied_files()
     ensures held { CopiesHeld }
 {}
 
-/// A file goes on holding a guest's own copies, whatever is written or raised; and the copies are of
-/// lawful registers, whose bytes add up with those that are handed on.
+/// Proves that the combined register file keeps the guest's copies through writes and raises. The
+/// copies belong to lawful registers, and the value of a word is the sum of its copied and its
+/// forwarded bytes.
 pub fn held_copies()
     ensures stay { CopiesStay }
     ensures raised { RaisedHeld }

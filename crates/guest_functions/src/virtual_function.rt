@@ -1,4 +1,4 @@
-//! A guest's own copies of Command, header type and base address registers.
+//! A guest's own copies of Command, Header Type and the base address registers.
 ghost use Rattle.std.specs.Prelude.{◌≡◌, ◌≤◌, ◌<◌, ◌+◌, ◌%◌, false, if◌then◌else◌, map, bit_and};
 ghost use Rattle.lists.specs.Elements.{Each};
 ghost use Rattle.model_registers.specs.{Registers.{Place, config, File, cell_at, read, write}, ByteEnables.{lanes, enabled_bits}, RegisterLaws.merged, Declarations.{Endpoint, HasLawfulRegions}, EndpointTable.{opened, closed, endpoint_reset}, Decoding.{Function, lone_claim}, OwnCopies.{is_own, own_file, HoldsOwn, handed_on, bare}};
@@ -9,9 +9,9 @@ use bars::{BarDecl, Bars, Space, enabled_bits};
 use headers::Command;
 use std::marker::Model;
 
-/// A function in a guest's slot. The guest's Command and base address registers are kept here, and so
-/// decide what the guest's accesses decode; the header type always reads 00h, whatever else the device
-/// holds. Accesses to all other registers are handed on to the board.
+/// A function in a guest's slot, with the guest's own Command and base address registers, which
+/// decide what its accesses decode. Header Type always reads 00h, even if the board's function is
+/// part of a multi-function device. Accesses to all other registers are forwarded to the board.
 #[derive(Debug, Drop)]
 pub struct VirtualFunction {
     command: u16,
@@ -29,8 +29,8 @@ impl Model for VirtualFunction {
     ghost invariant = { λ f. HasLawfulRegions (map opened f.bars) };
 }
 
-/// Command after a write of the enabled bytes of its word (PCI Local Bus Specification 3.0, section
-/// 6.2.2).
+/// Returns Command after a write of the enabled bytes of its word (PCI Local Bus Specification 3.0,
+/// section 6.2.2).
 fn command_written(command: u16, enables: u8, value: u32) -> u16
     ensures { result ≡ merged 2 command value (bit_and 0x0547 (enabled_bits (lanes enables))) }
 {
@@ -40,7 +40,7 @@ fn command_written(command: u16, enables: u8, value: u32) -> u16
 }
 
 impl VirtualFunction {
-    /// A function with these declarations of base address registers, with all own copies at reset.
+    /// Returns a function with these BAR declarations, and with all copies at their reset values.
     pub fn new(decls: [Option<BarDecl>; 6]) -> VirtualFunction
         requires { HasLawfulRegions (map opened (at_reset decls)) }
         ensures copies { result ≡ record { command = 0; bases = at_reset decls } }
@@ -54,8 +54,8 @@ impl VirtualFunction {
         }
     }
 
-    /// What the own copies among the enabled bytes of a word show, with 0 in all other bytes, and the
-    /// byte enables that are handed on.
+    /// Returns the value of the copied registers among the enabled bytes of a word, with 0 in all
+    /// other bytes, and the byte enables to forward to the board.
     pub fn config_read(&self, off: u16, enables: u8) -> (u32, u8)
         requires aligned { off % 4 ≡ 0 }
         requires in_range { off < 256 }
@@ -75,8 +75,8 @@ impl VirtualFunction {
         (own, word.handed_on(off, enables))
     }
 
-    /// Writes the own copies among the enabled bytes of a word, and gives the byte enables that are
-    /// handed on.
+    /// Writes the copied registers among the enabled bytes of a word, and returns the byte enables
+    /// to forward to the board.
     pub fn config_write(&mut self, off: u16, enables: u8, value: u32) -> u8
         requires aligned { off % 4 ≡ 0 }
         requires in_range { off < 256 }
@@ -99,8 +99,8 @@ impl VirtualFunction {
         word.handed_on(off, enables)
     }
 
-    /// The least register whose region decodes an address by the guest's own Command and bases, and the
-    /// offset in the region.
+    /// Returns the lowest base address register whose region decodes an address according to the
+    /// guest's copies, and the offset in the region.
     pub fn decode(&self, space: Space, addr: u64) -> Option<(u8, u64)>
         ensures { (f : Function) → HoldsOwn f.file self.now →
             map bare f.decl.regions ≡ map opened self.now.bases
@@ -109,7 +109,7 @@ impl VirtualFunction {
         self.bars.decode(space, addr, self.command)
     }
 
-    /// Sets all own copies back to what they are at reset.
+    /// Resets all copies.
     pub fn reset(&mut self)
         ensures copies { self.new
             ≡ record { command = 0; bases = map with_no_base self.old.bases } }

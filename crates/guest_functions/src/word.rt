@@ -1,23 +1,24 @@
-//! The words of configuration space, by what a guest has of them.
+//! The configuration words that contain copied registers.
 ghost use Rattle.std.specs.Prelude.{◌≡◌, ◌<◌, ◌%◌};
 ghost use Rattle.model_registers.specs.{Registers.config, ByteEnables.lanes, OwnCopies.handed_on};
 ghost use Rattle.guest_functions.specs.Words.{IsAt, own_lanes};
 
-/// Which of a guest's own copies lie in a word (PCI Local Bus Specification 3.0, section 6.1).
+/// The copied register that a configuration word contains (PCI Local Bus Specification 3.0, section
+/// 6.1).
 #[derive(Clone, Copy, Debug)]
 pub enum Word {
-    /// Command, below Status.
+    /// Command, in the low half of the word. Status is in the high half.
     Command,
-    /// The header type, the third byte of its word.
+    /// Header Type, the third byte of its word.
     HeaderType,
     /// The base address register at this index.
     Base(u8),
-    /// None.
+    /// No copied register.
     Other,
 }
 
 impl Word {
-    /// The word at an offset.
+    /// Returns the kind of the word at an offset.
     pub fn at(off: u16) -> Word
         requires { off % 4 ≡ 0 }
         ensures { IsAt off result }
@@ -30,7 +31,7 @@ impl Word {
         }
     }
 
-    /// The bytes of the word that are own copies, as byte enables.
+    /// Returns the copied bytes of the word, as byte enables.
     fn own_lanes(self) -> u8
         ensures { result ≡ own_lanes self }
     {
@@ -42,7 +43,7 @@ impl Word {
         }
     }
 
-    /// The enabled bytes that are none of the own copies.
+    /// Returns the enabled bytes that are not copied, as byte enables.
     pub fn handed_on(self, off: u16, enables: u8) -> u8
         requires { IsAt off self }
         ensures others { lanes result ≡ handed_on (config off) (lanes enables) }

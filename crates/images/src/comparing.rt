@@ -1,4 +1,4 @@
-//! Bytes of an image that are compared with what a function declares.
+//! Comparison of the bytes of a saved state with a function's declaration.
 ghost use Rattle.std.specs.Prelude.{◌≡◌, ◌≤◌, ◌<◌, Ok, Err, IfErr, IfOk, flat_map, length};
 ghost use Rattle.lists.specs.Elements.{Each};
 ghost use Rattle.model_registers.specs.{Declarations.IsLawfulRegion, DeclarationRules.{IsConfigBlock, IsLawfulEndpoint}};
@@ -10,7 +10,8 @@ use crate::parts::{block_head, cell_bytes, endpoint_head, region_head};
 use config_bytes::Cell;
 use headers::{ConfigBlock, EndpointDecl, EndpointValues, Region};
 
-/// The bytes after these own ones, which have to stand there.
+/// Strips the expected bytes from the front of `bytes`, and returns the rest. Refuses bytes that
+/// end early or differ.
 pub(crate) fn after<'a>(own: &[u8], bytes: &'a [u8]) -> Result<&'a [u8], ImageFault>
     ensures left { IfOk result (λ rest. after_bytes 906 own.now bytes.now ≡ Ok rest.now) }
     ensures refused { IfErr result (λ why.
@@ -97,7 +98,7 @@ fn after_blocks<'a>(blocks: &[ConfigBlock], bytes: &'a [u8]) -> Result<&'a [u8],
     Ok(bytes)
 }
 
-/// The bytes after how many blocks there are, and these.
+/// Strips the number of blocks and the blocks themselves.
 fn after_counted<'a>(blocks: &[ConfigBlock], bytes: &'a [u8]) -> Result<&'a [u8], ImageFault>
     requires lawful { Each IsConfigBlock blocks.now }
     requires count { length blocks.now < 256 }
@@ -110,7 +111,7 @@ fn after_counted<'a>(blocks: &[ConfigBlock], bytes: &'a [u8]) -> Result<&'a [u8]
     after_blocks(blocks, bytes)
 }
 
-/// The bytes after the regions of a declaration and its blocks.
+/// Strips the regions and the blocks of a declaration.
 fn after_rest<'a>(values: &EndpointValues, bytes: &'a [u8]) -> Result<&'a [u8], ImageFault>
     requires { IsLawfulEndpoint values.now }
     ensures left { IfOk result (λ rest.
@@ -122,7 +123,7 @@ fn after_rest<'a>(values: &EndpointValues, bytes: &'a [u8]) -> Result<&'a [u8], 
     after_counted(&values.config, bytes)
 }
 
-/// The bytes after the parts of a declaration.
+/// Strips all parts of a declaration.
 fn after_parts<'a>(decl: &EndpointDecl, bytes: &'a [u8]) -> Result<&'a [u8], ImageFault>
     ensures left { IfOk result (λ rest.
         after_bytes 906 (declared_bytes decl.now) bytes.now ≡ Ok rest.now) }
@@ -134,8 +135,8 @@ fn after_parts<'a>(decl: &EndpointDecl, bytes: &'a [u8]) -> Result<&'a [u8], Ima
     after_rest(values, bytes)
 }
 
-/// The bytes after those of this very declaration, with which they have to begin. Refuses too few
-/// bytes, and those of another declaration.
+/// Strips a declaration from the front of `bytes`, and returns the rest. Refuses bytes that end
+/// early, and the bytes of a different declaration.
 #[tactic(auto, using(crate::proofs::DeclaredBytes::declared_is))]
 pub(crate) fn after_declaration<'a>(
     decl: &EndpointDecl,

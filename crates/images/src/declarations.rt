@@ -1,6 +1,7 @@
-//! That what a board declares can be written into images: each number of a cell is a byte. So it is of all boards, since
-//! cells are kept in bytes. Before a board is handed over these calls look at each cell, and say it in the words of
-//! images, from which the laws of saved guests go on. They change nothing, and take no memory.
+//! A check that every function declared on a board can be saved: the value and the masks of each
+//! register are bytes. This holds for all boards, since registers are stored as bytes. The calls
+//! establish it for the theorems about saved guests before a board is handed over. They change
+//! nothing and allocate no memory.
 ghost use Rattle.std.specs.Prelude.{◌≡◌, Some, slice_get};
 ghost use Rattle.lists.specs.Elements.{Each};
 ghost use Rattle.model_registers.specs.Cell.{IsCell};
@@ -39,7 +40,8 @@ fn is_declared(decl: &EndpointDecl)
     blocks_have_cells(&values.config);
 }
 
-/// A bridge's declaration can be written always.
+/// Establishes that the declaration of the function at an index can be saved. For a bridge there is
+/// nothing to check.
 fn row_can_be_declared(host: &Host, index: usize)
     ensures { (f : BoardFunction) → slice_get host.now.state.functions index ≡ Some f
         → CanBeDeclared f.decl }
@@ -49,7 +51,7 @@ fn row_can_be_declared(host: &Host, index: usize)
     }
 }
 
-/// Looks at what each function of the board declares: all of it can be written.
+/// Establishes that every declaration on the board can be saved.
 pub fn read_declarations(host: &Host)
     ensures { AreDeclared host.now.state.functions }
 {

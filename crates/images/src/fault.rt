@@ -1,25 +1,26 @@
-//! Why bytes are no image that a guest takes.
+//! Reasons why bytes can't be loaded into a guest.
 ghost use Rattle.std.specs.Prelude.{◌≡◌};
 ghost use Rattle.images.specs.Faults.{number_of};
 
 use thiserror::Error;
 
-/// Why bytes are no image that a guest takes.
+/// The reason why bytes can't be loaded into a guest.
 #[derive(Clone, Copy, Debug, PartialEq, Eq, Error)]
 pub enum ImageFault {
-    /// They are too few or too many, begin otherwise, or have a value that its cell can't hold.
+    /// 905: the bytes are too few or too many, don't begin with `PCIG`, or contain a value that its
+    /// register can't hold.
     #[error("image")]
     NoImage,
-    /// Other slots are filled, or a declaration is another one.
+    /// 906: the bytes were saved from a guest with other slots filled, or with other declarations.
     #[error("other functions")]
     OtherFunctions,
-    /// They are of another version of the format.
+    /// 908: the bytes have another version of the format.
     #[error("image version")]
     OtherVersion,
 }
 
 impl ImageFault {
-    /// The number of the fault.
+    /// Returns the number of the fault.
     pub fn number(self) -> u16
         ensures { result ≡ number_of self }
     {

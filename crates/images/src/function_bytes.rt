@@ -1,4 +1,5 @@
-//! A byte of a function as its guest has it: of the guest's own copies, or of the cells that the board holds.
+//! The bytes of a function as its guest reads them, from the guest's copies and the board's
+//! registers.
 ghost use Rattle.std.specs.Prelude.{◌≡◌, ◌/◌, ◌*◌, ◌<◌, ◌%◌};
 ghost use Rattle.model_registers.specs.{OwnCopies.is_own, Registers.{config, read}, ByteEnables.{enables_of, lanes}};
 ghost use Rattle.headers.specs.{declared.place.Place.TheVariants.Cfg, Places.place_of};
@@ -9,14 +10,15 @@ use config_bytes::{enables_of, lowered};
 use guest_functions::VirtualFunction;
 use headers::Place;
 
-/// Whether guests have a copy of the byte: Command, header type and base address registers.
+/// Returns whether guests have their own copy of the byte: Command, Header Type and the base
+/// address registers.
 fn is_own(off: u8) -> bool
     ensures { result ≡ is_own (config off) }
 {
     matches!(off, 0x04 | 0x05 | 0x0e | 0x10..=0x27)
 }
 
-/// A byte of configuration space in its word, whose other bytes are 0.
+/// Returns a byte of configuration space at its position in its word, with 0 in the other bytes.
 fn word_of(endpoint: &EndpointFn, own: &VirtualFunction, off: u8) -> u32
     ensures { let ons = lanes (enables_of off 1) in
         result ≡ read (source endpoint.now own.now (config off)) (config (off / 4 * 4)) ons }
@@ -30,14 +32,14 @@ fn word_of(endpoint: &EndpointFn, own: &VirtualFunction, off: u8) -> u32
     }
 }
 
-/// A byte of configuration space.
+/// Returns a byte of configuration space.
 fn config_byte(endpoint: &EndpointFn, own: &VirtualFunction, off: u8) -> u8
     ensures { result ≡ shown_byte endpoint.now own.now (config off) }
 {
     (lowered(u64::from(off), word_of(endpoint, own, off)) % 256) as u8
 }
 
-/// A byte of configuration space, or of a region.
+/// Returns a byte of configuration space or of a region.
 #[tactic(auto, unfolding(crate::specs::Shown::shown_byte))]
 pub(crate) fn byte_at(endpoint: &EndpointFn, own: &VirtualFunction, place: Place, off: u64) -> u8
     requires { place ≡ Cfg → off < 256 }

@@ -1,4 +1,4 @@
-//! Bytes of an image that are compared with a function that a guest has.
+//! Comparison of the bytes of a saved state with a function assigned to a guest.
 ghost use Rattle.std.specs.Prelude.{◌≡◌, Ok, Err, IfErr, IfOk};
 ghost use Rattle.images.specs.{Faults.number_of, Shown.after_filled};
 
@@ -8,8 +8,9 @@ use crate::heading::after_tag;
 use crate::values::after_values;
 use bridge_forward::EndpointFn;
 
-/// The bytes after those of a slot that is filled with this very function, whatever the values that its cells can
-/// hold. Refuses too few bytes, a value that its cell can't hold, an empty slot, and another declaration.
+/// Strips a slot that is filled with this function, with any values that its registers can hold,
+/// and returns the rest. Refuses bytes that end early, a value that its register can't hold, an
+/// empty slot, and another declaration.
 pub fn after_function<'a>(endpoint: &EndpointFn, bytes: &'a [u8]) -> Result<&'a [u8], ImageFault>
     ensures left { IfOk result (λ rest.
         after_filled endpoint.now.decl bytes.now ≡ Ok rest.now) }

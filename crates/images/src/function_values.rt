@@ -1,4 +1,4 @@
-//! What the cells of a function hold as its guest has it, put into a buffer.
+//! Serialization of a function's register values as its guest reads them.
 ghost use Rattle.std.specs.Prelude.{◌≡◌, ◌≤◌, ◌<◌, ◌+◌, ◌^◌, flat_map, length};
 ghost use Rattle.lists.specs.Elements.{Each};
 ghost use Rattle.model_registers.specs.{Declarations.IsLawfulRegion, DeclarationRules.{IsConfigBlock, IsLawfulEndpoint}};
@@ -11,7 +11,8 @@ use bridge_forward::EndpointFn;
 use guest_functions::VirtualFunction;
 use headers::{ConfigBlock, Place, Region, register_width};
 
-/// Puts so many bytes from one on, and gives the index behind them.
+/// Writes `count` register values from the offset `first` into the buffer, and returns the index
+/// after them.
 fn put_run(
     endpoint: &EndpointFn,
     own: &VirtualFunction,
@@ -39,7 +40,7 @@ fn put_run(
     next
 }
 
-/// Puts the bytes of the header, without those of the base address registers.
+/// Writes the 23 bytes of the header that are outside the base address registers.
 fn put_header(endpoint: &EndpointFn, own: &VirtualFunction, out: &mut [u8], at: usize) -> usize
     requires { at + 23 ≤ length out.old }
     ensures bytes { out.new ≡ put at (header_values endpoint.now own.now) out.old }
@@ -90,7 +91,7 @@ fn put_blocks(
     next
 }
 
-/// Puts the bytes of the base address register of a region, and those of its cells.
+/// Writes the values of a region's base address register and of the declared bytes at its start.
 fn put_region(
     endpoint: &EndpointFn,
     own: &VirtualFunction,
@@ -137,7 +138,7 @@ fn put_regions(
     next
 }
 
-/// Puts a byte for each cell of an endpoint, in the order of the cells at reset.
+/// Writes a byte for each declared register byte of an endpoint, in the order of its reset values.
 pub(crate) fn put_values(
     endpoint: &EndpointFn,
     own: &VirtualFunction,

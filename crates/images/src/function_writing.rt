@@ -1,4 +1,5 @@
-//! A function as its guest has it, as bytes: its declaration, then a byte for each cell.
+//! Serialization of a function as its guest has it: its declaration, followed by a byte for each
+//! register byte.
 ghost use Rattle.std.specs.Prelude.{◌≡◌, ◌≤◌, ◌+◌, length};
 ghost use Rattle.model_registers.specs.OwnCopies.{OwnCopies};
 ghost use Rattle.images.specs.{Puts.put, Shown.{HasDeclaredPlaces, function_bytes, seen}};
@@ -9,7 +10,8 @@ use crate::writing::write_declaration;
 use bridge_forward::EndpointFn;
 use guest_functions::VirtualFunction;
 
-/// How many bytes a function has in an image, whatever the guest's own copies hold.
+/// Returns the size of a function in a saved state, in bytes. It doesn't depend on the guest's
+/// copies.
 pub fn function_size(endpoint: &EndpointFn) -> usize
     requires { HasDeclaredPlaces endpoint.now }
     ensures size { (own : OwnCopies)
@@ -20,8 +22,8 @@ pub fn function_size(endpoint: &EndpointFn) -> usize
     declaration_size(decl) + values_size(decl)
 }
 
-/// Puts the bytes of a function into a buffer from an index on, as a guest with these copies has it, and gives the
-/// index behind them.
+/// Writes a function with a guest's copies into the buffer from index `at`, and returns the index
+/// after it.
 pub fn write_function(
     endpoint: &EndpointFn,
     own: &VirtualFunction,

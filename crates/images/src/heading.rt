@@ -1,4 +1,5 @@
-//! What stands in an image around functions: its header, the latch, and whether a slot is filled.
+//! The parts of a saved state around its functions: the header, CONFIG_ADDRESS, and the tag of each
+//! slot.
 ghost use Rattle.std.specs.Prelude.{◌≡◌, Ok, Err, Some, IfErr, IfOk, [], ◌∷◌, if◌then◌else◌};
 ghost use Rattle.model_images.specs.{Layouts.{le_bytes, parse_number, parsed}, LoadedBytes.{after_beginning, after_bytes, after_latch, after_version, at_end, header}, ImageBytes.{magic, version}};
 ghost use Rattle.images.specs.Faults.{number_of, of_version};
@@ -7,17 +8,17 @@ use crate::comparing::after;
 use crate::fault::ImageFault;
 use byteorder::{ByteOrder, LittleEndian};
 
-/// The bits that a latch has.
+/// The implemented bits of CONFIG_ADDRESS.
 const LATCH_BITS: u32 = 0x80ff_fffc;
 
-/// What an image begins with: `PCIG`, and the version of the format.
+/// Returns the first 8 bytes of a saved state: `PCIG`, and the version of the format.
 pub fn header() -> [u8; 8]
     ensures { result ≡ header }
 {
     [b'P', b'C', b'I', b'G', 1, 0, 0, 0]
 }
 
-/// The bytes of a latch.
+/// Returns the bytes of CONFIG_ADDRESS, least significant byte first.
 pub fn latch_bytes(latch: u32) -> [u8; 4]
     ensures { result ≡ le_bytes 4 latch }
 {
@@ -26,7 +27,8 @@ pub fn latch_bytes(latch: u32) -> [u8; 4]
     bytes
 }
 
-/// The same fault where the bytes are to be a version: others are another version.
+/// Maps a mismatch (906) to the fault for another version (908), and returns other faults
+/// unchanged.
 fn of_version(fault: ImageFault) -> ImageFault
     ensures { number_of result ≡ of_version (number_of fault) }
 {
@@ -36,7 +38,7 @@ fn of_version(fault: ImageFault) -> ImageFault
     }
 }
 
-/// The bytes after the version of the format. Refuses too few bytes, and another version.
+/// Strips the version of the format. Refuses bytes that end early, and another version.
 fn after_version(version: u32, bytes: &[u8]) -> Result<&[u8], ImageFault>
     ensures left { IfOk result (λ rest. after_version version bytes.now ≡ Ok rest.now) }
     ensures refused { IfErr result (λ why.
@@ -48,7 +50,7 @@ fn after_version(version: u32, bytes: &[u8]) -> Result<&[u8], ImageFault>
     }
 }
 
-/// The bytes after the header, with which they have to begin.
+/// Strips the header from the front of `bytes`, and returns the rest.
 pub fn after_header(bytes: &[u8]) -> Result<&[u8], ImageFault>
     ensures left { IfOk result (λ rest. after_beginning magic version bytes.now ≡ Ok rest.now) }
     ensures refused { IfErr result
@@ -60,7 +62,8 @@ pub fn after_header(bytes: &[u8]) -> Result<&[u8], ImageFault>
     }
 }
 
-/// The latch, and the bytes after it. Refuses a number with bits that no latch has.
+/// Parses CONFIG_ADDRESS, and returns it with the remaining bytes. Refuses a value with
+/// unimplemented bits.
 pub fn after_latch(bytes: &[u8]) -> Result<(u32, &[u8]), ImageFault>
     ensures left { IfOk result (λ r. after_latch bytes.now ≡ Ok r.1.now) }
     ensures latch { IfOk result (λ r. parse_number 4 bytes.now ≡ Some (parsed r.0 r.1.now)) }
@@ -76,7 +79,7 @@ pub fn after_latch(bytes: &[u8]) -> Result<(u32, &[u8]), ImageFault>
     Ok((latch, &bytes[4..]))
 }
 
-/// The bytes after the one that says whether a slot is filled.
+/// Strips the byte that tags a slot as filled or empty.
 pub fn after_tag(is_filled: bool, bytes: &[u8]) -> Result<&[u8], ImageFault>
     ensures left { IfOk result (λ rest.
         after_bytes 906 ((if is_filled then 1 else 0) ∷ []) bytes.now ≡ Ok rest.now) }
@@ -86,7 +89,7 @@ pub fn after_tag(is_filled: bool, bytes: &[u8]) -> Result<&[u8], ImageFault>
     after(&[u8::from(is_filled)], bytes)
 }
 
-/// Refuses bytes that are left at the end.
+/// Refuses bytes that are left over at the end.
 pub fn at_end(bytes: &[u8]) -> Result<(), ImageFault>
     ensures left { IfOk result (λ _. at_end bytes.now ≡ Ok []) }
     ensures refused { IfErr result (λ why. at_end bytes.now ≡ Err (number_of why)) }

@@ -1,8 +1,9 @@
 //! Layer: guests. Below: model_images, host_bridge, guest_functions. Above: monitor.
 //!
-//! The bytes of a guest's image, where they lie: of its functions, from their declarations, the registers that the board
-//! holds and the guest's own copies. They are written into a buffer, and bytes are compared with them. That what a board
-//! declares can be written. No call takes memory.
+//! The format of a guest's saved state. The state is written into the caller's buffer straight from
+//! the declarations, the board's registers and the guest's copies, and bytes to load are compared
+//! with them in place. The crate also establishes that every declaration on a board can be saved.
+//! No call allocates memory.
 #![tactic(auto)]
 
 mod comparing;

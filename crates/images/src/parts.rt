@@ -1,4 +1,4 @@
-//! The parts of a declaration as bytes, least byte first.
+//! The parts of a declaration as little-endian bytes.
 ghost use Rattle.std.specs.Prelude.{◌≡◌, ◌≤◌, ◌<◌, length};
 ghost use Rattle.model_registers.specs.Cell.{IsCell};
 ghost use Rattle.bars.specs.Kinds.{kind_of};
@@ -10,7 +10,7 @@ use byteorder::{ByteOrder, LittleEndian};
 use config_bytes::Cell;
 use headers::{ConfigBlock, EndpointDecl, Region};
 
-/// A number of 16 bits.
+/// Returns the bytes of a 16-bit number.
 fn two(number: u16) -> [u8; 2]
     ensures { result ≡ le_bytes 2 number }
 {
@@ -19,7 +19,7 @@ fn two(number: u16) -> [u8; 2]
     bytes
 }
 
-/// The low 24 bits of a number.
+/// Returns the bytes of the low 24 bits of a number.
 fn three(number: u32) -> [u8; 3]
     ensures { result ≡ le_bytes 3 number }
 {
@@ -29,7 +29,7 @@ fn three(number: u32) -> [u8; 3]
     [first, second, third]
 }
 
-/// A number of 64 bits.
+/// Returns the bytes of a 64-bit number.
 fn eight(number: u64) -> [u8; 8]
     ensures { result ≡ le_bytes 8 number }
 {
@@ -38,21 +38,22 @@ fn eight(number: u64) -> [u8; 8]
     bytes
 }
 
-/// The bits of a cell that a write sets.
+/// Returns the write mask of a register byte.
 fn writable(cell: &Cell) -> u8
     ensures { result ≡ cell.now.writable }
 {
     cell.with_value(0).written(0xff).value()
 }
 
-/// The bits of a cell that writing a one clears.
+/// Returns the W1C mask of a register byte.
 fn clearable(cell: &Cell) -> u8
     ensures { result ≡ cell.now.clearable }
 {
     cell.with_value(0).raised(0xff).value()
 }
 
-/// A cell: its value, the bits that a write sets, and those that writing a one clears.
+/// Returns the three bytes that declare a register byte: its value, its write mask and its W1C
+/// mask.
 #[tactic(auto, unfolding(crate::specs::Parts::cell_bytes))]
 pub(crate) fn cell_bytes(cell: &Cell) -> [u8; 3]
     ensures bytes { result ≡ cell_bytes cell.now }
@@ -61,7 +62,7 @@ pub(crate) fn cell_bytes(cell: &Cell) -> [u8; 3]
     [cell.value(), writable(cell), clearable(cell)]
 }
 
-/// The number by which an image names a kind of region.
+/// Returns the number of a region's kind in the saved state.
 fn kind_number(kind: Kind) -> u8
     ensures { result ≡ kind_number (kind_of kind) }
 {
@@ -72,8 +73,8 @@ fn kind_number(kind: Kind) -> u8
     }
 }
 
-/// What stands before the cells of a region: its first register, its kind, its size, and how many
-/// cells.
+/// Returns the bytes in front of a region's declared bytes: its first register, its kind, its size,
+/// and the number of declared bytes.
 pub(crate) fn region_head(region: &Region) -> [u8; 12]
     requires index { region.now.index < 256 }
     requires count { length region.now.cells ≤ 4096 }
@@ -86,7 +87,8 @@ pub(crate) fn region_head(region: &Region) -> [u8; 12]
     [index, kind, a, b, c, d, e, f, g, h, low, high]
 }
 
-/// What stands before the cells of a block: the offset of the first, and how many there are.
+/// Returns the bytes in front of a block's declared bytes: the offset of the first one, and their
+/// number.
 #[tactic(auto, unfolding(crate::specs::Parts::block_head))]
 pub(crate) fn block_head(block: &ConfigBlock) -> [u8; 2]
     requires offset { block.now.offset < 256 }
@@ -96,7 +98,8 @@ pub(crate) fn block_head(block: &ConfigBlock) -> [u8; 2]
     [block.off as u8, block.block.len() as u8]
 }
 
-/// What stands before the regions of an endpoint: its numbers, and how many regions there are.
+/// Returns the bytes in front of an endpoint's regions: its identity and other header values, and
+/// the number of regions.
 #[tactic(auto, unfolding(crate::specs::Parts::endpoint_head))]
 pub(crate) fn endpoint_head(decl: &EndpointDecl) -> [u8; 18]
     requires { length decl.now.regions < 256 }

@@ -1,4 +1,4 @@
-//! How many bytes declarations and their values have in an image.
+//! Sizes of declarations and register values in a saved state.
 ghost use Rattle.std.specs.Prelude.{◌≡◌, ◌≤◌, false, flat_map, length};
 ghost use Rattle.lists.specs.Elements.{Each};
 ghost use Rattle.model_registers.specs.{DeclarationRules.IsConfigBlock, EndpointTable.{block_cells, endpoint_reset, region_cells}};
@@ -37,7 +37,7 @@ fn blocks_size(blocks: &[ConfigBlock]) -> usize
     size
 }
 
-/// How many bytes the parts of a declaration have.
+/// Returns the total size of the parts of a declaration, in bytes.
 fn parts_size(decl: &EndpointDecl) -> usize
     ensures size { result ≡ length (declared_bytes decl.now) }
     ensures bound { result ≤ 184795 }
@@ -46,7 +46,7 @@ fn parts_size(decl: &EndpointDecl) -> usize
     19 + regions_size(&values.bar) + blocks_size(&values.config)
 }
 
-/// How many bytes a declaration has in an image.
+/// Returns the size of a declaration in a saved state, in bytes.
 #[tactic(auto, using(crate::proofs::DeclaredBytes::declared_is))]
 pub fn declaration_size(decl: &EndpointDecl) -> usize
     ensures size { result ≡ length (declaration_bytes decl.now) }
@@ -55,7 +55,7 @@ pub fn declaration_size(decl: &EndpointDecl) -> usize
     parts_size(decl)
 }
 
-/// How many cells regions have, with their base address registers.
+/// Returns the number of register bytes of the regions, including their base address registers.
 fn regions_cells(regions: &[Region]) -> usize
     requires counts { Each (λ r. length r.cells ≤ 4096) regions.now }
     requires few { length regions.now ≤ 6 }
@@ -86,7 +86,7 @@ fn blocks_cells(blocks: &[ConfigBlock]) -> usize
     size
 }
 
-/// How many cells a declared endpoint has. In an image each has a byte.
+/// Returns the number of register bytes of a declared endpoint. Each has one byte in a saved state.
 pub fn values_size(decl: &EndpointDecl) -> usize
     ensures size { result ≡ length (endpoint_reset decl.now false) }
     ensures bound { result ≤ 61511 }

@@ -1,4 +1,4 @@
-//! Values of an image, as far as the cells of a declaration can hold them.
+//! Validation of saved register values against a declaration.
 ghost use Rattle.std.specs.Prelude.{◌≡◌, ◌%◌, ◌<◌, ◌≤◌, Ok, Err, IfErr, IfOk, false, drop, flat_map, length};
 ghost use Rattle.lists.specs.Elements.{Each};
 ghost use Rattle.model_registers.specs.{DeclarationRules.IsConfigBlock, Declarations.IsLawfulRegion, EndpointTable.{block_cells, endpoint_reset, region_cells}, Registers.config};
@@ -9,7 +9,8 @@ ghost use Rattle.images.specs.Faults.{number_of};
 use crate::fault::ImageFault;
 use headers::{ConfigBlock, EndpointDecl, Region, Row, endpoint_rows};
 
-/// Whether the cell of a register's lowest byte can hold the byte.
+/// Returns whether the lowest byte of a register can hold a value. Status and device-specific
+/// registers can hold any; elsewhere bits outside the masks must be as declared.
 fn can_hold(row: &Row, byte: u8) -> bool
     ensures { result ≡ can_hold (record {
       place = config row.now.off;
@@ -28,7 +29,7 @@ fn can_hold(row: &Row, byte: u8) -> bool
     is_device || byte & !writable & !clearable == value & !writable & !clearable
 }
 
-/// The bytes after the values of a register.
+/// Strips the saved values of one register.
 fn after_row(row: Row, bytes: &[u8]) -> Result<&[u8], ImageFault>
     requires { IsRow row }
     ensures left { IfOk result (λ rest. after_values (row_cells row) bytes.now ≡ Ok rest.now) }
@@ -50,7 +51,7 @@ fn after_row(row: Row, bytes: &[u8]) -> Result<&[u8], ImageFault>
     Ok(tail)
 }
 
-/// The bytes after those of so many cells that can hold any.
+/// Strips `count` bytes of any value.
 fn after_any(count: usize, bytes: &[u8]) -> Result<&[u8], ImageFault>
     ensures room { IfOk result (λ _. count ≤ length bytes.now) }
     ensures left { IfOk result (λ rest. rest.now ≡ drop count bytes.now) }
@@ -62,7 +63,7 @@ fn after_any(count: usize, bytes: &[u8]) -> Result<&[u8], ImageFault>
     Ok(&bytes[count..])
 }
 
-/// The bytes after the values of registers.
+/// Strips the saved values of a list of registers.
 fn after_rows<'a>(rows: &[Row], bytes: &'a [u8]) -> Result<&'a [u8], ImageFault>
     requires { Each IsRow rows.now }
     ensures left { IfOk result (λ rest.
@@ -79,7 +80,7 @@ fn after_rows<'a>(rows: &[Row], bytes: &'a [u8]) -> Result<&'a [u8], ImageFault>
     Ok(bytes)
 }
 
-/// The bytes after the values of a device's own registers.
+/// Strips the saved values of the device-specific configuration registers.
 fn after_blocks<'a>(blocks: &[ConfigBlock], bytes: &'a [u8]) -> Result<&'a [u8], ImageFault>
     requires { Each IsConfigBlock blocks.now }
     ensures left { IfOk result (λ rest.
@@ -96,7 +97,8 @@ fn after_blocks<'a>(blocks: &[ConfigBlock], bytes: &'a [u8]) -> Result<&'a [u8],
     Ok(bytes)
 }
 
-/// The bytes after the values of regions: of each its base address register, and then its cells.
+/// Strips the saved values of the regions: for each one, its base address register and then its
+/// declared bytes.
 fn after_regions<'a>(regions: &[Region], bytes: &'a [u8]) -> Result<&'a [u8], ImageFault>
     requires { Each IsLawfulRegion regions.now }
     ensures left { IfOk result (λ rest.
@@ -115,7 +117,8 @@ fn after_regions<'a>(regions: &[Region], bytes: &'a [u8]) -> Result<&'a [u8], Im
     Ok(bytes)
 }
 
-/// The bytes after a value for each cell of an endpoint, all of which its cells can hold.
+/// Strips a saved value for each register byte of an endpoint, and returns the rest. Refuses bytes
+/// that end early, and a value that its register can't hold.
 pub(crate) fn after_values<'a>(decl: &EndpointDecl, bytes: &'a [u8]) -> Result<&'a [u8], ImageFault>
     ensures left { IfOk result (λ rest.
         after_values (endpoint_reset decl.now false) bytes.now ≡ Ok rest.now) }

@@ -1,4 +1,4 @@
-//! Declarations that are written into a buffer.
+//! Serialization of declarations into a buffer.
 ghost use Rattle.std.specs.Prelude.{◌≡◌, ◌≤◌, ◌+◌, ◌<◌, length, flat_map};
 ghost use Rattle.lists.specs.Elements.{Each};
 ghost use Rattle.model_registers.specs.{Declarations.IsLawfulRegion, DeclarationRules.IsConfigBlock};
@@ -9,7 +9,7 @@ use crate::parts::{block_head, cell_bytes, endpoint_head, region_head};
 use config_bytes::Cell;
 use headers::{ConfigBlock, EndpointDecl, Region};
 
-/// Puts bytes into a buffer from an index on, and gives the index behind them.
+/// Copies bytes into a buffer from index `at`, and returns the index after them.
 pub fn put(out: &mut [u8], at: usize, bytes: &[u8]) -> usize
     requires { at + length bytes.now ≤ length out.old }
     ensures bytes { out.new ≡ put at bytes.now out.old }
@@ -86,7 +86,7 @@ fn put_blocks(out: &mut [u8], at: usize, blocks: &[ConfigBlock]) -> usize
     next
 }
 
-/// Puts the parts of a declaration one after the other.
+/// Writes the parts of a declaration one after the other.
 fn put_declaration(out: &mut [u8], at: usize, decl: &EndpointDecl) -> usize
     requires { at + length (declared_bytes decl.now) ≤ length out.old }
     ensures bytes { out.new ≡ put at (declared_bytes decl.now) out.old }
@@ -99,7 +99,7 @@ fn put_declaration(out: &mut [u8], at: usize, decl: &EndpointDecl) -> usize
     put_blocks(out, next, &values.config)
 }
 
-/// Puts the bytes of a declaration into a buffer from an index on, and gives the index behind them.
+/// Writes a declaration into the buffer from index `at`, and returns the index after it.
 #[tactic(auto, using(crate::proofs::DeclaredBytes::declared_is))]
 pub(crate) fn write_declaration(decl: &EndpointDecl, out: &mut [u8], at: usize) -> usize
     requires { at + length (declaration_bytes decl.now) ≤ length out.old }

@@ -1,4 +1,4 @@
-//! What is wrong, and what is lacking, in the registers of a board that guests have.
+//! The audit and the readiness check of a board whose functions are assigned to guests.
 ghost use Rattle.std.specs.Prelude.{◌≡◌, [], IfOk, map};
 ghost use Rattle.model_findings.specs.{Problems.problems, Lacks.lacks};
 ghost use Rattle.model_guests.specs.WorldNow.{board_state};
@@ -11,8 +11,8 @@ use host_bridge::Route;
 use std::alloc::{AllocError, Global};
 
 impl<R: Route> Engine<R> {
-    /// All that is wrong in the registers of the board as they stand. Nothing changes. Whatever guests, their
-    /// devices and the host did, there is nothing.
+    /// Returns the problems in the board's registers as they are now, and changes nothing. The list
+    /// is always empty, whatever guests, their devices and the host have done.
     pub fn problems(&mut self, alloc: Global) -> Result<Vec<Problem>, AllocError>
         ensures told { IfOk result (λ v.
             map problem_of v.items ≡ problems (board_state self.old.world).functions) }
@@ -22,8 +22,8 @@ impl<R: Route> Engine<R> {
         problems(alloc, &mut self.host)
     }
 
-    /// All that an operating system would still have to do about the registers of the board as they stand, by these
-    /// apertures.
+    /// Returns everything that an operating system would still have to do to the board's registers
+    /// as they are now, given these apertures.
     pub fn lacks(&self, alloc: Global, apertures: &Apertures) -> Result<Vec<Lack>, AllocError>
         ensures told { IfOk result (λ v.
             map lack_of v.items ≡ lacks apertures.now (board_state self.now.world).functions) }

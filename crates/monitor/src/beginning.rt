@@ -1,4 +1,4 @@
-//! What the monitor keeps of a board and of its guests, before any guest did anything.
+//! The monitor's initial record of a board and its guests, before any guest has accessed anything.
 ghost use Rattle.std.specs.Prelude.{◌≡◌, ◌≤◌, length, map, Some, IfOk, IsSome};
 ghost use Rattle.lists.specs.Elements.{Each};
 ghost use Rattle.model_registers.specs.{Declarations.HasLawfulRegions, EndpointTable.opened, Decoding.Function};
@@ -18,7 +18,7 @@ use host_bridge::Host;
 use paths::Path;
 use std::alloc::{AllocError, Global};
 
-/// What a base address register opens, whatever it holds.
+/// Returns the declaration of a BAR, without its base address.
 fn decl_of(region: Option<BasedRegion>) -> Option<BarDecl>
     ensures { result ≡ declared_in region }
 {
@@ -28,7 +28,7 @@ fn decl_of(region: Option<BasedRegion>) -> Option<BarDecl>
     }
 }
 
-/// What each base address register of a function opens.
+/// Returns the declarations of a function's BARs, by base address register.
 fn decls_of(placed: &[Option<BasedRegion>; 6]) -> [Option<BarDecl>; 6]
     ensures { result ≡ map declared_in placed.now }
 {
@@ -42,7 +42,8 @@ fn decls_of(placed: &[Option<BasedRegion>; 6]) -> [Option<BarDecl>; 6]
     ]
 }
 
-/// The endpoint at an index, with all own copies at reset, where the host has it.
+/// Returns the endpoint at an index for a guest's slot: the guest's copies are at reset, and the
+/// regions are where the host has placed them.
 pub(crate) fn held_of(host: &Host, index: usize) -> Held
     requires { HasLawfulRegions
         (map opened (map with_no_base (bases_nth host.now.state.functions index))) }
@@ -57,7 +58,7 @@ pub(crate) fn held_of(host: &Host, index: usize) -> Held
     }
 }
 
-/// The endpoint at a path, in a guest's slot.
+/// Returns the endpoint at a path for a guest's slot.
 fn held_at(host: &Host, path: &Path) -> Held
     requires board { IsStateOfBoard host.now.state.functions }
     requires there { IsSome (declared (board_below host.now) path.now) }
@@ -70,7 +71,8 @@ fn held_at(host: &Host, path: &Path) -> Held
     }
 }
 
-/// The 32 slots of a guest with endpoints at these paths, slot 0 first; the slots past them are empty.
+/// Returns the 32 slots of a guest: the endpoints at these paths, from slot 0 on, and then empty
+/// slots.
 fn slots_of(alloc: Global, host: &Host, paths: &[Path]) -> Result<Vec<Option<Held>>, AllocError>
     requires board { IsStateOfBoard host.now.state.functions }
     requires few { length paths.now ≤ 32 }
@@ -87,7 +89,7 @@ fn slots_of(alloc: Global, host: &Host, paths: &[Path]) -> Result<Vec<Option<Hel
     Ok(slots)
 }
 
-/// The guests, each with its address latch clear and its endpoints in its slots.
+/// Returns the guests, each with CONFIG_ADDRESS 0 and with its endpoints in its slots.
 pub(crate) fn guests_of(
     alloc: Global,
     host: &Host,
@@ -111,7 +113,7 @@ pub(crate) fn guests_of(
     Ok(guests)
 }
 
-/// The guests' names.
+/// Returns the guests' names.
 pub(crate) fn names_of(decls: &[GuestDecl]) -> Names
     requires { length decls.now ≤ 32 }
     ensures { texts result ≡ map (λ (g : GuestValue). g.name) decls.now }

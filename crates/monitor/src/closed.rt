@@ -1,4 +1,4 @@
-//! Closed regions, which stand in the way of those to whom their functions would be given.
+//! Disabled regions, which prevent a handover of their functions.
 ghost use Rattle.std.specs.{Prelude.{◌≡◌, not, map, filter, find, flat_map, option_map, slice_get, IfOk}, List.list_any};
 ghost use Rattle.model_registers.specs.Decoding.{opens_space};
 ghost use Rattle.model_board.specs.{Paths.path_eq, Routing.routing};
@@ -14,7 +14,7 @@ use host_bridge::Host;
 use paths::Path;
 use std::alloc::{AllocError, Global};
 
-/// The first region of a function that Command doesn't open.
+/// Returns the first region of a function for which Command doesn't enable decoding.
 fn closed_in(path: &Path, command: u16, regions: &[RoutingRegion]) -> Option<RegionNow>
     ensures { result ≡ slice_get
         (filter (λ q. not (opens_space command q.space)) (map (region_now path.now) (map base_of regions.now))) 0 }
@@ -30,7 +30,7 @@ fn closed_in(path: &Path, command: u16, regions: &[RoutingRegion]) -> Option<Reg
     None
 }
 
-/// The first closed region of a function.
+/// Returns the first disabled region of a function. A bridge has none.
 fn closed_of(row: &RoutingRow) -> Option<RegionNow>
     ensures { result ≡ slice_get (closed_of row.now) 0 }
 {
@@ -44,14 +44,14 @@ fn closed_of(row: &RoutingRow) -> Option<RegionNow>
     }
 }
 
-/// Whether a path is among a guest's.
+/// Returns whether a path is among the paths of a guest's slots.
 fn has_path(decl: &GuestDecl, path: &Path) -> bool
     ensures { result ≡ list_any (λ p. path_eq p path.now) decl.now.slots }
 {
     decl.slots.as_slice().iter().any(|slot| slot == path)
 }
 
-/// Whether the function at a path is given to a guest.
+/// Returns whether the function at a path is to be assigned to a guest.
 fn is_given(decls: &[GuestDecl], path: &Path) -> bool
     ensures { result
         ≡ list_any (λ (g : GuestValue). list_any (λ p. path_eq p path.now) g.slots) decls.now }
@@ -59,7 +59,7 @@ fn is_given(decls: &[GuestDecl], path: &Path) -> bool
     decls.iter().any(|decl| has_path(decl, path))
 }
 
-/// The first closed region of a function, if it is given to a guest.
+/// Returns the first disabled region of a function that is to be assigned to a guest.
 fn closed_if_given(decls: &[GuestDecl], row: &RoutingRow) -> Option<RegionNow>
     ensures { let ps = flat_map (λ (g : GuestValue). g.slots) decls.now in
         result ≡ closed_if_given ps row.now }
@@ -71,7 +71,7 @@ fn closed_if_given(decls: &[GuestDecl], row: &RoutingRow) -> Option<RegionNow>
     }
 }
 
-/// The first closed region of the functions that are given to guests.
+/// Returns the first disabled region among all functions that are to be assigned to guests.
 fn first_closed_in(rows: &[RoutingRow], decls: &[GuestDecl]) -> Option<RegionNow>
     ensures { let ps = flat_map (λ (g : GuestValue). g.slots) decls.now in
         result ≡ first_closed_at ps rows.now }
@@ -84,7 +84,8 @@ fn first_closed_in(rows: &[RoutingRow], decls: &[GuestDecl]) -> Option<RegionNow
     None
 }
 
-/// The same, of the board as it stands.
+/// Returns the first disabled region of a board among all functions that are to be assigned to
+/// guests.
 pub(crate) fn first_closed(
     alloc: Global,
     host: &Host,

@@ -1,4 +1,4 @@
-//! Configuration accesses of guests.
+//! Configuration accesses by guests.
 ghost use Rattle.std.specs.Prelude.{◌≡◌, ◌%◌, IfErr, IfNone, IfOk, IfSome, Some, None, slice_get, unwrap_or};
 ghost use Rattle.model_registers.specs.{Registers.{config, number}, ByteEnables.IsWidth};
 ghost use Rattle.accesses.specs.Refusals.{number_of};
@@ -10,8 +10,9 @@ use accesses::Refusal;
 use config_bytes::{enables_of, lowered};
 use host_bridge::Host;
 
-/// The number of 1, 2 or 4 bytes at an offset of a function, as its guest has it: the guest's own copies,
-/// and the board's registers for all other bytes.
+/// Reads 1, 2 or 4 bytes at a configuration offset of a function as its guest sees it: Command,
+/// Header Type and the base address registers from the guest's copies, and all other bytes from the
+/// board.
 pub(crate) fn number_read(host: &mut Host, held: &Held, off: u8, width: u64) -> u32
     requires seen { IsSeen host.old held.now }
     requires width { IsWidth width }
@@ -29,7 +30,7 @@ pub(crate) fn number_read(host: &mut Host, held: &Held, off: u8, width: u64) -> 
     lowered(from, own + rest)
 }
 
-/// The function in a slot.
+/// Returns the function in a slot.
 pub(crate) fn held_in(slots: &[Option<Held>], slot: usize) -> Option<&Held>
     ensures empty { IfNone result (unwrap_or (slice_get slots.now slot) None ≡ None) }
     ensures there { IfSome result (λ r. slice_get slots.now slot ≡ Some (Some r.now)) }
@@ -40,7 +41,8 @@ pub(crate) fn held_in(slots: &[Option<Held>], slot: usize) -> Option<&Held>
     }
 }
 
-/// The function in a slot, or why there is none: 303 for a slot above 31, else 601 for an empty slot.
+/// Returns the function in a slot, or the reason why there is none: 303 for a slot above 31, 601
+/// for an empty slot.
 pub(crate) fn function_in(slots: &[Option<Held>], slot: u64) -> Result<&Held, Refusal>
     ensures there { IfOk result (λ r. IsInSlot slots.now slot r.now) }
     ensures refused { IfErr result (λ why. IsSlotFault slots.now slot (number_of why)) }
@@ -54,8 +56,8 @@ pub(crate) fn function_in(slots: &[Option<Held>], slot: u64) -> Result<&Held, Re
     }
 }
 
-/// Writes the own copies among the enabled bytes of a word, and gives the function's index with the
-/// enables of the other bytes.
+/// Writes the guest's copies among the enabled bytes of a word, and returns the function's index on
+/// the host and the byte enables to forward to the board.
 pub(crate) fn write_own(
     slots: &mut [Option<Held>],
     slot: usize,
@@ -77,7 +79,8 @@ pub(crate) fn write_own(
     }
 }
 
-/// The same in a slot of a guest, who is counted where this may change where its regions stand.
+/// Writes the copies in a slot of a guest, as `write_own` does. Increments the guest's change count
+/// if `changes` is set.
 pub(crate) fn write_in(
     guests: &mut [Guest],
     guest: usize,

@@ -1,4 +1,5 @@
-//! How often the regions of a guest's functions may have come to stand elsewhere.
+//! The change counts of guests: how often a region of a guest's functions may have been moved,
+//! enabled or disabled.
 ghost use Rattle.std.specs.Prelude.{◌≡◌, ◌<◌, Some, length, slice_get};
 ghost use Rattle.model_registers.specs.{ByteEnables.IsWidth, Registers.config};
 ghost use Rattle.model_handoff.specs.{StayLaws.any_tells, Changes.after_change};
@@ -6,8 +7,8 @@ ghost use Rattle.model_handoff.specs.{StayLaws.any_tells, Changes.after_change};
 use crate::engine::Engine;
 use host_bridge::Route;
 
-/// Whether one of so many bytes, from an offset of configuration space on, is a byte of Command or of a base
-/// address register.
+/// Returns whether an access of `width` bytes at a configuration offset includes a byte of Command
+/// or of a base address register.
 pub(crate) fn tells_regions(offset: u64, width: u64) -> bool
     requires { IsWidth width }
     ensures { result ≡ any_tells width (config offset) }
@@ -15,8 +16,8 @@ pub(crate) fn tells_regions(offset: u64, width: u64) -> bool
     (offset < 0x06 && offset + width > 0x04) || (offset < 0x28 && offset + width > 0x10)
 }
 
-/// A count after what may have changed where regions stand, or after what didn't. It goes on from 0 after
-/// 2^64 - 1.
+/// Returns the next change count, which wraps from 2^64 - 1 to 0. The count stays the same unless
+/// `changes` is set.
 pub(crate) fn counted(count: u64, changes: bool) -> u64
     ensures { result ≡ after_change changes count }
 {
@@ -28,9 +29,10 @@ pub(crate) fn counted(count: u64, changes: bool) -> u64
 }
 
 impl<R: Route> Engine<R> {
-    /// How often it came, by an access of a guest, a move, a reset, a load, a restart, a gift or a taking, that a
-    /// region of a function in a slot of the guest may stand elsewhere. So while this stays, each answer of
-    /// `region` for the guest stays. It goes on from 0 after 2^64 - 1.
+    /// Returns how often an access of the guest, a move, a reset, a load, a restart, an assignment
+    /// or an unassignment may have changed a region of a function in one of the guest's slots.
+    /// While the count stays the same, all results of `region` for the guest stay the same. It
+    /// wraps from 2^64 - 1 to 0.
     pub fn changed(&self, guest: usize) -> u64
         requires { guest < length self.now.world.guests }
         ensures { slice_get self.now.counts guest ≡ Some result }

@@ -1,4 +1,4 @@
-//! What a device itself reads and writes of its function's registers.
+//! Device-side reads and writes of a function's registers.
 ghost use Rattle.std.specs.Prelude.{◌≡◌, ◌<◌, IfErr, IfOk, IsTrue, is_some, length};
 ghost use Rattle.model_registers.specs.{Decoding.Function, DeviceBytes.is_device_byte};
 ghost use Rattle.model_board.specs.{Paths.Path, State.State};
@@ -15,7 +15,8 @@ use crate::raising::has_place;
 use accesses::{Place, Refusal, Reply};
 use host_bridge::Route;
 
-/// Whether the byte is a device's own: Status, a register from 40h on, or a byte of a region.
+/// Returns whether a byte belongs to the device: Status, a configuration register from 40h on, or a
+/// byte of a region.
 fn is_device_byte(place: Place, off: u64) -> bool
     ensures { result ≡ is_device_byte (place_of place off) }
 {
@@ -25,7 +26,7 @@ fn is_device_byte(place: Place, off: u64) -> bool
     }
 }
 
-/// Whether the device of a function in a slot reaches the byte.
+/// Returns whether the byte exists in the function and belongs to its device.
 fn reaches(held: &Held, place: Place, off: u64) -> bool
     ensures place { (s : State) (p : Path) (f : Function) → IsHeld s p f held.now
         → result ≡ is_some (device_place f (part_of place) off) }
@@ -34,7 +35,8 @@ fn reaches(held: &Held, place: Place, off: u64) -> bool
     has_place(held, place, off) && is_device_byte(place, off)
 }
 
-/// The index of the function in a slot, if its device reaches the byte, or why it doesn't.
+/// Returns the index of the function in a slot if the byte belongs to its device, or the reason for
+/// a refusal.
 fn reached(slots: &[Option<Held>], slot: u64, place: Place, off: u64) -> Result<usize, Refusal>
     ensures index { IfOk result (λ i. Reaches slots.now slot place off i) }
     ensures refused { IfErr result (λ why. Refuses slots.now slot place off (number_of why)) }
@@ -52,10 +54,11 @@ fn reached(slots: &[Option<Held>], slot: u64, place: Place, off: u64) -> Result<
 impl<R: Route> Engine<R> {
     ghost use Rattle.monitor.specs.{Views.{texts, machine_shown}, Keeping.IsSound};
 
-    /// What a byte of a guest's function holds, as its device reads it. Or refuses it: 303 for a slot
-    /// above 31, else 601 for an empty slot, else 303 for a configuration offset that is neither 6, 7 nor 40h
-    /// to FFh, a base address register at which no region begins or an offset that is not below the
-    /// region's size. 0 where no cell stands. Nothing changes, and no memory is taken.
+    /// Returns a byte of a guest's function as its device reads it. An undeclared byte reads as 0.
+    /// Refuses with 303 if the slot is above 31, else with 601 if it is empty, else with 303 for a
+    /// configuration offset that is neither 6, 7 nor 40h to FFh, a base address register at which
+    /// no region begins, or an offset that is not below the region's size. Changes nothing, and
+    /// allocates no memory.
     pub fn device_read(&mut self, guest: usize, slot: u64, place: Place, off: u64) -> Reply
         requires { guest < length self.old.world.guests }
         ensures reply { let e = device_reads (device_byte slot place off) in
@@ -77,9 +80,9 @@ impl<R: Route> Engine<R> {
         }
     }
 
-    /// Puts a value into such a byte, as its device does: whatever the cell's masks, which stay. Or
-    /// refuses it and changes nothing, as a read does. Where no cell stands, nothing changes. No memory
-    /// is taken.
+    /// Sets a byte of a guest's function as its device does, whatever the masks of the byte, which
+    /// stay. An undeclared byte isn't changed. Refuses the same bytes as `device_read`. A refusal
+    /// changes nothing. Allocates no memory.
     pub fn device_write(
         &mut self,
         guest: usize,

@@ -1,4 +1,4 @@
-//! A host with its guests, over any way to find who claims an address.
+//! A host with its guests, generic over the way in which addresses are routed to functions.
 ghost use Rattle.std.specs.Prelude.{◌≡◌, ◌<◌, ◌%◌, length};
 ghost use Rattle.model_registers.specs.{Registers.all_bytes, ByteEnables.IsWidth};
 ghost use Rattle.model_board.specs.Ports.{config_reply};
@@ -25,7 +25,7 @@ use host_bridge::{Bdf, Host, Route};
 use paths::is_address_port;
 use std::marker::Model;
 
-/// The monitor over any route: a host, a route that fits it, and the guests with the names that they have.
+/// The monitor over any route: a host, a route that fits it, and the guests with their names.
 #[derive(Drop)]
 pub struct Engine<R: Route> {
     pub(crate) host: Host,
@@ -50,7 +50,7 @@ impl<R: Route> Model for Engine<R> {
 impl<R: Route> Engine<R> {
     ghost use Rattle.monitor.specs.{Views.{texts, machine_shown}, Keeping.IsSound};
 
-    /// A host whose board agrees with these guests.
+    /// Returns a monitor over a host whose board agrees with these guests.
     pub(crate) fn of_parts(host: Host, route: R, names: Names, guests: Vec<Guest>) -> Engine<R>
         requires fits { R.fits route host }
         requires sound { IsSound host (texts names) guests.items }
@@ -64,14 +64,14 @@ impl<R: Route> Engine<R> {
         }
     }
 
-    /// The guests' names, in the order of the guests.
+    /// Returns the guests' names, in the order of the guests.
     pub fn names(&self) -> &Names
         ensures { texts result.now ≡ names_now self.now.world }
     {
         &self.names
     }
 
-    /// What is kept of a guest.
+    /// Returns the monitor's record of a guest.
     pub(crate) fn guest(&self, guest: usize) -> &Guest
         requires { guest < length self.now.world.guests }
         ensures { IsGuestNth self.now.world guest result.now }
@@ -79,10 +79,10 @@ impl<R: Route> Engine<R> {
         &self.guests[guest]
     }
 
-    /// Reads or writes what an address of a guest stands for. Where it stands for nothing, a read gives all
-    /// ones and a write is dropped. The function is asked at once, since the board would route the address at
-    /// which the byte stands there to the same function; and the access is compiled at its calls apart. Both
-    /// are faster.
+    /// Reads or writes at a guest's I/O or memory address. An unclaimed read returns all ones, and
+    /// an unclaimed write is dropped. Two things make this faster: the function is accessed
+    /// directly, since the board would route the byte's physical address to the same function, and
+    /// the body is inlined at each call.
     #[inline(always)]
     fn region_access(&mut self, guest: usize, space: Space, addr: u64, width: u64, op: Op) -> Reply
         requires there { guest < length self.old.world.guests }
@@ -112,7 +112,7 @@ impl<R: Route> Engine<R> {
         }
     }
 
-    /// Reads the configuration space of the function in a slot; all ones where there is none.
+    /// Reads the configuration space of the function in a slot. An empty slot reads as all ones.
     fn config_read(&mut self, guest: usize, slot: usize, off: u8, width: u64) -> Reply
         requires there { guest < length self.old.world.guests }
         requires width { IsWidth width }
@@ -129,8 +129,9 @@ impl<R: Route> Engine<R> {
         Reply::Value(number_read(&mut self.host, held, off, width), width)
     }
 
-    /// Writes the configuration space of the function in a slot. Dropped where there is none. Here alone an
-    /// access is counted, since no other one changes where a region stands: accesses of data pay nothing for it.
+    /// Writes the configuration space of the function in a slot. A write to an empty slot is
+    /// dropped. No other access can change where a region is decoded, so only this one updates the
+    /// change count, and data accesses don't pay for it.
     fn config_write(&mut self, guest: usize, slot: usize, off: u8, width: u64, value: u32)
         requires there { guest < length self.old.world.guests }
         requires width { IsWidth width }
@@ -150,8 +151,8 @@ impl<R: Route> Engine<R> {
         self.host.config_write_nth(index, word, others, moved);
     }
 
-    /// Reads or writes the configuration space of the function in a slot. Where there is none, a read gives
-    /// all ones and a write is dropped.
+    /// Reads or writes the configuration space of the function in a slot. An empty slot reads as
+    /// all ones, and writes to it are dropped.
     fn config_access(&mut self, guest: usize, slot: usize, off: u8, width: u64, op: Op) -> Reply
         requires there { guest < length self.old.world.guests }
         requires width { IsWidth width }
@@ -172,7 +173,7 @@ impl<R: Route> Engine<R> {
         }
     }
 
-    /// Reads or writes four bytes of a guest's own address latch.
+    /// Reads or writes the four bytes of a guest's CONFIG_ADDRESS.
     fn latch_access(&mut self, guest: usize, op: Op) -> Reply
         requires { guest < length self.old.world.guests }
         ensures reply { reply_of result
@@ -190,8 +191,9 @@ impl<R: Route> Engine<R> {
         }
     }
 
-    /// Reads or writes at a port of a guest: its own address latch for 4 bytes at CF8h, the slot that the
-    /// latch selects at CFCh to CFFh while it is enabled, and else the guest's regions.
+    /// Reads or writes an I/O port of a guest. 4 bytes at CF8h are the guest's CONFIG_ADDRESS, CFCh
+    /// to CFFh are the slot that CONFIG_ADDRESS selects while its enable bit is set, and all other
+    /// ports belong to the guest's regions.
     fn port_access(&mut self, guest: usize, at: u64, width: u64, op: Op) -> Reply
         requires there { guest < length self.old.world.guests }
         requires width { IsWidth width }
@@ -215,7 +217,8 @@ impl<R: Route> Engine<R> {
         }
     }
 
-    /// Answers one access of a guest by its index, as its own functions and latch alone would.
+    /// Answers an access of the guest at an index, as its functions and its CONFIG_ADDRESS would in
+    /// isolation.
     fn access(&mut self, guest: usize, access: Access) -> Reply
         requires { guest < length self.old.world.guests }
         ensures reply { reply_of result
@@ -238,9 +241,10 @@ impl<R: Route> Engine<R> {
         }
     }
 
-    /// Answers one access of a guest, or refuses it and changes nothing: 302 for a width that is not 1, 2 or
-    /// 4 bytes, else 301 for an offset, port or address that is no multiple of it, else 303 for a slot above
-    /// 31, an offset above 255 or a port above FFFFFFFFh. No memory is taken.
+    /// Answers an access of a guest. Refuses with 302 if its width is not 1, 2 or 4 bytes, else
+    /// with 301 if its offset, port or address is not a multiple of the width, else with 303 if its
+    /// slot is above 31, its offset above 255 or its port above FFFFFFFFh. A refusal changes
+    /// nothing. Allocates no memory.
     pub fn step(&mut self, guest: usize, access: Access) -> Reply
         requires { guest < length self.old.world.guests }
         ensures reply { let e = guests.access (access_of access) in
@@ -256,7 +260,7 @@ impl<R: Route> Engine<R> {
         self.access(guest, access)
     }
 
-    /// Raises bits of one cell of a function of a guest by its index, or refuses and changes nothing.
+    /// Sets W1C bits of one byte of a function of the guest at an index. A refusal changes nothing.
     fn raise_nth(&mut self, guest: usize, slot: u64, place: Place, off: u64, mask: u8) -> Reply
         requires { guest < length self.old.world.guests }
         ensures reply { let e = guests.raises
@@ -279,11 +283,11 @@ impl<R: Route> Engine<R> {
         Reply::Done
     }
 
-    /// Raises bits of one cell of a guest's function as its device does, or refuses and changes nothing:
-    /// 303 for a slot above 31, else 601 for an empty slot, else 303 for a configuration offset above
-    /// 255, a base address register at which no region begins or an offset that is not below the
-    /// region's size. Where no cell stands, or one of the guest's own copies, nothing changes. No memory
-    /// is taken.
+    /// Sets W1C bits of one byte of a guest's function, as its device does. An undeclared byte
+    /// isn't changed, nor is a byte that guests have a copy of. Refuses with 303 if the slot is
+    /// above 31, else with 601 if it is empty, else with 303 for a configuration offset above 255,
+    /// a base address register at which no region begins, or an offset that is not below the
+    /// region's size. A refusal changes nothing. Allocates no memory.
     pub fn raise(&mut self, guest: usize, slot: u64, place: Place, off: u64, mask: u8) -> Reply
         requires { guest < length self.old.world.guests }
         ensures reply { let e = guests.raises
@@ -301,9 +305,10 @@ impl<R: Route> Engine<R> {
         self.raise_nth(guest, slot, place, off, mask)
     }
 
-    /// Moves the function in a slot to a slot of a guest. Nothing is carried over: the function is then at
-    /// reset, and its former slot is empty. Or refuses it and changes nothing: 303 for a slot above 31, else
-    /// 601 where the slot that it leaves is empty, else 602 where the slot that it comes to is taken.
+    /// Moves the function in a slot to another slot of the same or another guest, and resets it.
+    /// The former slot is then empty. Refuses with 303 if a slot is above 31, else with 601 if the
+    /// source slot is empty, else with 602 if the target slot is occupied. A refusal changes
+    /// nothing.
     pub fn move_function(&mut self, from: usize, slot: u64, to: usize, target: u64) -> Reply
         requires from { from < length self.old.world.guests }
         requires to { to < length self.old.world.guests }
@@ -330,7 +335,7 @@ impl<R: Route> Engine<R> {
         Reply::Done
     }
 
-    /// Answers a read by the host: what the board shows.
+    /// Answers a read by the host from the board's physical address spaces.
     pub fn host_read(&mut self, read: HostAccess) -> Reply
         ensures reply { reply_of result ≡ host_reply self.old.world (host_access_of read) }
         ensures after { self.new ≡ self.old }
@@ -349,8 +354,8 @@ impl<R: Route> Engine<R> {
     }
 }
 
-/// The number of 1, 2 or 4 bytes at an offset of the function that a bus number names. The address latch
-/// is clear, and stays so.
+/// Reads 1, 2 or 4 bytes at a configuration offset of the function at a BDF. CONFIG_ADDRESS is 0
+/// and stays 0.
 fn config_number(host: &mut Host, at: Bdf, off: u8, width: u64) -> u32
     requires width { IsWidth width }
     requires aligned { off % width ≡ 0 }

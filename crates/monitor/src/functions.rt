@@ -1,4 +1,4 @@
-//! What is told of each function of the board, as it is now.
+//! Descriptions of the board's functions as they are now.
 ghost use Rattle.std.specs.{Prelude.{◌≡◌, ◌<◌, ◌^◌, Some, length, option_map, slice_get}, Result.result_map_both};
 ghost use Rattle.model_board.specs.State.{BoardFunction};
 ghost use Rattle.model_findings.specs.Orderly.{IsStateOfBoard};
@@ -15,8 +15,8 @@ use findings::{Identity, address_of, identity_nth};
 use host_bridge::{Bdf, Host, RangesNow, Route};
 use paths::Path;
 
-/// A function of the board: where it stands, its number, its identity, its regions or windows where the
-/// board's registers have them, and the guest and slot that hold it, if any do.
+/// A function of the board: its path, its BDF, its identity, its regions or windows as the board's
+/// registers define them, and the slot that it is assigned to, if any.
 #[derive(Debug, Drop)]
 pub struct FunctionNow {
     pub path: Path,
@@ -26,7 +26,7 @@ pub struct FunctionNow {
     pub seat: Option<Seat>,
 }
 
-/// What is told of the function at an index.
+/// Returns the description of the function at an index.
 fn function_nth(host: &Host, guests: &[Guest], index: usize) -> Option<FunctionNow>
     requires board { IsStateOfBoard host.now.state.functions }
     requires few { length guests.now < 2 ^ 63 }
@@ -50,7 +50,7 @@ fn function_nth(host: &Host, guests: &[Guest], index: usize) -> Option<FunctionN
 }
 
 impl<R: Route> Engine<R> {
-    /// How many functions the board has, bridges among them.
+    /// Returns the number of functions on the board, including bridges.
     pub fn count(&self) -> usize
         ensures { result ≡ length (board_state self.now.world).functions }
     {
@@ -58,9 +58,8 @@ impl<R: Route> Engine<R> {
         self.host.count()
     }
 
-    /// What is told of the function at an index, in path order, and none past the last: where it stands, its
-    /// number, its identity, its regions or windows where the board's registers have them, and the guest and
-    /// slot that hold it now. No memory is taken.
+    /// Returns the description of the function at an index in path order, or None past the last
+    /// one. Allocates no memory.
     pub fn function(&self, index: usize) -> Option<FunctionNow>
         ensures { option_map function_named result
             ≡ function_nth (board_state self.now.world) self.now.world.guests index }
@@ -69,8 +68,8 @@ impl<R: Route> Engine<R> {
         function_nth(&self.host, &self.guests, index)
     }
 
-    /// The same of the function in a slot of a guest. Or refuses: 303 for a slot above 31, else 601 for an
-    /// empty slot. No memory is taken.
+    /// Returns the description of the function in a slot of a guest. Fails with 303 if the slot is
+    /// above 31, else with 601 if it is empty. Allocates no memory.
     pub fn slot_function(&self, guest: usize, slot: u64) -> Result<FunctionNow, u16>
         requires { guest < length self.now.world.guests }
         ensures { result_map_both function_named (λ n. n) result

@@ -1,4 +1,4 @@
-//! A function of the board that no guest has, as it would stand in a guest's slot.
+//! The checks before an unassigned function is assigned to a guest.
 ghost use Rattle.std.specs.{Prelude.{◌≡◌, ◌<◌, IfNone, IfSome, List, None, Some, length, slice_get}, List.list_any};
 ghost use Rattle.model_registers.specs.Decoding.{command_word, opens_space};
 ghost use Rattle.model_board.specs.{AtReset.board_at, State.BoardFunction};
@@ -18,7 +18,7 @@ use bridge_forward::RangesNow;
 use host_bridge::Host;
 use paths::Path;
 
-/// The index of the endpoint at a path.
+/// Returns the index of the endpoint at a path.
 fn endpoint_at(host: &Host, path: &Path) -> Option<usize>
     ensures none { IfNone result (declared (board_at host.now.state.functions) path.now ≡ None) }
     ensures there { IfSome result (λ i. IsEndpointAt host.now.state path.now i) }
@@ -39,28 +39,28 @@ fn endpoint_at(host: &Host, path: &Path) -> Option<usize>
     }
 }
 
-/// Whether a guest has the function at an index in a slot.
+/// Returns whether the function at an index is in a slot of the guest.
 fn has(guest: &Guest, index: usize) -> bool
     ensures { result ≡ list_any (is_at index) guest.now.slots.items }
 {
     guest.slots.iter().any(|slot| is_at(slot, index))
 }
 
-/// Whether any guest has it.
+/// Returns whether the function at an index is assigned to any guest.
 fn has_guest(guests: &[Guest], index: usize) -> bool
     ensures { result ≡ has_index index guests.now }
 {
     guests.iter().any(|guest| has(guest, index))
 }
 
-/// Whether Command opens a space.
+/// Returns whether Command enables decoding in a space.
 fn opens(command: u32, space: Space) -> bool
     ensures { result ≡ opens_space command (named_space space) }
 {
     command & u32::from(space.command_bit()) != 0
 }
 
-/// Whether it leaves the space of the region at a register closed.
+/// Returns whether Command disables the region at a base address register.
 fn is_closed(command: u32, region: &Option<BasedRegion>) -> bool
     ensures { result ≡ is_closed_slot command region.now }
 {
@@ -70,14 +70,14 @@ fn is_closed(command: u32, region: &Option<BasedRegion>) -> bool
     }
 }
 
-/// The same of any of these.
+/// Returns whether Command disables any of these regions.
 fn any_closed(command: u32, placed: &[Option<BasedRegion>; 6]) -> bool
     ensures { result ≡ list_any (is_closed_slot command) placed.now }
 {
     placed.iter().any(|region| is_closed(command, region))
 }
 
-/// Whether Command, as it stands, leaves the space of a region of the function at an index closed.
+/// Returns whether the board's Command disables a region of the function at an index.
 fn has_closed(host: &Host, index: usize) -> bool
     ensures { (f : BoardFunction) → slice_get host.now.state.functions index ≡ Some f
         → result ≡ list_any (is_closed_base (command_word f.file)) (bases_of f.decl f.file) }
@@ -89,8 +89,8 @@ fn has_closed(host: &Host, index: usize) -> bool
     }
 }
 
-/// The function at a path as it would stand in a slot of a guest, or why it isn't given: the first check that
-/// fails.
+/// Returns the function at a path for a guest's slot, or the reason why it can't be assigned: the
+/// first failed check.
 pub(crate) fn gift(
     host: &Host,
     guests: &[Guest],

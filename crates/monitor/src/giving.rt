@@ -1,4 +1,4 @@
-//! Functions of a board that are given to guests.
+//! Construction of a monitor from a board and its guests.
 ghost use Rattle.std.specs.Prelude.{◌≡◌, IfOk, IfErr};
 ghost use Rattle.model_guests.specs.{World.HasLawfulGuests, WorldNow.world_over};
 ghost use Rattle.model_handoff.specs.{AfterSetUp.world_at_first, Handoffs.{IsHandoff, taken_over}, Regions.CanBeGiven, Changes.BeginsIn};
@@ -15,10 +15,11 @@ use std::alloc::{AllocError, Global};
 use window_packing::Ready;
 
 impl<R: Route + Drop> Engine<R> {
-    /// Gives functions of a board that is in order to guests, over a route that fits the board. No region of
-    /// theirs is closed. Each of them is reset first, but for what guests have copies of, and the address
-    /// latch is cleared. Only where memory is out it refuses, and then it gives the board back as it was. That
-    /// the guests can be saved is seen of what the board declares.
+    /// Assigns functions of a consistently routed board to guests, over a route that fits the
+    /// board. None of their regions may be disabled. Resets each assigned function, except for the
+    /// registers that guests have copies of, and clears CONFIG_ADDRESS. Fails only if memory is
+    /// exhausted, and then returns the board unchanged. A pass over the declarations establishes
+    /// that all guests can be saved.
     pub fn over_by_route(
         alloc: Global,
         host: Host,
@@ -43,8 +44,8 @@ impl<R: Route + Drop> Engine<R> {
         Ok(Engine::of_parts(host, route, names_of(guests), kept))
     }
 
-    /// Gives functions of a board that is set up to guests, over a route that fits the board. Only where
-    /// memory is out it refuses, and then the board is dropped.
+    /// Assigns functions of a board after set-up to guests, over a route that fits the board. Fails
+    /// only if memory is exhausted, and then drops the board.
     pub fn by_route(
         alloc: Global,
         ready: Ready,

@@ -1,20 +1,21 @@
-//! What the monitor keeps of each guest.
+//! The monitor's records of guests and their functions.
 use bars::BasedRegion;
 use guest_functions::{Latch, VirtualFunction};
 
-/// A function in a guest's slot: the guest's own copies, and where the function and its regions stand
-/// on the board.
+/// A function in a guest's slot: the guest's copies of registers, and the function's index and
+/// regions on the board.
 #[derive(Drop)]
 pub(crate) struct Held {
-    /// Command and base address registers as the guest has them.
+    /// The guest's Command and base address registers.
     pub(crate) own: VirtualFunction,
-    /// At the index of its first register, each region where the handoff has it.
+    /// The regions with their bases at handoff, each at the index of its first base address
+    /// register.
     pub(crate) placed: [Option<BasedRegion>; 6],
     /// The index among the functions of the host.
     pub(crate) index: usize,
 }
 
-/// A guest: its address latch, its 32 slots, and how often its regions may have come to stand elsewhere.
+/// A guest: its CONFIG_ADDRESS, its 32 slots, and its change count.
 #[derive(Drop)]
 pub(crate) struct Guest {
     pub(crate) latch: Latch,

@@ -1,4 +1,4 @@
-//! Why a board is not handed over to guests, and what is looked at before it is.
+//! Reasons to refuse a handover, and the checks before it.
 ghost use Rattle.std.specs.Prelude.{◌≡◌, None, IfOk, IfNone, IfSome, map, option_map, slice_get};
 ghost use Rattle.model_findings.specs.Problems.{problems};
 ghost use Rattle.model_handoff.specs.Regions.{first_fault};
@@ -11,8 +11,8 @@ use findings::{Problem, RegionNow, problems};
 use host_bridge::Host;
 use std::alloc::{AllocError, Global};
 
-/// Why functions of a board are not given to guests: the first problem that its audit tells, else the first
-/// closed region of a given function, or lack of memory.
+/// The reason why functions of a board can't be assigned to guests: the first problem that the
+/// audit reports, else the first disabled region of a function to assign, or exhausted memory.
 #[derive(Drop)]
 pub enum HandoverFault {
     NotInOrder(Problem),
@@ -20,7 +20,7 @@ pub enum HandoverFault {
     Memory,
 }
 
-/// The words of a fault's number, of which there are none where it stands for no fault.
+/// Returns the message for the number of a fault, or an empty string for any other number.
 pub fn handover_words(number: u32) -> &'static str
     ensures { result.now ≡ handover_words number }
 {
@@ -33,7 +33,7 @@ pub fn handover_words(number: u32) -> &'static str
 }
 
 impl HandoverFault {
-    /// The number of the refusal.
+    /// Returns the number of the fault.
     pub fn number(&self) -> u16
         ensures { result ≡ number_of self.now }
     {
@@ -44,7 +44,7 @@ impl HandoverFault {
         }
     }
 
-    /// Its words.
+    /// Returns the message of the fault.
     pub fn words(&self) -> &'static str
         ensures { result.now ≡ words_of self.now }
     {
@@ -52,14 +52,14 @@ impl HandoverFault {
     }
 }
 
-/// A board that is not handed over, as it was.
+/// A board whose handover was refused, unchanged, with the reason.
 #[derive(Drop)]
 pub struct Refused<B> {
     pub board: B,
     pub fault: HandoverFault,
 }
 
-/// The first of the problems that an audit tells.
+/// Returns the first problem that an audit reports.
 fn first_problem(alloc: Global, host: &mut Host) -> Result<Option<Problem>, AllocError>
     ensures kept { host.new ≡ host.old }
     ensures first { IfOk result (λ p.
@@ -72,7 +72,7 @@ fn first_problem(alloc: Global, host: &mut Host) -> Result<Option<Problem>, Allo
     Ok(Some(told.remove(0)))
 }
 
-/// The first fault of a board as it stands, which stays so.
+/// Returns the first reason to refuse a handover of the board. The board doesn't change.
 pub(crate) fn first_fault(
     alloc: Global,
     host: &mut Host,

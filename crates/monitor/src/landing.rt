@@ -1,4 +1,4 @@
-//! Where an address of a guest lands.
+//! The decoding of guest addresses.
 ghost use Rattle.std.specs.Prelude.{◌≡◌, List, Option, IfSome, option_map};
 ghost use Rattle.model_board.specs.{Paths.Path, State.State};
 ghost use Rattle.model_guests.specs.Slots.{Slots, landing_from};
@@ -10,8 +10,8 @@ use crate::guest::Held;
 use bars::Space;
 use host_bridge::Located;
 
-/// The first function, by slot and then by base address register, that decodes an address by the
-/// guest's own registers: its slot, the region and the offset in it.
+/// Returns the first region that decodes an address according to the guest's own registers, by slot
+/// and then by base address register: the slot, the register and the offset in the region.
 pub(crate) fn landing(slots: &[Option<Held>], space: Space, addr: u64) -> Option<(usize, u8, u64)>
     ensures landing { (s : State) (qs : List (Option Path)) (fs : Slots)
         → AreSlots s qs fs slots.now →
@@ -28,7 +28,7 @@ pub(crate) fn landing(slots: &[Option<Held>], space: Space, addr: u64) -> Option
     None
 }
 
-/// Where an offset in a region of the function in a slot stands on the board.
+/// Returns the location on the board of an offset in a region of the function in a slot.
 pub(crate) fn located(slots: &[Option<Held>], slot: usize, region: u8, offset: u64) -> Located
     requires { IsHolding slots.now slot }
     ensures { (holds : IsHolding slots.now slot) →

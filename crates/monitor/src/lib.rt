@@ -1,6 +1,6 @@
 //! Layer: guests. Below: findings, claim_table, images, accesses. Above: script.
 //!
-//! The monitor, which gives functions of a board to guests.
+//! The monitor, which assigns functions of a board to guests and answers their accesses.
 //!
 //! Guest 0 reads the identity of the function in its slot 0, and the host reads the board's memory:
 //!

@@ -1,5 +1,5 @@
-//! A function of a guest that takes the values of an image, as the guest writes its registers and its device puts
-//! its own bytes. No call takes memory.
+//! Loading of one function from saved values. Registers change only through writes that the guest
+//! or the device could make itself. No call allocates memory.
 ghost use Rattle.std.specs.Prelude.{◌≡◌, ◌≤◌, ◌<◌, ◌+◌, ◌*◌, ◌^◌, ℕ, IsSome, IsTrue, Some, drop, length, slice_get};
 ghost use Rattle.model_registers.specs.{Declarations.{ConfigBlock, Region}, Decoding.Function, DeviceBytes.is_device_byte, Registers.{config, write, all_bytes}};
 ghost use Rattle.model_images.specs.{Images.restored, StepLaws.{put_run, written_run, header_values, header_steps, blocks_steps, blocks_size, region_steps, regions_steps, base_size, steps}};
@@ -15,7 +15,7 @@ use config_bytes::{enables_of, into_lanes};
 use headers::register_width;
 use host_bridge::Host;
 
-/// The index among the functions of the host of the function in a slot of a guest.
+/// Returns the index on the host of the function in a slot of a guest.
 fn index_in(guests: &[Guest], guest: usize, slot: usize) -> usize
     requires { HoldsAt guests.now guest slot }
     ensures { (holds : HoldsAt guests.now guest slot) → result ≡ holds.slot.held.index }
@@ -26,7 +26,7 @@ fn index_in(guests: &[Guest], guest: usize, slot: usize) -> usize
     }
 }
 
-/// Puts bytes into an endpoint from a place on, one after the other, as its device does.
+/// Sets consecutive bytes of an endpoint from a place on, as its device does.
 fn put_run(host: &mut Host, index: usize, place: Place, first: u64, bytes: &[u8])
     requires there { IsSome (endpoint_nth host.old.state.functions index) }
     requires own { (n : ℕ) → n < length bytes.now
@@ -45,7 +45,8 @@ fn put_run(host: &mut Host, index: usize, place: Place, first: u64, bytes: &[u8]
     }
 }
 
-/// Writes a byte of configuration space of the function in a slot, as its guest does, and counts nobody.
+/// Writes a configuration byte of the function in a slot, as its guest does, without counting a
+/// change.
 fn write_byte(host: &mut Host, guests: &mut [Guest], guest: usize, slot: usize, off: u8, value: u8)
     requires { KeepsFunction host.old guests.old guest slot }
     ensures becomes { (k : KeepsFunction host.old guests.old guest slot)
@@ -60,7 +61,7 @@ fn write_byte(host: &mut Host, guests: &mut [Guest], guest: usize, slot: usize, 
     host.config_write_nth(index, word, others, moved);
 }
 
-/// Writes bytes from an offset on, one after the other.
+/// Writes consecutive configuration bytes from an offset on, as the guest does.
 fn write_run(
     host: &mut Host,
     guests: &mut [Guest],
@@ -84,8 +85,8 @@ fn write_run(
     }
 }
 
-/// What the header of a function in a slot takes of its values: Command, Status, Cache Line Size, Latency Timer
-/// and Interrupt Line. All other bytes of it are as they are at reset.
+/// Loads the header registers that can differ from their reset values: Command, Status, Cache Line
+/// Size, Latency Timer and Interrupt Line.
 fn load_header(host: &mut Host, guests: &mut [Guest], guest: usize, slot: usize, values: &[u8])
     requires keeps { KeepsFunction host.old guests.old guest slot }
     requires enough { header_values ≤ length values.now }
@@ -100,7 +101,7 @@ fn load_header(host: &mut Host, guests: &mut [Guest], guest: usize, slot: usize,
     write_run(host, guests, guest, slot, 0x3c, &values[19..20]);
 }
 
-/// How many blocks of configuration space an endpoint has.
+/// Returns the number of configuration blocks of an endpoint.
 fn block_count(host: &Host, index: usize) -> usize
     ensures { (e : Function) → endpoint_nth host.now.state.functions index ≡ Some e
         → result ≡ length e.decl.blocks }
@@ -111,7 +112,7 @@ fn block_count(host: &Host, index: usize) -> usize
     }
 }
 
-/// Where one of these blocks begins, and how many cells it has.
+/// Returns the offset and the length of a configuration block, in bytes.
 fn block_at(host: &Host, index: usize, block: usize) -> (u16, usize)
     requires { (e : Function) × (b : ConfigBlock)
         × (endpoint_nth host.now.state.functions index ≡ Some e)
@@ -130,7 +131,7 @@ fn block_at(host: &Host, index: usize, block: usize) -> (u16, usize)
     }
 }
 
-/// Puts their values into the blocks of configuration space of a function in a slot, and gives the values after them.
+/// Loads the configuration blocks of the function in a slot, and returns the remaining values.
 fn load_blocks<'a>(
     host: &mut Host,
     guests: &[Guest],
@@ -159,7 +160,7 @@ fn load_blocks<'a>(
     left
 }
 
-/// How many regions an endpoint has.
+/// Returns the number of regions of an endpoint.
 fn region_count(host: &Host, index: usize) -> usize
     ensures { (e : Function) → endpoint_nth host.now.state.functions index ≡ Some e
         → result ≡ length e.decl.regions }
@@ -170,7 +171,8 @@ fn region_count(host: &Host, index: usize) -> usize
     }
 }
 
-/// The base address register of one of these regions, how many bytes this has, and how many cells the region.
+/// Returns the base address register of a region, its width in bytes, and the number of declared
+/// bytes in the region.
 fn region_at(host: &Host, index: usize, region: usize) -> (u8, usize, usize)
     requires { (e : Function) × (r : Region)
         × (endpoint_nth host.now.state.functions index ≡ Some e)
@@ -189,8 +191,8 @@ fn region_at(host: &Host, index: usize, region: usize) -> (u8, usize, usize)
     }
 }
 
-/// Writes the base address register of a region of a function in a slot, puts their values into the region's
-/// cells, and gives the values after them.
+/// Loads the base address register of a region and the declared bytes in the region, and returns
+/// the remaining values.
 fn load_region<'a>(
     host: &mut Host,
     guests: &mut [Guest],
@@ -222,7 +224,7 @@ fn load_region<'a>(
     rest
 }
 
-/// The same of all regions of a function in a slot.
+/// Loads all regions of the function in a slot.
 fn load_regions(host: &mut Host, guests: &mut [Guest], guest: usize, slot: usize, values: &[u8])
     requires { (k : KeepsFunction host.old guests.old guest slot)
         × (regions_size k.f.decl.regions ≤ length values.now) }
@@ -238,7 +240,7 @@ fn load_regions(host: &mut Host, guests: &mut [Guest], guest: usize, slot: usize
     }
 }
 
-/// Takes the values of an image, one for each cell, by steps of the guest and of the device of the function.
+/// Loads a saved value into each register byte, by writes of the guest and of the device.
 fn take_steps(host: &mut Host, guests: &mut [Guest], guest: usize, slot: usize, values: &[u8])
     requires { (k : KeepsFunction host.old guests.old guest slot) × IsLoadable k values.now }
     ensures becomes { (k : KeepsFunction host.old guests.old guest slot) → IsLoadable k values.now
@@ -251,8 +253,8 @@ fn take_steps(host: &mut Host, guests: &mut [Guest], guest: usize, slot: usize, 
     load_regions(host, guests, guest, slot, left);
 }
 
-/// Loads the function in a slot, which is at reset, with values that its cells can hold. It then holds them, and
-/// nothing else has changed. Nobody is counted.
+/// Loads the function in a slot, which is at reset, with values that its registers can hold.
+/// Nothing else changes, and no change is counted.
 pub(crate) fn load_function(
     host: &mut Host,
     guests: &mut [Guest],

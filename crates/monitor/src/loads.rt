@@ -1,4 +1,5 @@
-//! Images that are loaded into guests: slot after slot, and then the latch. No call takes memory.
+//! Loading of a guest from saved bytes: its slots in order, and then CONFIG_ADDRESS. No call
+//! allocates memory.
 ghost use Rattle.std.specs.Prelude.{◌≡◌, ◌<◌, List, ℕ, None, Ok, IfSome, IsSome, true, length, map, option_map, take, drop};
 ghost use Rattle.model_guests.specs.{Slots.slot_at, Guests.lone_of};
 ghost use Rattle.model_images.specs.{Images.lone_of_image, ImageBytes.image_of, LoadedBytes.{after_latch, load_fault}, TakenBytes.{le_number, slot_size, taken_image}};
@@ -15,7 +16,7 @@ use host_bridge::{Host, Route};
 use images::{ImageFault, after_latch, declaration_size, values_size};
 use model_images::saved_guests_are_taken;
 
-/// The bytes behind so many, or none where they are fewer.
+/// Returns the bytes after the first `count`, or none if there are fewer.
 fn behind(bytes: &[u8], count: usize) -> &[u8]
     ensures { result.now ≡ drop count bytes.now }
 {
@@ -25,7 +26,7 @@ fn behind(bytes: &[u8], count: usize) -> &[u8]
     &bytes[count..]
 }
 
-/// So many bytes at the front, or all where they are fewer.
+/// Returns the first `count` bytes, or all if there are fewer.
 fn front(bytes: &[u8], count: usize) -> &[u8]
     ensures { result.now ≡ take count bytes.now }
 {
@@ -35,8 +36,8 @@ fn front(bytes: &[u8], count: usize) -> &[u8]
     &bytes[..count]
 }
 
-/// How many bytes of a slot stand before its function's values, and how many values there are; None for an empty
-/// slot.
+/// Returns how many bytes of a slot precede its register values, and how many values there are.
+/// Returns None for an empty slot.
 fn value_span(host: &Host, slots: &[Option<Held>], slot: usize) -> Option<(usize, usize)>
     ensures { let fs = map (slot_shown host.now.state.functions) slots.now in
         result ≡ option_map value_span (slot_at fs slot) }
@@ -46,8 +47,8 @@ fn value_span(host: &Host, slots: &[Option<Held>], slot: usize) -> Option<(usize
     Some((1 + declaration_size(decl), values_size(decl)))
 }
 
-/// Loads the function in a slot from the bytes of the slot, which stand at the front, and gives those behind them.
-/// Nobody is counted.
+/// Loads the function in a slot from the bytes at the front, and returns the bytes after the slot.
+/// No change is counted.
 fn load_slot<'a>(
     host: &mut Host,
     guests: &mut [Guest],
@@ -75,7 +76,7 @@ fn load_slot<'a>(
     behind(bytes, count)
 }
 
-/// The same in each slot of a guest.
+/// Loads all slots of a guest.
 fn load_slots(host: &mut Host, guests: &mut [Guest], guest: usize, bytes: &[u8])
     requires there { guest < length guests.old }
     requires can { (k : KeepsWorld host.old guests.old)
@@ -92,7 +93,7 @@ fn load_slots(host: &mut Host, guests: &mut [Guest], guest: usize, bytes: &[u8])
     }
 }
 
-/// The latch at the front of bytes, where one stands there.
+/// Returns the value of CONFIG_ADDRESS at the front of the bytes, or 0 if there is no valid one.
 fn latch_in(bytes: &[u8]) -> u32
     ensures { (rest : List ℕ) → after_latch bytes.now ≡ Ok rest
         → result ≡ le_number (take 4 bytes.now) }
@@ -103,8 +104,8 @@ fn latch_in(bytes: &[u8]) -> u32
     }
 }
 
-/// Loads bytes that a guest takes: it goes to reset, which counts it once, and then its functions take their
-/// values, and it its latch.
+/// Loads bytes that fit the guest. The guest is reset, which counts as one change, and then its
+/// functions and its CONFIG_ADDRESS are loaded.
 fn load_image(host: &mut Host, guests: &mut [Guest], guest: usize, bytes: &[u8])
     requires has { HasSlot guests.old guest 31 }
     requires takes { (k : KeepsWorld host.old guests.old)
@@ -121,7 +122,7 @@ fn load_image(host: &mut Host, guests: &mut [Guest], guest: usize, bytes: &[u8])
 }
 
 impl<R: Route> Engine<R> {
-    /// Loads a guest from bytes that it takes, as a comparison told.
+    /// Loads bytes that a comparison has found to fit the guest.
     fn load_taken(&mut self, guest: usize, bytes: &[u8])
         requires there { guest < length self.old.world.guests }
         requires accepted { let g = lone_of self.old.world.guests (name_nth self.old.world guest) in
@@ -132,11 +133,12 @@ impl<R: Route> Engine<R> {
         load_image(&mut self.host, &mut self.guests, guest, bytes);
     }
 
-    /// Loads a guest from bytes. Its functions and its latch then hold what the image says that these bytes are:
-    /// they come to it from reset, by steps that the guest and its devices can take themselves. The guest is counted
-    /// once, and what others have stays. Or refuses the bytes and changes nothing: 905 where they are no image, or
-    /// 906 for one of other functions than the guest has in its slots; of both, what the first byte that fails
-    /// tells. No memory is taken.
+    /// Loads a guest from saved bytes. Its functions and its CONFIG_ADDRESS then have the saved
+    /// values. They reach them from reset, by writes that the guest and its devices could make
+    /// themselves. The load counts as one change of the guest, and other guests aren't affected.
+    /// Refuses with 905 if they are not a saved state, 906 if the guest has other functions in its
+    /// slots, or 908 if they have another version of the format. A refusal changes nothing. The
+    /// first byte that doesn't fit decides. Allocates no memory.
     pub fn load(&mut self, guest: usize, bytes: &[u8]) -> Option<ImageFault>
         requires { guest < length self.old.world.guests }
         ensures fault { let g = lone_of self.old.world.guests (name_nth self.old.world guest) in

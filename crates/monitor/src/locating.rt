@@ -1,4 +1,4 @@
-//! What a guest's accesses hit.
+//! The byte that a guest's access reaches.
 ghost use Rattle.std.specs.{Prelude.{◌≡◌, ◌<◌, ℕ, List, Option, length, option_map}, Result.result_map_both};
 ghost use Rattle.model_board.specs.{Paths.Path, State.State};
 ghost use Rattle.model_guests.specs.{Accesses.configuration, Slots.{Slots, landing, landing_from}, Guests.lone_of, WorldNow.WorldNow};
@@ -16,8 +16,8 @@ use bars::Space;
 use guest_functions::Select;
 use host_bridge::Route;
 
-/// A byte of a function in a guest's slot: an offset in its configuration space, or in the region that
-/// begins at a base address register.
+/// A byte of a function in a guest's slot: an offset in its configuration space, or in the region
+/// that begins at a base address register.
 #[derive(Clone, Copy, Debug, PartialEq, Eq)]
 pub struct Hit {
     pub slot: usize,
@@ -25,7 +25,7 @@ pub struct Hit {
     pub offset: u64,
 }
 
-/// The byte of a region that an address stands for.
+/// Returns the byte of a region that an address decodes to.
 fn region_hit(slots: &[Option<Held>], space: Space, addr: u64) -> Option<Hit>
     ensures { (s : State) (qs : List (Option Path)) (fs : Slots) → AreSlots s qs fs slots.now
         → option_map hit_named result ≡ landing_from 0 (named_space space) addr fs }
@@ -38,7 +38,7 @@ fn region_hit(slots: &[Option<Held>], space: Space, addr: u64) -> Option<Hit>
     })
 }
 
-/// The byte of configuration space at an offset, where a function is in the slot.
+/// Returns the byte of configuration space at an offset, if there is a function in the slot.
 fn config_hit(slots: &[Option<Held>], slot: usize, offset: u64) -> Option<Hit>
     ensures { (s : State) (qs : List (Option Path)) (fs : Slots) → AreSlots s qs fs slots.now
         → option_map hit_named result ≡ landing fs (configuration slot offset) }
@@ -53,7 +53,7 @@ fn config_hit(slots: &[Option<Held>], slot: usize, offset: u64) -> Option<Hit>
     }
 }
 
-/// What an access of a byte hits.
+/// Returns the byte that a one-byte access reaches.
 fn hit_in(guest: &Guest, at: At) -> Option<Hit>
     ensures { (w : WorldNow) (i : ℕ) → IsGuestNth w i guest.now
         → option_map hit_named result ≡ located (lone_nth w i) (target_of at) }
@@ -71,7 +71,7 @@ fn hit_in(guest: &Guest, at: At) -> Option<Hit>
     }
 }
 
-/// The same, or why it is refused.
+/// Returns the byte that a one-byte access reaches, or the reason why the access is refused.
 fn locate_in(guest: &Guest, at: At) -> Result<Option<Hit>, Refusal>
     ensures { (w : WorldNow) (i : ℕ) → IsGuestNth w i guest.now
         → result_map_both (option_map hit_named) number_of result
@@ -89,10 +89,10 @@ fn locate_in(guest: &Guest, at: At) -> Result<Option<Hit>, Refusal>
 }
 
 impl<R: Route> Engine<R> {
-    /// What an access of a guest at a place hits: a byte of a function in one of its slots, or nothing.
-    /// Every access there lands at this byte, but for four bytes at CF8h, which are the guest's own address
-    /// latch. Or refuses, as a read of a byte there: 303 for a slot above 31, an offset above 255 or a port
-    /// above FFFFFFFFh. No memory is taken.
+    /// Returns the byte that an access of a guest reaches in a function in one of its slots, or
+    /// None if the access is unclaimed. All accesses to the place reach this byte, except 4-byte
+    /// accesses to CF8h, which go to the guest's CONFIG_ADDRESS. Fails like a one-byte read, with
+    /// 303 for a slot above 31, an offset above 255 or a port above FFFFFFFFh. Allocates no memory.
     pub fn locate(&self, guest: usize, at: At) -> Result<Option<Hit>, Refusal>
         requires { guest < length self.now.world.guests }
         ensures { result_map_both (option_map hit_named) number_of result

@@ -1,4 +1,4 @@
-//! The monitor, which gives functions of a board to guests.
+//! The monitor over a claim table, and the two ways to construct it.
 ghost use Rattle.std.specs.Prelude.{◌≡◌, IfOk, IfErr, None};
 ghost use Rattle.model_guests.specs.{World.HasLawfulGuests, WorldNow.world_over};
 ghost use Rattle.model_handoff.specs.{AfterSetUp.world_at_first, Handoffs.{IsHandoff, taken_over}, Regions.{CanBeGiven, first_fault}, Changes.BeginsIn};
@@ -15,13 +15,14 @@ use host_bridge::Host;
 use std::alloc::Global;
 use window_packing::Ready;
 
-/// A board that is set up, by our own set-up or by other firmware, and the guests to which its functions
-/// are given. Guests' bytes stand on the board, and all else there is as it was handed over.
+/// A board that our own set-up or other firmware has configured, with the guests to which its
+/// functions are assigned. The board holds the guests' register bytes. Everything else on it is as
+/// it was at handover.
 pub type Monitor = Engine<Table>;
 
 impl Monitor {
-    /// Gives functions of a board that is set up to guests. Only where memory is out it refuses, and then
-    /// the board is dropped.
+    /// Assigns functions of a board after set-up to guests. Fails only if memory is exhausted, and
+    /// then drops the board.
     pub fn new(alloc: Global, ready: Ready, guests: &[GuestDecl]) -> Result<Monitor, Fault>
         requires { HasLawfulGuests (world_of ready guests.now) }
         ensures made { IfOk result (BeginsIn (λ v.
@@ -33,10 +34,10 @@ impl Monitor {
         Ok(Engine::by_route(alloc, ready, table, guests)?)
     }
 
-    /// Hands a board over to guests, whoever set it up, if its audit tells no problem and no region of theirs
-    /// is closed. Each given function is reset first, but for what guests have copies of, and the address
-    /// latch is cleared. Refused are a problem that the audit tells (207), a closed region of a given function
-    /// (206) and lack of memory (299): then the board is given back as it was.
+    /// Hands a board over to guests, whoever configured it. Resets each assigned function, except
+    /// for the registers that guests have copies of, and clears CONFIG_ADDRESS. Fails with 207 if
+    /// the audit reports a problem, with 206 if a region of a function to assign is disabled, or
+    /// with 299 if memory is exhausted, and then returns the board unchanged.
     pub fn hand_over(
         alloc: Global,
         host: Host,
@@ -65,7 +66,8 @@ impl Monitor {
         }
     }
 
-    /// The same of a board in order, where no region of a given function is closed.
+    /// Hands over a consistently routed board on which no region of a function to assign is
+    /// disabled.
     fn over_open(alloc: Global, host: Host, guests: &[GuestDecl]) -> Result<Monitor, Host>
         requires handoff { IsHandoff host.state }
         requires lawful { HasLawfulGuests (world_on host guests.now) }

@@ -1,4 +1,4 @@
-//! Functions that are moved to another slot.
+//! Moves of functions between slots.
 ghost use Rattle.std.specs.Prelude.{◌≡◌, ◌<◌, Some, length, option_map, slice_get, slice_set};
 ghost use Rattle.accesses.specs.Refusals.{number_of};
 ghost use Rattle.monitor.specs.{Configs.HoldsAt, Counts.{counts_of, counted_both, counted_nth}, Moves.{is_taken, fault_between, HasSlot, IsExchanged, HandsOver}};
@@ -10,15 +10,15 @@ use accesses::Refusal;
 use host_bridge::Host;
 use std::mem::replace;
 
-/// Whether a function is in a slot.
+/// Returns whether a slot is occupied.
 pub(crate) fn is_taken(slots: &[Option<Held>], slot: usize) -> bool
     ensures { result ≡ is_taken slots.now slot }
 {
     held_in(slots, slot).is_some()
 }
 
-/// The first check that a move fails: 303 a slot is above 31; 601 the slot that it leaves is empty; 602 the
-/// slot that it comes to is taken.
+/// Returns the first check that a move fails: 303 if a slot is above 31, 601 if the source slot is
+/// empty, 602 if the target slot is occupied.
 pub(crate) fn move_fault(
     from: &[Option<Held>],
     slot: u64,
@@ -38,7 +38,7 @@ pub(crate) fn move_fault(
     }
 }
 
-/// Puts a function or none into a slot, and gives what was in it.
+/// Replaces the content of a slot, and returns the former content.
 fn exchange(slots: &mut [Option<Held>], slot: usize, held: Option<Held>) -> Option<Held>
     requires { slot < length slots.old }
     ensures slots { slots.new ≡ slice_set slots.old slot held }
@@ -47,7 +47,8 @@ fn exchange(slots: &mut [Option<Held>], slot: usize, held: Option<Held>) -> Opti
     replace(&mut slots[slot], held)
 }
 
-/// The same in a slot of a guest, who is counted where this is told to change where its regions stand.
+/// Replaces the content of a slot of a guest, and returns the former content. Increments the
+/// guest's change count if `changes` is set.
 pub(crate) fn exchange_in(
     guests: &mut [Guest],
     guest: usize,
@@ -64,8 +65,9 @@ pub(crate) fn exchange_in(
     exchange(&mut guest.slots, slot, held)
 }
 
-/// Moves a function to another slot, at reset: its own copies here, and all its other cells on the board. The
-/// guest that it leaves and the one to which it comes are counted, once where they are one.
+/// Moves a function to another slot and resets it: the guest's copies here, and all other registers
+/// on the board. Increments the change counts of the source guest and the target guest, only once
+/// if they are the same guest.
 pub(crate) fn hand_over(
     host: &mut Host,
     guests: &mut [Guest],

@@ -1,4 +1,5 @@
-//! What a guest's own registers hold: its address latch, and the own copies of the function in each slot.
+//! The register values that a guest has to itself: its CONFIG_ADDRESS, and its copies for the
+//! function in each slot.
 ghost use Rattle.std.specs.Prelude.{◌≡◌, ◌<◌, ℕ, length, option_map};
 ghost use Rattle.model_registers.specs.{Registers.File, OwnCopies.{HoldsOwn, IsLawfulOwn}, Decoding.{Function, command_word}};
 ghost use Rattle.model_board.specs.{Paths.Path, State.State};
@@ -14,15 +15,15 @@ use bars::BasedRegion;
 use guest_functions::Latch;
 use host_bridge::Route;
 
-/// Command and the base address registers of a function in a guest's slot, as the guest has them.
+/// Command and the base address registers of a function, from the guest's copies.
 #[derive(Clone, Copy, Debug)]
 pub struct OwnRegisters {
     pub command: u16,
-    /// At the index of its first register, each region with its base.
+    /// The regions with their bases, each at the index of its first base address register.
     pub regions: [Option<BasedRegion>; 6],
 }
 
-/// What the guest's own Command holds.
+/// Returns the guest's Command.
 fn command_of(held: &Held) -> u16
     ensures { (file : File) → HoldsOwn file held.now.own → result ≡ command_word file }
 {
@@ -30,8 +31,8 @@ fn command_of(held: &Held) -> u16
     command as u16
 }
 
-/// The region that begins at a base address register, if one does, with the base that the guest's own
-/// registers name.
+/// Returns the region that begins at a base address register, with the base from the guest's
+/// copies.
 fn region_held(held: &Held, bar: usize) -> Option<BasedRegion>
     ensures told { (s : State) (p : Path) (f : Function) → IsHeld s p f held.now
         → IsLawfulOwn held.now.own →
@@ -51,7 +52,7 @@ fn region_held(held: &Held, bar: usize) -> Option<BasedRegion>
     }
 }
 
-/// The own registers of a function.
+/// Returns the guest's copies of a function's registers.
 fn registers_of(held: &Held) -> OwnRegisters
     ensures { (s : State) (p : Path) (f : Function) → IsHeld s p f held.now
         → IsLawfulOwn held.now.own → own_told result ≡ own_now f }
@@ -69,7 +70,7 @@ fn registers_of(held: &Held) -> OwnRegisters
     }
 }
 
-/// Those of the function in a slot, if there is one.
+/// Returns the guest's copies for the function in a slot, or None if the slot is empty.
 fn registers_in(guest: &Guest, slot: usize) -> Option<OwnRegisters>
     ensures { (w : WorldNow) (i : ℕ) → IsGuestNth w i guest.now
         → option_map own_told result ≡ option_map own_now (slot_at (lone_nth w i).slots slot) }
@@ -80,7 +81,7 @@ fn registers_in(guest: &Guest, slot: usize) -> Option<OwnRegisters>
     }
 }
 
-/// How many slots there are.
+/// Returns the number of slots of a guest.
 fn slot_count(guest: &Guest) -> usize
     ensures { (w : WorldNow) (i : ℕ) → IsGuestNth w i guest.now
         → result ≡ length (lone_nth w i).slots }
@@ -89,7 +90,7 @@ fn slot_count(guest: &Guest) -> usize
 }
 
 impl<R: Route> Engine<R> {
-    /// What a guest's address latch holds.
+    /// Returns a guest's CONFIG_ADDRESS.
     pub fn latch(&self, guest: usize) -> Latch
         requires { guest < length self.now.world.guests }
         ensures { result ≡ (lone_of self.now.world.guests (name_nth self.now.world guest)).latch }
@@ -97,7 +98,7 @@ impl<R: Route> Engine<R> {
         self.guest(guest).latch
     }
 
-    /// How many slots a guest has.
+    /// Returns the number of slots of a guest.
     pub fn slots(&self, guest: usize) -> usize
         requires { guest < length self.now.world.guests }
         ensures { result
@@ -106,8 +107,8 @@ impl<R: Route> Engine<R> {
         slot_count(self.guest(guest))
     }
 
-    /// What Command and the base address registers of the function in a slot hold, as its guest has them. None
-    /// for an empty slot, and past the last. No memory is taken.
+    /// Returns the guest's Command and base address registers for the function in a slot, or None
+    /// for an empty slot and past the last slot. Allocates no memory.
     pub fn own_registers(&self, guest: usize, slot: usize) -> Option<OwnRegisters>
         requires { guest < length self.now.world.guests }
         ensures { let g = lone_of self.now.world.guests (name_nth self.now.world guest) in

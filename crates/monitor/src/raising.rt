@@ -1,4 +1,4 @@
-//! Bits that a device raises in a function of a guest.
+//! W1C bits that a device sets in a guest's function.
 ghost use Rattle.std.specs.Prelude.{◌≡◌, IsSome, is_some};
 ghost use Rattle.model_registers.specs.{Decoding.Function, OwnCopies.is_own};
 ghost use Rattle.model_board.specs.{Paths.Path, State.State};
@@ -13,8 +13,8 @@ use crate::guest::Held;
 use accesses::Place;
 use host_bridge::Host;
 
-/// Whether a function in a slot has the byte: an offset of its configuration space, or one below the
-/// size of the region that begins at a base address register.
+/// Returns whether a function in a slot has the byte: an offset in its configuration space, or one
+/// below the size of the region that begins at a base address register.
 pub(crate) fn has_place(held: &Held, place: Place, off: u64) -> bool
     ensures { (s : State) (p : Path) (f : Function) → IsHeld s p f held.now
         → result ≡ is_some (raise_place f (part_of place) off) }
@@ -29,7 +29,8 @@ pub(crate) fn has_place(held: &Held, place: Place, off: u64) -> bool
     }
 }
 
-/// Whether guests have a copy of the byte: Command, header type and base address registers.
+/// Returns whether guests have their own copy of the byte: Command, Header Type and the base
+/// address registers.
 fn is_own(place: Place, off: u64) -> bool
     ensures { result ≡ is_own (place_of place off) }
 {
@@ -39,7 +40,8 @@ fn is_own(place: Place, off: u64) -> bool
     }
 }
 
-/// Raises bits of one cell of a function on the board. Where guests have a copy, nothing changes.
+/// Sets W1C bits of one register byte of a function on the board. Bytes that guests have a copy of
+/// aren't changed.
 pub(crate) fn raise_on_board(host: &mut Host, index: usize, place: Place, off: u64, mask: u8)
     requires { IsSome (endpoint_nth host.old.state.functions index) }
     ensures { let fs = host.old.state.functions in

@@ -1,4 +1,4 @@
-//! A guest's access of one byte of a region, told by slot and base address register.
+//! A guest's access to one byte of a region, addressed by slot and base address register.
 ghost use Rattle.std.specs.Prelude.{◌≡◌, ◌<◌, length};
 ghost use Rattle.model_registers.specs.{OwnCopies.IsLawfulOwn, Decoding.Function};
 ghost use Rattle.model_board.specs.{Paths.Path, State.State};
@@ -14,7 +14,8 @@ use crate::regions::region_kept;
 use accesses::{Op, Place, Refusal, Reply, nothing};
 use host_bridge::{Located, Route};
 
-/// Whether the guest's own Command opens a region of a function to a byte, where a region has the byte.
+/// Returns whether the guest's Command enables the region with this byte, or None if no region has
+/// the byte.
 fn opening(held: &Held, place: Place, off: u64) -> Option<bool>
     ensures { (s : State) (p : Path) (f : Function) → IsHeld s p f held.now
         → IsLawfulOwn held.now.own → result ≡ opening f (part_of place) off }
@@ -32,7 +33,7 @@ fn opening(held: &Held, place: Place, off: u64) -> Option<bool>
     }
 }
 
-/// Where a byte of a region of a function stands on the board.
+/// Returns the location on the board of a byte in a region of a function.
 fn byte_at(held: &Held, place: Place, off: u64) -> Located
     ensures { result
         ≡ record { index = held.now.index; region = register_of (part_of place); offset = off } }
@@ -51,11 +52,12 @@ fn byte_at(held: &Held, place: Place, off: u64) -> Located
 impl<R: Route> Engine<R> {
     ghost use Rattle.monitor.specs.{Views.{texts, machine_shown}, Keeping.IsSound};
 
-    /// Reads or writes one byte of a region of a guest's function, as an access of the guest does that lands
-    /// there by its address: while Command closes the region a read gives all ones and a write is dropped. Where
-    /// regions of the guest stand at one address, each is reached. Or refuses and changes nothing: 303 for a slot
-    /// above 31, else 601 for an empty slot, else 303 for a place that is no region, or an offset that is not
-    /// below its size. No memory is taken.
+    /// Reads or writes one byte of a region of a guest's function, as the guest does through the
+    /// byte's address. While Command disables the region, a read returns all ones and a write is
+    /// dropped. Each byte can be reached, even if the guest's regions overlap. Refuses with 303 if
+    /// the slot is above 31, else with 601 if it is empty, else with 303 for a place that isn't a
+    /// region, or an offset that is not below its size. A refusal changes nothing. Allocates no
+    /// memory.
     pub fn region_byte(&mut self, guest: usize, slot: u64, place: Place, off: u64, op: Op) -> Reply
         requires { guest < length self.old.world.guests }
         ensures reply { reply_of result

@@ -1,4 +1,4 @@
-//! Where the regions of guests' functions stand.
+//! The regions of guests' functions, in the guests' own address spaces.
 ghost use Rattle.std.specs.{Prelude.{◌≡◌, ◌≤◌, ◌<◌, ◌+◌, ℕ, length, option_map}, Result.result_map_both};
 ghost use Rattle.model_registers.specs.{Registers.File, Declarations.registers_of, OwnCopies.{HoldsOwn, IsLawfulOwn}, Decoding.{Function, base, is_open}};
 ghost use Rattle.model_board.specs.{Paths.Path, State.State};
@@ -15,8 +15,8 @@ use accesses::Refusal;
 use bars::{Kind, Space};
 use host_bridge::Route;
 
-/// A region of a guest's function, by the guest's own registers as they stand. It takes `size` addresses
-/// of its space from `first` on, and is decoded there where Command opens the space.
+/// A region of a guest's function, according to the guest's own registers. It has `size` addresses
+/// from `first` on, and is decoded there while Command enables its space.
 #[derive(Clone, Copy, Debug, PartialEq, Eq)]
 pub struct GuestRegion {
     pub space: Space,
@@ -26,7 +26,7 @@ pub struct GuestRegion {
     pub is_open: bool,
 }
 
-/// Whether a region of this kind is prefetchable memory.
+/// Returns whether a region of this kind is prefetchable memory.
 fn is_prefetchable(kind: Kind) -> bool
     ensures { result ≡ is_prefetchable (kind_of kind) }
 {
@@ -36,7 +36,8 @@ fn is_prefetchable(kind: Kind) -> bool
     }
 }
 
-/// The base that the guest's own registers name, from the register at an index on.
+/// Returns the base address in the guest's own base address registers, from the register at an
+/// index on.
 pub(crate) fn base_of(held: &Held, bar: u16, kind: Kind) -> u64
     requires { bar < 6 }
     ensures { (file : File) → HoldsOwn file held.now.own →
@@ -55,7 +56,7 @@ pub(crate) fn base_of(held: &Held, bar: u16, kind: Kind) -> u64
     }
 }
 
-/// Whether the guest's own Command opens a space.
+/// Returns whether the guest's Command enables decoding in a space.
 fn opens(held: &Held, space: Space) -> bool
     ensures { (file : File) → HoldsOwn file held.now.own →
         result ≡ is_open file (named_space space) }
@@ -64,7 +65,7 @@ fn opens(held: &Held, space: Space) -> bool
     command & u32::from(space.command_bit()) != 0
 }
 
-/// The region of a function in a slot that begins at a base address register, if one does.
+/// Returns the region that begins at a base address register of a function in a slot.
 pub(crate) fn region_kept(held: &Held, bar: usize) -> Option<GuestRegion>
     ensures { (s : State) (p : Path) (f : Function) → IsHeld s p f held.now
         → IsLawfulOwn held.now.own →
@@ -87,7 +88,8 @@ pub(crate) fn region_kept(held: &Held, bar: usize) -> Option<GuestRegion>
     }
 }
 
-/// The same of a slot of a guest, or why it is refused.
+/// Returns the region that begins at a base address register of the function in a slot, or the
+/// reason for a refusal.
 fn region_in(guest: &Guest, slot: u64, bar: u64) -> Result<GuestRegion, Refusal>
     ensures { (w : WorldNow) (i : ℕ) → IsGuestNth w i guest.now
         → result_map_both region_named number_of result
@@ -104,9 +106,9 @@ fn region_in(guest: &Guest, slot: u64, bar: u64) -> Result<GuestRegion, Refusal>
 }
 
 impl<R: Route> Engine<R> {
-    /// Where a region of a guest's function stands now, in the guest's own view: the region that begins at
-    /// a base address register, by its index. Or refuses: 303 for a slot above 31, else 601 for an empty
-    /// slot, else 303 for a register at which no region begins. No memory is taken.
+    /// Returns the region of a guest's function that begins at a base address register, as it is
+    /// now in the guest's address space. Fails with 303 if the slot is above 31, else with 601 if
+    /// it is empty, else with 303 if no region begins at the register. Allocates no memory.
     pub fn region(&self, guest: usize, slot: u64, bar: u64) -> Result<GuestRegion, Refusal>
         requires { guest < length self.now.world.guests }
         ensures { result_map_both region_named number_of result

@@ -1,4 +1,4 @@
-//! Functions that are reset where they are.
+//! The reset of one function in its slot.
 ghost use Rattle.std.specs.Prelude.{◌≡◌, ◌<◌, length};
 ghost use Rattle.model_guests.specs.{Guests.lone_of, DeviceEvents.{resets, device_answer}, Calls.at_device};
 ghost use Rattle.model_handoff.specs.{Actions.calls, Changes.after_on_machine};
@@ -14,8 +14,8 @@ use host_bridge::Route;
 impl<R: Route> Engine<R> {
     ghost use Rattle.monitor.specs.{Views.{texts, machine_shown}, Keeping.IsSound};
 
-    /// Resets the function in a guest's slot, where it is: nothing is carried over, as in a move. Or refuses it
-    /// and changes nothing: 303 for a slot above 31, else 601 for an empty slot. No memory is taken.
+    /// Resets all registers of the function in a guest's slot. Refuses with 303 if the slot is
+    /// above 31, else with 601 if it is empty. A refusal changes nothing. Allocates no memory.
     pub fn reset(&mut self, guest: usize, slot: u64) -> Reply
         requires { guest < length self.old.world.guests }
         ensures reply { reply_of result

@@ -1,5 +1,5 @@
-//! Images of guests: how many bytes a guest's image has, writing it into a buffer, and comparing bytes with it. No call
-//! takes memory.
+//! Saved states of guests: their size, saving into a buffer, and comparison with bytes to load. No
+//! call allocates memory.
 ghost use Rattle.std.specs.Prelude.{◌≡◌, ◌≤◌, ◌<◌, ◌+◌, [], Ok, Err, IfErr, IfOk, length, map, option_map};
 ghost use Rattle.model_images.specs.{Images.{image_of_guest, image_of_lone}, ImageBytes.image_bytes, LoadedBytes.{after_image, after_slot, after_slots}, SavedLaws.IsTakenByEach};
 ghost use Rattle.images.specs.{Faults.number_of, Puts.put, Shown.seen};
@@ -15,7 +15,8 @@ use images::{
     header, latch_bytes, put, write_function,
 };
 
-/// The function in a slot, as its guest has it: the board's endpoint with the guest's own copies.
+/// Returns the function in a slot as its guest sees it: the endpoint on the board, and the guest's
+/// copies.
 pub(crate) fn slot_shown<'a>(
     host: &'a Host,
     slot: &'a Option<Held>,
@@ -30,7 +31,7 @@ pub(crate) fn slot_shown<'a>(
     Some((endpoint, &held.own))
 }
 
-/// How many bytes a slot has in an image.
+/// Returns the size of a slot in a saved state, in bytes.
 fn slot_size(host: &Host, slot: &Option<Held>) -> usize
     requires { HasPlaces (slot_shown host.now.state.functions slot.now) }
     ensures size { result ≡ length (slot_image host.now.state.functions slot.now) }
@@ -57,7 +58,7 @@ fn slots_size(host: &Host, slots: &[Option<Held>]) -> usize
     size
 }
 
-/// Puts the bytes of a slot into a buffer from an index on, and gives the index behind them.
+/// Writes a slot into a buffer from index `at`, and returns the index after it.
 fn put_slot(host: &Host, slot: &Option<Held>, out: &mut [u8], at: usize) -> usize
     requires places { HasPlaces (slot_shown host.now.state.functions slot.now) }
     requires room { at + length (slot_image host.now.state.functions slot.now) ≤ length out.old }
@@ -91,7 +92,7 @@ fn put_slots(host: &Host, slots: &[Option<Held>], out: &mut [u8], at: usize) -> 
     next
 }
 
-/// Puts the image of a guest at the beginning of a buffer.
+/// Writes the saved state of a guest to the start of a buffer.
 fn put_image(host: &Host, guest: &Guest, out: &mut [u8])
     requires places { HavePlaces host.now.state.functions guest.now.slots.items }
     requires room { let g = lone_shown host.now.state.functions guest.now in
@@ -104,8 +105,8 @@ fn put_image(host: &Host, guest: &Guest, out: &mut [u8])
     put_slots(host, &guest.slots, out, next);
 }
 
-/// The bytes after those of a slot. Refuses too few bytes, a value that its cell can't hold, and a
-/// slot that is filled otherwise.
+/// Strips a slot from the front of `bytes`, and returns the rest. Refuses bytes that end early, a
+/// value that its register can't hold, and a slot with another content.
 pub(crate) fn after_slot<'a>(
     host: &Host,
     slot: &Option<Held>,
@@ -122,7 +123,8 @@ pub(crate) fn after_slot<'a>(
     }
 }
 
-/// Refuses bytes that are no slots of an image with these functions, whatever their cells hold.
+/// Refuses bytes that aren't the saved slots of these functions. The register values don't matter,
+/// as long as the registers can hold them.
 fn compare_slots(host: &Host, slots: &[Option<Held>], bytes: &[u8]) -> Result<(), ImageFault>
     ensures all { let fs = map (slot_shown host.now.state.functions) slots.now in
         IfOk result (λ _. after_slots fs bytes.now ≡ Ok []) }
@@ -138,7 +140,8 @@ fn compare_slots(host: &Host, slots: &[Option<Held>], bytes: &[u8]) -> Result<()
     at_end(bytes)
 }
 
-/// Refuses bytes that are no image of this guest, whatever its latch and its cells hold.
+/// Refuses bytes that aren't a saved state for this guest. The values of CONFIG_ADDRESS and of
+/// registers don't matter, as long as the registers can hold them.
 pub(crate) fn compare_image(host: &Host, guest: &Guest, bytes: &[u8]) -> Result<(), ImageFault>
     ensures all { let g = lone_shown host.now.state.functions guest.now in
         IfOk result (λ _. after_image g bytes.now ≡ Ok []) }
@@ -151,7 +154,8 @@ pub(crate) fn compare_image(host: &Host, guest: &Guest, bytes: &[u8]) -> Result<
 }
 
 impl<R: Route> Engine<R> {
-    /// How many bytes the image of a guest has as it is now: 12, and 1 to 246,307 for each of its 32 slots.
+    /// Returns the size of a guest's saved state in bytes: 12, and 1 to 246,307 for each of the 32
+    /// slots.
     pub fn image_size(&self, guest: usize) -> usize
         requires { guest < length self.now.world.guests }
         ensures size { let image = image_of_guest (name_nth self.now.world guest) self.now.world in
@@ -162,9 +166,9 @@ impl<R: Route> Engine<R> {
         12 + slots_size(&self.host, &self.guests[guest].slots)
     }
 
-    /// Saves a guest: puts the bytes of its image at the beginning of a buffer, which has room for them. What
-    /// stands behind them stays. Each guest of equal declarations, of whatever machine, takes these bytes, and then
-    /// answers as this one would have.
+    /// Saves a guest to the start of a buffer that is large enough. The rest of the buffer isn't
+    /// changed. Any guest with equal declarations, on any machine, can load the bytes, and is then
+    /// answered as this guest would have been.
     pub fn save(&self, guest: usize, out: &mut [u8])
         requires there { guest < length self.now.world.guests }
         requires room { let image = image_of_guest (name_nth self.now.world guest) self.now.world in

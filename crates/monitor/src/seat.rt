@@ -1,17 +1,17 @@
-//! The guest and the slot that hold a function.
+//! Assignments of functions to slots of guests.
 ghost use Rattle.std.specs.Prelude.{◌≡◌, ◌+◌, ◌<◌, ◌^◌, length, option_map, position};
 ghost use Rattle.monitor.specs.{FunctionsTold.{seat_named, seat_kept}, InSlots.is_at};
 
 use crate::guest::{Guest, Held};
 
-/// A slot of a guest, by the guest's index.
+/// A slot of a guest, with the guest's index.
 #[derive(Clone, Copy, Debug, PartialEq, Eq)]
 pub struct Seat {
     pub guest: usize,
     pub slot: usize,
 }
 
-/// Whether the function at an index is in a slot.
+/// Returns whether the function at an index is in a slot.
 pub(crate) fn is_at(slot: &Option<Held>, index: usize) -> bool
     ensures { result ≡ is_at index slot.now }
 {
@@ -21,14 +21,15 @@ pub(crate) fn is_at(slot: &Option<Held>, index: usize) -> bool
     }
 }
 
-/// The first slot that holds the function at an index.
+/// Returns the first slot that contains the function at an index.
 fn slot_of(slots: &[Option<Held>], index: usize) -> Option<usize>
     ensures { result ≡ position (is_at index) slots.now }
 {
     slots.iter().position(|slot| is_at(slot, index))
 }
 
-/// The seat of the function at an index among these guests, of whom the first has the index `first`.
+/// Returns the guest and the slot to which the function at an index is assigned. `first` is the
+/// index of the first guest in the slice.
 pub(crate) fn seat_from(guests: &[Guest], index: usize, first: usize) -> Option<Seat>
     requires { first + length guests.now < 2 ^ 63 }
     ensures { option_map seat_named result ≡ seat_kept index first guests.now }

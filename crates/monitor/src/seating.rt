@@ -1,4 +1,4 @@
-//! Functions of the board that come to a guest from none, and leave it for none.
+//! Assignment of unassigned functions to guests, and its reverse.
 ghost use Rattle.std.specs.Prelude.{◌≡◌, ◌<◌, length, IfErr};
 ghost use Rattle.model_handoff.specs.{Giving.{give_fault, take_reply}, Actions.{gives, takes}, Changes.after_on_machine};
 ghost use Rattle.accesses.specs.{Accesses.reply_of, Replies.{IsRefusal, IsShown}};
@@ -16,10 +16,11 @@ use paths::Path;
 impl<R: Route> Engine<R> {
     ghost use Rattle.monitor.specs.{Views.{texts, machine_shown}, Keeping.IsSound};
 
-    /// Gives the function at a path, which no guest has, to a guest, into an empty slot: there and on the board
-    /// it is at reset, on the board but for what guests have copies of. Or refuses it and changes nothing: 303
-    /// for a slot above 31, else 303 where no endpoint stands at the path, else 602 where a guest has it, else
-    /// 602 for a slot that is taken, else 206 where one of its regions is closed. No memory is taken.
+    /// Assigns the unassigned function at a path to an empty slot of a guest, and resets it. On the
+    /// board, the registers that guests have copies of aren't reset. Refuses with 303 if the slot
+    /// is above 31, else with 303 if there is no endpoint at the path, else with 602 if the
+    /// function is assigned already, else with 602 if the slot is occupied, else with 206 if one of
+    /// the function's regions is disabled. A refusal changes nothing. Allocates no memory.
     pub fn give(&mut self, path: &Path, guest: usize, slot: u64) -> Result<(), Withheld>
         requires { guest < length self.old.world.guests }
         ensures reply { fault_told result
@@ -38,9 +39,9 @@ impl<R: Route> Engine<R> {
         Ok(())
     }
 
-    /// Takes the function in a slot from its guest: the slot is then empty, and on the board the function is at
-    /// reset, but for what guests have copies of. Or refuses it and changes nothing: 303 for a slot above 31,
-    /// else 601 for an empty slot. No memory is taken.
+    /// Unassigns the function in a slot from its guest, and resets it on the board, except for the
+    /// registers that guests have copies of. The slot is then empty. Refuses with 303 if the slot
+    /// is above 31, else with 601 if it is empty. A refusal changes nothing. Allocates no memory.
     pub fn take(&mut self, guest: usize, slot: u64) -> Reply
         requires { guest < length self.old.world.guests }
         ensures reply { reply_of result

@@ -1,4 +1,4 @@
-//! The board on which guests' functions stand, to be read, and made anew.
+//! Access to the monitor's board, and a new copy of the board at reset.
 ghost use Rattle.std.specs.Prelude.{◌≡◌, ◌≤◌, IfOk, length, map};
 ghost use Rattle.model_board.specs.AtReset.{board_at, IsAtReset};
 ghost use Rattle.model_guests.specs.{World.IsLawfulWorld, WorldNow.{board_state, names_now}};
@@ -11,7 +11,7 @@ use arrayvec::ArrayVec;
 use host_bridge::{Host, Route};
 use std::alloc::{AllocError, Global};
 
-/// Guests of these names, whose slots are empty.
+/// Returns guests with these names and with empty slots.
 fn with_no_slots(alloc: Global, names: &Names) -> Result<Vec<GuestDecl>, AllocError>
     ensures guests { IfOk result (λ v. v.items ≡ map with_no_slots (texts names.now)) }
     ensures few { IfOk result (λ v. length v.items ≤ 32) }
@@ -27,7 +27,8 @@ fn with_no_slots(alloc: Global, names: &Names) -> Result<Vec<GuestDecl>, AllocEr
 }
 
 impl<R: Route> Engine<R> {
-    /// The board. Guests' functions stand on it as they are now, but for what guests have copies of.
+    /// Returns the board. Guests' functions are on it as they are now, except for the registers
+    /// that guests have copies of.
     pub fn host(&self) -> &Host
         ensures state { result.now.state ≡ board_state self.now.world }
         ensures handoff { IsHandoff result.now.state }
@@ -36,7 +37,8 @@ impl<R: Route> Engine<R> {
         &self.host
     }
 
-    /// The same board at reset, made anew, and guests of the same names, whose slots are empty.
+    /// Returns a new board with the same functions at reset, and guests with the same names and
+    /// with empty slots.
     pub fn anew(&self, alloc: Global) -> Result<(Host, Vec<GuestDecl>), AllocError>
         ensures board { let board = board_at (board_state self.now.world).functions in
             IfOk result (λ r. board_at r.0.state.functions ≡ board) }

@@ -1,4 +1,5 @@
-//! Where bytes that a guest refuses stop to fit. No call takes memory.
+//! The position of the first mismatch in bytes that a guest refuses to load. No call allocates
+//! memory.
 ghost use Rattle.std.specs.{Prelude.{◌≡◌, ◌≢◌, ◌≤◌, ◌<◌, ◌==◌, IfSome, Some, false, is_some, length, map}, Option.option_map_or};
 ghost use Rattle.model_guests.specs.Guests.{lone_of};
 ghost use Rattle.model_images.specs.{LoadedBytes.load_fault, Stops.{StopsAt, is_told, slots_read, stop_slot}};
@@ -10,14 +11,15 @@ use crate::saving::{after_slot, compare_image};
 use host_bridge::{Host, Route};
 use images::{after_header, after_latch};
 
-/// Where bytes stop to fit: in which slot, 0 to 31, and 32 in front of the first one; and at which offset in the bytes.
+/// The position of the first byte that doesn't fit: its slot, 0 to 31, or 32 in front of the first
+/// slot, and its offset in the bytes.
 #[derive(Clone, Copy, Debug, PartialEq, Eq)]
 pub struct ImageStop {
     pub slot: usize,
     pub offset: usize,
 }
 
-/// How many slots are taken, one after the other.
+/// Returns the number of slots that fit before the first one that doesn't.
 fn slots_read(host: &Host, slots: &[Option<Held>], bytes: &[u8]) -> usize
     requires { length slots.now ≤ 32 }
     ensures { let fs = map (slot_shown host.now.state.functions) slots.now in
@@ -37,7 +39,7 @@ fn slots_read(host: &Host, slots: &[Option<Held>], bytes: &[u8]) -> usize
     number
 }
 
-/// The slot in which bytes stop to fit.
+/// Returns the slot that contains the first mismatch, or 32 if it is in front of the first slot.
 fn stop_slot(host: &Host, guest: &Guest, bytes: &[u8]) -> usize
     requires { length guest.now.slots.items ≤ 32 }
     ensures { result ≡ stop_slot (lone_shown host.now.state.functions guest.now) bytes.now }
@@ -51,7 +53,7 @@ fn stop_slot(host: &Host, guest: &Guest, bytes: &[u8]) -> usize
     slots_read(host, &guest.slots, bytes)
 }
 
-/// Whether bytes are refused by this number.
+/// Returns whether the guest refuses the bytes with this fault number.
 fn is_refused(host: &Host, guest: &Guest, bytes: &[u8], number: u16) -> bool
     ensures { let g = lone_shown host.now.state.functions guest.now in
         result ≡ option_map_or (λ n. n == number) (load_fault g bytes.now) false }
@@ -62,7 +64,8 @@ fn is_refused(host: &Host, guest: &Guest, bytes: &[u8], number: u16) -> bool
     }
 }
 
-/// The offset at which bytes stop to fit that are refused by this number. The half in which it is, is halved again.
+/// Returns the offset of the first mismatch in bytes that the guest refuses with this fault number,
+/// by a binary search over the lengths of prefixes.
 fn stop_offset(host: &Host, guest: &Guest, bytes: &[u8], number: u16) -> usize
     requires refused { let g = lone_shown host.now.state.functions guest.now in
         load_fault g bytes.now ≡ Some number }
@@ -106,8 +109,9 @@ fn stop_in(host: &Host, guest: &Guest, bytes: &[u8]) -> Option<ImageStop>
 }
 
 impl<R: Route> Engine<R> {
-    /// Where bytes stop to fit that a guest refuses as an image of other functions (906), or of another version (908):
-    /// the first byte that isn't one of an image which the guest takes. None of other bytes.
+    /// Returns the position of the first mismatch in bytes that a guest refuses because they were
+    /// saved from other functions (906), or have another version of the format (908). Returns None
+    /// for all other bytes.
     pub fn image_stop(&self, guest: usize, bytes: &[u8]) -> Option<ImageStop>
         requires { guest < length self.now.world.guests }
         ensures at { let g = lone_of self.now.world.guests (name_nth self.now.world guest) in

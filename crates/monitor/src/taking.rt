@@ -1,4 +1,4 @@
-//! A board that a monitor takes over.
+//! The changes to a board when the monitor takes it over.
 ghost use Rattle.std.specs.Prelude.{◌≡◌, map};
 ghost use Rattle.model_guests.specs.AgreedBoard.{agreed_function};
 ghost use Rattle.bridge_forward.specs.Lending.{with_endpoint_reset};
@@ -11,7 +11,8 @@ use accesses::GuestDecl;
 use host_bridge::Host;
 use paths::Path;
 
-/// Resets the endpoint at a path, if one stands there, but for what its guest has copies of.
+/// Resets the endpoint at a path, if there is one, except for the registers that guests have copies
+/// of.
 fn reset_at(host: &mut Host, path: &Path)
     ensures { host.new
         ≡ with_functions (with_endpoint_reset path.now host.old.state.functions) host.old }
@@ -22,7 +23,7 @@ fn reset_at(host: &mut Host, path: &Path)
     host.reset_nth(index);
 }
 
-/// The same of each of these paths.
+/// Resets the endpoints at all of these paths in the same way.
 fn reset_all(host: &mut Host, paths: &[Path])
     ensures { let files = files_given (board_below host.old) paths.now in
         host.new ≡ with_functions
@@ -33,7 +34,8 @@ fn reset_all(host: &mut Host, paths: &[Path])
     }
 }
 
-/// Resets each given function, but for what guests have copies of, and clears the address latch.
+/// Resets each function to assign, except for the registers that guests have copies of, and clears
+/// CONFIG_ADDRESS.
 pub(crate) fn take_over(host: &mut Host, decls: &[GuestDecl])
     ensures { let w = world_on host.old decls.now in
         host.new ≡ record host.old { state = taken_over w host.old.state } }

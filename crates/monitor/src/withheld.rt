@@ -1,24 +1,24 @@
-//! Why a function of the board is not given to a guest.
+//! Reasons to refuse the assignment of a function.
 ghost use Rattle.std.specs.Prelude.{◌≡◌};
 ghost use Rattle.monitor.specs.Seatings.{withheld_number};
 
-/// Why a function of the board is not given to a guest. Each has a number.
+/// The reason why a function of the board can't be assigned to a guest. Each has a number.
 #[derive(Clone, Copy, Debug, PartialEq, Eq)]
 pub enum Withheld {
     /// 303: the slot is above 31.
     PastSlots,
-    /// 303: no endpoint stands at the path.
+    /// 303: there is no endpoint at the path.
     NoEndpoint,
-    /// 602: a guest has the function already.
+    /// 602: the function is assigned to a guest already.
     HasGuest,
-    /// 602: another function is in the slot.
+    /// 602: the slot is occupied.
     SlotTaken,
-    /// 206: Command doesn't open the space of a region of the function.
+    /// 206: Command disables a region of the function.
     ClosedRegion,
 }
 
 impl Withheld {
-    /// Its number.
+    /// Returns the number of the reason.
     pub fn number(self) -> u16
         ensures { result ≡ withheld_number self }
     {

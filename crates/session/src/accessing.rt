@@ -1,4 +1,4 @@
-//! What firmware reads and writes.
+//! Reads and writes by firmware.
 ghost use Rattle.std.specs.Prelude.{◌≡◌, ◌%◌};
 ghost use Rattle.model_registers.specs.{Registers.all_bytes, ByteEnables.IsWidth};
 ghost use Rattle.model_board.specs.Ports.{config_reply, after_config_write};
@@ -14,7 +14,7 @@ use accesses::{Bdf, HostAccess, HostAt, Reply};
 use config_bytes::{enables_of, into_lanes, lowered};
 use host_bridge::{Host, TreeWalk};
 
-/// What 1, 2 or 4 bytes at an offset of the function that a bus number names read.
+/// Reads 1, 2 or 4 bytes at a configuration offset of the function at a BDF.
 fn config_read(host: &mut Host, at: Bdf, off: u8, width: u64) -> u32
     requires width { IsWidth width }
     requires aligned { off % width ≡ 0 }
@@ -27,7 +27,7 @@ fn config_read(host: &mut Host, at: Bdf, off: u8, width: u64) -> u32
     lowered(from, word)
 }
 
-/// Writes the low 1, 2 or 4 bytes of a value there.
+/// Writes the low 1, 2 or 4 bytes of a value at a configuration offset of the function at a BDF.
 fn config_write(host: &mut Host, at: Bdf, off: u8, width: u64, value: u32)
     requires width { IsWidth width }
     requires aligned { off % width ≡ 0 }
@@ -40,10 +40,10 @@ fn config_write(host: &mut Host, at: Bdf, off: u8, width: u64, value: u32)
     host.config_write(at, off / 4 * 4, enables, into_lanes(from, value));
 }
 
-/// Answers a read, or refuses it and changes nothing: 302 for a width that is not 1, 2 or 4 bytes, else 301
-/// for an offset, port or address that is no multiple of it, else 303 for an offset above 255 or a port
-/// above FFFFFFFFh. A read of configuration space leaves the address latch 0, and else nothing changes. No
-/// memory is taken.
+/// Answers a read. Refuses with 302 if its width is not 1, 2 or 4 bytes, else with 301 if its
+/// offset, port or address is not a multiple of the width, else with 303 if its offset is above 255
+/// or its port above FFFFFFFFh. A refusal changes nothing. A configuration read leaves
+/// CONFIG_ADDRESS 0, and nothing else ever changes. Allocates no memory.
 pub fn read(host: &mut Host, from: HostAccess) -> Reply
     ensures reply { reply_of result ≡ answer host.old.state (host_asked from reads) }
     ensures after { host.new ≡ after_asked host.old (host_asked from reads) }
@@ -62,8 +62,9 @@ pub fn read(host: &mut Host, from: HostAccess) -> Reply
     Reply::Value(value, width)
 }
 
-/// Writes the low bytes of a value, as many as the access is wide, or refuses the write as a read and
-/// changes nothing. A write of configuration space leaves the address latch 0. No memory is taken.
+/// Writes the low bytes of a value, as many as the access is wide. Refuses the same accesses as
+/// `read`. A refusal changes nothing. A configuration write leaves CONFIG_ADDRESS 0. Allocates no
+/// memory.
 pub fn write(host: &mut Host, to: HostAccess, value: u32) -> Reply
     ensures reply { reply_of result ≡ answer host.old.state (host_asked to (writes value)) }
     ensures after { host.new ≡ after_asked host.old (host_asked to (writes value)) }

@@ -1,4 +1,4 @@
-//! What a line of a session means.
+//! The meaning of a firmware line in a session.
 ghost use Rattle.std.specs.Prelude.{◌≡◌, ◌++◌};
 ghost use Rattle.model_guests.specs.Text.{Text};
 ghost use Rattle.model_lines.specs.{FirmwareLines.meaning, Requests.request};
@@ -7,8 +7,9 @@ ghost use Rattle.lines.specs.{FirmwareLines.{firmware_meaning_of, requested}, Pi
 use accesses::Refusal;
 use lines::{FirmwareWhat, firmware_meaning};
 
-/// What a line means while firmware drives the board, which may be given without its line feed. If `long`, bytes of it
-/// were passed over: all such lines mean the same.
+/// Returns the meaning of a line while firmware drives the board. The line may lack its line feed.
+/// `long` means that the line's first bytes were discarded because it is too long, and makes it a
+/// refused line, whatever bytes are left.
 pub(crate) fn meant(line: &[u8], long: bool) -> FirmwareWhat
     ensures means { (before : Text) → IsBefore long before →
         firmware_meaning_of result ≡ meaning (before ++ line.now) }

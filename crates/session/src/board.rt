@@ -31,8 +31,9 @@ use script::refusal_of;
 use std::alloc::{AllocError, Global};
 use std::marker::Model;
 
-/// The board that a board file declares, from reset on, with the guests of the file. Whether a write was done
-/// since reset is kept, so that our own set-up runs on a board at reset alone.
+/// The board and the guests that a board file declares, driven by firmware from reset on. A flag
+/// records whether firmware has written anything since reset, because our own set-up runs only on a
+/// board at reset.
 #[derive(Drop)]
 pub struct Board {
     pub(crate) host: Host,
@@ -52,8 +53,9 @@ impl Model for Board {
 }
 
 impl Board {
-    /// The board of a board file, at reset. The guests of the file are checked and kept, and no function is
-    /// given to them. Refused are the file (101 to 112) and lack of memory (199).
+    /// Returns the board of a board file, at reset. Validates and keeps the guests of the file, but
+    /// assigns no function to them yet. Fails if the file is refused (101 to 112) or memory is
+    /// exhausted (199).
     pub fn open(alloc: Global, file: &[u8]) -> Result<Board, BoardFault>
         ensures declared { IfOk result (λ b. Declares file.now b.world) }
         ensures lawful { IfOk result (λ b. IsLawfulWorld b.world) }
@@ -68,8 +70,8 @@ impl Board {
         })
     }
 
-    /// The board of a machine at reset again, made anew, with guests of the same names, whose slots are empty. The
-    /// machine stays as it is.
+    /// Returns a new board with the functions of a machine's board, at reset, and with guests of
+    /// the same names whose slots are empty. The machine isn't changed.
     pub fn of_machine(alloc: Global, machine: &Monitor) -> Result<Board, AllocError>
         ensures board { let board = board_at (board_state machine.now.world).functions in
             IfOk result (λ b. b.world.board ≡ board) }
@@ -85,7 +87,7 @@ impl Board {
         })
     }
 
-    /// Whether the board is at reset, as no write was done on it.
+    /// Returns whether the board is at reset because nothing was written to it.
     pub fn is_at_reset(&self) -> bool
         ensures untouched { result ≡ not self.now.written }
         ensures reset { OnTrue result (self.now ≡ at_reset self.now.world) }
@@ -93,14 +95,14 @@ impl Board {
         !self.written
     }
 
-    /// The addresses that may be given out, by the file of the board.
+    /// Returns the apertures from which the board file lets addresses be assigned.
     pub fn apertures(&self) -> Apertures
         ensures { result ≡ self.now.world.apertures }
     {
         self.host.apertures()
     }
 
-    /// Answers a read of firmware, or refuses it and changes nothing. No memory is taken.
+    /// Answers a read by firmware, or refuses it and changes nothing. Allocates no memory.
     pub fn read(&mut self, from: HostAccess) -> Reply
         ensures reply { reply_of result ≡ answer self.old.state (host_asked from reads) }
         ensures after { self.new ≡ after_board_access self.old (host_asked from reads) }
@@ -110,7 +112,7 @@ impl Board {
         accessing::read(&mut self.host, from)
     }
 
-    /// Writes as firmware does, or refuses the write and changes nothing. No memory is taken.
+    /// Performs a write by firmware, or refuses it and changes nothing. Allocates no memory.
     pub fn write(&mut self, to: HostAccess, value: u32) -> Reply
         ensures reply { reply_of result ≡ answer self.old.state (host_asked to (writes value)) }
         ensures after { self.new ≡ after_board_access self.old (host_asked to (writes value)) }
@@ -124,8 +126,8 @@ impl Board {
         reply
     }
 
-    /// Runs the event that a line means, and gives under which name it is answered and with what, if the line makes
-    /// output.
+    /// Executes a line. Returns the name to print in front of the reply, and the reply, or None if
+    /// the line has no output.
     fn reply_to(&mut self, what: FirmwareWhat) -> Option<(&'static [u8], Reply)>
         ensures text { let text = text_by self.old.state (firmware_meaning_of what) in
             MatchOption result (text ≡ []) (λ a.
@@ -153,9 +155,9 @@ impl Board {
         }
     }
 
-    /// Runs the event that a line of firmware means, and writes what the line writes into an empty text: nothing, or
-    /// one line with its line feed. It gives the number by which the line is refused; one that asks something is no
-    /// line of firmware. No memory is taken.
+    /// Executes a firmware line, and writes its output to an empty text: nothing, or one line with
+    /// its line feed. Returns the number of the refusal, if the line is refused. Queries aren't
+    /// handled here and count as bad lines. Allocates no memory.
     pub(crate) fn answer(&mut self, what: FirmwareWhat, text: &mut LineText) -> Option<u16>
         requires { text.old.items ≡ [] }
         ensures text { text.new.items ≡ text_by self.old.state (firmware_meaning_of what) }
@@ -167,9 +169,9 @@ impl Board {
         refusal_of(reply)
     }
 
-    /// What our own set-up makes of this board at reset: a board that is set up, with its functions given to the
-    /// guests of the file. It is made anew, so this board stays as it is, whatever comes of it. Refused are the
-    /// board (201 to 205) and lack of memory (299).
+    /// Runs our own set-up on a copy of this board, which is at reset, and assigns its functions to
+    /// the guests of the file. This board isn't changed. Fails if the board can't be set up (201 to
+    /// 205) or memory is exhausted (299).
     pub fn set_up(&self, alloc: Global) -> Result<Monitor, bus_scan::Fault>
         ensures made { IfOk result (BeginsIn (IsAtFirst self.now.world)) }
         ensures placement { IfErr result (λ f.
@@ -179,10 +181,11 @@ impl Board {
         begin(alloc, host, &self.guests)
     }
 
-    /// Gives the functions of this board to the guests of its file, as the board stands, whoever set it up.
-    /// Each given function is reset first, but for what guests have copies of, and the address latch is
-    /// cleared. Refused are a problem that the audit tells (207), a closed region of a given function (206),
-    /// and lack of memory (299): then the board is given back as it was.
+    /// Assigns the functions of this board to the guests of its file, in the present state of the
+    /// board, whoever configured it. Resets each assigned function, except for the registers that
+    /// guests have copies of, and clears CONFIG_ADDRESS. Fails with 207 if the audit reports a
+    /// problem, with 206 if a region of a function to assign is disabled, or with 299 if memory is
+    /// exhausted, and then returns the board unchanged.
     pub fn hand_over(self, alloc: Global) -> Result<Monitor, Refused<Board>>
         ensures given { IfOk result (BeginsIn (IsGiven self.world self.state)) }
         ensures kept { IfErr result (λ r. r.board ≡ self) }
@@ -207,8 +210,8 @@ impl Board {
         }
     }
 
-    /// All that is wrong in the registers as they stand, whoever wrote them. Nothing changes, also where memory
-    /// is out.
+    /// Returns the report of all problems in the registers as they are now, whoever wrote them.
+    /// Changes nothing, even if memory is exhausted.
     pub fn audit(&mut self, alloc: Global) -> Result<CountedText, AllocError>
         ensures text { IfOk result (λ a. string_bytes a.text ≡ audit self.old.state.functions) }
         ensures count { IfOk result (λ a.
@@ -218,8 +221,8 @@ impl Board {
         audit_text(alloc, &mut self.host)
     }
 
-    /// All that is wrong and all that is lacking in the registers as they stand, whoever wrote them, by the
-    /// apertures of the board's file. Nothing changes, also where memory is out.
+    /// Returns the report of all problems and of everything left to do, for the registers as they
+    /// are now and the apertures of the board file. Changes nothing, even if memory is exhausted.
     pub fn ready(&mut self, alloc: Global) -> Result<CountedText, AllocError>
         ensures text { IfOk result (λ r.
             string_bytes r.text
@@ -232,8 +235,8 @@ impl Board {
         ready_text(alloc, &mut self.host, &apertures)
     }
 
-    /// Why an address, an I/O port or the number of a function finds what it finds as the registers stand, or
-    /// nothing. Nothing changes, also where memory is out.
+    /// Explains why an address, an I/O port or a BDF reaches a function, or why it reaches none,
+    /// with the registers as they are now. Changes nothing, even if memory is exhausted.
     pub fn why(&mut self, alloc: Global, at: WhyAsked) -> Result<String, AllocError>
         ensures text { IfOk result (λ t.
             string_bytes t ≡ why_written self.old.state (why_asked_of at)) }
@@ -246,7 +249,8 @@ impl Board {
         }
     }
 
-    /// The same of where an access of firmware goes, as a JSON object on one line. Of a number the offset is of no matter.
+    /// Explains where an access by firmware goes, as a JSON object on one line. The offset of a
+    /// configuration access is ignored. Changes nothing, even if memory is exhausted.
     pub fn why_json(&mut self, alloc: Global, at: HostAt) -> Result<String, AllocError>
         ensures text { IfOk result (λ t.
             string_bytes t ≡ host_why_json self.old.state (host_target_of at)) }

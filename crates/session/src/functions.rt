@@ -1,4 +1,4 @@
-//! What is told of each function of a board that firmware drives, as its registers stand.
+//! Descriptions of the functions of a board that firmware drives, as its registers are now.
 ghost use Rattle.std.specs.Prelude.{◌≡◌, length, option_map};
 ghost use Rattle.model_registers.specs.Decoding.{opens_space};
 ghost use Rattle.model_board.specs.{Cycles.reached, State.BoardFunction};
@@ -13,8 +13,8 @@ use findings::{address_of, identity_nth};
 use host_bridge::{Bdf, Host, Path, Space};
 use monitor::FunctionNow;
 
-/// A function of a board that firmware drives: what is told of it, with no guest that has it; whether a
-/// configuration cycle for its number reaches it; and which spaces its Command opens.
+/// A function of a board that firmware drives: its description without an assignment, whether a
+/// configuration cycle to its BDF reaches it, and which spaces its Command enables.
 #[derive(Debug, Drop)]
 pub struct DrivenFunction {
     pub function: FunctionNow,
@@ -23,14 +23,14 @@ pub struct DrivenFunction {
     pub opens_memory: bool,
 }
 
-/// Whether the word of the Command register opens a space.
+/// Returns whether Command enables decoding in a space.
 fn opens(command: u32, space: Space) -> bool
     ensures { result ≡ opens_space command (named_space space) }
 {
     command & u32::from(space.command_bit()) != 0
 }
 
-/// Whether a configuration cycle for a number reaches the function at a path.
+/// Returns whether a configuration cycle to a BDF reaches the function at a path.
 fn is_found(host: &mut Host, at: Bdf, path: &Path) -> bool
     ensures found { let found = reached host.old.state.functions (bus_address_of at) in
         result ≡ is_there path.now (option_map (λ (f : BoardFunction). f.path) found) }
@@ -45,7 +45,7 @@ fn is_found(host: &mut Host, at: Bdf, path: &Path) -> bool
     }
 }
 
-/// What is told of the function at an index.
+/// Returns the description of the function at an index.
 fn driven_function_nth(host: &mut Host, index: usize) -> Option<DrivenFunction>
     requires { IsStateOfBoard host.old.state.functions }
     ensures told { option_map driven_function_named result
@@ -73,16 +73,17 @@ fn driven_function_nth(host: &mut Host, index: usize) -> Option<DrivenFunction>
 }
 
 impl Board {
-    /// How many functions the board has, bridges among them.
+    /// Returns the number of functions on the board, including bridges.
     pub fn count(&self) -> usize
         ensures { result ≡ length self.now.state.functions }
     {
         self.host.count()
     }
 
-    /// What is told of the function at an index, in path order, and none past the last: where it stands, its
-    /// number, its identity, its regions or windows where the registers have them, whether a cycle for its number
-    /// reaches it, and which spaces its Command opens. Nothing changes, and no memory is taken.
+    /// Returns the description of the function at an index in path order, or None past the last
+    /// one: its path, its BDF, its identity, its regions or windows as the registers define them,
+    /// whether a configuration cycle to its BDF reaches it, and which spaces its Command enables.
+    /// Changes nothing, and allocates no memory.
     pub fn function(&mut self, index: usize) -> Option<DrivenFunction>
         ensures told { option_map driven_function_named result
             ≡ driven_function_nth self.old.state index }

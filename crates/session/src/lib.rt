@@ -1,9 +1,11 @@
 //! Layer: program. Below: script, findings_told, json_texts, board_file. Above: board_told.
 //!
-//! Sessions over a board: firmware's lines from reset on, among them those that ask for an audit, for readiness or why
-//! something finds what it finds, and the handover of the board to its guests, whose script the lines are from there on.
+//! Sessions over a board. Firmware drives the board by lines, from reset on, and can query the
+//! audit, the readiness and the reason why an access goes where it goes. After the handover of the
+//! board to its guests, the lines are those of a guest script.
 //!
-//! A bridge is numbered by a call, a function behind it found by a line, and the registers audited:
+//! A call programs the bus numbers of a bridge, a line reads a function behind it, and a call
+//! audits the registers:
 //!
 //! ```
 //! let bridge = Bdf {

@@ -1,4 +1,4 @@
-//! The board of a board file that our own set-up sets up, with its guests.
+//! Set-up of the board in a board file, with its guests.
 ghost use Rattle.std.specs.Prelude.{◌≡◌, ◌≢◌, IfOk, IfErr};
 ghost use Rattle.model_board.specs.AtReset.{IsAtReset};
 ghost use Rattle.model_guests.specs.World.{IsLawfulWorld};
@@ -15,20 +15,20 @@ use std::alloc::Global;
 use thiserror::Error;
 use window_packing::set_up;
 
-/// Why the board of a board file is not set up.
+/// The reason why the board of a board file can't be set up.
 #[derive(Clone, Copy, Debug, PartialEq, Eq, Error)]
 pub enum OpenFault {
-    /// The board file is refused (101 to 112), or memory was out while it was read (199).
+    /// The board file is refused (101 to 112), or memory was exhausted while it was read (199).
     #[error(transparent)]
     File(BoardFault),
-    /// Its board can't be set up (201 to 205), or memory was out while it was made, set up or given to
-    /// guests (299).
+    /// The board can't be set up (201 to 205), or memory was exhausted while it was built, set up
+    /// or assigned to guests (299).
     #[error(transparent)]
     SetUp(bus_scan::Fault),
 }
 
 impl OpenFault {
-    /// The number of the fault.
+    /// Returns the number of the fault.
     pub fn number(self) -> u16
         ensures { result ≡ number_of self }
     {
@@ -55,8 +55,8 @@ impl From<bus_scan::Fault> for OpenFault {
     }
 }
 
-/// Sets up a board at reset, and gives its functions to guests. Refused are the board (201 to 205) and lack of
-/// memory (299).
+/// Sets up a board at reset, and assigns its functions to guests. Fails if the board can't be set
+/// up (201 to 205) or memory is exhausted (299).
 pub(crate) fn begin(
     alloc: Global,
     host: Host,
@@ -73,9 +73,10 @@ pub(crate) fn begin(
     Ok(monitor)
 }
 
-/// Sets up the board that a board file declares, and gives its functions to the guests of the file.
+/// Sets up the board of a board file, and assigns its functions to the guests of the file.
 ///
-/// Refused are the file (101 to 112), its board (201 to 205), and lack of memory (199 or 299).
+/// Fails if the file is refused (101 to 112), the board can't be set up (201 to 205), or memory is
+/// exhausted (199 or 299).
 pub fn open(alloc: Global, file: &[u8]) -> Result<Monitor, OpenFault>
     ensures opened { IfOk result (BeginsIn (IsOpened file.now)) }
     ensures file { IfErr result (OnFile (Refuses file.now)) }

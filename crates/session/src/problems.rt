@@ -1,4 +1,4 @@
-//! What is wrong and what is lacking on a board that firmware drives, one by one.
+//! The audit and the readiness check of a board that firmware drives, as lists of values.
 ghost use Rattle.std.specs.Prelude.{◌≡◌, IfOk, map};
 ghost use Rattle.model_findings.specs.{Problems.problems, Lacks.lacks};
 ghost use Rattle.findings.specs.Findings.{problem_of, lack_of};
@@ -9,8 +9,8 @@ use headers::Apertures;
 use std::alloc::{AllocError, Global};
 
 impl Board {
-    /// All that is wrong in the registers as they stand, in the order in which an audit tells it. Nothing changes,
-    /// also where memory is out.
+    /// Returns all problems in the registers as they are now, in the order of the audit report.
+    /// Changes nothing, even if memory is exhausted.
     pub fn problems(&mut self, alloc: Global) -> Result<Vec<Problem>, AllocError>
         ensures told { IfOk result (λ v.
             map problem_of v.items ≡ problems self.old.state.functions) }
@@ -19,8 +19,8 @@ impl Board {
         problems(alloc, &mut self.host)
     }
 
-    /// All that is lacking in them by these apertures, in the order in which readiness tells it. Nothing changes, also
-    /// where memory is out.
+    /// Returns everything left to do in the registers as they are now, given these apertures, in
+    /// the order of the readiness report. Changes nothing, even if memory is exhausted.
     pub fn lacks(&mut self, alloc: Global, apertures: &Apertures) -> Result<Vec<Lack>, AllocError>
         ensures told { IfOk result (λ v.
             map lack_of v.items ≡ lacks apertures.now self.old.state.functions) }

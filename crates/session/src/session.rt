@@ -20,8 +20,8 @@ use monitor::{HandoverFault, Monitor, Names};
 use std::alloc::{AllocError, Global};
 use std::marker::Model;
 
-/// A board with those who may get it as its guests: as firmware drives it, and once it is handed over, as its
-/// guests have it.
+/// A board with its prospective guests: driven by firmware at first, and assigned to the guests
+/// after the handover.
 #[derive(Drop)]
 pub struct Session {
     alloc: Global,
@@ -42,8 +42,8 @@ impl Model for Session {
 impl Session {
     ghost use Rattle.session.specs.Lending.{LendsBoard, LendsMonitor};
 
-    /// A session over the board of a board file, at reset. Refused are the file (101 to 112) and lack of
-    /// memory (199).
+    /// Opens a session over the board of a board file, at reset. Fails if the file is refused (101
+    /// to 112) or memory is exhausted (199).
     pub fn open(alloc: Global, file: &[u8]) -> Result<Session, BoardFault>
         ensures reset { IfOk result (λ x.
             (w : World) × Declares file.now w × IsLawfulWorld w × (x ≡ driven (at_reset w))) }
@@ -53,7 +53,7 @@ impl Session {
         Ok(Session::over(alloc, board))
     }
 
-    /// A session over a board that firmware drives.
+    /// Returns a session over a board that firmware drives.
     pub fn over(alloc: Global, board: Board) -> Session
         ensures { result ≡ driven board }
     {
@@ -63,7 +63,7 @@ impl Session {
         }
     }
 
-    /// A session over a board that is given to its guests.
+    /// Returns a session over a board that is assigned to its guests.
     pub fn of(alloc: Global, monitor: Monitor) -> Session
         ensures { result ≡ given monitor }
     {
@@ -73,14 +73,14 @@ impl Session {
         }
     }
 
-    /// Whether firmware drives the board, and no guest has it.
+    /// Returns whether firmware drives the board, before any handover to guests.
     pub fn is_driven(&self) -> bool
         ensures { result ≡ is_some (board_in self.now) }
     {
         matches!(self.stage, Stage::Driven(_))
     }
 
-    /// Lends the board, where firmware drives it.
+    /// Borrows the board, if firmware drives it.
     pub fn board(&mut self) -> Option<&mut Board>
         ensures* lends { sem 𝓛 (LendsBoard self.entry result) }
         ensures board { option_copied_mut result ≡ board_in self.old }
@@ -91,7 +91,7 @@ impl Session {
         }
     }
 
-    /// Lends the guests with their board, where they have it.
+    /// Borrows the guests with their board, if it is assigned to them.
     pub fn monitor(&mut self) -> Option<&mut Monitor>
         ensures* lends { sem 𝓛 (LendsMonitor self.entry result) }
         ensures machine { option_copied_mut result ≡ machine_in self.old }
@@ -102,9 +102,10 @@ impl Session {
         }
     }
 
-    /// Hands the board to its guests as it stands, whoever set it up, as [`Board::hand_over`] does; where they have
-    /// it, nothing changes. Refused are a problem that the audit tells (207), a closed region of a given function
-    /// (206), and lack of memory (299): then the board stays as it was.
+    /// Hands the board over to its guests in its present state, whoever configured it, like
+    /// [`Board::hand_over`]. Does nothing if the guests have it already. Fails with 207 if the
+    /// audit reports a problem, with 206 if a region of a function to assign is disabled, or with
+    /// 299 if memory is exhausted, and then the board isn't changed.
     pub fn hand_over(&mut self, alloc: Global) -> Result<(), HandoverFault>
         ensures given { OnOk result (IfSome (board_in self.old) (λ b. IsHandedOverAs b self.new)) }
         ensures stays { IfSome (machine_in self.old)
@@ -118,8 +119,8 @@ impl Session {
         hand_over(alloc, &mut self.stage)
     }
 
-    /// All that is wrong in the registers of the board as they stand, whoever wrote them. Nothing changes, also
-    /// where memory is out.
+    /// Returns the report of all problems in the registers as they are now, whoever wrote them.
+    /// Changes nothing, even if memory is exhausted.
     pub fn audit(&mut self, alloc: Global) -> Result<CountedText, AllocError>
         ensures text { IfOk result
             (λ a. string_bytes a.text ≡ audit (session_functions self.old)) }
@@ -131,7 +132,8 @@ impl Session {
         CountedText::of_problems(alloc, &found)
     }
 
-    /// The same, problem by problem.
+    /// Returns all problems in the registers as they are now, as values. Changes nothing, even if
+    /// memory is exhausted.
     pub fn problems(&mut self, alloc: Global) -> Result<Vec<Problem>, AllocError>
         ensures told { IfOk result (λ v.
             map problem_of v.items ≡ problems (session_functions self.old)) }
@@ -144,8 +146,8 @@ impl Session {
         }
     }
 
-    /// All that is wrong and all that is lacking in the registers of the board as they stand, whoever wrote them,
-    /// by these apertures. Nothing changes, also where memory is out.
+    /// Returns the report of all problems and of everything left to do, for the registers as they
+    /// are now and these apertures. Changes nothing, even if memory is exhausted.
     pub fn ready(&mut self, alloc: Global, apertures: &Apertures) -> Result<CountedText, AllocError>
         ensures text { IfOk result (λ r.
             string_bytes r.text ≡ ready_report apertures.now (session_functions self.old)) }
@@ -158,7 +160,8 @@ impl Session {
         CountedText::of_lacks(alloc, &found, &lacking)
     }
 
-    /// What is lacking by these apertures, lack by lack. Nothing changes, also where memory is out.
+    /// Returns everything left to do given these apertures, as values. Changes nothing, even if
+    /// memory is exhausted.
     pub fn lacks(&mut self, alloc: Global, apertures: &Apertures) -> Result<Vec<Lack>, AllocError>
         ensures told { IfOk result (λ v.
             map lack_of v.items ≡ lacks apertures.now (session_functions self.old)) }
@@ -171,7 +174,8 @@ impl Session {
         }
     }
 
-    /// Answers a line of the session, of which bytes were passed over if `long`.
+    /// Answers a line of the session. `long` means that the line's first bytes were discarded
+    /// because it is too long.
     fn answer_line(
         &mut self,
         line: &[u8],
@@ -224,10 +228,10 @@ impl Session {
         }
     }
 
-    /// Runs a line, which is given without its line feed, and writes what the line writes into an empty text:
-    /// nothing, or one line with its line feed. What is longer is given behind it, and then the session is as it
-    /// was: it is the text that answers a question, or that of a handover that is refused, and no other line takes
-    /// memory. Where memory is out, no event runs and nothing is written.
+    /// Runs a line, which comes without its line feed, and writes its output to an empty text:
+    /// nothing, or one line with its line feed. Longer output, the answer to a query or the report
+    /// of a refused handover, is returned instead, and then the session isn't changed. Only these
+    /// lines allocate memory. If memory is exhausted, nothing is executed and nothing is written.
     pub fn run_line(
         &mut self,
         line: &[u8],
@@ -248,8 +252,8 @@ impl Session {
     }
 }
 
-/// The language of sessions: firmware's lines, those that ask for an audit, for readiness or why something finds what
-/// it finds, the one that hands the board over, and then a script's.
+/// The language of sessions: firmware accesses, queries and the handover line, and after the
+/// handover the lines of a guest script.
 pub struct SessionLines;
 
 impl Answers<SessionLines> for Session {

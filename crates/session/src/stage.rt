@@ -1,4 +1,4 @@
-//! How far a session came.
+//! The stages of a session, and the handover from one to the other.
 ghost use Rattle.std.specs.Prelude.{◌≡◌, [], Some, option_map, string_bytes, IfOk, IfErr, OnOk, OnErr, IfSome};
 ghost use Rattle.model_guests.specs.Text.{Text};
 ghost use Rattle.model_lines.specs.{Requests.{for_guests, request}, Sessions.{session_output, after_session_line}};
@@ -13,18 +13,19 @@ use monitor::{HandoverFault, Monitor, Refused};
 use std::alloc::{AllocError, Global};
 use std::mem;
 
-/// How far a session came.
+/// The stage of a session.
 #[derive(Drop)]
 pub(crate) enum Stage {
-    /// Firmware drives the board, which is given to no guest.
+    /// Firmware drives the board, and no function is assigned to a guest.
     Driven(Board),
-    /// The board is given to its guests.
+    /// The board is assigned to its guests.
     Given(Monitor),
-    /// Within a handover, and never between lines.
+    /// A handover is in progress. Between lines, a session is never in this stage.
     Between,
 }
 
-/// Hands the board to its guests, or tells why it doesn't, and leaves it as it was.
+/// Hands the board over to its guests, or returns the reason why it can't be handed over, and
+/// leaves it unchanged.
 pub(crate) fn hand_over(alloc: Global, stage: &mut Stage) -> Result<(), HandoverFault>
     requires driven { IsDriven (session_now stage.old) }
     requires at_line { IsAtLine stage.old }
@@ -51,7 +52,8 @@ pub(crate) fn hand_over(alloc: Global, stage: &mut Stage) -> Result<(), Handover
     }
 }
 
-/// Hands the board to its guests, and writes that it did; or tells why it doesn't.
+/// Hands the board over to its guests, and writes a reply to the text. If the handover is refused,
+/// the report of the reason is returned in the answer.
 pub(crate) fn answer_handover(
     alloc: Global,
     stage: &mut Stage,

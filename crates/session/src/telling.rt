@@ -1,4 +1,4 @@
-//! What a session writes where it doesn't hand its board over.
+//! The report of a refused handover.
 ghost use Rattle.std.specs.Prelude.{◌≡◌, OnOk, IfOk, IfSome, IsSome, string_bytes};
 ghost use Rattle.lists.specs.Texts.{Adds};
 ghost use Rattle.model_lines.specs.Sessions.{closed_text, refused_line, handover_output};
@@ -12,7 +12,7 @@ use monitor::HandoverFault;
 use report::ShownPath;
 use std::alloc::{AllocError, Global};
 
-/// Appends the line of a closed region.
+/// Appends the line for a disabled region.
 fn push_closed(text: &mut String, closed: &RegionNow) -> Result<(), AllocError>
     ensures { OnOk result (Adds text.old text.new (ended (closed_text closed.now))) }
 {
@@ -21,7 +21,7 @@ fn push_closed(text: &mut String, closed: &RegionNow) -> Result<(), AllocError>
     writeln!(text, "closed: {path} bar{index}")
 }
 
-/// Appends the line of what stands in the way of a handover, unless memory does.
+/// Appends the line for the reason of the refusal. Fails if the reason is exhausted memory.
 fn push_cause(text: &mut String, fault: &HandoverFault) -> Result<(), AllocError>
     ensures line { OnOk result (IfSome (handoff_fault fault.now) (λ told.
         Adds text.old text.new (ended (cause_text told)))) }
@@ -34,7 +34,7 @@ fn push_cause(text: &mut String, fault: &HandoverFault) -> Result<(), AllocError
     }
 }
 
-/// Appends the line of a refusal.
+/// Appends the line with the number and the message of the refusal.
 fn push_refusal(text: &mut String, fault: &HandoverFault) -> Result<(), AllocError>
     ensures { OnOk result (Adds text.old text.new
         (ended (refused_line (number_of fault.now) (words_of fault.now)))) }
@@ -44,7 +44,7 @@ fn push_refusal(text: &mut String, fault: &HandoverFault) -> Result<(), AllocErr
     writeln!(text, "host: refused {number} {words}")
 }
 
-/// What is written of a fault, unless memory is out.
+/// Returns the report of a refused handover, unless memory is exhausted.
 pub(crate) fn handover_refusal(alloc: Global, fault: &HandoverFault) -> Result<String, AllocError>
     ensures text { IfOk result
         (λ t. string_bytes t ≡ handover_output (handoff_fault fault.now)) }

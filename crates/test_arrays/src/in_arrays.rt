@@ -1,17 +1,18 @@
-//! A run whose reader and writer are arrays: what takes memory is the board alone.
+//! A run whose reader and writer are arrays, so that only the board allocates memory.
 use simulation::{Fault, board_bytes, whole};
 use std::io::{Read, Write};
 use std::rt::Files;
 use std::{fs, io};
 use test_fakes::{FakeReader, FakeWriter};
 
-/// How many bytes of a file were read into an array. What does not fit is left out.
+/// Reads a file into an array, and returns the number of bytes read. Bytes that don't fit are left
+/// out.
 fn read_into(rt: &impl Files, path: &str, bytes: &mut [u8]) -> Option<usize> {
     let mut file = fs::open(rt, path).ok()?;
     file.read(bytes).ok()
 }
 
-/// Writes what the script of a file, of at most 4096 bytes, writes over the board of a file.
+/// Runs a script file of at most 4096 bytes on the board of a board file, and prints its output.
 pub(crate) fn run_in_arrays(
     rt: &(impl AllocGlobal + Files + Print),
     board: &str,

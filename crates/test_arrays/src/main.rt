@@ -1,7 +1,7 @@
 //! Layer: tests. Below: simulation, test_fakes.
 //!
-//! A program: `test_arrays BOARD SCRIPT` writes what the script writes over the board, read from an
-//! array and written into one. Without words it writes nothing.
+//! `test_arrays BOARD SCRIPT` runs a script on a board and prints the output. The script is read
+//! from an array, and the output is written to an array first. Without arguments it prints nothing.
 #![tactic(auto)]
 
 mod in_arrays;
@@ -11,7 +11,7 @@ use std::env;
 use std::process::ExitCode;
 use std::rt::{Env, Files};
 
-/// Runs the script over the board that the words name; none where it ends in a fault.
+/// Runs the script on the board that the arguments name. Returns None if the run ends in a fault.
 fn serve(rt: &(impl AllocGlobal + Env + Files + Print)) -> Option<()> {
     let words: Vec<String> = env::args(rt).ok()?.collect(rt.alloc()).ok()?;
     if words.len() < 3 {

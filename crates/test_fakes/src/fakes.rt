@@ -1,4 +1,4 @@
-//! A reader and a writer in memory, which give or take a few bytes a call and fail where they are told to.
+//! A reader and a writer in memory that transfer a few bytes a call and can be made to fail.
 
 ghost use Rattle.std.specs.Prelude.{◌≡◌, ◌+◌, ◌-◌, ◌^◌, ◌<◌, ◌≤◌, [], Some, length, take};
 ghost use Rattle.streams.specs.Ends.{failures_of};
@@ -6,16 +6,16 @@ ghost use Rattle.streams.specs.Ends.{failures_of};
 use arrayvec::ArrayVec;
 use streams::{Failed, Reader, Writer};
 
-/// When a call fails, and how many have failed.
+/// The call that is to fail, and the number of failures so far.
 #[derive(Drop)]
 struct Faults {
-    /// So many calls go well before one fails; `None` fails never.
+    /// The number of calls that succeed before one fails, or `None` if none is to fail.
     calls_left: Option<u32>,
     failures: u64,
 }
 
 impl Faults {
-    /// Counts a call: the one that is to fail answers `Err`, and those after it go well again.
+    /// Counts a call. Returns `Err` for the call that is to fail; later calls succeed again.
     fn call(&mut self) -> Result<(), Failed>
         requires { self.old.failures < 2 ^ 64 - 1 }
         ensures { self.new.failures ≡ self.old.failures + failures_of result }
@@ -35,7 +35,7 @@ impl Faults {
     }
 }
 
-/// A script in memory.
+/// A reader of a script in memory.
 #[derive(Drop)]
 pub struct FakeReader<'a> {
     script: &'a [u8],
@@ -45,7 +45,8 @@ pub struct FakeReader<'a> {
 }
 
 impl<'a> FakeReader<'a> {
-    /// Gives at most `step` bytes a call. The call `failing`, counted from 0, fails.
+    /// Returns a reader that gives at most `step` bytes a call. The call `failing`, counted from 0,
+    /// fails.
     pub fn new(script: &'a [u8], step: usize, failing: Option<u32>) -> Self
         requires { 0 < step }
         ensures script { ⟦<FakeReader<'a> as Reader>⟧.rest result ≡ Some script.now }
@@ -80,12 +81,12 @@ impl Reader for FakeReader<'_> {
     }
 }
 
-/// A writer into an array, which takes no byte once the array is full, and keeps what it took back
-/// until a flush.
+/// A writer into an array, which accepts no more bytes once the array is full. Written bytes count
+/// as flushed only after a flush.
 #[derive(Drop)]
 pub struct FakeWriter<const N: usize> {
     bytes: ArrayVec<u8, N>,
-    /// So many of the bytes were flushed.
+    /// The number of bytes that were flushed.
     flushed: usize,
     step: usize,
     faults: Faults,
@@ -93,8 +94,8 @@ pub struct FakeWriter<const N: usize> {
 }
 
 impl<const N: usize> FakeWriter<N> {
-    /// Takes at most `step` bytes a call. The call `failing`, a write or a flush, counted from 0,
-    /// fails.
+    /// Returns a writer that accepts at most `step` bytes a call. The write or flush `failing`,
+    /// counted from 0, fails.
     pub fn new(step: usize, failing: Option<u32>) -> Self
         ensures written { ⟦<FakeWriter<N> as Writer>⟧.written result ≡ Some [] }
         ensures flushed { ⟦<FakeWriter<N> as Writer>⟧.flushed result ≡ Some [] }
@@ -112,14 +113,14 @@ impl<const N: usize> FakeWriter<N> {
         }
     }
 
-    /// What was written.
+    /// Returns the written bytes.
     pub fn bytes(&self) -> &[u8]
         ensures { ⟦<FakeWriter<N> as Writer>⟧.written self.now ≡ Some result.now }
     {
         self.bytes.as_slice()
     }
 
-    /// What was flushed.
+    /// Returns the flushed bytes.
     pub fn flushed(&self) -> &[u8]
         ensures { ⟦<FakeWriter<N> as Writer>⟧.flushed self.now ≡ Some result.now }
     {

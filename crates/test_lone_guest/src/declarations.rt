@@ -1,12 +1,12 @@
-//! A file of guests. Each line is a word and numbers:
+//! A parser for files of guests. Each line is a keyword and its operands:
 //!
-//! - `guest NAME`, and after it the guest's endpoints, slot 0 first;
-//! - `endpoint VENDOR DEVICE REVISION CLASS SUBVENDOR SUBSYSTEM PIN MIN_GNT MAX_LAT STATUS`, and
-//!   after it its regions and its own configuration registers;
-//! - `bar INDEX KIND SIZE` with KIND 0 (I/O), 1 (32-bit memory), 2 (the same, prefetchable), 3 or 4
-//!   (64-bit memory), and `cells COUNT VALUE WRITABLE CLEARED`: so many registers alike, in the block of
-//!   the last region;
-//! - `config OFFSET VALUE WRITABLE CLEARED`: a configuration register of the device's own.
+//! - `guest NAME` starts a guest. Its endpoints follow, slot 0 first.
+//! - `endpoint VENDOR DEVICE REVISION CLASS SUBVENDOR SUBSYSTEM PIN MIN_GNT MAX_LAT STATUS` starts
+//!   an endpoint. Its regions and its device-specific configuration registers follow.
+//! - `bar INDEX KIND SIZE` declares a region. KIND is 0 (I/O), 1 (32-bit memory), 2 (32-bit
+//!   prefetchable memory), 3 (64-bit memory) or 4 (64-bit prefetchable memory).
+//! - `cells COUNT VALUE WRITABLE CLEARED` appends COUNT identical registers to the last region.
+//! - `config OFFSET VALUE WRITABLE CLEARED` declares a device-specific configuration register.
 use crate::declared::{LoneBlock, LoneEndpoint, LoneRegion};
 use crate::register::Register;
 use accesses::Names;
@@ -14,14 +14,14 @@ use arrayvec::ArrayString;
 use bars::Kind;
 use std::alloc::Global;
 
-/// Names of guests, and their endpoints.
+/// The guests' names and their endpoints.
 #[derive(Drop)]
 pub(crate) struct Declared {
     pub(crate) names: Names,
     pub(crate) guests: Vec<Vec<LoneEndpoint>>,
 }
 
-/// The kind of a region.
+/// Returns the kind of a region from its number.
 fn kind_of(number: u64) -> Kind {
     match number {
         0 => Kind::Io,
@@ -38,7 +38,7 @@ fn word(number: u64) -> u16 {
     u16::try_from(number).unwrap_or(0)
 }
 
-/// An endpoint without regions.
+/// Returns an endpoint without regions.
 fn endpoint(alloc: Global, numbers: [u64; 10]) -> LoneEndpoint {
     let [
         vendor,
@@ -65,7 +65,7 @@ fn endpoint(alloc: Global, numbers: [u64; 10]) -> LoneEndpoint {
     }
 }
 
-/// The numbers of a line, and 0 in place of those that are missing.
+/// Parses the operands of a line. Missing ones are 0.
 fn numbers_of(words: &[&str]) -> [u64; 10] {
     let mut numbers = [0u64; 10];
     for (number, text) in numbers.iter_mut().zip(words.iter()) {
@@ -82,7 +82,7 @@ impl Declared {
         self.guests.push(Vec::new(alloc)).ok()
     }
 
-    /// Adds to the last endpoint what a line says.
+    /// Adds the region or the registers in a line to the last endpoint.
     fn add_part(&mut self, alloc: Global, kind: &str, numbers: [u64; 10]) -> Option<()> {
         let [first, second, third, fourth, ..] = numbers;
         let last = self.guests.last_mut()?.last_mut()?;
@@ -121,7 +121,7 @@ impl Declared {
         }
     }
 
-    /// Adds what a line declares.
+    /// Adds the declaration in a line.
     fn add(&mut self, alloc: Global, words: &[&str]) -> Option<()> {
         match words {
             [] => Some(()),
@@ -135,7 +135,7 @@ impl Declared {
     }
 }
 
-/// Reads a file of guests. None where it has another form, or where memory is out.
+/// Parses a file of guests. Returns None if it has another form or memory is exhausted.
 pub(crate) fn read_guests(alloc: Global, text: &str) -> Option<Declared> {
     let mut declared = Declared {
         names: Names::new(),

@@ -1,10 +1,10 @@
-//! What the functions of guests are declared to be, in numbers that nobody judges.
+//! Declarations of guests' functions, as unvalidated numbers.
 use crate::register::Register;
 use bars::Kind;
 use std::alloc::Global;
 
-/// A region: the index of its first base address register, its kind, its size and the bytes at its
-/// beginning.
+/// A region: the index of its first base address register, its kind, its size, and the bytes at its
+/// start.
 #[derive(Drop)]
 pub struct LoneRegion {
     pub index: u8,
@@ -13,7 +13,7 @@ pub struct LoneRegion {
     pub block: Vec<Register>,
 }
 
-/// Registers of the device in configuration space, from an offset on.
+/// Consecutive device-specific registers in configuration space, from an offset on.
 #[derive(Drop)]
 pub struct LoneBlock {
     pub off: u8,
@@ -38,8 +38,8 @@ pub struct LoneEndpoint {
 }
 
 impl LoneEndpoint {
-    /// An endpoint of this identity and class, with neither regions nor registers of its own. All its
-    /// other numbers are 0.
+    /// Returns an endpoint with this identity and class, without regions or device-specific
+    /// registers. All other fields are 0.
     pub fn plain(alloc: Global, vendor: u16, device: u16, class: u32) -> LoneEndpoint {
         LoneEndpoint {
             vendor,

@@ -1,7 +1,7 @@
-//! Register files: bytes in a row. Past the last one nothing stands.
+//! Register files: slices of consecutive bytes. Accesses past the end read 0 or are dropped.
 use crate::register::Register;
 
-/// Declares the bytes of a number of this width from an offset on.
+/// Declares a little-endian register of `width` bytes at an offset.
 pub(crate) fn declare(
     file: &mut [Register],
     off: usize,
@@ -19,7 +19,7 @@ pub(crate) fn declare(
     }
 }
 
-/// The little-endian number of this width at an offset.
+/// Reads the little-endian number of `width` bytes at an offset.
 pub(crate) fn read(file: &[Register], off: u64, width: u64) -> u32 {
     let mut bytes = [0u8; 4];
     let registers = file.iter().skip(off as usize).take(width as usize);
@@ -29,7 +29,7 @@ pub(crate) fn read(file: &[Register], off: u64, width: u64) -> u32 {
     u32::from_le_bytes(bytes)
 }
 
-/// Writes the little-endian number of this width at an offset.
+/// Writes the little-endian number of `width` bytes at an offset.
 pub(crate) fn write(file: &mut [Register], off: u64, width: u64, value: u32) {
     let registers = file.iter_mut().skip(off as usize).take(width as usize);
     for (register, byte) in registers.zip(value.to_le_bytes()) {
@@ -37,7 +37,7 @@ pub(crate) fn write(file: &mut [Register], off: u64, width: u64, value: u32) {
     }
 }
 
-/// Sets bits of the byte at an offset as its device does.
+/// Sets W1C bits of the byte at an offset, as its device does.
 pub(crate) fn raise(file: &mut [Register], off: u64, mask: u8) {
     if let Some(register) = file.get_mut(off as usize) {
         register.raise(mask);

@@ -1,4 +1,4 @@
-//! One function of a guest, as a lone register file.
+//! A guest's function, as a register file of its own.
 use crate::declared::{LoneBlock, LoneEndpoint, LoneRegion};
 use crate::file::{self, declare};
 use crate::register::Register;
@@ -6,8 +6,8 @@ use accesses::Place;
 use bars::{Kind, Space};
 use std::alloc::{AllocError, Global};
 
-/// A function with the guest and the slot that it stands in: 256 bytes of configuration space, and the
-/// bytes at the beginning of each region.
+/// A function with its guest and slot: 256 bytes of configuration space, and the bytes at the start
+/// of each region.
 #[derive(Drop)]
 pub(crate) struct Function {
     pub(crate) guest: usize,
@@ -16,8 +16,8 @@ pub(crate) struct Function {
     regions: Vec<LoneRegion>,
 }
 
-/// The registers of the header of an endpoint, without base address registers (PCI Local Bus 3.0,
-/// chapter 6.1). Of the header type a guest sees 00h alone.
+/// Declares the header of an endpoint, without the base address registers (PCI Local Bus 3.0,
+/// section 6.1). A guest always reads Header Type as 00h.
 fn declare_header(file: &mut [Register], decl: &LoneEndpoint) {
     declare(file, 0x00, 2, u64::from(decl.vendor), 0, 0);
     declare(file, 0x02, 2, u64::from(decl.device), 0, 0);
@@ -34,13 +34,13 @@ fn declare_header(file: &mut [Register], decl: &LoneEndpoint) {
     declare(file, 0x3f, 1, u64::from(decl.max_lat), 0, 0);
 }
 
-/// Where a region's first base address register stands.
+/// Returns the offset of a region's first base address register.
 fn base_offset(region: &LoneRegion) -> u8 {
     0x10u8.wrapping_add(region.index.wrapping_mul(4))
 }
 
-/// A base address register (chapter 6.2.5.1): the bits at or above the region's size are writable, and
-/// the low ones tell its kind.
+/// Declares a base address register (PCI Local Bus 3.0, section 6.2.5.1). The bits at or above the
+/// region's size are writable, and the low bits encode its kind.
 fn declare_base(file: &mut [Register], region: &LoneRegion) {
     let (width, kind_bits) = match region.kind {
         Kind::Io => (4, 1),
@@ -58,7 +58,7 @@ fn declare_base(file: &mut [Register], region: &LoneRegion) {
     );
 }
 
-/// Registers of the device's own.
+/// Declares a block of device-specific registers.
 fn declare_block(file: &mut [Register], block: &LoneBlock) {
     let registers = file.iter_mut().skip(usize::from(block.off));
     for (register, declared) in registers.zip(block.block.iter()) {
@@ -67,7 +67,7 @@ fn declare_block(file: &mut [Register], block: &LoneBlock) {
 }
 
 impl Function {
-    /// The declared function at reset, in a slot of a guest.
+    /// Returns the declared function at reset, in a slot of a guest.
     pub(crate) fn new(
         alloc: Global,
         guest: usize,
@@ -92,7 +92,7 @@ impl Function {
         })
     }
 
-    /// The address at which a region begins now.
+    /// Returns the present base address of a region.
     fn base(&self, region: &LoneRegion) -> u64 {
         let off = u64::from(base_offset(region));
         let low = u64::from(file::read(&self.config, off, 4));
@@ -106,7 +106,7 @@ impl Function {
         }
     }
 
-    /// Whether the Command register opens a space (chapter 6.2.2).
+    /// Returns whether Command enables decoding in a space (PCI Local Bus 3.0, section 6.2.2).
     fn opens(&self, space: Space) -> bool {
         let bit = match space {
             Space::Io => 1,
@@ -115,7 +115,7 @@ impl Function {
         file::read(&self.config, 4, 1) & bit != 0
     }
 
-    /// The offset in a region that an address stands for, if the region decodes it now.
+    /// Returns the offset of an address in a region, if the region decodes the address at present.
     fn offset_in(&self, region: &LoneRegion, space: Space, addr: u64) -> Option<u64> {
         let is_io = matches!(region.kind, Kind::Io);
         let base = self.base(region);
@@ -126,7 +126,8 @@ impl Function {
         if off < region.size { Some(off) } else { None }
     }
 
-    /// The least base address register whose region decodes an address now, and the offset in it.
+    /// Returns the lowest base address register whose region decodes an address at present, and the
+    /// offset in the region.
     pub(crate) fn decode(&self, space: Space, addr: u64) -> Option<(Place, u64)> {
         for region in &self.regions {
             if let Some(off) = self.offset_in(region, space, addr) {
@@ -136,7 +137,7 @@ impl Function {
         None
     }
 
-    /// Whether a raise may go to an offset of a place.
+    /// Returns whether a raise at an offset of a place is in range.
     pub(crate) fn has(&self, place: Place, off: u64) -> bool {
         match place {
             Place::Cfg => off < 256,
@@ -148,7 +149,7 @@ impl Function {
         }
     }
 
-    /// The register file of a place.
+    /// Returns the register file of a place.
     fn file_of(&mut self, place: Place) -> Option<&mut Vec<Register>> {
         match place {
             Place::Cfg => Some(&mut self.config),
@@ -181,7 +182,7 @@ impl Function {
         }
     }
 
-    /// Puts the function into a slot of a guest, where it is at reset.
+    /// Moves the function to a slot of a guest, and resets it.
     pub(crate) fn move_to(&mut self, guest: usize, slot: u64) {
         self.guest = guest;
         self.slot = slot;

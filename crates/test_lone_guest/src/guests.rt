@@ -1,4 +1,4 @@
-//! Guests with their functions and address latches.
+//! Guests with their functions and CONFIG_ADDRESS registers.
 ghost use Rattle.std.specs.Prelude.{◌≤◌, None, ◌≡◌, IfSome};
 ghost use Rattle.accesses.specs.Replies.{IsShown};
 
@@ -9,17 +9,18 @@ use bars::Space;
 use lines::{LineText, What, Who, line_text, parse_line};
 use std::alloc::{AllocError, Global};
 
-/// Where an access lands: in a function, by its place in the list of all of them, or nowhere.
+/// The target of an access: a function, by its index in the list of all functions, with a place and
+/// an offset, or `None` for an unclaimed access.
 type Landing = Option<(usize, Place, u64)>;
 
-/// All functions of all guests in one list, and what each guest's CONFIG_ADDRESS holds.
+/// All functions of all guests in one list, and the CONFIG_ADDRESS of each guest.
 #[derive(Drop)]
 pub struct LoneGuests {
     functions: Vec<Function>,
     latches: Vec<u32>,
 }
 
-/// The first check that an access fails.
+/// Returns the first check that an access fails.
 fn refusal(at: At, width: u64) -> Option<Refusal>
     ensures { result ≡ None → width ≤ 4 }
 {
@@ -40,8 +41,8 @@ fn refusal(at: At, width: u64) -> Option<Refusal>
 }
 
 impl LoneGuests {
-    /// Guest g's slot n holds the nth endpoint that is given for it, at reset. All latches are clear. It
-    /// fails only for memory.
+    /// Returns guests at reset, with CONFIG_ADDRESS 0. Each guest's endpoints are in its slots,
+    /// from slot 0 on. Fails only if memory is exhausted.
     pub fn new(alloc: Global, guests: Vec<Vec<LoneEndpoint>>) -> Result<LoneGuests, AllocError> {
         let mut functions = Vec::new(alloc);
         let mut latches = Vec::new(alloc);
@@ -62,7 +63,8 @@ impl LoneGuests {
         self.latches.get(guest).copied().unwrap_or(0)
     }
 
-    /// The first region of a guest, by slot and then by base address register, that decodes an address.
+    /// Returns the first region of a guest that decodes an address, by slot and then by base
+    /// address register.
     fn claimant(&self, guest: usize, space: Space, addr: u64) -> Landing {
         for slot in 0..32 {
             if let Some(index) = self.function_in(guest, slot) {
@@ -75,8 +77,8 @@ impl LoneGuests {
         None
     }
 
-    /// Where an access at a port lands. CFCh to CFFh are CONFIG_DATA while the latch is enabled: the
-    /// guest's slots are the devices of bus 0 with function 0.
+    /// Returns the target of an access to a port. CFCh to CFFh are CONFIG_DATA while CONFIG_ADDRESS
+    /// is enabled. The guest's slots are the devices of bus 0, each with only function 0.
     fn port(&self, guest: usize, port: u64) -> Landing {
         let latch = self.latch(guest);
         let is_enabled = latch & 0x8000_0000 != 0;
@@ -119,7 +121,7 @@ impl LoneGuests {
         }
     }
 
-    /// An access of the latch itself, which takes four bytes at CF8h.
+    /// Reads or writes the four bytes of CONFIG_ADDRESS at CF8h.
     fn access_latch(&mut self, guest: usize, op: Op) -> Reply
         ensures { IsShown result }
     {
@@ -191,8 +193,8 @@ impl LoneGuests {
         Reply::Done
     }
 
-    /// The reply to what a line asks. `None` is for a line that asks nothing, and for a read by the
-    /// host, which has no answer here.
+    /// Returns the reply to a parsed line. Returns `None` for a line without output, and for a read
+    /// by the host, which this model can't answer.
     pub fn reply(&mut self, what: What) -> Option<Reply>
         ensures { IfSome result IsShown }
     {
@@ -209,8 +211,8 @@ impl LoneGuests {
         }
     }
 
-    /// The output line of a script's line, which is given without its line feed, under guests of these
-    /// names. `None` is for a line without output, and for a read by the host.
+    /// Returns the output for a line of a script, which comes without its line feed, with these
+    /// guest names. Returns `None` for a line without output, and for a read by the host.
     pub fn line(&mut self, line: &[u8], names: &Names) -> Option<LineText> {
         let what = parse_line(line, names).what;
         let who = match what {

@@ -1,13 +1,14 @@
 //! Layer: tests. Below: lines.
 //!
-//! The slow second answer, for tests alone: guests as nothing but their own functions, each a lone
-//! register file, with neither board nor monitor. It is written by hand apart from the monitor, and
-//! shares with it the types of accesses and replies, the reading of a line and the text of a reply.
-//! Its contracts say what safety asks, and nothing of the answers.
+//! A slow reference model of guests, only for tests. Each guest is nothing but its functions, each
+//! with a register file of its own, without a board or a monitor. The model was written
+//! independently of the monitor. It shares with the monitor only the types of accesses and replies,
+//! the parser of lines and the text of replies. Its contracts state what safety needs, and nothing
+//! about the replies.
 //!
-//! `test_lone_guest GUESTS < SCRIPT` writes what lone guests answer to a script, where GUESTS is a file of
-//! guests with their endpoints. A read by the host has no answer here, and makes no output line. With no
-//! word it writes nothing.
+//! `test_lone_guest GUESTS < SCRIPT` prints the model's replies to a script, where GUESTS is a file
+//! of guests with their endpoints. Reads by the host have no output. Without an argument it prints
+//! nothing.
 #![tactic(auto)]
 
 mod declarations;
@@ -26,7 +27,7 @@ use std::process::ExitCode;
 use std::rt::{Env, Files};
 use std::{env, fs, io};
 
-/// The bytes of the file at a path.
+/// Reads the file at a path.
 fn bytes_of(rt: &impl Files, alloc: Global, path: &str) -> Option<Vec<u8>> {
     let mut file = fs::open(rt, path).ok()?;
     let mut bytes = Vec::new(alloc);
@@ -34,7 +35,7 @@ fn bytes_of(rt: &impl Files, alloc: Global, path: &str) -> Option<Vec<u8>> {
     Some(bytes)
 }
 
-/// Writes the output lines of a script.
+/// Prints the output of a script.
 fn answer(
     rt: &impl Print,
     alloc: Global,
@@ -51,7 +52,8 @@ fn answer(
     writer.flush()
 }
 
-/// Answers the script of standard input. None where the words name no file of guests.
+/// Answers the script on standard input. Returns None if the file of guests can't be read or
+/// parsed.
 fn serve(rt: &(impl AllocGlobal + Env + Files + Input + Print)) -> Option<()> {
     let alloc = rt.alloc();
     let words: Vec<String> = env::args(rt).ok()?.collect(alloc).ok()?;

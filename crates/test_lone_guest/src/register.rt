@@ -1,7 +1,7 @@
 //! One byte of a register file.
 
-/// A byte: its value at reset and now, the bits that a write sets, and the bits that writing a one
-/// clears and that the device sets.
+/// A register byte: its reset value, its present value, its write mask and its W1C mask. The device
+/// can set the W1C bits.
 #[derive(Clone, Copy)]
 pub struct Register {
     at_reset: u8,
@@ -11,7 +11,7 @@ pub struct Register {
 }
 
 impl Register {
-    /// A byte at reset. A bit in both masks is cleared by a one.
+    /// Returns a byte at reset. A bit in both masks is cleared by writing a one.
     pub fn new(value: u8, writable: u8, clearable: u8) -> Register {
         Register {
             at_reset: value,

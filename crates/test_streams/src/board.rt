@@ -1,6 +1,6 @@
-//! The board that tests have in common.
+//! The board that the tests share.
 
-/// An endpoint beside a bridge, two behind it, and two guests.
+/// An endpoint next to a bridge, two endpoints behind the bridge, and two guests.
 pub(crate) const MAIN: &str = "[host]
 io = [0x1000, 0xffff]
 mem = [0xc0000000, 0xdfffffff]

@@ -5,7 +5,7 @@ use std::test::Fail;
 use streams::{BufferedWriter, Writer, write_all};
 use test_fakes::FakeWriter;
 
-/// What is kept back is written when there is no room for more, and at a flush.
+/// Buffered bytes are written when the buffer has no room for more, and at a flush.
 #[test]
 fn bytes_are_kept_back(rt: HostRuntime) -> Result<(), Fail> {
     let fake = FakeWriter::<32>::new(4, None);
@@ -20,7 +20,7 @@ fn bytes_are_kept_back(rt: HostRuntime) -> Result<(), Fail> {
     Ok(())
 }
 
-/// A write of no byte fails, and so does each write where there is no room at all.
+/// A write of no bytes fails, and so does any write to a writer without a buffer.
 #[test]
 fn writes_that_take_nothing_fail(rt: HostRuntime) -> Result<(), Fail> {
     let fake = FakeWriter::<8>::new(4, None);
@@ -35,7 +35,7 @@ fn writes_that_take_nothing_fail(rt: HostRuntime) -> Result<(), Fail> {
     Ok(())
 }
 
-/// A writer of the system that keeps all bytes back until a flush, and notes how many it has handed on.
+/// A system writer that keeps all bytes until a flush, and records how many it has passed on.
 #[derive(Drop)]
 struct KeepsBack<'a> {
     kept: usize,
@@ -54,7 +54,8 @@ impl Write for KeepsBack<'_> {
     }
 }
 
-/// A flush of standard output is one of what stands behind it: an answer is there before more is read.
+/// A flush of standard output also flushes the writer below it, so that an answer is visible before
+/// more is read.
 #[test]
 fn a_flush_goes_to_the_system(rt: HostRuntime) -> Result<(), Fail> {
     let handed_on = Cell::new(0);

@@ -1,4 +1,4 @@
-//! Endpoints by their paths, in a tree of buses and behind a host: lent, raised and reset.
+//! Endpoints borrowed, raised and reset by their paths, in a tree of buses and behind a host.
 ghost use Rattle.std.specs.Prelude.{◌<◌, length};
 
 use crate::board::MAIN;
@@ -19,7 +19,7 @@ pub(crate) fn on_root(device: u8) -> Path
     Path::on_root(Part::new(device, 0))
 }
 
-/// Behind the bridge at device 2.
+/// Returns the path of a device behind the bridge at device 2.
 pub(crate) fn behind_bridge(device: u8) -> Path
     requires { device < 16 }
 {
@@ -28,7 +28,7 @@ pub(crate) fn behind_bridge(device: u8) -> Path
     path
 }
 
-/// An endpoint with a region of four cells.
+/// Returns an endpoint with a region in which four bytes are declared.
 fn endpoint(alloc: Global) -> Result<Declared, Fail> {
     let region = Region {
         index: 1,
@@ -42,7 +42,7 @@ fn endpoint(alloc: Global) -> Result<Declared, Fail> {
     Ok(Declared::Endpoint(EndpointDecl::new(values)?))
 }
 
-/// An endpoint beside a bridge, and one behind it.
+/// Returns a bus with an endpoint, a bridge, and an endpoint behind the bridge.
 fn bus(rt: &impl Abort, alloc: Global) -> Result<Bus, Fail> {
     let bridge = BridgeDecl::new(0x1234, 2, 0, IoDecode::Bits16, PrefDecode::Bits64)?;
     let decls = vec![in alloc;
@@ -63,7 +63,8 @@ fn bus(rt: &impl Abort, alloc: Global) -> Result<Bus, Fail> {
     Ok(Bus::build(alloc, decls)?)
 }
 
-/// What the endpoint at a path reads in the block of its region 1, and all ones are written there.
+/// Reads the word at the start of region 1 of the endpoint at a path, and overwrites it with all
+/// ones.
 fn exchanged(bus: &mut Bus, path: &Path) -> Option<u32> {
     let endpoint = bus.endpoint_mut(path)?;
     let before = endpoint.read(1, 0, 0b1111);
@@ -71,7 +72,8 @@ fn exchanged(bus: &mut Bus, path: &Path) -> Option<u32> {
     Some(before)
 }
 
-/// A bridge is not lent, nor is what is not there; and a reset of one endpoint leaves the others.
+/// A bridge can't be borrowed, nor can a missing function. A reset of one endpoint doesn't change
+/// the others.
 #[test]
 fn lent_and_reset_in_a_tree(rt: HostRuntime) -> Result<(), Fail> {
     let mut bus = bus(&rt, rt.alloc())?;
@@ -91,10 +93,10 @@ fn lent_and_reset_in_a_tree(rt: HostRuntime) -> Result<(), Fail> {
     Ok(())
 }
 
-/// Raises bits in Status of the endpoint that claims an address of memory, by its path, and says whether
-/// one does.
+/// Sets W1C bits of Status in the endpoint that claims a memory address, by its path. Returns
+/// whether any endpoint claims the address.
 fn raised(host: &mut Host, alloc: Global, addr: u64, mask: u8) -> Result<bool, AllocError> {
-    // no two functions stand at one path
+    // Establishes that no two functions have the same path.
     let _rows = host.routing(alloc)?;
     let Some(claim) = host.claimant(Space::Mem, addr) else {
         return Ok(false);
@@ -103,7 +105,7 @@ fn raised(host: &mut Host, alloc: Global, addr: u64, mask: u8) -> Result<bool, A
     Ok(true)
 }
 
-/// Only bits that writing a one clears can rise. A reset leaves Command and the bases alone.
+/// A device can set only W1C bits. A reset doesn't change Command or the base addresses.
 #[test]
 fn raised_and_reset_behind_a_host(rt: HostRuntime) -> Result<(), Fail> {
     let alloc = rt.alloc();

@@ -1,4 +1,4 @@
-//! Which region an address finds after set-up.
+//! The regions that claim addresses after set-up.
 use crate::board::MAIN;
 use crate::by_path::{behind_bridge, on_root};
 use bars::Space;
@@ -10,13 +10,13 @@ use std::process::Abort;
 use std::test::Fail;
 use window_packing::set_up;
 
-/// Compares a claim with the path, register and offset that are wanted.
+/// Compares a claim with the expected path, register and offset.
 fn is_claim(rt: &impl Abort, found: Option<Claim>, want: Option<(&Path, u8, u64)>) {
     let found = found.as_ref().map(|it| (&it.path, it.region, it.offset));
     assert!(rt; found == want);
 }
 
-/// The tree and the flat table answer alike.
+/// The walk over the tree and the flat table return the same claims.
 #[test]
 fn claims_by_the_tree_and_by_the_table(rt: HostRuntime) -> Result<(), Fail> {
     let alloc = rt.alloc();

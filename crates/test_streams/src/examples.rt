@@ -1,5 +1,5 @@
-//! The examples that `host_bridge`, `session`, `window_packing` and `monitor` show in their headings, as
-//! tests.
+//! The examples in the crate documentation of `host_bridge`, `session`, `window_packing` and
+//! `monitor`, as tests.
 ghost use Rattle.std.specs.Prelude.{◌≡◌, length};
 
 use crate::board::MAIN;
@@ -11,14 +11,14 @@ use session::{LineText, Session};
 use std::test::Fail;
 use window_packing::set_up;
 
-/// How many guests a monitor has.
+/// Returns the number of guests of a monitor.
 fn guests_of(monitor: &Monitor) -> usize
     ensures { result ≡ length monitor.now.world.guests }
 {
     monitor.names().len()
 }
 
-/// The same over a walk of the board.
+/// Returns the number of guests of an engine that routes by a walk over the board.
 fn guests_by_walk(engine: &Engine<TreeWalk>) -> usize
     ensures { result ≡ length engine.now.world.guests }
 {
@@ -110,7 +110,7 @@ fn a_guest_and_the_host(rt: HostRuntime) -> Result<(), Fail> {
     Ok(())
 }
 
-/// An engine over a walk of the board answers as the monitor does.
+/// An engine that routes by a walk over the board answers like the monitor.
 #[test]
 fn a_guest_and_the_host_by_a_walk(rt: HostRuntime) -> Result<(), Fail> {
     let alloc = rt.alloc();

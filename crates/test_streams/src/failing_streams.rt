@@ -4,7 +4,8 @@ use simulation::Fault;
 use std::process::Abort;
 use std::test::Fail;
 
-/// Over streams that fail, a run ends with this fault after a beginning of the output.
+/// Checks that a run over failing streams ends with this fault, after writing a prefix of the
+/// output.
 fn is_stopped(
     rt: &(impl AllocGlobal + Abort),
     example: Example<'_>,
@@ -17,8 +18,8 @@ fn is_stopped(
     assert!(rt; writer.bytes().starts_with(writer.flushed()));
 }
 
-/// Each of so many reads and of so many writes and flushes fails in turn; with none that fails, all is written and
-/// flushed.
+/// Lets each of `reads` reads and each of `calls` writes and flushes fail in turn. If none fails,
+/// all output is written and flushed.
 fn fail_in_turn(
     rt: &(impl AllocGlobal + Abort),
     example: Example<'_>,
@@ -46,8 +47,8 @@ fn fail_in_turn(
     assert_eq!(rt; writer.flushed(), example.output);
 }
 
-/// An answer is a write, or more where a write takes five bytes. A flush stands before the end is read and one at the
-/// end, and where a read gives a byte, one after each answer.
+/// An answer needs one write, or several if a write accepts only five bytes. There is a flush
+/// before the end is read and one at the end, and one after each answer if a read gives one byte.
 #[test]
 fn streams_fail_in_turn(rt: HostRuntime) {
     fail_in_turn(&rt, SHORT, Streams::of(64, 64), (2, 5));
@@ -56,7 +57,7 @@ fn streams_fail_in_turn(rt: HostRuntime) {
     fail_in_turn(&rt, LONG, Streams::of(1, 128), (189, 21));
 }
 
-/// A line that is cut by a read that fails has not run.
+/// A line that is cut off by a failing read isn't executed.
 #[test]
 fn a_read_fails_within_a_line(rt: HostRuntime) {
     let cut = Example {
@@ -73,7 +74,8 @@ fn a_read_fails_within_a_line(rt: HostRuntime) {
     assert_eq!(rt; writer.bytes(), b"a: 0x00011234\n".as_slice());
 }
 
-/// A write that takes no byte fails, and so does one after a write that took five.
+/// A write that accepts no bytes fails, and so does a failing write after one that accepted five
+/// bytes.
 #[test]
 fn writers_that_take_little(rt: HostRuntime) {
     let line = Example {

@@ -2,7 +2,7 @@ use simulation::{Fault, board_bytes};
 use std::fs;
 use std::test::Fail;
 
-/// Each byte of a file is read as it stands, in its place.
+/// All bytes of a file are read unchanged and in order.
 #[test]
 fn bytes_of_a_file(rt: HostRuntime) -> Result<(), Fail> {
     let mut bytes = Vec::new(rt.alloc());

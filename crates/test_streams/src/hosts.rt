@@ -1,4 +1,4 @@
-//! Cycles, windows, claims and ports of one board, from reset on.
+//! Configuration cycles, windows, claims and ports of one board, from reset on.
 ghost use Rattle.std.specs.Prelude.{◌<◌};
 
 use crate::board::MAIN;
@@ -14,13 +14,13 @@ use std::test::Fail;
 /// The first and the last address of a window.
 type Window = Option<(u64, u64)>;
 
-/// A call, and what it has to answer. Configuration words are those of function 0 of a device.
+/// A call with its expected result. Configuration words are those of function 0 of a device.
 #[derive(Clone, Copy)]
 enum Step {
     Read(Bdf, u8, u32),
     Write(Bdf, u8, u8, u32),
     Windows(Window, Window, Window),
-    /// The region and the offset in it, of the endpoint at 2.0/0.0.
+    /// A claim by the endpoint at 2.0/0.0: the region, and the offset in it.
     Claim(Space, u64, Option<(u8, u64)>),
     In2(u32, u32),
     In4(u32, u32),
@@ -37,7 +37,7 @@ fn at(bus: u8, device: u8) -> Bdf
     }
 }
 
-/// The windows that the registers of the bridge at 2.0 name: of ports, of memory, and of prefetchable memory.
+/// Returns the windows in the registers of the bridge at 2.0: I/O, memory and prefetchable memory.
 fn windows(alloc: Global, host: &mut Host) -> Result<[Window; 3], Fail> {
     let decl = BridgeDecl::new(0x1234, 2, 0, IoDecode::Bits16, PrefDecode::Bits64)?;
     let mut cells = Bridge::cells(alloc, &decl, false)?;

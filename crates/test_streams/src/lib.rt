@@ -1,10 +1,10 @@
 //! Layer: tests. Below: simulation, test_fakes.
 //!
-//! Tests of what only calls can show, and that no clause of a contract has; `rt try --test` runs them,
-//! without a proof. Over streams in memory: streams that fail, reads in pieces, what a writer keeps
-//! back, bytes of a file, and where values are in the text of a document. Below a session: what a
-//! refused scan leaves, the examples in the headings of crates, and worked calls: sizes that masks
-//! give, a host from reset on, endpoints by their paths, and claims.
+//! Tests of behaviour that no contract states. `rt try --test` runs them, without proofs. Some
+//! tests use streams in memory: failing streams, reads in pieces, buffered output, files, and the
+//! places of values in a document. The others are below sessions: the state after a refused scan,
+//! the examples in crate documentation, and worked examples of sizing, of a host from reset on, of
+//! endpoints by path, and of claims.
 #![tactic(auto)]
 
 #[cfg(test)]

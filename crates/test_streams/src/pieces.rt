@@ -1,9 +1,9 @@
-//! Scripts give the same output however few bytes a read gives.
+//! Scripts whose output must not depend on how many bytes a read gives.
 use crate::scripts::{Board, Example, LONG, Streams, run};
 use std::process::Abort;
 use std::test::Fail;
 
-/// Scripts over the main board, and their output.
+/// Scripts for the main board, with their output.
 const SCRIPTS: [(&[u8], &[u8]); 8] = [
     (
         b"a cw 0 0x10 4 0xffffffff
@@ -96,7 +96,7 @@ host: refused 401 bad line
     (b"a cr 0 0", b"a: refused 401 bad line\n"),
 ];
 
-/// With so many bytes a read, the script has its output.
+/// Checks the output of a script if a read gives at most `given` bytes.
 fn is_answered(rt: &(impl AllocGlobal + Abort), example: Example<'_>, given: usize) {
     let (end, writer) = run(rt, example, Streams::of(given, 128));
     assert_eq!(rt; end, Ok(()), "{given} bytes a read");
@@ -130,7 +130,7 @@ fn scripts_in_pieces(rt: HostRuntime) -> Result<(), Fail> {
     Ok(())
 }
 
-/// A comment of 200 bytes, one of 201, and no script at all.
+/// A comment of 200 bytes, one of 201 bytes, and an empty script.
 #[test]
 fn comments_in_pieces(rt: HostRuntime) -> Result<(), Fail> {
     on_main(&rt, &[b'#'; 200], b"");
@@ -139,7 +139,7 @@ fn comments_in_pieces(rt: HostRuntime) -> Result<(), Fail> {
     Ok(())
 }
 
-/// Of a line of 100,000 bytes nothing is kept, and the line behind it is answered.
+/// A line of 100,000 bytes is refused without being stored, and the next line is answered.
 #[test]
 fn a_long_line_in_pieces(rt: HostRuntime) -> Result<(), Fail> {
     let mut script = vec![in rt.alloc(); b'x'; 100_000]?;

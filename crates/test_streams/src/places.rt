@@ -1,8 +1,9 @@
-//! Values of every writing have a place in the text of a document.
+//! The places of values in the text of a document, for all TOML notations.
 use diagnostics::Step::{self, Index, Key};
 use diagnostics::{Places, TextPlace};
 
-/// The place of the value at the end of a way, and the first place there or inside that value.
+/// Returns the place of the value that a path of keys leads to, and the first place at or inside
+/// this value.
 fn places(
     rt: &HostRuntime,
     text: &str,
@@ -15,26 +16,27 @@ fn places(
     Some((places.place(way), places.place_within(alloc, way).ok()?))
 }
 
-/// The line of the value at the end of a way, or 0.
+/// Returns the line of the value that a path of keys leads to, or 0.
 fn line(rt: &HostRuntime, text: &str, way: &[Step<'_>]) -> usize {
     let (place, _) = places(rt, text, way).unwrap_or((None, None));
     place.map_or(0, |it| it.line)
 }
 
-/// The line of the value at the end of a way or of the first one inside it, or 0.
+/// Returns the line of the value that a path of keys leads to, or of the first value inside it, or
+/// 0.
 fn line_within(rt: &HostRuntime, text: &str, way: &[Step<'_>]) -> usize {
     let (_, within) = places(rt, text, way).unwrap_or((None, None));
     within.map_or(0, |it| it.line)
 }
 
-/// Whether the value at the end of a way is written so in its place.
+/// Returns whether the place of a value contains exactly this text.
 fn is_at(rt: &HostRuntime, text: &str, way: &[Step<'_>], written: &str) -> bool {
     let (place, _) = places(rt, text, way).unwrap_or((None, None));
     let found = place.and_then(|it| text.as_bytes().get(it.start..it.end));
     found == Some(written.as_bytes())
 }
 
-/// Comments, a byte order mark, carriage returns and quotes of every kind.
+/// A document with comments, a byte order mark, carriage returns and all kinds of quotes.
 const QUOTES: &str = "\u{feff}# \u{e9}\r
 \"a=b\" = { x = [ [1, 2], [ ], [\"\u{e9}\", '#]'] ], y.z = 5, 'q\"q'.r = true }\r
 a.b . c = true\r
@@ -60,7 +62,8 @@ fn quotes_of_every_kind(rt: HostRuntime) {
     assert_eq!(rt; at(&[Key("a")]), 0);
 }
 
-/// A comment, a text over lines, and a number after a text with signs of other writings.
+/// A document with comments, a multi-line string, and a number after a string with the syntax of
+/// other notations.
 const BOARD: &str = r#"# faults of every writing
 [host]
 mem = [0xc0000000, 0xdfffffff]   # a # in a comment "
@@ -86,7 +89,8 @@ fn places_of_every_writing(rt: HostRuntime) {
     assert!(rt; is_at(&rt, QUOTES, &[Key("a=b"), Key("q\"q"), Key("r")], "true"));
 }
 
-/// A float, a date, a text that is the mark of its own place, and a table that has no value.
+/// A float, dates, a string that equals the mark of its place, and a table header, which has no
+/// place.
 #[test]
 fn scalars_of_every_kind(rt: HostRuntime) {
     assert_eq!(rt; line(&rt, "\na = 0\nb = 1.5e3", &[Key("a")]), 2);
@@ -101,7 +105,7 @@ fn scalars_of_every_kind(rt: HostRuntime) {
     assert_eq!(rt; line(&rt, "[t]\n\"@\" = 0", &[Key("t"), Key("@")]), 2);
 }
 
-/// Tables and arrays of every writing, whose first keys in the alphabet don't come first.
+/// A document with all kinds of tables and arrays, whose first keys aren't first in the alphabet.
 const PARTS: &str = r#"[host]
 mem = [
   0xc0000000, 0xdfffffff]

@@ -1,4 +1,4 @@
-//! What a refused scan leaves: bus numbers of bridges, and nothing else, may differ from reset.
+//! The state after a refused scan: it can differ from reset only in the bus numbers of bridges.
 ghost use Rattle.std.specs.Prelude.{◌<◌, IfOk};
 ghost use Rattle.model_board.specs.AtReset.{IsAtReset};
 
@@ -20,7 +20,8 @@ fn bridge(path: Path) -> Result<Decl, Fail> {
     Ok(Decl { path, function })
 }
 
-/// A bridge on bus 0, another behind it, and beside that an endpoint with a region.
+/// Declares a bridge on bus 0, a second bridge behind it, and an endpoint with a region next to the
+/// second bridge.
 fn push_branch(alloc: Global, decls: &mut Vec<Decl>, root: Part) -> Result<(), Fail> {
     let mut behind = Path::on_root(root);
     behind.push(Part::new(0, 0));
@@ -45,7 +46,7 @@ fn push_branch(alloc: Global, decls: &mut Vec<Decl>, root: Part) -> Result<(), F
     Ok(())
 }
 
-/// Such branches at all functions of a device.
+/// Declares a branch as in `push_branch` at each function of a device.
 fn push_device(alloc: Global, decls: &mut Vec<Decl>, device: u8) -> Result<(), Fail>
     requires { device < 16 }
 {
@@ -55,7 +56,8 @@ fn push_device(alloc: Global, decls: &mut Vec<Decl>, device: u8) -> Result<(), F
     Ok(())
 }
 
-/// One bridge more than there are bus numbers: 128 on bus 0, and one behind each.
+/// Returns a host with one bridge more than there are bus numbers: 128 bridges on bus 0, and one
+/// behind each.
 fn host(rt: &impl Abort, alloc: Global) -> Result<Host, Fail>
     ensures { IfOk result (λ h. IsAtReset h.state) }
 {
@@ -76,7 +78,7 @@ fn host(rt: &impl Abort, alloc: Global) -> Result<Host, Fail>
     Ok(Host::new(Bus::build(alloc, decls)?, apertures))
 }
 
-/// Two hosts, one of which was scanned.
+/// Two hosts with the same board, only one of which was scanned.
 #[derive(Drop)]
 struct Pair {
     scanned: Host,
@@ -84,7 +86,8 @@ struct Pair {
 }
 
 impl Pair {
-    /// What stands at an address shows the same in both, bytes 18h to 1Ah of a bridge aside.
+    /// Checks that the function at a BDF reads the same on both hosts, except for bytes 18h to 1Ah
+    /// of a bridge.
     fn is_alike(&mut self, rt: &impl Abort, at: Bdf, identity: u32, is_bridge: bool) {
         assert_eq!(rt; self.scanned.config_read(at, 0, 0b1111), identity, "{at:?}");
         for n in 0..64u8 {
@@ -95,13 +98,14 @@ impl Pair {
         }
     }
 
-    /// Gives the bridge at an address these bus numbers, in both.
+    /// Programs the bus numbers of the bridge at a BDF, on both hosts.
     fn number(&mut self, at: Bdf, numbers: u32) {
         self.scanned.config_write(at, 0x18, 0b0111, numbers);
         self.at_reset.config_write(at, 0x18, 0b0111, numbers);
     }
 
-    /// A bridge on bus 0, and what stands behind it while it alone leads to bus 1.
+    /// Compares a bridge on bus 0, and the functions behind it while no other bridge leads to bus
+    /// 1.
     fn branch_is_alike(&mut self, rt: &impl Abort, root: Bdf) {
         self.is_alike(rt, root, BRIDGE, true);
         self.number(root, 0x0001_0100);
@@ -111,7 +115,8 @@ impl Pair {
     }
 }
 
-/// Device and vendor of each bridge and of each endpoint.
+/// The first configuration word of each bridge: Device ID and Vendor ID. `ENDPOINT` is that of each
+/// endpoint.
 const BRIDGE: u32 = 0x0002_1234;
 
 const ENDPOINT: u32 = 0x0001_1234;
@@ -127,7 +132,7 @@ fn on_bus(bus: u8, device: u8, function: u8) -> Bdf
     }
 }
 
-/// The numbers of all bridges on bus 0 are taken back.
+/// Clears the bus numbers of all bridges at a device of bus 0.
 fn close_device(pair: &mut Pair, device: u8)
     requires { device < 16 }
 {
@@ -144,7 +149,8 @@ fn device_is_alike(rt: &impl Abort, pair: &mut Pair, device: u8)
     }
 }
 
-/// The 256th bridge has no number: the scan is refused, and only bus numbers were written until then.
+/// The 256th bridge can't get a bus number. The scan is refused, and has written nothing but bus
+/// numbers.
 #[test]
 fn a_refused_scan_leaves_bus_numbers_alone(rt: HostRuntime) -> Result<(), Fail> {
     let alloc = rt.alloc();

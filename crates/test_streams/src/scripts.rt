@@ -1,17 +1,17 @@
-//! Scripts with their output, and runs of them over readers and writers in fixed arrays.
+//! Scripts with their output, and runs of scripts over readers and writers in fixed arrays.
 use crate::board::MAIN;
 use simulation::{Fault, demo, whole};
 use std::process::Abort;
 use test_fakes::{FakeReader, FakeWriter};
 
-/// The board that a script runs over.
+/// The board on which a script runs.
 #[derive(Clone, Copy)]
 pub(crate) enum Board {
     Demo,
     Main,
 }
 
-/// A script, and what it has to write.
+/// A script with its expected output.
 #[derive(Clone, Copy)]
 pub(crate) struct Example<'a> {
     pub(crate) board: Board,
@@ -19,15 +19,16 @@ pub(crate) struct Example<'a> {
     pub(crate) output: &'a [u8],
 }
 
-/// Three lines over the demo board.
+/// Three lines for the demo board.
 pub(crate) const SHORT: Example<'static> = Example {
     board: Board::Demo,
     script: b"a cr 0 0 4\na cw 0 4 4 7\na cr 0 4 4\n",
     output: b"a: 0x00011234\na: ok\na: 0x80000007\n",
 };
 
-/// A guest finds Command and Status, turns memory on, places its region, writes there, reads it back and turns
-/// memory off; the host sees the bytes and the board's own Command, and the other guest nothing.
+/// A guest reads Command and Status, enables memory, programs its BAR, writes to it, reads back,
+/// and disables memory. The host reads the bytes and the board's own Command, and the other guest
+/// gets all ones.
 pub(crate) const LONG: Example<'static> = Example {
     board: Board::Main,
     script: b"a cr 0 4 4
@@ -54,7 +55,8 @@ b: 0xffffffff
 ",
 };
 
-/// How many bytes a read gives and a write takes, and which read and which call of the writer fails, counted from 0.
+/// How many bytes a read gives and a write accepts, and which read and which call of the writer
+/// fail, counted from 0.
 #[derive(Clone, Copy)]
 pub(crate) struct Streams {
     pub(crate) given: usize,
@@ -64,7 +66,7 @@ pub(crate) struct Streams {
 }
 
 impl Streams {
-    /// Streams that don't fail.
+    /// Returns streams that don't fail.
     pub(crate) fn of(given: usize, taken: usize) -> Streams {
         Streams {
             given,
@@ -75,7 +77,7 @@ impl Streams {
     }
 }
 
-/// How a run of the script ends, and the writer that it wrote to.
+/// Runs a script, and returns how the run ended and the writer with the output.
 pub(crate) fn run(
     rt: &(impl AllocGlobal + Abort),
     example: Example<'_>,

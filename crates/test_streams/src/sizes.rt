@@ -1,6 +1,7 @@
 use bars::{Kind, size_of_mask};
 
-/// What a base register reads after all ones were written, and in which kind and size that is read.
+/// The value of a base address register after all ones were written, and the kind and size read
+/// from it.
 #[test]
 fn sizes_of_masks(rt: HostRuntime) {
     let memory = |pref| Kind::Mem64 { pref };
