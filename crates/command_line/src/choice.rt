@@ -1,4 +1,4 @@
-//! What the words of the command line ask for.
+//! The command that the program's arguments select.
 ghost use Rattle.std.specs.{Prelude.{◌≡◌, ◌⊎◌, Some, [], true, false, map, option_map, IfOk, IfErr, IfSome, IfNone, Err, MatchResult}, Bool.OnTrue};
 ghost use Rattle.clap.specs.{Faults.fault_of, Matches.{first_value, found_of}, Values.kind_of};
 ghost use Rattle.command_line.specs.{Words.{pciguest_app, is_taken}, Choices.{is_true, board_path, IsAsked, IsAskedBy, IsNoCommand, IsWork, IsHelp}};
@@ -9,44 +9,45 @@ use clap::{ArgMatches, Error};
 use std::alloc::Global;
 use thiserror::Error;
 
-/// What the program is to do.
+/// A command of the program.
 #[derive(Drop)]
 pub enum Choice<'a> {
     /// Print this text.
     Help(String),
-    /// Run a script over the demo board.
+    /// Run a script on the demo board.
     Demo,
-    /// Write the report of the board file at this path, as JSON if `json`.
+    /// Report the board of the board file at this path, as JSON if `json`.
     List {
         path: &'a str,
         json: bool,
     },
-    /// Say what is wrong with the board file at this path, or that its board fits. `all` asks for every warning,
-    /// `plain` for lines alone.
+    /// Report all problems in the board file at this path, or that its board fits. `all` enables
+    /// every warning. `plain` limits the output to lines.
     Check {
         path: &'a str,
         all: bool,
         plain: bool,
     },
-    /// Run a script over the board of the board file at this path. If `strict`, a refused line is a fault, once
-    /// all lines ran.
+    /// Run a script on the board of the board file at this path. If `strict`, a refused line is a
+    /// fault, which is reported once all lines have run.
     Run {
         path: &'a str,
         strict: bool,
     },
-    /// Run a session over the board of the board file at this path, at reset.
+    /// Run a firmware session on the board of the board file at this path, starting at reset.
     Firmware {
         path: &'a str,
         strict: bool,
     },
-    /// Do the same, and then write all that is wrong in the registers as they stand, as JSON if `json`. If
-    /// `strict`, that is a fault too.
+    /// Run a firmware session, and then report all problems in the final registers, as JSON if
+    /// `json`. If `strict`, a problem is a fault too.
     Audit {
         path: &'a str,
         json: bool,
         strict: bool,
     },
-    /// Do the same, and then write all that is wrong and all that is lacking in them, as JSON if `json`.
+    /// Run a firmware session, and then report all problems and unmet requirements in the final
+    /// registers, as JSON if `json`.
     Ready {
         path: &'a str,
         json: bool,
@@ -55,7 +56,7 @@ pub enum Choice<'a> {
 }
 
 impl<'a> Choice<'a> {
-    /// The path of the board file that is read, if one is.
+    /// Returns the path of the board file, if the command reads one.
     pub fn board_path(&self) -> Option<&'a str>
         ensures { option_map (λ s. s.now) result ≡ board_path self.now }
     {
@@ -72,10 +73,10 @@ impl<'a> Choice<'a> {
     }
 }
 
-/// Why words are not read.
+/// The reason why arguments are rejected.
 #[derive(Clone, Copy, Debug, PartialEq, Eq, Error)]
 pub enum WordsFault {
-    /// They are none that the program takes.
+    /// The arguments are invalid.
     #[error("usage")]
     Usage,
     /// Out of memory.
@@ -83,7 +84,7 @@ pub enum WordsFault {
     Memory,
 }
 
-/// The answer to words that the command line refuses.
+/// Converts an error of the argument parser. A help or version text becomes a command.
 fn refusal<'a>(alloc: Global, error: &Error) -> Result<Choice<'a>, WordsFault>
     ensures memory { kind_of error.now ≡ ErrorKind.OutOfMemory →
         result ≡ Err WordsFault.Memory }
@@ -101,7 +102,7 @@ fn refusal<'a>(alloc: Global, error: &Error) -> Result<Choice<'a>, WordsFault>
     }
 }
 
-/// Whether the word after the program's name is `help`, and the last.
+/// Returns whether `help` is the only argument.
 fn is_help(words: &[&str]) -> bool
     ensures { OnTrue result (is_taken (map (λ w. w.now) words.now) ≡ false) }
 {
@@ -111,7 +112,7 @@ fn is_help(words: &[&str]) -> bool
     }
 }
 
-/// The answer to words that ask for help.
+/// Returns the command that prints the help text.
 fn help<'a>(alloc: Global) -> Result<Choice<'a>, WordsFault>
     ensures { IfOk result IsHelp }
 {
@@ -124,7 +125,7 @@ fn help<'a>(alloc: Global) -> Result<Choice<'a>, WordsFault>
     }
 }
 
-/// Whether a flag is given, by its value.
+/// Returns whether a flag is set, given its value.
 fn is_true(given: Option<&str>) -> bool
     ensures { result ≡ is_true (option_map (λ s. s.now) given.entry) }
 {
@@ -134,14 +135,15 @@ fn is_true(given: Option<&str>) -> bool
     }
 }
 
-/// What a subcommand asks for with what is given for it, if the program has one of that name.
+/// Returns the command of the subcommand `name` with its arguments, or `None` if the program has no
+/// such subcommand.
 fn asked<'a>(name: &str, given: &ArgMatches<'a>, is_terminal: bool) -> Option<Choice<'a>>
     ensures asked { IfSome result
         (IsAskedBy (Some name.now) (first_value (found_of given.now)) is_terminal) }
     ensures work { IfSome result IsWork }
     ensures none { IfNone result (IsNoCommand name.now) }
 {
-    // No words are taken that name no board.
+    // `board` is a required argument of every subcommand that reads a board file.
     let path = given.get_str("board").unwrap_or("");
     let json = is_true(given.get_str("json"));
     let strict = is_true(given.get_str("strict"));
@@ -161,11 +163,12 @@ fn asked<'a>(name: &str, given: &ArgMatches<'a>, is_terminal: bool) -> Option<Ch
     }
 }
 
-/// What the words ask for. The first of them is the program's name. `is_terminal` tells whether what is
-/// done writes to a terminal: then a check may tell more than lines.
+/// Returns the command that the program's arguments select. The first of `words` is the program's
+/// name. `is_terminal` says whether the output goes to a terminal. If it does, a check may write
+/// more than lines.
 ///
-/// Words that the command line doesn't take are `Help` where they ask for help or for the version, and else
-/// `WordsFault::Usage`. `help` alone asks for what `--help` does.
+/// If the parser rejects the arguments, returns `Help` if they ask for help or for the version, and
+/// otherwise fails with `WordsFault::Usage`. `help` alone does the same as `--help`.
 pub fn choose<'a>(
     alloc: Global,
     words: &'a [&'a str],
@@ -175,7 +178,7 @@ pub fn choose<'a>(
     ensures only_taken { IfOk result (λ c.
         IsWork c → fault_of pciguest_app (map (λ w. w.now) words.entry.now) ≡ []) }
 
-    // Words that the command line takes are refused where memory is out, and nowhere else.
+    // Valid arguments are rejected only if memory is exhausted.
     ensures taken { is_taken (map (λ w. w.now) words.entry.now) ≡ true
         → MatchResult result IsWork (λ f. f ≡ WordsFault.Memory) }
 {

@@ -1,4 +1,4 @@
-//! The command line, as `clap` reads it.
+//! The definition of the command line for `clap`.
 ghost use Rattle.std.specs.Prelude.{◌≡◌, false, codes, IfOk};
 ghost use Rattle.clap.specs.{declared.builder.command.Command.TheViews.out-Command as fields_of, Simple.{app_of, shape_of, new_shape}, Walk.rule_of};
 ghost use Rattle.command_line.specs.Words.{board_rule, json_rule, all_rule, plain_rule, strict_rule, list_shape, check_shape, run_shape, firmware_shape, audit_shape, ready_shape, demo_and_list_app, with_check_app, with_run_app, with_firmware_app, with_audit_app, pciguest_app};
@@ -6,7 +6,7 @@ ghost use Rattle.command_line.specs.Words.{board_rule, json_rule, all_rule, plai
 use clap::{Arg, ArgAction, Command};
 use std::alloc::{AllocError, Global};
 
-/// The version of the program, which is that of the library's header.
+/// The version of the program, which is also the version in the library's header.
 const VERSION: &str = "0.4.0-dev";
 
 const REFUSED: &str = "End with status 1 where a line was refused";
@@ -19,7 +19,7 @@ const READINESS_AS_JSON: &str = "Write what is wrong and lacking as JSON";
 
 const REFUSED_OR_TOLD: &str = "End with status 1 where a line was refused or a problem told";
 
-/// The argument that names a board file.
+/// Returns the argument that names a board file.
 fn board<'a>(alloc: Global) -> Arg<'a>
     ensures rule { rule_of result ≡ board_rule }
     ensures local { result.global ≡ false }
@@ -27,7 +27,7 @@ fn board<'a>(alloc: Global) -> Arg<'a>
     Arg::new(alloc, "board").required(true).help("A board file")
 }
 
-/// `demo`.
+/// Returns the subcommand `demo`.
 fn demo<'a>(alloc: Global) -> Command<'a>
     ensures shape { shape_of result ≡ new_shape (codes "demo") }
     ensures local { (fields_of result).has_globals ≡ false }
@@ -35,7 +35,7 @@ fn demo<'a>(alloc: Global) -> Command<'a>
     Command::new(alloc, "demo").about("Run the script on standard input over the demo board")
 }
 
-/// The flag that asks for JSON, and what help says of it.
+/// Returns the flag `--json` with its help text.
 fn json<'a>(alloc: Global, help: &'a str) -> Arg<'a>
     ensures rule { rule_of result ≡ json_rule }
     ensures local { result.global ≡ false }
@@ -46,7 +46,7 @@ fn json<'a>(alloc: Global, help: &'a str) -> Arg<'a>
         .help(help)
 }
 
-/// `list [--json] BOARD`.
+/// Returns the subcommand `list [--json] BOARD`.
 fn list<'a>(alloc: Global) -> Result<Command<'a>, AllocError>
     ensures shape { IfOk result (λ c. shape_of c ≡ list_shape) }
     ensures local { IfOk result (λ c. (fields_of c).has_globals ≡ false) }
@@ -57,7 +57,7 @@ fn list<'a>(alloc: Global) -> Result<Command<'a>, AllocError>
         .arg(board(alloc))
 }
 
-/// The flag that asks for a fault where a line is refused, and what help says of it.
+/// Returns the flag `--strict` with its help text.
 fn strict<'a>(alloc: Global, help: &'a str) -> Arg<'a>
     ensures rule { rule_of result ≡ strict_rule }
     ensures local { result.global ≡ false }
@@ -68,7 +68,7 @@ fn strict<'a>(alloc: Global, help: &'a str) -> Arg<'a>
         .help(help)
 }
 
-/// `run [--strict] BOARD`.
+/// Returns the subcommand `run [--strict] BOARD`.
 fn run<'a>(alloc: Global) -> Result<Command<'a>, AllocError>
     ensures shape { IfOk result (λ c. shape_of c ≡ run_shape) }
     ensures local { IfOk result (λ c. (fields_of c).has_globals ≡ false) }
@@ -79,7 +79,7 @@ fn run<'a>(alloc: Global) -> Result<Command<'a>, AllocError>
         .arg(board(alloc))
 }
 
-/// The flag that asks a check for every warning.
+/// Returns the flag `--all`, which enables every warning of a check.
 fn all<'a>(alloc: Global) -> Arg<'a>
     ensures rule { rule_of result ≡ all_rule }
     ensures local { result.global ≡ false }
@@ -90,7 +90,7 @@ fn all<'a>(alloc: Global) -> Arg<'a>
         .help("Warn also of apertures of more than ten times what their pools use")
 }
 
-/// The flag that asks a check for lines alone.
+/// Returns the flag `--plain`, which limits the output of a check to lines.
 fn plain<'a>(alloc: Global) -> Arg<'a>
     ensures rule { rule_of result ≡ plain_rule }
     ensures local { result.global ≡ false }
@@ -101,7 +101,7 @@ fn plain<'a>(alloc: Global) -> Arg<'a>
         .help("Write a line for each problem and nothing below it")
 }
 
-/// `check [--all] [--plain] BOARD`.
+/// Returns the subcommand `check [--all] [--plain] BOARD`.
 fn check<'a>(alloc: Global) -> Result<Command<'a>, AllocError>
     ensures shape { IfOk result (λ c. shape_of c ≡ check_shape) }
     ensures local { IfOk result (λ c. (fields_of c).has_globals ≡ false) }
@@ -113,7 +113,7 @@ fn check<'a>(alloc: Global) -> Result<Command<'a>, AllocError>
         .arg(board(alloc))
 }
 
-/// `firmware [--strict] BOARD`.
+/// Returns the subcommand `firmware [--strict] BOARD`.
 fn firmware<'a>(alloc: Global) -> Result<Command<'a>, AllocError>
     ensures shape { IfOk result (λ c. shape_of c ≡ firmware_shape) }
     ensures local { IfOk result (λ c. (fields_of c).has_globals ≡ false) }
@@ -126,7 +126,7 @@ fn firmware<'a>(alloc: Global) -> Result<Command<'a>, AllocError>
         .arg(board(alloc))
 }
 
-/// `audit [--json] [--strict] BOARD`.
+/// Returns the subcommand `audit [--json] [--strict] BOARD`.
 fn audit<'a>(alloc: Global) -> Result<Command<'a>, AllocError>
     ensures shape { IfOk result (λ c. shape_of c ≡ audit_shape) }
     ensures local { IfOk result (λ c. (fields_of c).has_globals ≡ false) }
@@ -138,7 +138,7 @@ fn audit<'a>(alloc: Global) -> Result<Command<'a>, AllocError>
         .arg(board(alloc))
 }
 
-/// `ready [--json] [--strict] BOARD`.
+/// Returns the subcommand `ready [--json] [--strict] BOARD`.
 fn ready<'a>(alloc: Global) -> Result<Command<'a>, AllocError>
     ensures shape { IfOk result (λ c. shape_of c ≡ ready_shape) }
     ensures local { IfOk result (λ c. (fields_of c).has_globals ≡ false) }
@@ -150,7 +150,7 @@ fn ready<'a>(alloc: Global) -> Result<Command<'a>, AllocError>
         .arg(board(alloc))
 }
 
-/// The program's command line with `demo` and `list` alone.
+/// Returns the command line with only `demo` and `list`.
 fn demo_and_list<'a>(alloc: Global) -> Result<Command<'a>, AllocError>
     ensures { IfOk result (λ c. app_of c ≡ demo_and_list_app) }
 {
@@ -164,7 +164,7 @@ fn demo_and_list<'a>(alloc: Global) -> Result<Command<'a>, AllocError>
         .subcommand(list)
 }
 
-/// The same with `check`.
+/// Returns the command line with the subcommands up to `check`.
 fn with_check<'a>(alloc: Global) -> Result<Command<'a>, AllocError>
     ensures { IfOk result (λ c. app_of c ≡ with_check_app) }
 {
@@ -172,7 +172,7 @@ fn with_check<'a>(alloc: Global) -> Result<Command<'a>, AllocError>
     demo_and_list(alloc)?.subcommand(check)
 }
 
-/// The same with `run`.
+/// Returns the command line with the subcommands up to `run`.
 fn with_run<'a>(alloc: Global) -> Result<Command<'a>, AllocError>
     ensures { IfOk result (λ c. app_of c ≡ with_run_app) }
 {
@@ -180,7 +180,7 @@ fn with_run<'a>(alloc: Global) -> Result<Command<'a>, AllocError>
     with_check(alloc)?.subcommand(run)
 }
 
-/// The same with `firmware`.
+/// Returns the command line with the subcommands up to `firmware`.
 fn with_firmware<'a>(alloc: Global) -> Result<Command<'a>, AllocError>
     ensures { IfOk result (λ c. app_of c ≡ with_firmware_app) }
 {
@@ -188,7 +188,7 @@ fn with_firmware<'a>(alloc: Global) -> Result<Command<'a>, AllocError>
     with_run(alloc)?.subcommand(firmware)
 }
 
-/// The same with `audit`.
+/// Returns the command line with the subcommands up to `audit`.
 fn with_audit<'a>(alloc: Global) -> Result<Command<'a>, AllocError>
     ensures { IfOk result (λ c. app_of c ≡ with_audit_app) }
 {
@@ -196,7 +196,7 @@ fn with_audit<'a>(alloc: Global) -> Result<Command<'a>, AllocError>
     with_firmware(alloc)?.subcommand(audit)
 }
 
-/// The program's command line.
+/// Returns the complete command line of the program.
 pub(crate) fn command<'a>(alloc: Global) -> Result<Command<'a>, AllocError>
     ensures { IfOk result (λ c. app_of c ≡ pciguest_app) }
 {

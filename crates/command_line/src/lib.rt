@@ -1,6 +1,6 @@
 //! Layer: program. Below: lists. Above: simulation.
 //!
-//! The command line: what the words that the program is given ask for, and which of them it doesn't take.
+//! The command line: the command that the arguments select, and the first argument that is invalid.
 #![tactic(auto)]
 
 mod choice;

@@ -1,9 +1,9 @@
-//! What the command line takes, and the first word that it doesn't.
+//! Usage messages, and the first invalid argument.
 use crate::commands::command;
 use clap::error::ErrorKind;
 use std::alloc::{AllocError, Global};
 
-/// Whether the command line has nothing against the words.
+/// Returns whether the command line accepts `words`.
 fn has_no_fault(alloc: Global, words: &[&str]) -> Result<bool, AllocError> {
     match command(alloc)?.try_get_matches_from(words) {
         Ok(_) => Ok(true),
@@ -14,7 +14,8 @@ fn has_no_fault(alloc: Global, words: &[&str]) -> Result<bool, AllocError> {
     }
 }
 
-/// Whether the command line takes the words, or would with one more: `demo` is a subcommand, and may be a path.
+/// Returns whether the command line accepts `words`, alone or with one more word. `demo` can be
+/// that word, since it is a subcommand and may also be a path.
 fn is_begun(alloc: Global, words: &[&str]) -> Result<bool, AllocError> {
     if has_no_fault(alloc, words)? {
         return Ok(true);
@@ -24,8 +25,8 @@ fn is_begun(alloc: Global, words: &[&str]) -> Result<bool, AllocError> {
     has_no_fault(alloc, more.as_slice())
 }
 
-/// The first word after the program's name with which the words up to it are none that the command line takes, and
-/// would be none with another after them. None is where words are missing, or all are taken.
+/// Returns the first argument after which the command line rejects `words` up to there, with or
+/// without one more word. Returns `None` if arguments are missing or all of them are accepted.
 pub fn refused_word<'a>(alloc: Global, words: &[&'a str]) -> Result<Option<&'a str>, AllocError> {
     for end in 1..words.len() {
         if !is_begun(alloc, &words[..end + 1])? {
@@ -35,7 +36,8 @@ pub fn refused_word<'a>(alloc: Global, words: &[&'a str]) -> Result<Option<&'a s
     Ok(None)
 }
 
-/// What the program's name may be followed by, for the subcommand that the words name.
+/// Returns the usage of the subcommand in `words`, or of the program if there is no such
+/// subcommand.
 pub fn words_taken(words: &[&str]) -> &'static str {
     match words.get(1).copied().unwrap_or("") {
         "demo" => "demo",

@@ -1,4 +1,4 @@
-//! What answers lines.
+//! The interface of servers that answer lines.
 ghost use Rattle.std.specs.Prelude.{◌≡◌, ◌++◌, ℕ, [], Option, None, Some, option_map, string_bytes, IfOk, OnOk, OnErr};
 ghost use Rattle.model_guests.specs.{Text.Text, LineRuns.Protocol};
 ghost use Rattle.lines.specs.Pieces.{IsBefore, with_more};
@@ -7,17 +7,17 @@ use crate::replies::LineText;
 use accesses::Names;
 use std::alloc::AllocError;
 
-/// How a line is answered, beside the text that it writes.
+/// The outcome of a line, besides the short text that it writes.
 #[derive(Drop)]
 pub struct Answer {
-    /// What stands behind that text, where the line writes more than one line.
+    /// The output after the short text, if the line writes more than one output line.
     pub more: Option<String>,
-    /// The number by which the line is refused, if it is.
+    /// The number of the refusal, if the line is refused.
     pub refused: Option<u16>,
 }
 
 impl Answer {
-    /// Of a line that writes no more than one line.
+    /// Returns the outcome of a line that writes at most one output line.
     pub fn short(refused: Option<u16>) -> Answer
         ensures { result ≡ record { more = None; refused = refused } }
     {
@@ -27,7 +27,7 @@ impl Answer {
         }
     }
 
-    /// Of a line that is not refused, and writes this text.
+    /// Returns the outcome of an accepted line that writes `text`.
     pub fn text(text: String) -> Answer
         ensures { result ≡ record { more = Some text; refused = None } }
     {
@@ -38,22 +38,24 @@ impl Answer {
     }
 }
 
-/// What answers the lines of a language, one at a time. The parameter names the language: a crate above
-/// both implements it with a type of its own there.
+/// A server that answers the lines of a language, one at a time. The parameter `L` identifies the
+/// language. It lets a higher crate implement the trait for a type of another crate.
 pub trait Answers<L> {
-    /// What each line writes, and what it leaves.
+    /// The output of each line, and the state after the line.
     ghost protocol: { Protocol Self };
 
-    /// The number by which each line is refused, if it is.
+    /// The number of each line's refusal, or `None` if the line is accepted.
     ghost refusal: { Self → Text → Option ℕ };
 
-    /// Whether some line of the language takes memory, so that it may be out.
+    /// Whether any line of the language allocates memory, and so can fail because memory is
+    /// exhausted.
     ghost TakesMemory: { Type 0 };
 
-    /// Runs the event of a line, and writes what the line writes into an empty text: nothing, or one line
-    /// with its line feed. What is longer is given behind it. If `long`, more than 200 bytes of the line came
-    /// before these and were passed over: of a long line any bytes are enough. Where memory is out, no event
-    /// runs and nothing is written.
+    /// Executes a line and writes its output to `text`, which must be empty: nothing, or one line
+    /// with its line feed. Longer output is returned in the answer and follows `text`. If `long` is
+    /// set, more than 200 bytes of the line preceded `line` and were skipped. The remaining bytes
+    /// of a long line don't matter. If memory is exhausted, the line has no effect and writes
+    /// nothing.
     fn answer(&mut self, line: &[u8], long: bool, text: &mut LineText) -> Result<Answer, AllocError>
         requires { text.old.items ≡ [] }
         ensures text { IfOk result (λ a. (before : Text) → IsBefore long before →
@@ -66,6 +68,7 @@ pub trait Answers<L> {
         ensures kept { OnErr result ((self.new ≡ self.old) × (text.new ≡ text.old)) }
         ensures memory { OnErr result TakesMemory };
 
-    /// The names of the guests whose lines these are; none, where they are firmware's.
+    /// Returns the names of the guests whose lines the server answers, or `None` if the lines are
+    /// firmware's.
     fn guests(&self) -> Option<&Names>;
 }

@@ -1,4 +1,4 @@
-//! A line that is read word by word, in one pass over its bytes.
+//! Parsing of a line word by word, in one pass over its bytes.
 ghost use Rattle.std.specs.Prelude.{◌≡◌, ◌≤◌, ◌<◌, ◌^◌, ◌∷◌, [], None, Some, length, MatchOption, IfSome, IsTrue, IsFalse};
 ghost use Rattle.model_guests.specs.{Text.words, Numbers.{below, digits_from, digits_in, is_hexadecimal}};
 ghost use Rattle.lines.specs.Cursors.{before_blank, after_blank, IsRead, IsAtWord, numbered};
@@ -6,7 +6,7 @@ ghost use Rattle.lines.specs.Cursors.{before_blank, after_blank, IsRead, IsAtWor
 use crate::numbers::with_digit;
 use crate::words::{is_blank, next_piece};
 
-/// The text without the blanks at its front.
+/// Returns the text without its leading blanks.
 #[inline]
 fn from_word(text: &[u8]) -> &[u8]
     ensures words { words result.now ≡ words text.now }
@@ -22,7 +22,7 @@ fn from_word(text: &[u8]) -> &[u8]
     rest
 }
 
-/// Whether no word is left.
+/// Returns whether the text contains no more words.
 #[inline]
 pub(crate) fn is_end(text: &[u8]) -> bool
     ensures some { IsFalse result → words text.now ≡ [] → ⊥ }
@@ -31,7 +31,7 @@ pub(crate) fn is_end(text: &[u8]) -> bool
     from_word(text).is_empty()
 }
 
-/// The first word, and what comes after it.
+/// Returns the first word and the text after it.
 #[inline]
 pub(crate) fn first_word(text: &[u8]) -> Option<(&[u8], &[u8])>
     ensures { MatchOption result (words text.now ≡ []) (λ p.
@@ -47,7 +47,8 @@ pub(crate) fn first_word(text: &[u8]) -> Option<(&[u8], &[u8])>
     None
 }
 
-/// The first word, and what comes after it. A word of one letter, as of short names, is seen at once.
+/// Returns the first word and the text after it. A word of one letter, such as a short guest name,
+/// takes a fast path.
 #[inline(always)]
 pub(crate) fn name_word(text: &[u8]) -> Option<(&[u8], &[u8])>
     ensures { MatchOption result (words text.now ≡ []) (λ p.
@@ -61,7 +62,8 @@ pub(crate) fn name_word(text: &[u8]) -> Option<(&[u8], &[u8])>
     first_word(text)
 }
 
-/// The first word, and what comes after it. A word of two letters, as of accesses, is seen at once.
+/// Returns the first word and the text after it. A word of two letters, such as `mr`, takes a fast
+/// path.
 #[inline(always)]
 pub(crate) fn form_word(text: &[u8]) -> Option<(&[u8], &[u8])>
     ensures { MatchOption result (words text.now ≡ []) (λ p.
@@ -75,8 +77,8 @@ pub(crate) fn form_word(text: &[u8]) -> Option<(&[u8], &[u8])>
     first_word(text)
 }
 
-/// The number below 2^64 that a number with the digits before the first blank after it makes, and what comes
-/// after that blank. It is compiled for each base apart.
+/// Appends the digits before the first blank to the number `start`. Returns the result, if it is
+/// below 2^64, and the text after the blank. Inlined, so that each base gets its own code.
 #[inline(always)]
 fn more_digits(base: u8, start: u64, text: &[u8]) -> Option<(u64, &[u8])>
     requires { 1 ≤ base }
@@ -99,8 +101,9 @@ fn more_digits(base: u8, start: u64, text: &[u8]) -> Option<(u64, &[u8])>
     Some((number, &[]))
 }
 
-/// The number that the first eight bytes write, if all are hexadecimal digits, and what comes after them.
-/// Most addresses have as many, and no sum of them is too large: it takes half the steps.
+/// Returns the number in the first eight bytes, if all of them are hexadecimal digits, and the text
+/// after them. Most addresses have eight digits. Eight digits can't overflow, so this takes half
+/// the steps.
 #[inline(always)]
 fn eight_digits(text: &[u8]) -> Option<(u64, &[u8])>
     ensures read { IfSome result (λ p. IsRead 16 text.now p.0 p.1.now) }
@@ -117,7 +120,8 @@ fn eight_digits(text: &[u8]) -> Option<(u64, &[u8])>
     Some((number, &text[8..]))
 }
 
-/// The number below 2^64 that the digits before the first blank write, and what comes after that blank.
+/// Parses the digits before the first blank as a number below 2^64. Returns the number and the text
+/// after the blank.
 #[inline(always)]
 fn digits_before_blank(base: u8, text: &[u8]) -> Option<(u64, &[u8])>
     requires { 1 ≤ base }
@@ -139,7 +143,7 @@ fn digits_before_blank(base: u8, text: &[u8]) -> Option<(u64, &[u8])>
     more_digits(base, 0, text)
 }
 
-/// Whether hexadecimal digits are to follow the first two bytes.
+/// Returns whether the text begins with `0x` or `0X`.
 #[inline]
 fn is_hexadecimal(text: &[u8]) -> bool
     ensures { result ≡ is_hexadecimal text.now }
@@ -147,7 +151,8 @@ fn is_hexadecimal(text: &[u8]) -> bool
     matches!(text, [b'0', b'x' | b'X', ..])
 }
 
-/// The number that the first word writes, and what comes after it. It is compiled at each of its calls apart.
+/// Parses the first word as a number. Returns the number and the text after the word. Inlined at
+/// each of its calls.
 #[inline(always)]
 pub(crate) fn first_number(text: &[u8]) -> Option<(u64, &[u8])>
     ensures { MatchOption result (numbered (words text.now) ≡ None)
@@ -161,7 +166,7 @@ pub(crate) fn first_number(text: &[u8]) -> Option<(u64, &[u8])>
     }
 }
 
-/// The same, compiled once for all calls that few lines make.
+/// Does the same as [`first_number`], but is compiled only once, for calls that few lines make.
 #[inline(never)]
 pub(crate) fn other_number(text: &[u8]) -> Option<(u64, &[u8])>
     ensures { MatchOption result (numbered (words text.now) ≡ None)
@@ -170,7 +175,8 @@ pub(crate) fn other_number(text: &[u8]) -> Option<(u64, &[u8])>
     first_number(text)
 }
 
-/// The number of one digit at the front, and what comes after it.
+/// Parses a number of one decimal digit at the start of the text. Returns the number and the text
+/// after it.
 #[inline(always)]
 fn one_digit(text: &[u8]) -> Option<(u64, &[u8])>
     ensures { IfSome result (λ p.
@@ -183,7 +189,8 @@ fn one_digit(text: &[u8]) -> Option<(u64, &[u8])>
     }
 }
 
-/// The number that the first word writes, and what comes after it. One of one digit is seen at once.
+/// Parses the first word as a number. Returns the number and the text after the word. A number of
+/// one digit takes a fast path.
 #[inline(always)]
 pub(crate) fn short_number(text: &[u8]) -> Option<(u64, &[u8])>
     ensures { MatchOption result (numbered (words text.now) ≡ None)

@@ -1,4 +1,4 @@
-//! Lines of firmware.
+//! Parsing of firmware's lines.
 ghost use Rattle.std.specs.Prelude.{◌≡◌, None, [], ◌∷◌, map, option_map, ◌^◌};
 ghost use Rattle.model_guests.specs.{Grammar.{host_port, host_address, host_at}, Numbers.{below, number_of}, Text.words};
 ghost use Rattle.model_lines.specs.{FirmwareLines.{asked, config_place, written_at, host_write_of, host_access_of as access_of_words, access_or_bad, meaning_of_words, meaning}, Requests.{request, request_in, request_of}};
@@ -13,24 +13,25 @@ use crate::requests::{HostRequest, request_form};
 use crate::words::first_words;
 use accesses::{HostAccess, HostAt, Refusal};
 
-/// What a line of firmware means.
+/// The meaning of a firmware line.
 #[derive(Clone, Copy, Debug, PartialEq, Eq)]
 pub enum FirmwareWhat {
-    /// The line makes no output.
+    /// A blank line or a comment, which has no output.
     Nothing,
     Read(HostAccess),
-    /// A place, a width, and a value of which as many low bytes are written.
+    /// A write of the low bytes of a value, as many as the access is wide.
     Write(HostAccess, u32),
-    /// What is asked of a session beside an access.
+    /// A request to the session other than an access.
     Asks(HostRequest),
-    /// A line of the host that has no form: 401.
+    /// A malformed line of the host (401).
     NoForm,
-    /// No line of the host, which is refused: it is of an unknown guest, or is long.
+    /// A line that isn't the host's, and is refused because its first word isn't `host` or it is
+    /// too long.
     NotOfHost(Refusal),
 }
 
 impl FirmwareWhat {
-    /// What is asked of a session beside an access, if it is.
+    /// Returns the request to the session, if the line is one.
     pub fn request(self) -> Option<HostRequest>
         ensures { option_map request_told result ≡ requested self }
     {
@@ -41,14 +42,14 @@ impl FirmwareWhat {
     }
 }
 
-/// A value of 32 bits.
+/// Parses a 32-bit value.
 pub(crate) fn value(word: &[u8]) -> Option<u32>
     ensures { result ≡ below (2 ^ 32) (number_of word.now) }
 {
     u32::try_from(number_of(word)?).ok()
 }
 
-/// A port and a width.
+/// Parses an I/O port and a width.
 fn port_place(at: &[u8], width: &[u8]) -> Option<HostAccess>
     ensures { option_map host_access_of result ≡ host_at host_port at.now width.now }
 {
@@ -58,7 +59,7 @@ fn port_place(at: &[u8], width: &[u8]) -> Option<HostAccess>
     Some(HostAccess { at, width })
 }
 
-/// A memory address and a width.
+/// Parses a memory address and a width.
 fn memory_place(at: &[u8], width: &[u8]) -> Option<HostAccess>
     ensures { option_map host_access_of result ≡ host_at host_address at.now width.now }
 {
@@ -68,7 +69,7 @@ fn memory_place(at: &[u8], width: &[u8]) -> Option<HostAccess>
     Some(HostAccess { at, width })
 }
 
-/// A function's bus number, an offset and a width.
+/// Parses a function's BDF, an offset and a width.
 fn config_place(bdf: &[u8], off: &[u8], width: &[u8]) -> Option<HostAccess>
     ensures { option_map host_access_of result ≡ config_place bdf.now off.now width.now }
 {
@@ -79,7 +80,7 @@ fn config_place(bdf: &[u8], off: &[u8], width: &[u8]) -> Option<HostAccess>
     Some(HostAccess { at, width })
 }
 
-/// A write of a value at a place.
+/// Parses the value to write at `place`, and returns the write.
 fn written_at(place: Option<HostAccess>, bits: &[u8]) -> Option<FirmwareWhat>
     ensures { option_map firmware_meaning_of result
         ≡ option_map asked (written_at bits.now (option_map host_access_of place)) }
@@ -89,7 +90,7 @@ fn written_at(place: Option<HostAccess>, bits: &[u8]) -> Option<FirmwareWhat>
     Some(FirmwareWhat::Write(place, value))
 }
 
-/// A write with four words after `host`.
+/// Parses an I/O or memory write from the four words after `host`.
 fn write_of_four(op: &[u8], at: &[u8], width: &[u8], bits: &[u8]) -> Option<FirmwareWhat>
     ensures { option_map firmware_meaning_of result
         ≡ option_map asked (host_write_of (op.now ∷ at.now ∷ width.now ∷ bits.now ∷ [])) }
@@ -103,7 +104,7 @@ fn write_of_four(op: &[u8], at: &[u8], width: &[u8], bits: &[u8]) -> Option<Firm
     None
 }
 
-/// A write with five words after `host`.
+/// Parses a configuration write from the five words after `host`.
 fn write_of_five(
     op: &[u8],
     bdf: &[u8],
@@ -121,7 +122,7 @@ fn write_of_five(
     None
 }
 
-/// The write that the words after `host` ask, if they are of a known form.
+/// Parses the words after `host` as a write.
 #[tactic(auto, using(crate::proofs::WriteCounts::host_write_of_few, crate::proofs::WriteCounts::host_write_of_many))]
 fn host_write_form(words: &[&[u8]]) -> Option<FirmwareWhat>
     ensures { option_map firmware_meaning_of result
@@ -134,7 +135,7 @@ fn host_write_form(words: &[&[u8]]) -> Option<FirmwareWhat>
     }
 }
 
-/// The access that the words after `host` ask.
+/// Parses the words after `host` as a read or a write.
 #[tactic(auto, using(crate::proofs::RequestCounts::writes_ask_nothing))]
 fn access_of_words(words: &[&[u8]]) -> FirmwareWhat
     ensures means { firmware_meaning_of result
@@ -150,7 +151,7 @@ fn access_of_words(words: &[&[u8]]) -> FirmwareWhat
     }
 }
 
-/// What the words after `host` ask.
+/// Parses the words after `host` as a request or an access.
 fn of_host_words(words: &[&[u8]]) -> FirmwareWhat
     ensures means { firmware_meaning_of result
         ≡ access_or_bad (access_of_words (map (λ w. w.now) words.now)) }
@@ -162,7 +163,7 @@ fn of_host_words(words: &[&[u8]]) -> FirmwareWhat
     }
 }
 
-/// A line of the host, by the text after `host`.
+/// Parses the text after `host`.
 fn host_line(text: &[u8]) -> FirmwareWhat
     ensures means { firmware_meaning_of result
         ≡ access_or_bad (access_of_words (words text.now)) }
@@ -171,7 +172,7 @@ fn host_line(text: &[u8]) -> FirmwareWhat
     of_host_words(first_words(text).as_slice())
 }
 
-/// What a line means, by its first word and the text after it.
+/// Returns the meaning of a line, given its first word and the text after the word.
 fn named_line(first: &[u8], text: &[u8]) -> FirmwareWhat
     ensures means { firmware_meaning_of result ≡ meaning_of_words (first.now ∷ words text.now) }
     ensures asks { requested result ≡ request_in (first.now ∷ words text.now) }
@@ -185,8 +186,8 @@ fn named_line(first: &[u8], text: &[u8]) -> FirmwareWhat
     FirmwareWhat::NotOfHost(Refusal::UnknownGuest)
 }
 
-/// What a line of firmware means, which is given without its line feed. No guest is there: of guests' names
-/// none is known.
+/// Parses a firmware line, given without its line feed. There are no guests yet, so any first word
+/// other than `host` is an unknown guest.
 #[tactic(auto, using(std::proofs::lemmas::Bool::Decides::nat_tests))]
 pub fn firmware_meaning(line: &[u8]) -> FirmwareWhat
     ensures means { firmware_meaning_of result ≡ meaning line.now }

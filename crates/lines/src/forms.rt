@@ -1,4 +1,4 @@
-//! The forms of a script's lines, after the word that says whose they are.
+//! Parsing of a script's lines after their first word.
 ghost use Rattle.std.specs.Prelude.{◌≡◌, [], ◌∷◌, Some, None, map, length, option_map, MatchOption, IfSome, codes};
 ghost use Rattle.model_guests.specs.{Text.words, Accesses.access, Numbers.{below, number_of}, Grammar.{raise_part, to_raise, event_of, hex_pair, bus_address, host_read_of}};
 ghost use Rattle.paths.specs.BusAddresses.{bus_address_of};
@@ -10,22 +10,22 @@ use crate::numbers::{digit_in, number_of};
 use crate::words::first_words;
 use accesses::{Access, At, Bdf, HostAccess, HostAt, Op, Place};
 
-/// What a guest's line asks.
+/// A guest's request.
 #[derive(Clone, Copy, PartialEq, Eq)]
 pub(crate) enum Asked {
     Access(Access),
-    /// A slot, a place in the function there, a byte offset and the bits that are set there.
+    /// A slot, a place in the slot's function, a byte offset there, and the bits to set.
     Raise(u64, Place, u64, u8),
 }
 
-/// The bits of a byte.
+/// Parses an 8-bit mask.
 pub(crate) fn mask(word: &[u8]) -> Option<u8>
     ensures { result ≡ below 256 (number_of word.now) }
 {
     u8::try_from(number_of(word)?).ok()
 }
 
-/// `cfg` or `bar0` to `bar5`.
+/// Parses `cfg` or `bar0` to `bar5`.
 pub(crate) fn place(word: &[u8]) -> Option<Place>
     ensures { option_map part_of result ≡ raise_part word.now }
 {
@@ -41,7 +41,7 @@ pub(crate) fn place(word: &[u8]) -> Option<Place>
     }
 }
 
-/// `raise SLOT P OFF MASK`.
+/// Parses the arguments of `raise SLOT P OFF MASK`.
 fn to_raise(slot: &[u8], part: &[u8], off: &[u8], bits: &[u8]) -> Option<Asked>
     ensures { option_map event_asked result ≡ to_raise slot.now part.now off.now bits.now }
 {
@@ -52,7 +52,7 @@ fn to_raise(slot: &[u8], part: &[u8], off: &[u8], bits: &[u8]) -> Option<Asked>
     Some(Asked::Raise(slot, place, off, mask))
 }
 
-/// `raise SLOT P OFF MASK`, by the words after `raise`.
+/// Parses the words after `raise`, which are `SLOT P OFF MASK`.
 #[tactic(auto, using(crate::proofs::Counts::raise_of_few, crate::proofs::Counts::raise_of_many))]
 fn raise_form(words: &[&[u8]]) -> Option<Asked>
     ensures { option_map event_asked result
@@ -64,9 +64,9 @@ fn raise_form(words: &[&[u8]]) -> Option<Asked>
     }
 }
 
-/// Where an access goes, by the letter of its space, and what comes after its place: `m ADDR`, `i PORT`
-/// or `c SLOT OFF`. All begin with a number: where it is read before the letter is looked at, fewer copies
-/// of its loop are compiled.
+/// Parses the target of an access, `m ADDR`, `i PORT` or `c SLOT OFF`, given the letter of its
+/// space. Returns the target and the text after it. Every target begins with a number. Parsing that
+/// number before the match on the letter leaves fewer inlined copies of its loop.
 #[inline(always)]
 fn placed(space: u8, text: &[u8]) -> Option<(At, &[u8])>
     ensures { MatchOption result (placed space (words text.now) ≡ None) (λ p.
@@ -85,8 +85,8 @@ fn placed(space: u8, text: &[u8]) -> Option<(At, &[u8])>
     }
 }
 
-/// What an access does, by the letter of its kind, and what comes after it: `r`, or `w V` with a value of
-/// 32 bits.
+/// Parses the operation of an access, given its letter: `r`, or `w V` with a 32-bit value. Returns
+/// the operation and the text after it.
 #[inline(always)]
 fn operated(kind: u8, text: &[u8]) -> Option<(Op, &[u8])>
     ensures { MatchOption result (operated kind (words text.now) ≡ None) (λ p.
@@ -103,7 +103,7 @@ fn operated(kind: u8, text: &[u8]) -> Option<(Op, &[u8])>
     }
 }
 
-/// An access, by the letters of its space and of its kind and by the text after them.
+/// Parses an access, given the letters of its space and of its operation and the text after them.
 #[inline(always)]
 #[tactic(auto, using(crate::proofs::GuestForms::accesses_are))]
 fn access_form(space: u8, kind: u8, text: &[u8]) -> Option<Access>
@@ -119,7 +119,8 @@ fn access_form(space: u8, kind: u8, text: &[u8]) -> Option<Access>
     Some(Access { at, width, op })
 }
 
-/// What a word that is not of two letters asks with the words after it.
+/// Parses a guest's request, given its first word, which doesn't have two letters, and the words
+/// after it.
 #[tactic(auto, using(crate::proofs::GuestForms::other_length, crate::proofs::GuestForms::no_form))]
 fn longer_form(op: &[u8], words: &[&[u8]]) -> Option<Asked>
     requires { length op.now ≡ 2 → ⊥ }
@@ -131,7 +132,7 @@ fn longer_form(op: &[u8], words: &[&[u8]]) -> Option<Asked>
     None
 }
 
-/// The access that the text after a guest's name asks, if its form has two letters and it asks one.
+/// Parses the text after a guest's name as an access. Other requests return `None`.
 #[inline(always)]
 pub(crate) fn guest_access_form(text: &[u8]) -> Option<Access>
     ensures { IfSome result (λ a. event_of (words text.now) ≡ Some (access (access_of a))) }
@@ -143,7 +144,7 @@ pub(crate) fn guest_access_form(text: &[u8]) -> Option<Access>
     }
 }
 
-/// What the text after a guest's name asks, if it is of a known form.
+/// Parses the text after a guest's name as an access or a raise.
 pub(crate) fn guest_form(text: &[u8]) -> Option<Asked>
     ensures { option_map event_asked result ≡ event_of (words text.now) }
 {
@@ -154,14 +155,14 @@ pub(crate) fn guest_form(text: &[u8]) -> Option<Asked>
     }
 }
 
-/// The number that two hexadecimal digits write.
+/// Returns the number that two hexadecimal digits represent.
 fn hex_pair(high: u8, low: u8) -> Option<u8>
     ensures { result ≡ hex_pair high low }
 {
     Some(16 * digit_in(16, high)? + digit_in(16, low)?)
 }
 
-/// `BB:DD.F`.
+/// Parses a BDF in the form `BB:DD.F`.
 pub(crate) fn bus_address(word: &[u8]) -> Option<Bdf>
     ensures { option_map bus_address_of result ≡ bus_address word.now }
 {
@@ -175,7 +176,7 @@ pub(crate) fn bus_address(word: &[u8]) -> Option<Bdf>
     })
 }
 
-/// A line of the host with three words after `host`.
+/// Parses an I/O or memory read by the host from the three words after `host`.
 fn host_of_three(op: &[u8], at: &[u8], width: &[u8]) -> Option<HostAccess>
     ensures { option_map host_access_of result
         ≡ host_read_of (op.now ∷ at.now ∷ width.now ∷ []) }
@@ -193,7 +194,7 @@ fn host_of_three(op: &[u8], at: &[u8], width: &[u8]) -> Option<HostAccess>
     Some(HostAccess { at, width })
 }
 
-/// A line of the host with four words after `host`.
+/// Parses a configuration read by the host from the four words after `host`.
 fn host_of_four(op: &[u8], bdf: &[u8], off: &[u8], width: &[u8]) -> Option<HostAccess>
     ensures { option_map host_access_of result
         ≡ host_read_of (op.now ∷ bdf.now ∷ off.now ∷ width.now ∷ []) }
@@ -209,7 +210,7 @@ fn host_of_four(op: &[u8], bdf: &[u8], off: &[u8], width: &[u8]) -> Option<HostA
     Some(HostAccess { at, width })
 }
 
-/// What the words after `host` ask, if they are of a known form.
+/// Parses the words after `host` as a read.
 #[tactic(auto, using(crate::proofs::Counts::host_read_of_few, crate::proofs::Counts::host_read_of_many))]
 pub(crate) fn host_form(words: &[&[u8]]) -> Option<HostAccess>
     ensures { option_map host_access_of result ≡ host_read_of (map (λ w. w.now) words.now) }

@@ -1,8 +1,9 @@
 //! Layer: lines. Below: model_lines, accesses, streams. Above: script.
 //!
-//! Lines of scripts and of firmware: what they mean, and the lines that answer them.
+//! The line languages of scripts and firmware: parsing of lines and formatting of replies.
 //!
-//! And runs of lines over anything that answers them, piece by piece as they are read, and whether they refused one.
+//! Also runs lines against any server that answers them, piece by piece as they are read, and
+//! records whether any of them was refused.
 #![tactic(auto)]
 
 mod answers;

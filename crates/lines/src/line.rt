@@ -1,4 +1,4 @@
-//! Lines of a script.
+//! Parsing of a script's lines.
 ghost use Rattle.std.specs.{Prelude.{◌≡◌, ◌<◌, ◌∷◌, [], List, length, map, take, position, option_map, IfSome}, Str.bytes_eq};
 ghost use Rattle.model_guests.specs.{Text.{Text, words}, Grammar.{has_name, is_comment, event_of, host_read_of}, Lines.{host_move, event_or_bad, read_or_move, between_guests, move_of, meaning_of_words, meaning}};
 ghost use Rattle.lines.specs.Lines.{texts, name_of, meaning_of, GuestsAre, IsFirst};
@@ -10,52 +10,52 @@ use crate::words::first_words;
 use accesses::{Access, HostAccess, Names, Place, Refusal};
 use arrayvec::ArrayVec;
 
-/// The bytes of the longest line that is read, without its line feed.
+/// The maximum length of a line in bytes, without its line feed. Longer lines are refused.
 pub const LONGEST_LINE: usize = 200;
 
-/// Under whose name a line is answered.
+/// The name under which a line is answered.
 #[derive(Clone, Copy, Debug, PartialEq, Eq)]
 pub enum Who {
-    /// A guest, by its place among the names.
+    /// A guest, by its index in the names.
     Guest(usize),
     Host,
-    /// Neither: the name is `?`.
+    /// Neither a guest nor the host. The line is answered under the name `?`.
     Unknown,
 }
 
-/// What a line means. Guests are told by their places among the names.
+/// The meaning of a script's line. Guests are identified by their index in the names.
 #[derive(Clone, Copy, Debug, PartialEq, Eq)]
 pub enum What {
-    /// The line makes no output.
+    /// A blank line or a comment, which has no output.
     Nothing,
-    /// An access of a guest.
+    /// An access by a guest.
     Guest(usize, Access),
-    /// A guest, a slot, a place in the function there, a byte offset and the bits that are set there.
+    /// A guest, a slot, a place in the slot's function, a byte offset there, and the bits to set.
     Raise(usize, u64, Place, u64, u8),
     /// A read by the host.
     Host(HostAccess),
-    /// A guest and its slot, from which the host moves a function, and the guest and the slot to which.
+    /// A move of a function by the host: the source guest and slot, and the target guest and slot.
     Move(usize, u64, usize, u64),
-    /// The line is refused: it has no form, is of an unknown guest, or is long.
+    /// A refused line: it is malformed, names an unknown guest, or is too long.
     Bad(Who, Refusal),
 }
 
-/// A line's first seven words at most, as slices of it, and what it means.
+/// The first words of a line, at most seven, as slices of the line, and the meaning of the line.
 #[derive(Drop)]
 pub struct Line<'a> {
     pub words: ArrayVec<&'a [u8], 7>,
     pub what: What,
 }
 
-/// Whether a line that begins with this word is a comment.
+/// Returns whether a line with this first word is a comment.
 pub(crate) fn is_comment(word: &[u8]) -> bool
     ensures { result ≡ is_comment word.now }
 {
     word.first() == Some(&b'#')
 }
 
-/// The first guest of a name. There are few names, and short ones: a search in their order is as
-/// fast as a table.
+/// Returns the index of the first guest with this name. The names are few and short, so a linear
+/// search is as fast as a table.
 #[inline]
 fn guest_named(word: &[u8], names: &Names) -> Option<usize>
     ensures { result ≡ position (λ n. bytes_eq n.bytes word.now) names.now.items }
@@ -63,7 +63,7 @@ fn guest_named(word: &[u8], names: &Names) -> Option<usize>
     names.iter().position(|name| name.as_bytes() == word)
 }
 
-/// Whether a guest has a name.
+/// Returns whether a guest has this name.
 #[tactic(auto, using(crate::proofs::NameLemmas::is_there))]
 pub(crate) fn is_guest(word: &[u8], names: &Names) -> bool
     ensures { result ≡ has_name (texts names.now) word.now }
@@ -71,7 +71,7 @@ pub(crate) fn is_guest(word: &[u8], names: &Names) -> bool
     guest_named(word, names).is_some()
 }
 
-/// A line of a guest, by the text after its name.
+/// Parses a guest's line, given the text after the name.
 fn guest_line(guest: usize, text: &[u8]) -> What
     ensures meaning { (names : List Text) →
         meaning_of names result ≡ event_or_bad (name_of names guest) (event_of (words text.now)) }
@@ -84,7 +84,7 @@ fn guest_line(guest: usize, text: &[u8]) -> What
     }
 }
 
-/// A move between the guests of two names, if both are there.
+/// Looks up the two guests of a move by their names. Returns `None` if either is unknown.
 fn between_guests(from: &[u8], slot: u64, to: &[u8], target: u64, names: &Names) -> Option<What>
     ensures meaning { option_map (meaning_of (texts names.now)) result ≡ option_map host_move
         (between_guests (texts names.now) (record { from = from.now; slot = slot; to = to.now; target = target })) }
@@ -95,7 +95,7 @@ fn between_guests(from: &[u8], slot: u64, to: &[u8], target: u64, names: &Names)
     Some(What::Move(from, slot, to, target))
 }
 
-/// `move A S B T`.
+/// Parses `move A S B T`, which moves the function in slot S of guest A to slot T of guest B.
 fn to_move(
     op: &[u8],
     from: &[u8],
@@ -114,7 +114,7 @@ fn to_move(
     }
 }
 
-/// A move, by the words after `host`.
+/// Parses the words after `host` as a move.
 #[tactic(auto, using(crate::proofs::Counts::move_of_few, crate::proofs::Counts::move_of_many))]
 fn move_form(words: &[&[u8]], names: &Names) -> Option<What>
     ensures meaning { option_map (meaning_of (texts names.now)) result ≡ option_map host_move
@@ -127,7 +127,7 @@ fn move_form(words: &[&[u8]], names: &Names) -> Option<What>
     }
 }
 
-/// A line of the host, by the words after `host`.
+/// Parses a line of the host, given the words after `host`.
 fn of_host_words(words: &[&[u8]], names: &Names) -> What
     ensures meaning { let ws = map (λ w. w.now) words.now in
         meaning_of (texts names.now) result
@@ -143,7 +143,7 @@ fn of_host_words(words: &[&[u8]], names: &Names) -> What
     }
 }
 
-/// A line of the host, by the text after `host`.
+/// Parses a line of the host, given the text after `host`.
 fn host_line(text: &[u8], names: &Names) -> What
     ensures meaning { let ws = words text.now in
         meaning_of (texts names.now) result
@@ -153,7 +153,7 @@ fn host_line(text: &[u8], names: &Names) -> What
     of_host_words(first_words(text).as_slice(), names)
 }
 
-/// What a line means, by its first word and the text after it.
+/// Returns the meaning of a line, given its first word and the text after the word.
 #[tactic(auto, using(crate::proofs::NameLemmas::meaning_of_guest, crate::proofs::NameLemmas::meaning_of_unknown))]
 fn named_line(first: &[u8], text: &[u8], names: &Names) -> What
     ensures meaning { let ws = first.now ∷ words text.now in
@@ -172,8 +172,8 @@ fn named_line(first: &[u8], text: &[u8], names: &Names) -> What
     }
 }
 
-/// What a line of any kind means. The words of the commonest lines are read one by one, which is faster
-/// than to cut the line into words first.
+/// Parses any line. The words of the most common lines are parsed one by one, which is faster than
+/// splitting the line first.
 #[inline(never)]
 #[tactic(auto, using(std::proofs::lemmas::Bool::Decides::nat_tests))]
 fn any_meaning(line: &[u8], names: &Names) -> What
@@ -190,7 +190,7 @@ fn any_meaning(line: &[u8], names: &Names) -> What
     }
 }
 
-/// The guest and its access, where a line asks one.
+/// Returns the guest and its access, if the line is an access by a guest.
 #[inline(always)]
 fn guest_access(line: &[u8], names: &Names) -> Option<(usize, Access)>
     ensures meaning { IfSome result (λ p.
@@ -209,9 +209,8 @@ fn guest_access(line: &[u8], names: &Names) -> Option<(usize, Access)>
     Some((guest, access))
 }
 
-/// What a line means, which is given without its line feed. Of several guests of one name the first is
-/// meant. Most lines ask an access of a guest, which is seen at once: that is faster than to tell it among
-/// all meanings.
+/// Parses a line, given without its line feed. If several guests have the same name, the first one
+/// is meant. Most lines are accesses by guests, which take a fast path.
 #[inline(always)]
 pub fn line_meaning(line: &[u8], names: &Names) -> What
     ensures meaning { meaning_of (texts names.now) result ≡ meaning (texts names.now) line.now }
@@ -224,8 +223,8 @@ pub fn line_meaning(line: &[u8], names: &Names) -> What
     }
 }
 
-/// Reads a line, which is given without its line feed. Of several guests of one name the first is
-/// meant.
+/// Parses a line, given without its line feed, and splits it into words. If several guests have the
+/// same name, the first one is meant.
 pub fn parse_line<'a>(line: &'a [u8], names: &Names) -> Line<'a>
     ensures words { map (λ w. w.now) result.words.items ≡ take 7 (words line.now) }
     ensures meaning { meaning_of (texts names.now) result.what

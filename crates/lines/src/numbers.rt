@@ -1,9 +1,9 @@
-//! Numbers of a script.
+//! Parsing of numbers.
 ghost use Rattle.std.specs.Prelude.{◌≡◌, ◌≤◌, ◌*◌, ◌+◌, ◌^◌, option_map};
 ghost use Rattle.model_guests.specs.Numbers.{below, digit_of, digits_in, number_of};
 
-/// The value of each byte as a digit, where those above 9 may be of either case, and 255 at a byte
-/// that is none. A look at the table is faster than a search of the ranges.
+/// The value of each byte as a hexadecimal digit of either case, or 255 if the byte isn't a digit.
+/// A table lookup is faster than comparing ranges.
 #[rattlefmt::skip]
 static DIGITS: [u8; 256] = [
     255, 255, 255, 255, 255, 255, 255, 255, 255, 255, 255, 255, 255, 255, 255, 255,
@@ -24,7 +24,7 @@ static DIGITS: [u8; 256] = [
     255, 255, 255, 255, 255, 255, 255, 255, 255, 255, 255, 255, 255, 255, 255, 255,
 ];
 
-/// The value of a digit in a base.
+/// Returns the value of a digit, if it is a digit in this base.
 #[inline]
 pub(crate) fn digit_in(base: u8, byte: u8) -> Option<u8>
     ensures { result ≡ below base (digit_of byte) }
@@ -33,14 +33,14 @@ pub(crate) fn digit_in(base: u8, byte: u8) -> Option<u8>
     if digit < base { Some(digit) } else { None }
 }
 
-/// A number with one digit more, if it stays below 2^64.
+/// Appends a digit to a number, if the result stays below 2^64.
 #[inline]
 pub(crate) fn with_digit(base: u8, number: u64, byte: u8) -> Option<u64>
     ensures { result
         ≡ below (2 ^ 64) (option_map (λ d. number * base + d) (below base (digit_of byte))) }
 {
     let digit = digit_in(base, byte)?;
-    // Of a hexadecimal digit one test is enough: the sum carries no bit.
+    // In base 16 one comparison is enough, since adding the digit can't carry.
     if base == 16 {
         return if number < 1 << 60 {
             Some(number * 16 + u64::from(digit))
@@ -53,7 +53,7 @@ pub(crate) fn with_digit(base: u8, number: u64, byte: u8) -> Option<u64>
         .checked_add(u64::from(digit))
 }
 
-/// The number below 2^64 that one digit or more write. It is compiled for each base apart.
+/// Parses one or more digits as a number below 2^64. Inlined, so that each base gets its own code.
 #[inline(always)]
 fn digits_in(base: u8, digits: &[u8]) -> Option<u64>
     requires { 1 ≤ base }
@@ -69,7 +69,7 @@ fn digits_in(base: u8, digits: &[u8]) -> Option<u64>
     Some(number)
 }
 
-/// The number that a word writes: decimal digits, or `0x` or `0X` and hexadecimal digits.
+/// Parses a word as a number below 2^64: decimal digits, or `0x` or `0X` and hexadecimal digits.
 pub(crate) fn number_of(word: &[u8]) -> Option<u64>
     ensures { result ≡ number_of word.now }
 {

@@ -1,4 +1,4 @@
-//! What a run holds of its lines: bytes that were read and are not run yet.
+//! The bytes that a run has read but not processed yet.
 ghost use Rattle.std.specs.{Prelude.{◌≡◌, ◌≤◌, ◌<◌, ◌+◌, ◌-◌, ◌^◌, ◌++◌, [], true, false, take, length, IfOk, OnErr, IsTrue, IsFalse}, Io.KnownBytes.{Consumes, IsAtEnd, Keeps}};
 ghost use Rattle.streams.specs.Ends.{failures_of};
 ghost use Rattle.model_guests.specs.{Text.Text, LineRuns.HasNoEnd};
@@ -8,11 +8,11 @@ use crate::line::LONGEST_LINE;
 use std::marker::Model;
 use streams::{Failed, Reader};
 
-/// The bytes that are read at once.
+/// The size of the read buffer in bytes.
 const SIZE: usize = 65536;
 
-/// The bytes that were read and are not run yet. Of a long line whose end was not read they are those
-/// after the ones that were passed over.
+/// The bytes that were read but not processed yet. If `long` is set, they continue a line of more
+/// than 200 bytes whose earlier bytes were skipped.
 #[derive(Drop)]
 pub(crate) struct Pending {
     bytes: [u8; SIZE],
@@ -31,7 +31,7 @@ impl Model for Pending {
     ghost invariant = { λ h. h.length ≤ 65536 };
 }
 
-/// Reads some bytes into a buffer from a place on, and gives how many.
+/// Reads some bytes into `buffer` from the index `start` on, and returns their number.
 fn read_from<R: Reader>(reader: &mut R, buffer: &mut [u8], start: usize) -> Result<usize, Failed>
     requires start { start < length buffer.old }
     requires room { R.failures reader.old < 2 ^ 64 - 1 }
@@ -61,21 +61,22 @@ impl Pending {
         }
     }
 
-    /// The bytes that are pending.
+    /// Returns the pending bytes.
     pub(crate) fn text(&self) -> &[u8]
         ensures { result.now ≡ self.now.text }
     {
         &self.bytes[..self.length]
     }
 
-    /// Whether bytes before them were passed over.
+    /// Returns whether earlier bytes of the same line were skipped.
     pub(crate) fn is_long(&self) -> bool
         ensures { result ≡ self.now.long }
     {
         self.long
     }
 
-    /// Reads on, behind what is pending, and says whether some bytes came. None come only at the end.
+    /// Reads more bytes behind the pending ones. Returns whether any were read, which is false only
+    /// at the end of the script.
     pub(crate) fn fill<R: Reader>(&mut self, reader: &mut R) -> Result<bool, Failed>
         requires few { length self.old.text ≤ 200 }
         requires room { R.failures reader.old < 2 ^ 64 - 1 }
@@ -94,7 +95,7 @@ impl Pending {
         Ok(n > 0)
     }
 
-    /// Passes over all that is pending.
+    /// Skips all pending bytes.
     fn pass_over(&mut self)
         ensures { self.new ≡ record { text = []; long = true } }
     {
@@ -102,7 +103,7 @@ impl Pending {
         self.long = true;
     }
 
-    /// Keeps the last bytes alone.
+    /// Keeps only the last `count` bytes.
     fn keep_last(&mut self, count: usize)
         requires { count ≤ length self.old.text }
         ensures { self.new ≡ record { text = rest_of count self.old.text; long = false } }
@@ -112,7 +113,8 @@ impl Pending {
         self.long = false;
     }
 
-    /// Keeps the last bytes alone, which are of one line, or passes over them where that is long.
+    /// Keeps only the last `count` bytes, which belong to one line, or skips them if the line is
+    /// too long.
     pub(crate) fn keep(&mut self, count: usize, long: bool)
         requires { count ≤ length self.old.text }
         ensures text { (before : Text) → IsBefore long before →

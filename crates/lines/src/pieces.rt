@@ -1,4 +1,4 @@
-//! Runs over pieces of a text.
+//! Execution of the lines in a piece of a script.
 ghost use Rattle.std.specs.{Prelude.{◌≡◌, ℕ, ◌≤◌, ◌<◌, ◌+◌, ◌-◌, ◌^◌, ◌++◌, ◌∷◌, [], length, OnOk, OnErr, IfOk, IsErrOf, MatchOption, IsTrue, IsFalse, ◌⊎◌, option_map, string_bytes}, Io.KnownBytes.{Appends, Keeps}};
 ghost use Rattle.streams.specs.Ends.{failures_of, AppendsPart};
 ghost use Rattle.model_guests.specs.{Text.{Text, lines}, LineRuns.{output, after_lines, HasNoEnd, IsStopped}};
@@ -10,8 +10,8 @@ use crate::replies::LineText;
 use crate::words::line_feed_in;
 use streams::{Failed, Writer, write_all};
 
-/// The first line that a line feed ends, without it, and what comes after it. It is compiled into the loop over
-/// lines.
+/// Returns the first line that ends with a line feed, without the line feed, and the text after it.
+/// Inlined into the loop over lines.
 #[inline(always)]
 fn whole_line(text: &[u8]) -> Option<(&[u8], &[u8])>
     ensures line { MatchOption result (HasNoEnd text.now) (λ p.
@@ -21,27 +21,27 @@ fn whole_line(text: &[u8]) -> Option<(&[u8], &[u8])>
     Some((&text[..end], &text[end + 1..]))
 }
 
-/// What is left of a piece after its lines.
+/// The state after the complete lines of a piece.
 #[derive(Clone, Copy)]
 struct Left {
-    /// The count of its last bytes, after the last line feed.
+    /// The number of bytes after the last line feed.
     length: usize,
-    /// Whether they are of a long line of which bytes were passed over.
+    /// Whether these bytes belong to a long line whose earlier bytes were skipped.
     long: bool,
-    /// Whether the lines wrote anything.
+    /// Whether any line had output.
     wrote: bool,
 }
 
-/// Why the lines of a piece did not all run.
+/// The reason why a run stopped within a piece.
 #[derive(Clone, Copy)]
 pub(crate) enum Stop {
     /// A write or a flush failed.
     Failed,
-    /// Memory is out for a line.
+    /// Memory was exhausted while a line was executed.
     Memory,
 }
 
-/// Writes what a line writes. It is compiled into the loop over lines, which takes a call away from each.
+/// Writes the output of a line. Inlined into the loop over lines, which saves a call for each line.
 #[inline(always)]
 fn write_answer<W: Writer>(writer: &mut W, text: &[u8], more: &Option<String>) -> Result<(), Failed>
     requires { W.failures writer.old < 2 ^ 64 - 1 }
@@ -58,7 +58,7 @@ fn write_answer<W: Writer>(writer: &mut W, text: &[u8], more: &Option<String>) -
     }
 }
 
-/// Answers a line, writes what it writes, and says whether that is anything.
+/// Executes a line, writes its output, and returns whether there was any.
 #[inline(always)]
 fn answer_line<L, S: Answers<L>, W: Writer>(
     server: &mut S,
@@ -96,7 +96,7 @@ fn answer_line<L, S: Answers<L>, W: Writer>(
     Ok(true)
 }
 
-/// Flushes what was written, where anything was.
+/// Flushes the writer if anything was written.
 fn flush_if<W: Writer>(writer: &mut W, wrote: bool) -> Result<(), Failed>
     requires { W.failures writer.old < 2 ^ 64 - 1 }
     ensures bytes { Keeps (W.written writer.old) (W.written writer.new) }
@@ -111,7 +111,8 @@ fn flush_if<W: Writer>(writer: &mut W, wrote: bool) -> Result<(), Failed>
     Ok(())
 }
 
-/// What ends the lines where memory is out, once what was written is flushed.
+/// Flushes earlier output after memory was exhausted. Returns the reason for stopping: `Memory`, or
+/// `Failed` if the flush failed.
 fn flushed<W: Writer>(writer: &mut W, wrote: bool) -> Stop
     requires { W.failures writer.old < 2 ^ 64 - 1 }
     ensures bytes { Keeps (W.written writer.old) (W.written writer.new) }
@@ -128,9 +129,9 @@ fn flushed<W: Writer>(writer: &mut W, wrote: bool) -> Stop
     Stop::Memory
 }
 
-/// Runs the lines of a piece that line feeds end, and writes what each writes before it looks at the
-/// next. If `long`, the first is a long line of which bytes were passed over. Where memory is out for a
-/// line, what those before it wrote is flushed.
+/// Executes the lines of a piece that end with a line feed, and writes the output of each line
+/// before looking at the next one. If `long` is set, the first line is a long line whose earlier
+/// bytes were skipped. If memory is exhausted, flushes the output of the earlier lines.
 fn run_lines<L, S: Answers<L>, W: Writer>(
     server: &mut S,
     text: &[u8],
@@ -179,8 +180,8 @@ fn run_lines<L, S: Answers<L>, W: Writer>(
     })
 }
 
-/// Runs the lines that line feeds end among what is pending, and keeps the rest. What was written is
-/// flushed, so that it can be read before more of the script is asked for.
+/// Executes the pending lines that end with a line feed, and keeps the rest. Flushes the output, so
+/// that it can be read before more of the script is requested.
 pub(crate) fn run_piece<L, S: Answers<L>, W: Writer>(
     server: &mut S,
     pending: &mut Pending,
@@ -216,7 +217,7 @@ pub(crate) fn run_piece<L, S: Answers<L>, W: Writer>(
     Ok(())
 }
 
-/// Whether a last line is left at the end of a script.
+/// Returns whether a last line without a line feed is left at the end of a script.
 fn is_line_left(text: &[u8], long: bool) -> bool
     ensures some { IsTrue result → (before : Text) → IsBefore long before →
         0 < length (before ++ text.now) }
@@ -229,7 +230,7 @@ fn is_line_left(text: &[u8], long: bool) -> bool
     !text.is_empty()
 }
 
-/// Runs what is left at the end of a script as its last line, if there is any.
+/// Executes the text left at the end of a script as its last line, if there is any.
 fn answer_last<L, S: Answers<L>, W: Writer>(
     server: &mut S,
     text: &[u8],
@@ -262,7 +263,8 @@ fn answer_last<L, S: Answers<L>, W: Writer>(
     Ok(())
 }
 
-/// Runs what is left at the end of a script as its last line, and flushes.
+/// Executes the text left at the end of a script as its last line, if there is any, and flushes the
+/// output.
 pub(crate) fn run_last<L, S: Answers<L>, W: Writer>(
     server: &mut S,
     pending: &Pending,

@@ -1,4 +1,4 @@
-//! Why a line has none of the forms: the first of its words that does not fit.
+//! Explanations of malformed lines, based on the first word that is wrong.
 ghost use Rattle.std.specs.Prelude.{◌≡◌};
 ghost use Rattle.lines.specs.Refusals.{is_marked};
 
@@ -12,21 +12,21 @@ use crate::words::first_words;
 use accesses::Names;
 use arrayvec::ArrayVec;
 
-/// Who speaks by a line.
+/// The author of a line, which determines the valid forms.
 #[derive(Clone, Copy, Debug, PartialEq, Eq)]
 pub enum Speaker {
     /// A guest.
     Guest,
-    /// The host of guests.
+    /// The host, in a script.
     Host,
-    /// Firmware, under the host's name.
+    /// Firmware, whose lines also begin with `host`.
     Firmware,
 }
 
-/// What a word of a line has to be.
+/// The kind of a word in a form.
 #[derive(Clone, Copy, Debug, PartialEq, Eq)]
 pub enum Role {
-    /// What is asked, which is the word after the name.
+    /// The word after the name, which selects the form.
     Verb(Speaker),
     Function,
     Slot,
@@ -34,37 +34,37 @@ pub enum Role {
     Width,
     Port,
     Address,
-    /// A number of 32 bits.
+    /// A 32-bit number.
     Value,
-    /// A number of 8 bits.
+    /// An 8-bit number.
     Mask,
     /// `cfg` or `bar0` to `bar5`.
     Part,
     /// `mem`, `io` or `cfg`.
     Space,
-    /// An address, a port or a function, by the space before it.
+    /// An address, a port or a BDF, depending on the space before it.
     Place,
     Guest,
 }
 
-/// What is wrong at a word.
+/// The error in a word.
 #[derive(Clone, Copy, Debug, PartialEq, Eq)]
 pub enum Wrong {
     Missing(Role),
     Unfit(Role),
-    /// Its form has no such word.
+    /// The form has no word at this position.
     TooMany,
     /// The line begins with a byte order mark.
     Marked,
 }
 
-/// Why a line has none of the forms.
+/// The reason why a line is malformed.
 #[derive(Drop)]
 pub struct Reason {
-    /// The number of the word, where 1 is the first one after the name, and 0 the name.
+    /// The position of the word: 0 is the name, and 1 the first word after it.
     pub at: usize,
     pub wrong: Wrong,
-    /// The beginning of the word, if there is one.
+    /// The beginning of the word, at most 32 bytes. Empty if there is no word to show.
     pub word: ArrayVec<u8, 32>,
 }
 
@@ -80,7 +80,7 @@ impl Reason {
     }
 }
 
-/// What follows the word after a speaker's name.
+/// Returns the kinds of the words after `verb`, or `None` if the speaker has no such verb.
 fn roles_after(speaker: Speaker, verb: &[u8]) -> Option<&'static [Role]> {
     use Role::{Address, Function, Mask, Offset, Part, Place, Port, Slot, Space, Value, Width};
     use Speaker::{Firmware, Guest, Host};
@@ -101,7 +101,7 @@ fn roles_after(speaker: Speaker, verb: &[u8]) -> Option<&'static [Role]> {
     }
 }
 
-/// Whether a word is what it has to be, after the word before it.
+/// Returns whether a word is of the given kind. `before` is the word before it.
 fn fits(role: Role, names: &Names, before: &[u8], word: &[u8]) -> bool {
     match role {
         Role::Verb(_) => false,
@@ -118,7 +118,7 @@ fn fits(role: Role, names: &Names, before: &[u8], word: &[u8]) -> bool {
     }
 }
 
-/// What is wrong first in the words after a name.
+/// Returns the first error in the words after a name.
 fn wrong_in(speaker: Speaker, names: &Names, words: &[&[u8]]) -> Reason {
     let [verb, words @ ..] = words else {
         return Reason::new(1, Wrong::Missing(Role::Verb(speaker)), &[]);
@@ -140,7 +140,7 @@ fn wrong_in(speaker: Speaker, names: &Names, words: &[&[u8]]) -> Reason {
     Reason::new(roles.len() + 2, Wrong::TooMany, word)
 }
 
-/// Whether a line begins with the byte order mark of UTF-8.
+/// Returns whether a line begins with the UTF-8 byte order mark.
 pub(crate) fn is_marked(line: &[u8]) -> bool
     ensures { result ≡ is_marked line.now }
 {
@@ -150,8 +150,9 @@ pub(crate) fn is_marked(line: &[u8]) -> bool
     }
 }
 
-/// Why a line has none of the forms of guests of these names and of their host, or of firmware's if there are none. Of
-/// a line that begins with a byte order mark it is that it does. No form has more than seven words after the name.
+/// Returns why a line is malformed. The valid forms are those of guests with these names and of
+/// their host, or those of firmware if `guests` is `None`. A byte order mark is reported first. No
+/// form has more than five words after the name, so the first seven are enough.
 pub(crate) fn reason_of(guests: Option<&Names>, line: &[u8]) -> Reason {
     if is_marked(line) {
         return Reason::new(0, Wrong::Marked, &[]);

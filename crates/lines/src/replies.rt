@@ -1,4 +1,4 @@
-//! The text of output lines.
+//! Formatting of output lines.
 ghost use Rattle.std.specs.Prelude.{◌≡◌, ◌≤◌, ◌<◌, ◌+◌, ◌*◌, ◌++◌, ◌∷◌, [], length, codes};
 ghost use Rattle.model_guests.specs.Replies.{who_text, reply_text, line_text, hex_digits};
 ghost use Rattle.accesses.specs.{Accesses.reply_of, Replies.IsShown};
@@ -8,15 +8,15 @@ use crate::line::Who;
 use accesses::{Names, Reply};
 use arrayvec::ArrayVec;
 
-/// The bytes of the longest line that answers a line, with its line feed.
+/// The maximum length in bytes of an output line that answers a line, with its line feed.
 pub const LONGEST_REPLY: usize = 48;
 
-/// An output line with its line feed: a name of at most 16 bytes, a colon and a space, and at most
-/// `refused 402 unknown guest`.
+/// An output line with its line feed: a name of at most 16 bytes, a colon, a space, and a reply of
+/// at most the length of `refused 402 unknown guest`.
 pub type LineText = ArrayVec<u8, LONGEST_REPLY>;
 
-/// The two hexadecimal digits of each byte. A look at the table is faster than a shift, a mask and a look for
-/// each digit.
+/// The two hexadecimal digits of each byte. One table lookup is faster than a shift, a mask and a
+/// lookup for each digit.
 #[rattlefmt::skip]
 static PAIRS: &[u8; 512] = b"\
     000102030405060708090a0b0c0d0e0f\
@@ -44,7 +44,7 @@ fn push_all(text: &mut LineText, bytes: &[u8])
     let _ = text.try_extend_from_slice(bytes);
 }
 
-/// Appends a name. A name of one letter needs no call that copies bytes.
+/// Appends a name. A name of one letter doesn't need the call that copies bytes.
 fn push_name(text: &mut LineText, name: &[u8])
     requires { length text.old.items + length name.now ≤ 48 }
     ensures items { text.new.items ≡ text.old.items ++ name.now }
@@ -68,7 +68,7 @@ fn push_byte(text: &mut LineText, byte: u8)
     text.push(PAIRS[at + 1]);
 }
 
-/// Appends the hexadecimal digits of the low bytes of a value, as many as `width`. There are four at most,
+/// Appends the low `width` bytes of a value as hexadecimal digits. There are at most four bytes,
 /// and a loop would be slower.
 fn push_hex(text: &mut LineText, value: u32, width: u64)
     requires few { width ≤ 4 }
@@ -90,7 +90,7 @@ fn push_hex(text: &mut LineText, value: u32, width: u64)
     }
 }
 
-/// The name under which a line is answered.
+/// Returns the name under which a line is answered.
 fn name_of<'a>(who: Who, names: &'a Names) -> &'a [u8]
     requires { GuestIs (λ g. g < length names.now.items) who }
     ensures name { result.now ≡ who_text (who_of (texts names.now) who) }
@@ -103,7 +103,8 @@ fn name_of<'a>(who: Who, names: &'a Names) -> &'a [u8]
     }
 }
 
-/// Writes the output line of a reply under a name, with its line feed, into an empty text.
+/// Writes a reply as an output line under `name`, with its line feed, to `text`, which must be
+/// empty.
 #[inline(always)]
 pub fn push_named(text: &mut LineText, name: &[u8], reply: Reply)
     requires empty { text.old.items ≡ [] }
@@ -127,7 +128,7 @@ pub fn push_named(text: &mut LineText, name: &[u8], reply: Reply)
     text.push(b'\n');
 }
 
-/// Writes the output line of a reply, with its line feed, into an empty text.
+/// Writes a reply as an output line, with its line feed, to `text`, which must be empty.
 #[inline(always)]
 pub fn push_line(text: &mut LineText, who: Who, names: &Names, reply: Reply)
     requires empty { text.old.items ≡ [] }
@@ -139,7 +140,7 @@ pub fn push_line(text: &mut LineText, who: Who, names: &Names, reply: Reply)
     push_named(text, name_of(who, names), reply);
 }
 
-/// The output line of a reply, with its line feed.
+/// Returns a reply as an output line, with its line feed.
 pub fn line_text(who: Who, names: &Names, reply: Reply) -> LineText
     requires who { GuestIs (λ g. g < length names.now.items) who }
     requires reply { IsShown reply }

@@ -1,4 +1,4 @@
-//! What firmware asks of a session beside accesses.
+//! Parsing of firmware's requests other than accesses.
 ghost use Rattle.std.specs.Prelude.{◌≡◌, ◌∷◌, [], map, option_map};
 ghost use Rattle.model_lines.specs.Requests.{why_place, request_of_word, request_of as request_of_words};
 ghost use Rattle.lines.specs.Requests.{why_asked_of, request_of};
@@ -8,31 +8,31 @@ use crate::forms::bus_address;
 use crate::numbers::number_of;
 use accesses::Bdf;
 
-/// What is asked about where why is asked.
+/// The address that a `why` request asks about.
 #[derive(Clone, Copy, Debug, PartialEq, Eq)]
 pub enum WhyAsked {
     /// A memory address.
     Mem { addr: u64 },
     /// An I/O port.
     Io { port: u32 },
-    /// The number of a function in configuration space.
+    /// The BDF of a function in configuration space.
     Config { bdf: Bdf },
 }
 
-/// What a line asks of a session beside an access.
+/// A request to a session other than an access.
 #[derive(Clone, Copy, Debug, PartialEq, Eq)]
 pub enum HostRequest {
-    /// What is wrong in the registers as they stand.
+    /// An audit: all problems in the current registers.
     Audit,
-    /// What is wrong and what is lacking in them.
+    /// A readiness report: all problems and unmet requirements in the current registers.
     Ready,
-    /// That the board is handed to its guests.
+    /// The handover of the board to its guests.
     Guests,
-    /// Why this finds what it finds.
+    /// An explanation of what an access to this address reaches.
     Why(WhyAsked),
 }
 
-/// What is asked about, by its space and its address or number there.
+/// Parses the arguments of `why`: a space, and an address, a port or a BDF in it.
 pub(crate) fn why_place(space: &[u8], at: &[u8]) -> Option<WhyAsked>
     ensures { option_map why_asked_of result ≡ why_place space.now at.now }
 {
@@ -51,7 +51,7 @@ pub(crate) fn why_place(space: &[u8], at: &[u8]) -> Option<WhyAsked>
     None
 }
 
-/// What one word after `host` asks.
+/// Parses a request of one word.
 pub(crate) fn request_of_word(word: &[u8]) -> Option<HostRequest>
     ensures { option_map request_of result ≡ request_of_word word.now }
 {
@@ -67,7 +67,7 @@ pub(crate) fn request_of_word(word: &[u8]) -> Option<HostRequest>
     None
 }
 
-/// What three words after `host` ask.
+/// Parses `why` and its two arguments.
 fn why_form(word: &[u8], space: &[u8], at: &[u8]) -> Option<HostRequest>
     ensures { option_map request_of result
         ≡ request_of_words (word.now ∷ space.now ∷ at.now ∷ []) }
@@ -79,7 +79,7 @@ fn why_form(word: &[u8], space: &[u8], at: &[u8]) -> Option<HostRequest>
     Some(HostRequest::Why(asked))
 }
 
-/// What the words after `host` ask, if they are of a known form.
+/// Parses the words after `host` as a request.
 #[tactic(auto, using(crate::proofs::RequestCounts::no_request_of_few, crate::proofs::RequestCounts::no_request_of_many))]
 pub(crate) fn request_form(words: &[&[u8]]) -> Option<HostRequest>
     ensures { option_map request_of result ≡ request_of_words (map (λ w. w.now) words.now) }

@@ -1,4 +1,4 @@
-//! A run of a whole script.
+//! Runs of whole scripts.
 ghost use Rattle.std.specs.{Prelude.{◌≡◌, ◌+◌, ◌-◌, ◌^◌, ◌<◌, [], false, ◌⊎◌, OnOk, IfErr, IsErrOf, Err}, Io.KnownBytes.{Consumes, IsAtEnd}};
 ghost use Rattle.model_guests.specs.{Text.Text, LineRuns.HasNoEnd};
 ghost use Rattle.lines.specs.{Faults.{read_failures_of, write_failures_of, number_of, of_stop}, Pieces.Reaches, Runs.{Runs, ends}};
@@ -9,21 +9,22 @@ use crate::pieces::{Stop, run_last, run_piece};
 use streams::{Reader, Writer};
 use thiserror::Error;
 
-/// Why a run ended early.
+/// The reason why a run ended early.
 #[derive(Clone, Copy, Debug, PartialEq, Eq, Error)]
 pub enum RunFault {
     #[error("read failed")]
     Read,
-    /// A write or a flush failed, or a write took no byte.
+    /// A write or a flush failed, or a write accepted no byte.
     #[error("write failed")]
     Write,
-    /// Out of memory for a line, in a language in which some line takes memory.
+    /// Memory was exhausted while a line was executed. This happens only in languages in which some
+    /// line allocates memory.
     #[error("memory")]
     Memory,
 }
 
 impl RunFault {
-    /// The number of the fault: 501, 502 or 299.
+    /// Returns the number of the fault: 501, 502 or 299.
     pub fn number(self) -> u16
         ensures { result ≡ number_of self }
     {
@@ -46,7 +47,8 @@ impl From<Stop> for RunFault {
     }
 }
 
-/// Runs the lines of a script that line feeds end, as they are read, and holds what is left at its end.
+/// Executes the lines of a script that end with a line feed, as they are read. The text after the
+/// last line feed stays in `pending`.
 fn run_pieces<L, S: Answers<L>, R: Reader, W: Writer>(
     server: &mut S,
     pending: &mut Pending,
@@ -84,10 +86,10 @@ fn run_pieces<L, S: Answers<L>, R: Reader, W: Writer>(
     }
 }
 
-/// Runs the lines of a script, in pieces as they are read. Each line is answered before the next
-/// is looked at, and all answers are flushed before more is read, so that who writes the script can
-/// wait for them. Of a long line nothing is kept, and no memory is taken but by lines of a language in which
-/// some take it. No failure is tried again.
+/// Runs the lines of a script as they are read. Each line is answered before the next one is
+/// parsed. All replies are flushed before more input is read, so that the author of the script can
+/// wait for them. Long lines aren't stored, and memory is allocated only by lines of a language in
+/// which some line allocates it. Failed operations aren't retried.
 pub fn run<L, S: Answers<L>, R: Reader, W: Writer>(
     server: &mut S,
     reader: &mut R,
@@ -96,16 +98,16 @@ pub fn run<L, S: Answers<L>, R: Reader, W: Writer>(
     requires reader_has_room { R.failures reader.old < 2 ^ 64 - 1 }
     requires writer_has_room { W.failures writer.old < 2 ^ 64 - 1 }
 
-    // A fault is the reader's or the writer's exactly where that end failed during the call.
+    // A read or write fault is returned exactly if the reader or the writer failed during the call.
     ensures reads { R.failures reader.new ≡ R.failures reader.old + read_failures_of result }
     ensures writes { W.failures writer.new ≡ W.failures writer.old + write_failures_of result }
 
-    // What it did of the lines of the script.
+    // The effect of the script's lines.
     ensures runs { Runs S.protocol server.old server.new
         (ends (R.rest reader.old) (R.rest reader.new)
         (W.written writer.old) (W.written writer.new) (W.flushed writer.new)) result }
 
-    // No memory for a line: all that those before it write was flushed.
+    // If memory was exhausted, the output of all earlier lines was flushed.
     ensures lacking_flushed { IsErrOf result RunFault.Memory →
         (W.flushed writer.new ≡ W.written writer.new) ⊎ (writer.new ≡ writer.old) }
     ensures memory { IsErrOf result RunFault.Memory → S.TakesMemory }

@@ -1,4 +1,4 @@
-//! Runs of lines of which it is told whether one was refused, and why those were that have none of the forms.
+//! Runs that record whether a line was refused, and why lines were malformed.
 ghost use Rattle.std.specs.Prelude.{◌≡◌, ◌+◌, ◌-◌, ◌%◌, ◌^◌, ◌<◌, ◌⊎◌, ◌++◌, IsErrOf};
 ghost use Rattle.model_guests.specs.Text.{Text};
 ghost use Rattle.lines.specs.{Faults.{read_failures_of, write_failures_of}, Pieces.IsBefore, Refusals.{none_seen, with_bad, with_refused, with_line, watched, IsWatched}, Runs.ends};
@@ -14,10 +14,10 @@ use std::alloc::AllocError;
 use std::marker::Model;
 use streams::{Reader, Writer};
 
-/// A refused line that has none of the forms, or begins with a byte order mark.
+/// A refused line that is malformed or begins with a byte order mark.
 #[derive(Drop)]
 pub struct BadLine {
-    /// Its number, where 1 is the first line's. Contracts see it alone.
+    /// The number of the line, counted from 1. Contracts see only this field.
     pub line: u64,
     pub reason: Reason,
 }
@@ -43,21 +43,21 @@ impl Default for BadLine {
     }
 }
 
-/// What was seen of lines. Counts go on from 0 behind 2^64 - 1.
+/// Statistics about the lines of a run. The counters wrap around after 2^64 - 1.
 #[derive(Drop)]
 pub struct Seen {
     /// Whether a line was refused.
     pub refused: bool,
-    /// How many lines there were.
+    /// The number of lines.
     pub lines: u64,
-    /// How many of them are bad lines.
+    /// The number of bad lines.
     pub bad: u64,
-    /// The first of those.
+    /// The first bad lines.
     pub first: ArrayVec<BadLine, 20>,
 }
 
 impl Seen {
-    /// What is seen of no line.
+    /// Returns the statistics before the first line.
     pub fn none() -> Seen
         ensures { result ≡ none_seen }
     {
@@ -69,7 +69,7 @@ impl Seen {
         }
     }
 
-    /// Sees one more bad line, of guests of these names or of firmware.
+    /// Records a bad line. `guests` are the names of the guests, or `None` for a firmware line.
     fn push_bad(&mut self, guests: Option<&Names>, line: &[u8])
         ensures { self.new ≡ with_bad self.old }
     {
@@ -83,7 +83,8 @@ impl Seen {
         });
     }
 
-    /// Sees that the last line is refused, by which number. If `long`, more bytes of it came before.
+    /// Records that the current line was refused with `number`. If `long` is set, earlier bytes of
+    /// the line were skipped.
     #[inline(never)]
     fn push_refused(&mut self, guests: Option<&Names>, long: bool, line: &[u8], number: u16)
         ensures { (before : Text) → IsBefore long before →
@@ -95,8 +96,9 @@ impl Seen {
         }
     }
 
-    /// Sees one more line, and by which number it is refused, if it is. If `long`, more bytes of it came before. It is
-    /// compiled into the loop over lines, of which few are refused.
+    /// Records a line, and the number of its refusal if it was refused. If `long` is set, earlier
+    /// bytes of the line were skipped. Inlined into the loop over lines, since few lines are
+    /// refused.
     #[inline(always)]
     fn push(&mut self, guests: Option<&Names>, long: bool, line: &[u8], refused: Option<u16>)
         ensures { (before : Text) → IsBefore long before →
@@ -109,7 +111,7 @@ impl Seen {
     }
 }
 
-/// What answers lines, and what is seen of them.
+/// A server, and the statistics about the lines that it answered.
 #[derive(Drop)]
 pub(crate) struct Watched<S> {
     server: S,
@@ -142,7 +144,8 @@ impl<L, S: Answers<L>> Answers<L> for Watched<S> {
     }
 }
 
-/// Runs lines over what answers them, as [`run`] does, and gives it as they left it, and what was seen of them.
+/// Runs lines as [`run`] does. Returns the server in its final state, and the statistics about the
+/// lines.
 pub fn run_watched<L, S: Answers<L> + Drop, R: Reader, W: Writer>(
     server: S,
     reader: &mut R,

@@ -1,18 +1,19 @@
-//! Ends of lines, and words of a line.
+//! Splitting of a script into lines, and of a line into words.
 ghost use Rattle.std.specs.Prelude.{◌≡◌, ◌<◌, ◌∷◌, [], ◌==◌, length, map, take, position, MatchOption, IfSome};
 ghost use Rattle.model_guests.specs.Text.{words, pieces, is_blank};
 
 use arrayvec::ArrayVec;
 use memchr::memchr;
 
-/// The place of the first line feed. A search by vectors: a script is mostly lines of some twenty bytes.
+/// Returns the index of the first line feed. Uses a vectorised search, since most lines of a script
+/// have some twenty bytes.
 pub fn line_feed_in(script: &[u8]) -> Option<usize>
     ensures { result ≡ position (λ b. b == 10) script.now }
 {
     memchr(b'\n', script)
 }
 
-/// 1 at each byte that parts words: a space, a tab or a carriage return. A look at the table is faster
+/// 1 for each byte that separates words: space, tab and carriage return. A table lookup is faster
 /// than three comparisons.
 #[rattlefmt::skip]
 static BLANKS: [u8; 256] = [
@@ -34,7 +35,7 @@ static BLANKS: [u8; 256] = [
     0, 0, 0, 0, 0, 0, 0, 0, 0, 0, 0, 0, 0, 0, 0, 0,
 ];
 
-/// Whether a byte parts words.
+/// Returns whether a byte separates words.
 #[inline]
 pub(crate) fn is_blank(byte: u8) -> bool
     ensures { result ≡ is_blank byte }
@@ -42,7 +43,7 @@ pub(crate) fn is_blank(byte: u8) -> bool
     BLANKS[byte as usize] == 1
 }
 
-/// The place of the first blank.
+/// Returns the index of the first blank.
 #[inline]
 fn blank_in(text: &[u8]) -> Option<usize>
     ensures { result ≡ position is_blank text.now }
@@ -50,7 +51,8 @@ fn blank_in(text: &[u8]) -> Option<usize>
     text.iter().position(|byte| is_blank(*byte))
 }
 
-/// The bytes before the first blank, and those after it. Between two blanks there is no byte.
+/// Returns the bytes before the first blank and the bytes after it. The first part is empty if the
+/// text begins with a blank.
 #[inline]
 pub(crate) fn next_piece(text: &[u8]) -> Option<(&[u8], &[u8])>
     ensures piece { MatchOption result (pieces is_blank text.now ≡ [])
@@ -66,7 +68,8 @@ pub(crate) fn next_piece(text: &[u8]) -> Option<(&[u8], &[u8])>
     }
 }
 
-/// The first seven words of a line. A loop of its own is faster than a chain of iterators.
+/// Returns the first words of a line, at most seven. A loop is faster here than a chain of
+/// iterators.
 pub(crate) fn first_words(line: &[u8]) -> ArrayVec<&[u8], 7>
     ensures { map (λ w. w.now) result.items ≡ take 7 (words line.now) }
 {

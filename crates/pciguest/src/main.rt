@@ -1,6 +1,6 @@
 //! Layer: program. Below: simulation.
 //!
-//! The program: a board, its guests and a script of their accesses.
+//! The program, which simulates a board, its guests and their accesses.
 #![tactic(auto)]
 
 use command_line::{WordsFault, choose};
@@ -13,7 +13,7 @@ use std::process::ExitCode;
 use std::rt::{Env, Files};
 use std::{env, io};
 
-/// A fault, and the line below it that tells more, if there is one.
+/// A fault, and the hint to print below its error message, if there is one.
 #[derive(Drop)]
 struct Failure {
     fault: Fault,
@@ -26,7 +26,7 @@ impl From<Fault> for Failure {
     }
 }
 
-/// The program's name and its words. A word that is no text is none that the program takes.
+/// Returns the name and the arguments of the program. An argument that isn't text is invalid.
 fn words_given(rt: &(impl Env + AllocGlobal)) -> Result<Vec<String>, Fault> {
     match env::args(rt) {
         Ok(words) => words.collect(rt.alloc()).map_err(|_| Fault::WordMemory),
@@ -35,7 +35,7 @@ fn words_given(rt: &(impl Env + AllocGlobal)) -> Result<Vec<String>, Fault> {
     }
 }
 
-/// What stands in the board file at a path.
+/// Returns the content of the board file at `path`.
 fn board_at(rt: &(impl AllocGlobal + Files), path: &str) -> Result<Vec<u8>, Failure> {
     match board_or_hint(rt, rt.alloc(), path) {
         Ok(bytes) => Ok(bytes),
@@ -46,8 +46,8 @@ fn board_at(rt: &(impl AllocGlobal + Files), path: &str) -> Result<Vec<u8>, Fail
     }
 }
 
-/// Does what the words ask, over standard input and output. `is_terminal` tells whether the output is one. It is told
-/// what was seen of lines.
+/// Executes the command that the arguments select, over standard input and output. `is_terminal`
+/// says whether the output is a terminal. `seen` receives the statistics about the lines.
 fn serve(
     rt: &(impl AllocGlobal + Files + Input + Print),
     words: &[&str],
@@ -80,7 +80,8 @@ fn serve(
     }
 }
 
-/// Does what the program is asked. `is_terminal` tells whether the output is one. It is told what was seen of lines.
+/// Executes the program. `is_terminal` says whether the output is a terminal. `seen` receives the
+/// statistics about the lines.
 fn run(
     rt: &(impl Env + AllocGlobal + Files + Input + Print),
     is_terminal: bool,

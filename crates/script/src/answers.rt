@@ -1,4 +1,4 @@
-//! What a line does and writes.
+//! Execution of a script's lines.
 ghost use Rattle.std.specs.Prelude.{◌≡◌, ◌<◌, ◌++◌, ◌∷◌, [], length, option_map, MatchOption, IfSome};
 ghost use Rattle.model_guests.specs.{Text.Text, Replies.line_text, WorldNow.{names_now, written_by, line_output}, Calls.asks};
 ghost use Rattle.model_handoff.specs.{Actions.calls, Changes.{after_on_machine, after_line_on_machine, machine_protocol}};
@@ -10,7 +10,8 @@ use lines::{Answer, Answers, LineText, What, Who, line_meaning, push_line};
 use monitor::{Monitor, Names, Refusal, Reply};
 use std::alloc::AllocError;
 
-/// Runs the event that a line means, and gives under whose name it is answered and with what, if it makes output.
+/// Executes a parsed line. Returns the reply and the name under which it is sent, if the line has
+/// output.
 #[inline(always)]
 pub fn answer(monitor: &mut Monitor, what: What) -> Option<(Who, Reply)>
     requires { GuestsAre (λ g. g < length (names_now monitor.old.world)) what }
@@ -48,7 +49,7 @@ pub fn answer(monitor: &mut Monitor, what: What) -> Option<(Who, Reply)>
     }
 }
 
-/// The number by which a reply refuses, if it does.
+/// Returns the number of a refusal, or `None` for any other reply.
 #[inline(always)]
 pub fn refusal_of(reply: Reply) -> Option<u16>
     ensures { result ≡ refusal_of (reply_of reply) }
@@ -59,9 +60,9 @@ pub fn refusal_of(reply: Reply) -> Option<u16>
     }
 }
 
-/// Runs the event of a line, and writes what the line writes into an empty text: nothing, or one line with
-/// its line feed. It gives the number by which the line is refused. All replies are written in one place, into a text
-/// that is then not moved: that is faster.
+/// Executes a line and writes its output to `text`, which must be empty: nothing, or one line with
+/// its line feed. Returns the number of the refusal, if the line is refused. All replies are
+/// written in one place, to a text that isn't moved afterwards, which is faster.
 #[inline(always)]
 fn push_answer(monitor: &mut Monitor, line: &[u8], text: &mut LineText) -> Option<u16>
     requires { text.old.items ≡ [] }
@@ -76,8 +77,8 @@ fn push_answer(monitor: &mut Monitor, line: &[u8], text: &mut LineText) -> Optio
     refused
 }
 
-/// Runs the event of a line, and gives what the line writes: nothing, or one line with its line feed. No
-/// memory is taken.
+/// Executes a line and returns its output: nothing, or one line with its line feed. Allocates no
+/// memory.
 pub fn run_line(monitor: &mut Monitor, line: &[u8]) -> LineText
     ensures text { result.items ≡ line_output monitor.old.world line.now }
     ensures after { monitor.new ≡ after_line_on_machine monitor.old line.now }
@@ -87,9 +88,10 @@ pub fn run_line(monitor: &mut Monitor, line: &[u8]) -> LineText
     text
 }
 
-/// Runs the event of a line, and writes what the line writes into an empty text: nothing, or one line with
-/// its line feed. It gives the number by which the line is refused. If `long`, bytes of the line were passed over. No
-/// memory is taken. It is compiled once, for scripts and for sessions, and what it calls into it: that is faster.
+/// Executes a line and writes its output to `text`, which must be empty: nothing, or one line with
+/// its line feed. Returns the number of the refusal, if the line is refused. If `long` is set,
+/// earlier bytes of the line were skipped. Allocates no memory. Compiled once for both scripts and
+/// sessions, with its callees inlined, which is faster.
 #[inline(never)]
 pub fn answer_line(
     monitor: &mut Monitor,
@@ -105,7 +107,7 @@ pub fn answer_line(
     ensures after { (before : Text) → IsBefore long before →
         monitor.new ≡ after_line_on_machine monitor.old (before ++ line.now) }
 {
-    // No event runs, and all such lines write the same.
+    // A long line has no effect, and the reply is the same for all of them.
     if long {
         push_line(
             text,
@@ -118,7 +120,7 @@ pub fn answer_line(
     push_answer(monitor, line, text)
 }
 
-/// The language of scripts, whose lines a monitor answers.
+/// The language of scripts, which a monitor answers.
 pub struct Script;
 
 impl Answers<Script> for Monitor {

@@ -1,6 +1,6 @@
 //! Layer: lines. Below: monitor, lines. Above: session.
 //!
-//! Runs of scripts over the monitor, piece by piece.
+//! Runs scripts on the monitor, piece by piece as they are read.
 #![tactic(auto)]
 
 mod answers;

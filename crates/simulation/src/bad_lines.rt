@@ -1,11 +1,12 @@
-//! Why lines have none of the forms, in words.
+//! Error messages about malformed lines.
 ghost use Rattle.std.specs.Prelude.{◌≡◌, [], IfOk, string_bytes};
 
 use diagnostics::Shown;
 use lines::{BadLine, Role, Seen, Speaker, Wrong};
 use std::alloc::{AllocError, Global};
 
-/// What a word is called, by what it has to be, and what is said of one that is something else.
+/// Returns what a missing word of this kind is called, and the message about a word of another
+/// kind.
 fn words_of(role: Role) -> (&'static str, &'static str) {
     let number = "is no number below 2^64";
     match role {
@@ -34,7 +35,7 @@ fn words_of(role: Role) -> (&'static str, &'static str) {
     }
 }
 
-/// Appends a line that says why a line has none of the forms.
+/// Appends the error message about a malformed line.
 fn push_bad_line(text: &mut String, bad: &BadLine) -> Result<(), AllocError> {
     let reason = &bad.reason;
     let word = Shown(reason.word.as_slice());
@@ -47,8 +48,8 @@ fn push_bad_line(text: &mut String, bad: &BadLine) -> Result<(), AllocError> {
     }
 }
 
-/// Why lines have none of the forms: a line for each of the first, and one that counts the others. Where there are no
-/// such lines, it is empty.
+/// Returns the error messages about the first bad lines, and a last line with the number of the
+/// others, if there are more. The text is empty if there are no bad lines.
 pub fn bad_lines_text(alloc: Global, seen: &Seen) -> Result<String, AllocError>
     ensures silent { seen.now.bad ≡ 0 → IfOk result (λ t. string_bytes t ≡ []) }
 {

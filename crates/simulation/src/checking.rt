@@ -1,4 +1,4 @@
-//! What is wrong with a board file, or that nothing is, written.
+//! The `check` command: all problems in a board file.
 ghost use Rattle.std.specs.Prelude.{◌≡◌, ◌≢◌, ◌+◌, ◌-◌, ◌^◌, ◌<◌, None, OnOk, IfErr, IsErrOf};
 ghost use Rattle.simulation.specs.{Faults.{write_faults, open_fault, IsOfList, IsRefusal}, Checking.{IsChecked, IsCheckedInPart}};
 
@@ -10,9 +10,9 @@ use session::OpenFault;
 use std::alloc::Global;
 use streams::Writer;
 
-/// Writes what [`check_text`] says of a board file, and flushes once.
+/// Writes the text of [`check_text`] about a board file, and flushes once.
 ///
-/// The answer is that of `list`, but for faults of the report itself.
+/// Returns the same result as `list`, except for faults in writing the report.
 pub fn check<W: Writer>(
     alloc: Global,
     style: Style,
@@ -23,7 +23,8 @@ pub fn check<W: Writer>(
 ) -> Result<(), Fault>
     requires { W.failures writer.old < 2 ^ 64 - 1 }
 
-    // The file declares a board that can be set up; or the file is refused, or its board, and something was written.
+    // Either the file declares a board that can be set up, or the file or its board is refused and
+    // a text was written.
     ensures fits { OnOk result
         (IsChecked board.now None (W.written writer.old) (W.written writer.new)) }
     ensures flushed { OnOk result (W.flushed writer.new ≡ W.written writer.new) }
@@ -38,7 +39,7 @@ pub fn check<W: Writer>(
     ensures nothing { IfErr result
         (λ f. f ≢ Fault.Write → ¬ IsRefusal f → writer.new ≡ writer.old) }
 
-    // A fault is the writer's exactly where the writer failed during the call.
+    // A write fault is returned exactly if the writer failed during the call.
     ensures failures { W.failures writer.new ≡ W.failures writer.old + write_faults result }
 {
     let checked = check_text(alloc, style, warned, name, board)?;

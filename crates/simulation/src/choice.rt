@@ -1,4 +1,4 @@
-//! Doing what the program is asked to do.
+//! Execution of the program's commands.
 ghost use Rattle.std.specs.{Prelude.{◌≡◌, ◌≢◌, ◌+◌, ◌-◌, ◌^◌, ◌<◌, ◌⊎◌, OnOk, OnErr, IfErr}, Io.KnownBytes.Appends};
 ghost use Rattle.streams.specs.Ends.{AppendsPart};
 ghost use Rattle.lines.specs.Runs.{ends};
@@ -17,7 +17,7 @@ use lines::Seen;
 use std::alloc::Global;
 use streams::{Reader, Writer, write_and_flush};
 
-/// The form of a report or an audit, by whether JSON is asked for.
+/// Returns the format of a report: JSON if `json`, otherwise lines.
 fn form_of(json: bool) -> ReportForm
     ensures { result ≡ form_of json }
 {
@@ -28,7 +28,7 @@ fn form_of(json: bool) -> ReportForm
     }
 }
 
-/// How a check tells, by whether lines alone are asked for.
+/// Returns the style of a check: only lines if `plain`, otherwise lines with excerpts.
 fn style_of(plain: bool) -> Style
     ensures { result ≡ style_of plain }
 {
@@ -39,7 +39,7 @@ fn style_of(plain: bool) -> Style
     }
 }
 
-/// Of what a check warns, by whether all is asked for.
+/// Returns which warnings a check reports: all of them if `all`, otherwise only the likely ones.
 fn warned_of(all: bool) -> Warned
     ensures { result ≡ warned_of all }
 {
@@ -62,8 +62,9 @@ pub(crate) fn print<W: Writer>(text: &str, writer: &mut W) -> Result<(), Fault>
     Ok(())
 }
 
-/// Does what is asked. A script is read from `reader`, and `board` is what stands in the board file, where one is asked
-/// for. It is told what was seen of lines, once all of them ran and all was written.
+/// Executes a command. A script is read from `reader`, and `board` is the content of the board
+/// file, if the command needs one. `seen` receives the statistics about the lines, once all lines
+/// have run and all output was written.
 pub fn perform<R: Reader, W: Writer>(
     alloc: Global,
     choice: &Choice<'_>,
@@ -75,16 +76,18 @@ pub fn perform<R: Reader, W: Writer>(
     requires reader_has_room { R.failures reader.old < 2 ^ 64 - 1 }
     requires writer_has_room { W.failures writer.old < 2 ^ 64 - 1 }
 
-    // The text, the report of the board file, what a check says of it or the output of all lines was written.
+    // What was written: the help text, the report of the board file, the text of its check, or the
+    // output of all lines.
     ensures does { Does choice.now seen.new board.now (ends (R.rest reader.old) (R.rest reader.new)
         (W.written writer.old) (W.written writer.new) (W.flushed writer.new)) result }
 
-    // What was seen of lines is told only where all was written, and of a script or firmware alone.
+    // `seen` changes only if all output was written, and only if the command runs a script or
+    // firmware.
     ensures unseen { IfErr result (λ f. ¬ IsToldLast f → seen.new ≡ seen.old) }
     ensures untold { IsUntold choice.now → seen.new ≡ seen.old }
 
-    // Only a failed write or read, what a check tells, what is told last and no memory once lines ran come after a
-    // part was written.
+    // Output may precede only some faults: a failed read or write, a refusal that a check reports,
+    // a fault that is reported at the end, and exhausted memory once lines have run.
     ensures unread { IfErr result (λ f.
         f ≢ Fault.Read → f ≢ Fault.Write → ¬ IsToldLast f
         → ¬ IsLacking choice.now f → reader.new ≡ reader.old) }
@@ -93,13 +96,14 @@ pub fn perform<R: Reader, W: Writer>(
         → ¬ IsTelling choice.now f → ¬ IsLacking choice.now f
         → writer.new ≡ writer.old) }
 
-    // Where memory is out once lines ran, for a question or for a handover, what they write was flushed.
+    // If memory was exhausted once lines had run, by a question or by a handover, the output of the
+    // lines was flushed.
     ensures lacking_flushed { IfErr result (λ f. IsLacking choice.now f →
         (W.flushed writer.new ≡ W.written writer.new) ⊎ (writer.new ≡ writer.old)) }
 
     ensures faults { IfErr result (IsOfChoice choice.now) }
 
-    // A fault is the reader's or the writer's exactly where that end failed during the call.
+    // A read or write fault is returned exactly if the reader or the writer failed during the call.
     ensures reads { R.failures reader.new ≡ R.failures reader.old + read_faults result }
     ensures writes { W.failures writer.new ≡ W.failures writer.old + write_faults result }
 {

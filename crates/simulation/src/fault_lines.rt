@@ -1,19 +1,19 @@
-//! The line of a fault.
+//! Error messages about faults.
 ghost use Rattle.std.specs.Prelude.{◌≡◌, ◌+◌, ◌/◌, ◌%◌};
 ghost use Rattle.simulation.specs.Faults.{line_of};
 
 use arrayvec::ArrayString;
 use board_told::Fault;
 
-/// The character of a decimal digit.
+/// Returns the last decimal digit of a number as a character.
 fn digit(n: u16) -> char
     ensures { result ≡ 48 + n % 10 }
 {
     char::from(b'0' + (n % 10) as u8)
 }
 
-/// What the program says of a fault, on one line that ends with a line feed: `pciguest: fault`, the
-/// fault's number and its words.
+/// Returns the program's error message about a fault: a line with its line feed that contains
+/// `pciguest: fault`, the number of the fault and its description.
 pub fn fault_line(fault: Fault) -> ArrayString<48>
     ensures { result.bytes ≡ line_of fault }
 {

@@ -1,4 +1,4 @@
-//! Board files.
+//! Reading of board files.
 ghost use Rattle.std.specs.Prelude.{◌≡◌, IfErr};
 
 use crate::hints::file_hint;
@@ -8,7 +8,8 @@ use std::fs;
 use std::io::{ErrorKind, Read};
 use std::rt::Files;
 
-/// The bytes of the file at a path, or why the system doesn't give them. Want of memory is such a reason too.
+/// Returns the content of the file at `path`, or the system's error. Exhausted memory is one of
+/// these errors.
 fn file_bytes(rt: &impl Files, alloc: Global, path: &str) -> Result<Vec<u8>, ErrorKind> {
     let mut file = match fs::open(rt, path) {
         Ok(file) => file,
@@ -21,8 +22,8 @@ fn file_bytes(rt: &impl Files, alloc: Global, path: &str) -> Result<Vec<u8>, Err
     }
 }
 
-/// The bytes of the file at a path. It fails where the file can't be opened or read, for want of
-/// memory too.
+/// Returns the content of the board file at `path`. Fails if the file can't be opened or read, or
+/// if memory is exhausted.
 pub fn board_bytes(rt: &impl Files, alloc: Global, path: &str) -> Result<Vec<u8>, Fault>
     ensures { IfErr result (λ f. f ≡ Fault.BoardFile) }
 {
@@ -32,7 +33,8 @@ pub fn board_bytes(rt: &impl Files, alloc: Global, path: &str) -> Result<Vec<u8>
     }
 }
 
-/// The same, and where it fails the line that tells why, if there is memory for it.
+/// Returns the content of the board file at `path`. On failure, returns a line that explains the
+/// reason, if there is memory for it.
 pub fn board_or_hint(
     rt: &impl Files,
     alloc: Global,

@@ -1,4 +1,4 @@
-//! What a line below that of a fault says about it.
+//! Hints, which are printed below the error message about a fault.
 use board_file::BoardFault;
 use board_told::Fault;
 use command_line::{Choice, refused_word, words_taken};
@@ -6,8 +6,8 @@ use diagnostics::Shown;
 use std::alloc::{AllocError, Global};
 use std::io::ErrorKind;
 
-/// Of words that the command line doesn't take: what the program's name may be followed by, and the first of them that
-/// isn't taken.
+/// Returns the hint about invalid arguments: the usage of the program or subcommand, and the first
+/// unexpected argument.
 pub fn usage_hint(alloc: Global, words: &[&str]) -> Result<String, AllocError> {
     let taken = words_taken(words);
     match refused_word(alloc, words)? {
@@ -19,7 +19,7 @@ pub fn usage_hint(alloc: Global, words: &[&str]) -> Result<String, AllocError> {
     }
 }
 
-/// Of a board file that is not read: its path, and why the system doesn't give it.
+/// Returns the hint about a board file that can't be read: its path, and the system's error.
 pub(crate) fn file_hint(alloc: Global, path: &str, why: ErrorKind) -> Result<String, AllocError> {
     let why = match why {
         ErrorKind::NotFound => "no such file",
@@ -35,7 +35,8 @@ pub(crate) fn file_hint(alloc: Global, path: &str, why: ErrorKind) -> Result<Str
     format!(in alloc; "cannot read '{path}': {why}\n")
 }
 
-/// Of a file or board that is refused: what tells all that is wrong, unless that was asked for.
+/// Returns the hint about a refused file or board: the `check` command that lists all problems.
+/// Returns `None` if the command is `check` itself.
 pub fn check_hint(
     alloc: Global,
     choice: &Choice<'_>,

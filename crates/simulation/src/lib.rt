@@ -1,9 +1,10 @@
 //! Layer: program. Below: command_line, board_told. Above: pciguest.
 //!
-//! What the program does, over bytes, a reader and a writer: the report of a board file, what is
-//! wrong with one, a script over its board, a session over it from reset on, with an audit or readiness after
-//! it where that is asked, and a script over the demo board; what a fault and the line below it say; and
-//! the law of two worlds, over the definitions alone.
+//! The commands of the program, over bytes, a reader and a writer. They report or check a board
+//! file, run a script on its board or on the demo board, or run a firmware session on its board
+//! from reset, with an audit or a readiness report at the end if requested. The crate also contains
+//! the error messages about faults, their hints, and the theorem of two worlds, which is only about
+//! the definitions.
 #![tactic(auto)]
 
 mod bad_lines;

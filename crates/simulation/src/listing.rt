@@ -1,4 +1,4 @@
-//! The report of a board file, written.
+//! The `list` command: the report of a board.
 ghost use Rattle.std.specs.Prelude.{◌≡◌, ◌≢◌, ◌+◌, ◌-◌, ◌^◌, ◌<◌, OnOk, IfErr, IsErrOf};
 ghost use Rattle.session.specs.Files.{Refuses, Breaks};
 ghost use Rattle.simulation.specs.{Faults.{write_faults, OnFile, OnSetUp, IsOfList}, Listing.{IsListed, IsListedInPart}};
@@ -8,10 +8,12 @@ use board_told::{Fault, ReportForm, list_in};
 use std::alloc::Global;
 use streams::Writer;
 
-/// Writes the report of the board that a board file declares, once it is set up, in a form, and flushes once.
+/// Sets up the board that a board file declares, writes its report in the given format, and flushes
+/// once.
 ///
-/// A refusal is the file's (101 to 112), the board's (201 to 205), out of memory (199 or 299), or
-/// `Write`, and nothing else. Only `Write` comes after a part of the report was written.
+/// Fails only if the file is refused (101 to 112), the board is refused (201 to 205), memory is
+/// exhausted (199 or 299), or the output can't be written (`Write`). Only in the last case can part
+/// of the report have been written.
 pub fn list<W: Writer>(
     alloc: Global,
     board: &[u8],
@@ -20,7 +22,7 @@ pub fn list<W: Writer>(
 ) -> Result<(), Fault>
     requires { W.failures writer.old < 2 ^ 64 - 1 }
 
-    // The file declares a board that is set up, whose report was written and nothing else.
+    // The file declares a board that can be set up, and only its report was written.
     ensures listed { OnOk result
         (IsListed form board.now (W.written writer.old) (W.written writer.new)) }
     ensures flushed { OnOk result (W.flushed writer.new ≡ W.written writer.new) }
@@ -32,7 +34,7 @@ pub fn list<W: Writer>(
     ensures faults { IfErr result IsOfList }
     ensures nothing { IfErr result (λ f. f ≢ Fault.Write → writer.new ≡ writer.old) }
 
-    // A fault is the writer's exactly where the writer failed during the call.
+    // A write fault is returned exactly if the writer failed during the call.
     ensures failures { W.failures writer.new ≡ W.failures writer.old + write_faults result }
 {
     let text = list_in(alloc, board, form)?;

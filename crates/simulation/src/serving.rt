@@ -1,4 +1,5 @@
-//! A session over the board of a board file, and what is told of the board once its lines ran.
+//! The `firmware`, `audit` and `ready` commands: a session on the board of a board file, and the
+//! report after its lines.
 ghost use Rattle.std.specs.{Prelude.{◌≡◌, ◌+◌, ◌-◌, ◌^◌, ◌<◌, ◌⊎◌, string_bytes, is_some, IfOk, IfErr, IsErrOf, IsTrue, OnOk}, Io.KnownBytes.Appends};
 ghost use Rattle.model_lines.specs.Sessions.{session_functions};
 ghost use Rattle.streams.specs.Ends.{AppendsPart};
@@ -15,7 +16,7 @@ use session::{Apertures, Board, CountedText, Session, SessionLines};
 use std::alloc::{AllocError, Global};
 use streams::{Reader, Writer};
 
-/// Answers a question of the board of a session, by these apertures.
+/// Answers a question about the board of a session, given the host's apertures.
 fn tell(
     alloc: Global,
     question: Question,
@@ -37,8 +38,9 @@ fn tell(
     }
 }
 
-/// Writes what answers a question of the board of a session, by these apertures, and flushes once; where none is asked,
-/// nothing. It gives how many problems and lacks are told.
+/// Writes the answer to a question about the board of a session, given the host's apertures, and
+/// flushes once. Writes nothing if there is no question. Returns the number of reported problems
+/// and unmet requirements.
 fn answer<W: Writer>(
     alloc: Global,
     question: Option<Question>,
@@ -71,8 +73,8 @@ fn answer<W: Writer>(
     Ok(answer.count)
 }
 
-/// The fault that is told once all was written, if there is one, by whether a line was refused and by how many problems
-/// and lacks were told.
+/// Returns the fault to report once all output was written, if there is one. It depends on whether
+/// a line was refused, and on how many problems and unmet requirements were reported.
 fn last_fault(
     question: Option<Question>,
     strict: bool,
@@ -91,22 +93,27 @@ fn last_fault(
     }
 }
 
-/// Runs a session over the board that a board file declares, as it is at reset: set-up does not run. The lines are
-/// firmware's, and among them `host audit` writes all that is wrong in the registers as they stand there, and
-/// `host ready` also all that they lack. By `host guests` the board is given to the guests of the file, unless its
-/// audit tells a problem or a region of theirs is closed; from there on the lines are a script's. What a guest is told
-/// then is what its own functions, each a register file by itself, answer to its own lines and to the moves that touch
-/// it, and nothing else.
+/// Runs a session on the board that a board file declares, starting at reset: the built-in set-up
+/// doesn't run. The lines are firmware's. Among them, `host audit` reports all problems in the
+/// current registers, and `host ready` also reports all unmet requirements. `host guests` assigns
+/// the board's functions to the guests of the file, unless its audit reports a problem or a BAR of
+/// a guest is disabled. From then on, the lines are a script's, and the replies to a guest depend
+/// only on its own functions, each an isolated register file, on its own lines, and on the moves
+/// that involve it.
 ///
-/// If a question is asked, what answers it is written after what the lines write, by the registers as they stand then
-/// and the apertures of the file: a line for each problem and each lack and a last line that counts them, or a JSON
-/// object on one line. Where the board was given to its guests, it is theirs that is asked about.
+/// If there is a question, its answer is written after the output of the lines: a line for each
+/// problem and each unmet requirement and a last line with their number, or a JSON object on one
+/// line. The answer is about the final registers and the apertures of the file. After a handover,
+/// it is about the guests' registers.
 ///
-/// Refused are the file (101 to 112) and lack of memory while it is read (199): then nothing is read or written. Once
-/// lines are asked for, a read fails (501), or a write or flush does (502). Memory is out for a line, for the handover or
-/// for the text after them (299): then all that the lines before write was written and flushed, and nothing after it.
-/// If `strict`, a refused line is a fault too (209), and else a problem of an audit (207); that the board isn't ready
-/// (208) always is: then all was written and flushed. Once it was, it is told what was seen of the lines.
+/// Fails if the file is refused (101 to 112), or memory is exhausted while the file is read (199).
+/// In these cases nothing is read or written. Afterwards, a read (501), or a write or a flush
+/// (502), can fail. If memory is exhausted by a line, by the handover or by the answer (299), the
+/// output of the earlier lines was written and flushed, and nothing was written after it. If
+/// `strict`, a refused line is a fault (209), and otherwise a problem in an audit (207). A board
+/// that isn't ready is always a fault (208). These faults are returned once all output was written
+/// and flushed. `seen` receives the statistics about the lines as soon as that is done, with or
+/// without a fault.
 pub fn serve<R: Reader, W: Writer>(
     alloc: Global,
     board: &[u8],
@@ -119,13 +126,14 @@ pub fn serve<R: Reader, W: Writer>(
     requires reader_has_room { R.failures reader.old < 2 ^ 64 - 1 }
     requires writer_has_room { W.failures writer.old < 2 ^ 64 - 1 }
 
-    // The output of the lines over the board of the file, and then the text that answers the question by the registers
-    // after them; how it ended tells what was refused, what is wrong and what is lacking.
+    // The output of the lines on the board of the file, and then the answer to the question about
+    // the registers after them. The result says whether lines were refused, problems found or
+    // requirements not met.
     ensures serves { Serves question strict seen.new board.now
         (ends (R.rest reader.old) (R.rest reader.new)
         (W.written writer.old) (W.written writer.new) (W.flushed writer.new)) result }
 
-    // What was seen of lines is told only where all was written.
+    // `seen` changes only if all output was written.
     ensures unseen { IfErr result (λ f. ¬ IsToldLast f → seen.new ≡ seen.old) }
 
     ensures file { IfErr result (OnFile (Refuses board.now)) }
@@ -133,11 +141,12 @@ pub fn serve<R: Reader, W: Writer>(
     ensures nothing { IfErr result
         (λ f. IsOfFile f → (reader.new ≡ reader.old) × (writer.new ≡ writer.old)) }
 
-    // No memory for a line or for the text after them: what the lines before write was flushed if it is anything.
+    // If memory was exhausted by a line or by the answer, the output of the earlier lines was
+    // flushed, if there was any.
     ensures lacking_flushed { IsErrOf result (Fault.SetUp Memory) →
         (W.flushed writer.new ≡ W.written writer.new) ⊎ (writer.new ≡ writer.old) }
 
-    // A fault is the reader's or the writer's exactly where that end failed during the call.
+    // A read or write fault is returned exactly if the reader or the writer failed during the call.
     ensures reads { R.failures reader.new ≡ R.failures reader.old + read_faults result }
     ensures writes { W.failures writer.new ≡ W.failures writer.old + write_faults result }
 {

@@ -8,8 +8,8 @@ use std::alloc::Global;
 use std::io::{Read, Write};
 use streams::{BufferedWriter, Failed, Reader, Writer};
 
-/// A reader that counts its failures. It gives up after 2^64 - 1 reads, and counts that too: so a
-/// script that never ends is a failure of its reader.
+/// A reader that counts its failures. It gives up after 2^64 - 1 reads and counts that as a
+/// failure, so a script that never ends is a failure of its reader.
 #[derive(Drop)]
 pub struct InputStream<R> {
     inner: R,
@@ -18,7 +18,7 @@ pub struct InputStream<R> {
 }
 
 impl<R: Read> InputStream<R> {
-    /// A reader of all that `inner` has left, with no failure yet.
+    /// Returns a reader of the remaining bytes of `inner`, with no failures yet.
     pub fn new(inner: R) -> Self
         ensures rest { ⟦<InputStream<R> as Reader>⟧.rest result ≡ R.remaining inner }
         ensures failures { ⟦<InputStream<R> as Reader>⟧.failures result ≡ 0 }
@@ -31,7 +31,7 @@ impl<R: Read> InputStream<R> {
         }
     }
 
-    /// Counts a read, as long as there is one left.
+    /// Counts a read, or fails if there are none left.
     fn count_read(&mut self) -> Result<(), Failed>
         ensures ok { IsOk result ↔ (0 < self.old.reads_left) }
         ensures left { self.new ≡ record self.old { reads_left = self.old.reads_left - 1 } }
@@ -66,11 +66,11 @@ impl<R: Read> Reader for InputStream<R> {
     }
 }
 
-/// The bytes that are kept back before they are written: as many as a run reads at once, since a call of
-/// the system costs as much as some tens of lines.
+/// The size of the output buffer in bytes, which is also the size of the read buffer of a run. A
+/// system call costs as much as some tens of lines.
 const CAPACITY: usize = 65536;
 
-/// A writer that counts its failures. Each write and flush is one call of `inner`.
+/// A writer that counts its failures. Each write or flush is one call of `inner`.
 #[derive(Drop)]
 pub struct OutputStream<W> {
     inner: W,
@@ -78,8 +78,8 @@ pub struct OutputStream<W> {
 }
 
 impl<W: Write + Drop> OutputStream<W> {
-    /// A writer after what `inner` holds, with no failure yet, behind a buffer. It fails where memory is
-    /// out, and nowhere else.
+    /// Returns a buffered writer that appends to `inner`, with no failures yet. Fails only if
+    /// memory is exhausted.
     pub fn buffered(alloc: Global, inner: W) -> Result<BufferedWriter<Self>, Fault>
         ensures written { IfOk result
             (λ s. ⟦<BufferedWriter<Self> as Writer>⟧.written s ≡ W.contents inner) }
@@ -101,7 +101,7 @@ impl<W: Write + Drop> OutputStream<W> {
 impl<W: Write> Writer for OutputStream<W> {
     ghost written = { λ s. W.contents s.inner };
 
-    // Nothing is kept back here.
+    // This writer doesn't buffer anything.
     ghost flushed = { λ s. W.contents s.inner };
 
     ghost failures = { λ s. s.failures };

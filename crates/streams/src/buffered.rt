@@ -1,4 +1,4 @@
-//! A writer that keeps bytes back.
+//! A buffering writer.
 ghost use Rattle.std.specs.{Prelude.{◌≡◌, ◌+◌, ◌-◌, ◌^◌, ◌<◌, [], false, true, length, IfOk, OnOk, OnErr, IsErr, IsTrue}, Io.{WritesAtMost, KnownBytes.{WriteAppends, Keeps, append_known}}};
 ghost use Rattle.streams.specs.{Ends.{failures_of, write_failures_of}, Kept.{writer_behind, kept_back, is_stopped, refusals}};
 
@@ -6,23 +6,24 @@ use crate::ends::{Failed, Writer};
 use crate::kept::Kept;
 use std::alloc::{AllocError, Global};
 
-/// A writer that keeps back what it takes, until a flush or until it has no room for more, so that few
-/// bytes cost no call of the writer behind it.
+/// A writer that buffers bytes until it is flushed or the buffer is full, so that small writes need
+/// no call of the inner writer.
 ///
-/// Nothing is tried again. After the first call that fails each one fails and asks the writer behind for
-/// nothing more, and what is kept back then is never handed on, nor is it when this writer is dropped.
+/// No call of the inner writer is retried. After the first failure, every call fails without
+/// reaching the inner writer, and the bytes in the buffer are never written. Bytes that are in the
+/// buffer when the writer is dropped are lost too.
 #[derive(Drop)]
 pub struct BufferedWriter<W: Writer + Drop> {
     inner: W,
     kept: Kept,
     /// Whether a call has failed.
     stopped: bool,
-    /// The calls that failed without a call of `inner`.
+    /// The number of calls that failed without reaching `inner`.
     refusals: u64,
 }
 
 impl<W: Writer + Drop> BufferedWriter<W> {
-    /// A writer that keeps back at most `capacity` bytes before `inner`, and nothing yet.
+    /// Returns a writer with an empty buffer of `capacity` bytes in front of `inner`.
     pub fn with_capacity(alloc: Global, capacity: usize, inner: W) -> Result<Self, AllocError>
         ensures behind { IfOk result (λ w. writer_behind w ≡ inner) }
         ensures kept { IfOk result (λ w. kept_back w ≡ []) }
@@ -37,14 +38,14 @@ impl<W: Writer + Drop> BufferedWriter<W> {
         })
     }
 
-    /// The writer behind.
+    /// Returns the inner writer.
     pub fn get_ref(&self) -> &W
         ensures { result.now ≡ writer_behind self.now }
     {
         &self.inner
     }
 
-    /// Fails without a call of the writer behind.
+    /// Fails without calling the inner writer, and counts the failure.
     fn refuse(&mut self) -> Failed
         requires { self.old.refusals < 2 ^ 64 - 1 }
         ensures { self.new
@@ -55,7 +56,7 @@ impl<W: Writer + Drop> BufferedWriter<W> {
         Failed
     }
 
-    /// Hands on some of the bytes that are kept back.
+    /// Writes some of the buffered bytes to the inner writer.
     fn hand_on_some(&mut self) -> Result<(), Failed>
         requires room { W.failures self.old.inner < 2 ^ 64 - 1 }
         ensures bytes { Keeps (append_known (W.written self.old.inner) self.old.kept.bytes)
@@ -74,7 +75,7 @@ impl<W: Writer + Drop> BufferedWriter<W> {
         Ok(())
     }
 
-    /// Hands on all that is kept back, or stops for good.
+    /// Writes all buffered bytes to the inner writer. On failure, the writer stays stopped.
     fn hand_on(&mut self) -> Result<(), Failed>
         requires room { W.failures self.old.inner < 2 ^ 64 - 1 }
         ensures bytes { Keeps (append_known (W.written self.old.inner) self.old.kept.bytes)
@@ -96,7 +97,8 @@ impl<W: Writer + Drop> BufferedWriter<W> {
         Ok(())
     }
 
-    /// Takes bytes for which there may be no room, after what is kept back is handed on.
+    /// Handles the rare cases of `write`. Fails if the writer is stopped or `bytes` is empty.
+    /// Otherwise empties the buffer into the inner writer, and buffers as many of `bytes` as fit.
     #[cold]
     #[inline(never)]
     fn make_room_and_keep(&mut self, bytes: &[u8]) -> Result<usize, Failed>
@@ -130,7 +132,8 @@ impl<W: Writer + Drop> Writer for BufferedWriter<W> {
 
     ghost flushed = { λ w. W.flushed (writer_behind w) };
 
-    // Each failure of the writer behind is one, and no call of it that failed was tried again.
+    // The failures of the inner writer, and the calls that failed without reaching it. No failed
+    // call was retried.
     ghost failures = { λ w. W.failures (writer_behind w) + refusals w };
 
     #[inline(always)]

@@ -1,14 +1,14 @@
-//! Bytes that are kept back.
+//! The buffer of a buffering writer.
 ghost use Rattle.std.specs.Prelude.{◌≡◌, ◌≤◌, ◌-◌, ◌++◌, [], length, drop, IfOk};
 
 use std::alloc::{AllocError, Global};
 use std::marker::Model;
 
-/// Bytes that were taken and not handed on, in a place of a fixed size.
+/// Bytes that were accepted but not passed on yet, in a buffer of fixed capacity.
 #[derive(Drop)]
 pub(crate) struct Kept {
     place: Vec<u8>,
-    /// So many of the bytes in `place` were handed on.
+    /// The number of bytes at the start of `place` that were passed on.
     handed: usize,
 }
 
@@ -28,7 +28,7 @@ impl Model for Kept {
 }
 
 impl Kept {
-    /// Room for `capacity` bytes.
+    /// Returns an empty buffer of `capacity` bytes.
     pub(crate) fn with_capacity(alloc: Global, capacity: usize) -> Result<Kept, AllocError>
         ensures { IfOk result (λ k.
             k ≡ record { bytes = []; room = capacity; capacity = capacity }) }
@@ -39,14 +39,14 @@ impl Kept {
         })
     }
 
-    /// The bytes.
+    /// Returns the buffered bytes.
     pub(crate) fn bytes(&self) -> &[u8]
         ensures { result.now ≡ self.now.bytes }
     {
         &self.place[self.handed..]
     }
 
-    /// How many more bytes there is room for, before the place is cleared.
+    /// Returns how many more bytes fit before the buffer must be cleared.
     #[inline(always)]
     pub(crate) fn room(&self) -> usize
         ensures { result ≡ self.now.room }
@@ -54,14 +54,14 @@ impl Kept {
         self.place.capacity() - self.place.len()
     }
 
-    /// How many bytes there is room for in a cleared place.
+    /// Returns the capacity of the buffer in bytes.
     pub(crate) fn capacity(&self) -> usize
         ensures { result ≡ self.now.capacity }
     {
         self.place.capacity()
     }
 
-    /// Keeps more bytes.
+    /// Appends bytes, which must fit.
     #[inline(always)]
     pub(crate) fn keep(&mut self, bytes: &[u8])
         requires { length bytes.now ≤ self.old.room }
@@ -72,7 +72,8 @@ impl Kept {
         };
     }
 
-    /// Lets go of the first bytes, which were handed on.
+    /// Removes the first `count` bytes, which were passed on. Their room is free again only after
+    /// `clear`.
     pub(crate) fn let_go(&mut self, count: usize)
         requires { count ≤ length self.old.bytes }
         ensures { self.new ≡ record self.old { bytes = drop count self.old.bytes } }
@@ -80,7 +81,7 @@ impl Kept {
         self.handed += count;
     }
 
-    /// Clears the place, whose bytes were all handed on.
+    /// Frees the whole buffer, which must not contain any bytes.
     pub(crate) fn clear(&mut self)
         requires { self.old.bytes ≡ [] }
         ensures { self.new ≡ record self.old { room = self.old.capacity } }

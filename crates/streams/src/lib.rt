@@ -1,7 +1,6 @@
 //! Layer: lines. Above: lines.
 //!
-//! Where bytes come from and where they go, with a count of the failures of both, and a writer that
-//! keeps bytes back.
+//! Readers and writers that count their failures, and a buffering writer.
 #![tactic(auto)]
 
 mod buffered;

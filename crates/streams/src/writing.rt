@@ -1,10 +1,10 @@
-//! Texts that are written whole.
+//! Functions that write a whole text.
 ghost use Rattle.std.specs.{Prelude.{◌≡◌, ◌+◌, ◌-◌, ◌^◌, ◌<◌, OnOk, OnErr}, Io.KnownBytes.Appends};
 ghost use Rattle.streams.specs.Ends.{failures_of, AppendsPart};
 
 use crate::ends::{Failed, Writer};
 
-/// Writes all of a text, or stops at the first failure.
+/// Writes all of `text`, or stops at the first failure.
 pub fn write_all<W: Writer>(writer: &mut W, text: &[u8]) -> Result<(), Failed>
     requires { W.failures writer.old < 2 ^ 64 - 1 }
     ensures ok { OnOk result (Appends (W.written writer.old) (W.written writer.new) text.now) }
@@ -23,7 +23,7 @@ pub fn write_all<W: Writer>(writer: &mut W, text: &[u8]) -> Result<(), Failed>
     Ok(())
 }
 
-/// Writes all of a text and flushes, or stops at the first failure.
+/// Writes all of `text` and flushes, or stops at the first failure.
 pub fn write_and_flush<W: Writer>(writer: &mut W, text: &[u8]) -> Result<(), Failed>
     requires { W.failures writer.old < 2 ^ 64 - 1 }
     ensures ok { OnOk result (Appends (W.written writer.old) (W.written writer.new) text.now) }
