@@ -1,4 +1,4 @@
-//! What is asked of a machine, from what C says of it.
+//! Converts the arguments of calls from C into guests, accesses, parts of functions, and bytes.
 ghost use Rattle.std.specs.{Prelude.{◌≡◌, ◌<◌, ◌≤◌, Some, None, IfOk, IfErr, length, position}, Str.bytes_eq};
 ghost use Rattle.accesses.specs.Accesses.{target_of, part_of};
 ghost use Rattle.pciguest_c.specs.{Calls.where_guest, Told.{index_asked, target_told, part_told}};
@@ -7,14 +7,15 @@ use crate::numbers::ARGUMENT;
 use accesses::{At, Names, Place};
 use monitor::Monitor;
 
-/// Who reads or writes a byte of a function: its device, or the guest that has the function, by its regions.
+/// The accessor of a function's byte: its device, or the guest that the function is assigned to,
+/// through its BARs.
 #[derive(Clone, Copy)]
 pub enum Side {
     Device,
     Guest,
 }
 
-/// A byte of the function in a slot, and who reads or writes it.
+/// A byte of the function in a slot, with the side that reads or writes it.
 #[derive(Clone, Copy)]
 pub struct Byte {
     pub side: Side,
@@ -23,7 +24,7 @@ pub struct Byte {
     pub offset: u64,
 }
 
-/// The byte at an offset of a part of the function in a slot.
+/// Returns the byte at an offset in one part of a slot's function.
 pub fn byte_at(side: Side, slot: u64, place: Place, offset: u64) -> Byte
     ensures { result ≡ record { side = side; slot = slot; place = place; offset = offset } }
 {
@@ -35,14 +36,14 @@ pub fn byte_at(side: Side, slot: u64, place: Place, offset: u64) -> Byte
     }
 }
 
-/// How many guests there are.
+/// Returns the number of guests.
 pub fn guest_count(machine: &Monitor) -> usize
     ensures { result ≡ length machine.now.world.guests }
 {
     machine.names().len()
 }
 
-/// Refuses an index that no guest has.
+/// Checks that there is a guest with this index, or returns 902.
 pub fn check_guest(machine: &Monitor, guest: usize) -> Result<(), u32>
     ensures there { IfOk result (λ _. guest < length machine.now.world.guests) }
     ensures none { IfErr result (λ n. (n ≡ 902) × (length machine.now.world.guests ≤ guest)) }
@@ -54,7 +55,7 @@ pub fn check_guest(machine: &Monitor, guest: usize) -> Result<(), u32>
     }
 }
 
-/// Where an access of a guest goes, or 902 where there is no such guest or space.
+/// Returns the target of a guest's access. Returns 902 if there is no such guest or space.
 pub fn target_for(
     machine: &Monitor,
     guest: usize,
@@ -78,8 +79,8 @@ pub fn target_for(
     }
 }
 
-/// Where a raise at a guest or an access of its device goes, a region by its register, or 6 for configuration space; or
-/// 902 where there is no such guest or part.
+/// Returns the part of a function that a raise or a device's access addresses: a BAR for 0 to 5,
+/// configuration space for 6. Returns 902 if there is no such guest or part.
 pub fn part_for(machine: &Monitor, guest: usize, part: u32) -> Result<Place, u32>
     ensures there { IfOk result (λ _. guest < length machine.now.world.guests) }
     ensures told { IfOk result (λ p.
@@ -96,14 +97,14 @@ pub fn part_for(machine: &Monitor, guest: usize, part: u32) -> Result<Place, u32
     }
 }
 
-/// The first place of a name among names.
+/// Returns the index of the first occurrence of a name.
 fn place_among(name: &[u8], names: &Names) -> Option<usize>
     ensures { result ≡ position (λ n. bytes_eq n.bytes name.now) names.now.items }
 {
     names.iter().position(|known| known.as_bytes() == name)
 }
 
-/// The index of the first guest of a name.
+/// Returns the index of the first guest with this name.
 pub fn index_named(machine: &Monitor, name: &[u8]) -> Option<usize>
     ensures { result ≡ index_asked machine.now.world name.now }
 {

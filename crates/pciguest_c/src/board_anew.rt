@@ -1,4 +1,5 @@
-//! The board of a machine made anew, at reset, for C: a second machine is made of it, on which a load is tried.
+//! The call that recreates a machine's board at reset. The C wrapper of `pciguest_load_all` tries a
+//! load on a second machine made from that board.
 ghost use Rattle.std.specs.Prelude.{◌≡◌, Some};
 ghost use Rattle.session.specs.Stages.{machine_in};
 ghost use Rattle.pciguest_c.specs.{Handles.{session_of, machine_of}, Handovers.IsMadeAnew};
@@ -9,7 +10,8 @@ use monitor::Monitor;
 use session::{Board, Session};
 use std::alloc::Global;
 
-/// Puts the board of a machine, at reset, into a handle that holds nothing.
+/// Recreates the machine's board at reset in an empty handle. Returns 903 if the handle isn't
+/// empty, or 299 if memory is exhausted.
 fn make_anew(alloc: Global, machine: &Monitor, board: &mut Handle) -> u32
     ensures { let before = session_of board.old in
         IsMadeAnew (Some machine.now) before (session_of board.new) result }
@@ -29,7 +31,8 @@ fn make_anew(alloc: Global, machine: &Monitor, board: &mut Handle) -> u32
     }
 }
 
-/// The same of a session, or 901 where no guests have its board.
+/// Recreates the board of the session's machine at reset, or returns 901 if the session has no
+/// machine.
 fn make_anew_in(alloc: Global, session: &mut Session, board: &mut Handle) -> u32
     ensures made { let before = session_of board.old in
         IsMadeAnew (machine_in session.old) before (session_of board.new) result }
@@ -41,8 +44,9 @@ fn make_anew_in(alloc: Global, session: &mut Session, board: &mut Handle) -> u32
     }
 }
 
-/// Makes the board of a machine anew, at reset, with guests of the same names, which have no slots. The machine stays as it is.
-/// A refusal is out of memory (299), or 903 where the handle of the board holds one already.
+/// Recreates the machine's board at reset, with guests of the same names and no functions assigned.
+/// The machine doesn't change. Returns 299 if memory is exhausted, or 903 if the board's handle is
+/// already in use.
 #[unsafe(no_mangle)]
 pub extern "C" fn pciguest_raw_board_anew(
     alloc: Global,

@@ -1,4 +1,4 @@
-//! What C asks of a board as firmware does. Each call answers 0, or the number of a refusal.
+//! Reads and writes by firmware. Each call returns 0 or an error number.
 ghost use Rattle.std.specs.Prelude.{◌≡◌, None, Some, IfErr, IfOk};
 ghost use Rattle.accesses.specs.{Accesses.{op_of, reply_of}, Replies.IsRefusal};
 ghost use Rattle.pciguest_c.specs.{Told.{at_bus, host_target_told}, Calls.{AnswersBoard, board_read, board_write, board_asked, nothing, number}};
@@ -10,7 +10,7 @@ use accesses::{HostAccess, Op, Reply};
 use session::Board;
 use std::alloc::Global;
 
-/// An access of firmware, or 902 where there is no such place.
+/// Performs an access by firmware. Returns 902 if there is no such space, device or function.
 #[tactic(auto, unfolding(crate::specs::Calls::board_asked))]
 fn board_asked(
     board: &mut Board,
@@ -38,8 +38,8 @@ fn board_asked(
     }
 }
 
-/// Reads 1, 2 or 4 bytes as firmware does, in any state of the registers. Bus, device and function are
-/// looked at for configuration space alone.
+/// Reads 1, 2 or 4 bytes as firmware does, in any state of the registers. Bus, device and function
+/// are used only for configuration space.
 #[unsafe(no_mangle)]
 pub extern "C" fn pciguest_raw_board_read(
     alloc: Global,
@@ -62,7 +62,8 @@ pub extern "C" fn pciguest_raw_board_read(
     put_value(answer, value)
 }
 
-/// Writes the low 1, 2 or 4 bytes of a value as firmware does.
+/// Writes the low 1, 2 or 4 bytes of a value as firmware does, in any state of the registers. Bus,
+/// device and function are used only for configuration space.
 #[unsafe(no_mangle)]
 pub extern "C" fn pciguest_raw_board_write(
     alloc: Global,

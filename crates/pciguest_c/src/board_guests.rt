@@ -1,4 +1,5 @@
-//! The board of a handle, as firmware left it, given to the guests of its file.
+//! The call that assigns a board's functions to the guests of its file, with the registers as
+//! firmware left them.
 ghost use Rattle.std.specs.Prelude.{◌≡◌, ◌≢◌, None, Some, IfNone, IfSome};
 ghost use Rattle.model_lines.specs.{GivenLaws.IsGiven, Sessions.handed_over};
 ghost use Rattle.pciguest_c.specs.{Handles.{session_of, machine_of, board_of}, Handovers.IsNumberOfRefusal};
@@ -7,11 +8,12 @@ use crate::handle::Handle;
 use crate::numbers::{IN_USE, NO_MACHINE};
 use std::alloc::Global;
 
-/// Gives the functions of a board to the guests of its file, as the board stands, whoever set it up, and leaves
-/// the machine in its handle; where a line did so before, the machine goes there as it is. The board is then
-/// taken: its handle holds none. A refusal is 901 where there is no board, 903 where the handle of the machine
-/// holds one already, 207 for a problem that the audit tells, 206 for a closed region of a given function, or
-/// 299 for want of memory. Then both handles are as they were.
+/// Assigns the functions of a board to the guests of its file, with the board set up as it is now,
+/// and moves the resulting machine to its handle. If a line has already handed the board over, the
+/// machine is moved unchanged. The board's handle is then empty. Returns 901 if there is no board,
+/// 903 if the machine's handle is already in use, 207 if the audit finds a problem, 206 if a BAR of
+/// an assigned function is disabled, or 299 if memory is exhausted. After an error, both handles
+/// are unchanged.
 #[unsafe(no_mangle)]
 pub extern "C" fn pciguest_raw_board_guests(
     alloc: Global,

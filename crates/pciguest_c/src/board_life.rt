@@ -1,4 +1,4 @@
-//! How C makes a board at reset, and frees it.
+//! The calls that create and free a board at reset.
 ghost use Rattle.std.specs.Prelude.{◌≡◌, ◌≢◌, ◌≤◌, ◌<◌, None, IfSome, IfNone, IsSome};
 ghost use Rattle.model_lines.specs.Sessions.{at_reset};
 ghost use Rattle.session.specs.Files.{Declares, Refuses};
@@ -9,8 +9,8 @@ use crate::numbers::{FILE_MEMORY, IN_USE};
 use session::Session;
 use std::alloc::Global;
 
-/// Makes the board of a board file, at reset, before any access of firmware. A refusal is the file's (101
-/// to 112), out of memory (199), or 903 where the handle holds a board already.
+/// Creates the board of a board file at reset, before any access by firmware. Returns 101 to 112 if
+/// the file is refused, 199 if memory is exhausted, or 903 if the handle is already in use.
 #[unsafe(no_mangle)]
 pub extern "C" fn pciguest_raw_board_new(alloc: Global, handle: &mut Handle, file: &[u8]) -> u32
     ensures made { result ≡ 0 → IsSome (board_of handle.new) }
@@ -37,8 +37,8 @@ pub extern "C" fn pciguest_raw_board_new(alloc: Global, handle: &mut Handle, fil
     }
 }
 
-/// Frees the board, or the machine that its guests have since a line handed it over. The handle then holds
-/// none, and may be used for a new one; where it held none, nothing changes.
+/// Frees the board, or the machine if a line has handed the board over. The handle is then empty
+/// and can be reused. Does nothing if the handle is already empty.
 #[unsafe(no_mangle)]
 pub extern "C" fn pciguest_raw_board_free(alloc: Global, handle: &mut Handle)
     ensures { session_of handle.new ≡ None }

@@ -1,4 +1,4 @@
-//! Our own set-up of a board at reset, for C.
+//! The call that runs the built-in set-up on a board at reset.
 ghost use Rattle.std.specs.Prelude.{◌≡◌, Some};
 ghost use Rattle.session.specs.Stages.{board_in};
 ghost use Rattle.pciguest_c.specs.{Handles.{session_of, board_of}, Handovers.SetsUp};
@@ -8,7 +8,9 @@ use crate::numbers::{IN_USE, MEMORY, NO_MACHINE, NOT_AT_RESET};
 use session::{Board, Session};
 use std::alloc::Global;
 
-/// Puts the machine that our own set-up makes of a board into a handle that holds nothing.
+/// Runs the built-in set-up on the board, and stores the resulting machine in an empty handle.
+/// Returns 903 if the handle isn't empty, 904 if the board isn't at reset, 201 to 205 if the board
+/// can't be set up, or 299 if memory is exhausted.
 fn set_up(alloc: Global, board: &Board, machine: &mut Handle) -> u32
     ensures { SetsUp (Some board.now) (session_of machine.old) (session_of machine.new) result }
 {
@@ -30,7 +32,8 @@ fn set_up(alloc: Global, board: &Board, machine: &mut Handle) -> u32
     }
 }
 
-/// The same of a session, or 901 where firmware drives no board in it.
+/// Runs the built-in set-up on the session's board, or returns 901 if firmware isn't driving a
+/// board in the session.
 fn set_up_in(alloc: Global, session: &mut Session, machine: &mut Handle) -> u32
     ensures made { let before = session_of machine.old in
         SetsUp (board_in session.old) before (session_of machine.new) result }
@@ -42,10 +45,10 @@ fn set_up_in(alloc: Global, session: &mut Session, machine: &mut Handle) -> u32
     }
 }
 
-/// Sets up a board at reset as our own set-up does, and gives its functions to the guests of its file: the
-/// machine is then the one that the file gives. The board stays as it is. A refusal is the board's (201 to
-/// 205), out of memory (299), 903 where the handle of the machine holds one already, or 904 where a
-/// write was done on the board since reset.
+/// Runs the built-in set-up on a board at reset, and assigns its functions to the guests of its
+/// file. The machine is the one that `pciguest_raw_new` makes from the same file. The board doesn't
+/// change. Returns 201 to 205 if the board can't be set up, 299 if memory is exhausted, 903 if the
+/// machine's handle is already in use, or 904 if the board has been written to since reset.
 #[unsafe(no_mangle)]
 pub extern "C" fn pciguest_raw_set_up(
     alloc: Global,

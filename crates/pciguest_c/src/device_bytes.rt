@@ -1,5 +1,5 @@
-//! What a device, or the guest that has its function, reads and writes of bytes side by side: one after the other, the
-//! lowest first.
+//! Accesses of 1 to 8 adjacent bytes of a function, by its device or its guest. They are made byte
+//! by byte, from the lowest offset up.
 ghost use Rattle.std.specs.Prelude.{◌≡◌, ◌+◌, ◌^◌, ◌<◌, ◌≤◌, IfNone, IfOk, length};
 ghost use Rattle.accesses.specs.Accesses.{reply_of};
 ghost use Rattle.pciguest_c.specs.DevicesTold.{byte_of, byte_read, bytes_from, bytes_read, after_bytes, read_reply, after_byte, width_fault, wide_read, after_wide};
@@ -8,8 +8,8 @@ use crate::asking::{Byte, Side};
 use accesses::{Op, Refusal, Reply};
 use monitor::Monitor;
 
-/// Why there is no access of so many bytes from an offset on: it has none or more than 8 (302), or ends
-/// past what 64 bits number (303).
+/// Returns the error number of an access with this offset and width: 302 if the width isn't 1 to 8,
+/// or 303 if offset plus width doesn't fit in 64 bits.
 fn width_fault(offset: u64, width: u32) -> Option<u32>
     ensures fault { result ≡ width_fault offset width }
     ensures few { IfNone result (width ≤ 8) }
@@ -24,7 +24,7 @@ fn width_fault(offset: u64, width: u32) -> Option<u32>
     }
 }
 
-/// The reply to a read of a byte. Nothing changes.
+/// Returns the reply to a read of one byte. Nothing changes.
 fn reply_to_read(machine: &mut Monitor, guest: usize, byte: Byte) -> Reply
     requires { guest < length machine.old.world.guests }
     ensures reply { reply_of result
@@ -37,7 +37,7 @@ fn reply_to_read(machine: &mut Monitor, guest: usize, byte: Byte) -> Reply
     }
 }
 
-/// Writes a byte. What is refused is passed over.
+/// Writes one byte. A refused write has no effect.
 fn write_byte(machine: &mut Monitor, guest: usize, byte: Byte, value: u8)
     requires { guest < length machine.old.world.guests }
     ensures { machine.new ≡ after_byte byte.side machine.old guest (byte_of byte) value }
@@ -53,7 +53,7 @@ fn write_byte(machine: &mut Monitor, guest: usize, byte: Byte, value: u8)
     }
 }
 
-/// The byte that is read, or the number of the refusal. Nothing changes.
+/// Reads one byte, or returns the error number. Nothing changes.
 fn byte_read(machine: &mut Monitor, guest: usize, byte: Byte) -> Result<u8, u32>
     requires { guest < length machine.old.world.guests }
     ensures read { result ≡ byte_read byte.side machine.old.world guest (byte_of byte) }
@@ -66,7 +66,7 @@ fn byte_read(machine: &mut Monitor, guest: usize, byte: Byte) -> Result<u8, u32>
     }
 }
 
-/// The byte behind another one.
+/// Returns the byte at the next offset.
 fn next_byte(byte: Byte) -> Byte
     requires { byte.offset + 1 < 2 ^ 64 }
     ensures { result ≡ record byte { offset = byte.offset + 1 } }
@@ -77,7 +77,8 @@ fn next_byte(byte: Byte) -> Byte
     }
 }
 
-/// The number that is read of so many bytes, or why the first that is refused is. Nothing changes.
+/// Reads up to 8 bytes as a little-endian number, or returns the error number of the first byte
+/// that is refused. Nothing changes.
 fn bytes_read(machine: &mut Monitor, guest: usize, byte: Byte, count: u32) -> Result<u64, u32>
     requires there { guest < length machine.old.world.guests }
     requires few { count ≤ 8 }
@@ -95,7 +96,7 @@ fn bytes_read(machine: &mut Monitor, guest: usize, byte: Byte, count: u32) -> Re
     Ok(u64::from(lowest) + 256 * above)
 }
 
-/// Writes a number into so many bytes. What is refused is passed over.
+/// Writes the low `count` bytes of a number, lowest first. A refused byte is skipped.
 fn write_bytes(machine: &mut Monitor, guest: usize, byte: Byte, count: u32, value: u64)
     requires there { guest < length machine.old.world.guests }
     requires end { byte.offset + count < 2 ^ 64 }
@@ -109,7 +110,7 @@ fn write_bytes(machine: &mut Monitor, guest: usize, byte: Byte, count: u32, valu
     write_bytes(machine, guest, next_byte(byte), count - 1, value / 256);
 }
 
-/// The number that is read of 1 to 8 bytes, or why it isn't. Nothing changes.
+/// Reads 1 to 8 bytes as a little-endian number, or returns the error number. Nothing changes.
 pub fn wide_read(machine: &mut Monitor, guest: usize, byte: Byte, width: u32) -> Result<u64, u32>
     requires { guest < length machine.old.world.guests }
     ensures read { result
@@ -122,8 +123,8 @@ pub fn wide_read(machine: &mut Monitor, guest: usize, byte: Byte, width: u32) ->
     }
 }
 
-/// Writes a number into 1 to 8 bytes, and gives what a read of them would have been. Where such a read is refused,
-/// nothing is written.
+/// Writes the low 1 to 8 bytes of a number, and returns the value that the bytes had before. If one
+/// byte can't be read, returns its error number and writes nothing.
 pub fn wide_write(
     machine: &mut Monitor,
     guest: usize,

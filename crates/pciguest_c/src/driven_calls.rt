@@ -1,4 +1,4 @@
-//! What is asked of the functions of a board that firmware drives: how many there are, and what is told of each.
+//! The calls that count and describe the functions of a board driven by firmware.
 ghost use Rattle.std.specs.Prelude.{◌≡◌};
 ghost use Rattle.session.specs.DrivenFunctions.{driven_function_named};
 ghost use Rattle.pciguest_c.specs.{DrivenTold.driven_row, Calls.{AnswersBoard, board_count, board_function, number, a_driven}};
@@ -10,7 +10,8 @@ use crate::numbers::{ARGUMENT, put_result};
 use session::DrivenFunction;
 use std::alloc::Global;
 
-/// A function of a board that firmware drives, as C is told of it: no guest has it.
+/// A function of a board driven by firmware, in the layout of the C struct. It isn't assigned to a
+/// guest.
 #[repr(C)]
 #[derive(Clone, Copy)]
 pub struct DrivenRow {
@@ -21,7 +22,7 @@ pub struct DrivenRow {
     pub reserved: [u64; 4],
 }
 
-/// A function for C.
+/// Converts a function's description to its C struct.
 fn driven_row(function: &DrivenFunction) -> DrivenRow
     ensures { result ≡ driven_row (driven_function_named function.now) }
 {
@@ -34,7 +35,7 @@ fn driven_row(function: &DrivenFunction) -> DrivenRow
     }
 }
 
-/// How many functions the board has.
+/// Stores the number of functions on the board.
 #[unsafe(no_mangle)]
 pub extern "C" fn pciguest_raw_board_count(
     alloc: Global,
@@ -47,7 +48,8 @@ pub extern "C" fn pciguest_raw_board_count(
     put_result(handle.ask_board(alloc, |board| Ok(board.count())), count)
 }
 
-/// What is told of the function at an index, in path order, as the registers stand.
+/// Stores a description of the function at an index, in path order, according to the current
+/// registers. Returns 902 if there is no such function.
 #[unsafe(no_mangle)]
 pub extern "C" fn pciguest_raw_board_function(
     alloc: Global,

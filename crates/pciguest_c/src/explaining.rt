@@ -1,5 +1,5 @@
-//! What C is told of why an access of a guest, or an address, a port or a configuration number of a board, finds what it
-//! finds.
+//! The calls that explain the outcome of a guest's access, or which function responds to an
+//! address, port or BDF on a board.
 ghost use Rattle.std.specs.Prelude.{◌≡◌, IfOk, IfErr, string_bytes};
 ghost use Rattle.model_lines.specs.Sessions.{driven, given};
 ghost use Rattle.pciguest_c.specs.{Told.{target_told, at_bus, host_target_told}, Calls.{AnswersOrRunsOut, AnswersBoardOrRunsOut, why, board_why, telling_why, explaining, text, buffer, refusal, tells, unless_out}};
@@ -14,7 +14,7 @@ use monitor::Monitor;
 use session::Board;
 use std::alloc::Global;
 
-/// Why an access of a guest finds what it finds, or the number of why that isn't told.
+/// Explains the outcome of a guest's access, or returns the error number.
 #[tactic(auto, unfolding(crate::specs::Calls::telling_why))]
 fn why_of(
     alloc: Global,
@@ -36,7 +36,7 @@ fn why_of(
     guest_why_in(alloc, form, machine, guest, at).map_err(|fault| u32::from(fault.number()))
 }
 
-/// Tells this of the machine in a handle.
+/// Writes an explanation of a guest's access on the machine in a handle.
 fn tell_why(
     alloc: Global,
     handle: &mut Handle,
@@ -60,8 +60,9 @@ fn tell_why(
     }
 }
 
-/// Writes why an access of a guest at a place finds what it finds to the front of `out`, and tells how long the text is,
-/// also where `out` has less room than that. It tells of the guest's own functions and address latch alone.
+/// Writes an explanation of a guest's access to the front of `out`, and stores the length of the
+/// text even if `out` is too small. The text depends only on the guest's own functions and
+/// CONFIG_ADDRESS.
 #[unsafe(no_mangle)]
 pub extern "C" fn pciguest_raw_why(
     alloc: Global,
@@ -90,7 +91,8 @@ pub extern "C" fn pciguest_raw_why(
     )
 }
 
-/// Writes so a JSON object on one line.
+/// Writes an explanation of a guest's access to the front of `out` as a one-line JSON object, and
+/// stores the length of the text even if `out` is too small.
 #[unsafe(no_mangle)]
 pub extern "C" fn pciguest_raw_why_json(
     alloc: Global,
@@ -119,8 +121,8 @@ pub extern "C" fn pciguest_raw_why_json(
     )
 }
 
-/// Why an address, a port or a configuration number finds what it finds, or 902 where there is no such place, or 299 out of
-/// memory.
+/// Explains which function responds to an address, port or BDF, as JSON. Returns 902 if there is no
+/// such space, device or function, or 299 if memory is exhausted.
 #[tactic(auto, unfolding(crate::specs::Calls::explaining))]
 fn board_why_of(
     alloc: Global,
@@ -142,10 +144,10 @@ fn board_why_of(
     board.why_json(alloc, at).map_err(|_| MEMORY)
 }
 
-/// Writes why an address, a port or a configuration number of a board finds what it finds as its registers stand, or
-/// nothing, to the front of `out` as a JSON object on one line, and tells how long that is, also where `out` has less room
-/// than that. Bus, device and function are looked at for configuration space alone, and the place isn't there. The board
-/// stays as it is.
+/// Writes a one-line JSON object to the front of `out` that explains which function responds to an
+/// address, port or BDF, or why none does, according to the current registers. Stores the length of
+/// the text even if `out` is too small. Bus, device and function are used only for configuration
+/// space, where `place` is ignored. The board doesn't change.
 #[unsafe(no_mangle)]
 pub extern "C" fn pciguest_raw_board_why_json(
     alloc: Global,

@@ -1,4 +1,4 @@
-//! What is asked of the functions of the board: how many there are, and what is told of each.
+//! The calls that count and describe the functions of a machine's board.
 ghost use Rattle.std.specs.Prelude.{◌≡◌, IfErr, IfOk};
 ghost use Rattle.model_lines.specs.Sessions.{given};
 ghost use Rattle.pciguest_c.specs.{Calls.{Answers, function_count, function_at, function_in, number, a_function, telling_slot, tells, refusal}, FunctionsTold.function_told};
@@ -12,14 +12,14 @@ use crate::numbers::{ARGUMENT, put_result};
 use monitor::{FunctionNow, Monitor};
 use std::alloc::Global;
 
-/// What is told of a function, with its interrupt.
+/// Converts a function's description, including its interrupt pin, to its C struct.
 fn told_row(machine: &Monitor, function: &FunctionNow) -> FunctionTold
     ensures { result ≡ function_told machine.now.world (function_named function.now) }
 {
     function_row(function, interrupt_of(machine, function))
 }
 
-/// What is told of the function in a slot of a guest, or the number of why there is none.
+/// Returns a description of the function in a guest's slot, or the error number.
 #[tactic(auto, unfolding(crate::specs::Calls::telling_slot))]
 fn slot_function(machine: &Monitor, guest: usize, slot: u64) -> Result<FunctionTold, u32>
     ensures told { IfOk result (λ f.
@@ -33,7 +33,7 @@ fn slot_function(machine: &Monitor, guest: usize, slot: u64) -> Result<FunctionT
     }
 }
 
-/// How many functions the board has.
+/// Stores the number of functions on the board.
 #[unsafe(no_mangle)]
 pub extern "C" fn pciguest_raw_count(alloc: Global, handle: &mut Handle, count: &mut usize) -> u32
     ensures { Answers function_count handle.old handle.new result
@@ -45,7 +45,8 @@ pub extern "C" fn pciguest_raw_count(alloc: Global, handle: &mut Handle, count: 
     )
 }
 
-/// What is told of the function at an index, in path order.
+/// Stores a description of the function at an index, in path order. Returns 902 if there is no such
+/// function.
 #[unsafe(no_mangle)]
 pub extern "C" fn pciguest_raw_function(
     alloc: Global,
@@ -63,7 +64,7 @@ pub extern "C" fn pciguest_raw_function(
     put_result(answer, told)
 }
 
-/// The same of the function in a slot of a guest.
+/// Stores a description of the function in a guest's slot.
 #[unsafe(no_mangle)]
 pub extern "C" fn pciguest_raw_slot(
     alloc: Global,

@@ -1,4 +1,4 @@
-//! What C is told of a function of the board, as one struct without pointers.
+//! The description of a function as a C struct without pointers.
 ghost use Rattle.std.specs.{Prelude.{◌≡◌, ◌≤◌, length, option_map}, Option.option_map_or};
 ghost use Rattle.model_board.specs.Routing.{regions};
 ghost use Rattle.model_guests.specs.PathTexts.{path_text};
@@ -16,8 +16,8 @@ use findings::path_text;
 use host_bridge::RangesNow;
 use monitor::{FunctionNow, Seat};
 
-/// A region by its base address register, as C is told of it: `space` is 1 for ports and 2 for memory. Where
-/// none begins at the register, all of it is 0.
+/// The region of a BAR, in the layout of the C struct. `space` is 1 for I/O and 2 for memory. All
+/// fields are 0 if no region begins at the register.
 #[repr(C)]
 #[derive(Clone, Copy)]
 pub struct RegionRow {
@@ -28,7 +28,7 @@ pub struct RegionRow {
     pub is_64_bit: u32,
 }
 
-/// A window of a bridge, as C is told of it. Where there is none, all of it is 0.
+/// A bridge window, in the layout of the C struct. All fields are 0 if there is no such window.
 #[repr(C)]
 #[derive(Clone, Copy)]
 pub struct WindowRow {
@@ -37,7 +37,8 @@ pub struct WindowRow {
     pub is_there: u32,
 }
 
-/// A function of the board, as C is told of it. `guest` and `slot` are 0 where no guest has it.
+/// A function of the board, in the layout of the C struct. `guest` and `slot` are 0 if the function
+/// is unassigned.
 #[repr(C)]
 #[derive(Clone, Copy)]
 pub struct FunctionTold {
@@ -62,7 +63,7 @@ pub struct FunctionTold {
     pub reserved: [u64; 4],
 }
 
-/// No region.
+/// The entry for a register at which no region begins.
 const NO_REGION: RegionRow = RegionRow {
     first: 0,
     size: 0,
@@ -71,7 +72,7 @@ const NO_REGION: RegionRow = RegionRow {
     is_64_bit: 0,
 };
 
-/// Whether a region of this kind is prefetchable memory, as 1 or 0.
+/// Returns 1 for prefetchable memory, 0 for other kinds of region.
 fn prefetchable_of(kind: Kind) -> u32
     ensures { result ≡ one_if (is_prefetchable (kind_of kind)) }
 {
@@ -81,7 +82,7 @@ fn prefetchable_of(kind: Kind) -> u32
     }
 }
 
-/// The region that begins at a register.
+/// Converts the region that begins at a register to its C struct.
 fn region_row(slot: Option<BasedRegion>) -> RegionRow
     ensures { result
         ≡ option_map_or (λ (r : BasedRegion). region_row (placed 0 r)) slot no_region }
@@ -102,7 +103,7 @@ fn region_row(slot: Option<BasedRegion>) -> RegionRow
     }
 }
 
-/// The regions of six registers.
+/// Converts the regions of six registers to an array of C structs.
 fn regions_of(slots: &[Option<BasedRegion>; 6]) -> [RegionRow; 6]
     ensures { result ≡ region_rows (regions (bases_from 0 slots.now)) }
 {
@@ -116,7 +117,7 @@ fn regions_of(slots: &[Option<BasedRegion>; 6]) -> [RegionRow; 6]
     ]
 }
 
-/// A window.
+/// Converts a window to its C struct.
 fn window_row(window: Option<Window>) -> WindowRow
     ensures { result ≡ window_row (option_map window_of window) }
 {
@@ -134,7 +135,7 @@ fn window_row(window: Option<Window>) -> WindowRow
     }
 }
 
-/// The regions of an endpoint, by register.
+/// Returns an endpoint's regions by register, or six empty entries for a bridge.
 fn region_rows(ranges: RangesNow) -> [RegionRow; 6]
     ensures { result ≡ region_rows (ranges_told ranges) }
 {
@@ -144,7 +145,7 @@ fn region_rows(ranges: RangesNow) -> [RegionRow; 6]
     }
 }
 
-/// The windows of a bridge, for ports, memory and prefetchable memory.
+/// Returns a bridge's I/O, memory and prefetchable windows, or three empty entries for an endpoint.
 fn window_rows(ranges: RangesNow) -> [WindowRow; 3]
     ensures { result ≡ window_rows (ranges_told ranges) }
 {
@@ -156,7 +157,7 @@ fn window_rows(ranges: RangesNow) -> [WindowRow; 3]
     }
 }
 
-/// Whether these are windows, as 1 or 0.
+/// Returns 1 for a bridge, 0 for an endpoint.
 fn bridge_number(ranges: RangesNow) -> u32
     ensures { result ≡ bridge_number (ranges_told ranges) }
 {
@@ -166,7 +167,7 @@ fn bridge_number(ranges: RangesNow) -> u32
     }
 }
 
-/// A text at the front of 80 bytes, of which the others are 0.
+/// Copies a text to the front of an 80-byte array and fills the rest with 0.
 pub fn text_row(text: &[u8]) -> [u8; 80]
     requires { length text.now ≤ 80 }
     ensures { result ≡ text_row text.now }
@@ -176,7 +177,7 @@ pub fn text_row(text: &[u8]) -> [u8; 80]
     bytes
 }
 
-/// A function for C.
+/// Converts a function's description and its interrupt to the C struct.
 pub fn function_row(function: &FunctionNow, interrupt: Interrupt) -> FunctionTold
     ensures { result ≡ function_row (function_named function.now) interrupt }
 {

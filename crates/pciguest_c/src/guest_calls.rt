@@ -1,4 +1,5 @@
-//! What C asks as a guest. Each call answers 0, or the number of a refusal.
+//! Accesses by a guest, status bits set by a device, and the look-up of a guest by name. Each call
+//! returns 0 or an error number.
 ghost use Rattle.std.specs.Prelude.{◌≡◌, ◌<◌, length};
 ghost use Rattle.model_guests.specs.Accesses.{access, reads};
 ghost use Rattle.accesses.specs.Accesses.{reply_of, target_of};
@@ -11,7 +12,7 @@ use accesses::{Access, At, Op, Reply};
 use monitor::Monitor;
 use std::alloc::Global;
 
-/// Reads as a guest: nothing changes.
+/// Reads as a guest. Nothing changes.
 fn read_at(machine: &mut Monitor, guest: usize, at: At, width: u64) -> Reply
     requires { guest < length machine.old.world.guests }
     ensures reply { let e = access (record { target = target_of at; width = width; op = reads }) in
@@ -22,7 +23,7 @@ fn read_at(machine: &mut Monitor, guest: usize, at: At, width: u64) -> Reply
     machine.step(guest, Access { at, width, op })
 }
 
-/// Reads 1, 2 or 4 bytes as a guest. What is read is what the guest's own functions answer.
+/// Reads 1, 2 or 4 bytes as a guest. Only the guest's own functions respond.
 #[unsafe(no_mangle)]
 pub extern "C" fn pciguest_raw_read(
     alloc: Global,
@@ -67,8 +68,8 @@ pub extern "C" fn pciguest_raw_write(
     }))
 }
 
-/// Sets bits of one byte of a guest's function, as its device does: of a region by the index of its
-/// base address register, 0 to 5, or of configuration space by 6.
+/// Sets bits in one byte of a guest's function, as its device does. The part is a BAR, 0 to 5, or 6
+/// for configuration space.
 #[unsafe(no_mangle)]
 pub extern "C" fn pciguest_raw_raise(
     alloc: Global,
@@ -88,7 +89,7 @@ pub extern "C" fn pciguest_raw_raise(
     }))
 }
 
-/// The index of the guest of a name.
+/// Stores the index of the guest with a name. Returns 902 if there is no such guest.
 #[unsafe(no_mangle)]
 pub extern "C" fn pciguest_raw_guest(
     alloc: Global,

@@ -1,4 +1,4 @@
-//! Which guests a machine has: how many, and the name of each.
+//! The calls that count the guests of a machine and return their names.
 ghost use Rattle.std.specs.Prelude.{◌≡◌, ◌<◌, ◌≤◌, IfErr, IfOk, IfSome, length};
 ghost use Rattle.monitor.specs.ByIndex.{name_nth};
 ghost use Rattle.pciguest_c.specs.{Handles.machine_of, Calls.{Answers, guest_count, guest_name, buffer, number}};
@@ -11,7 +11,7 @@ use arrayvec::ArrayString;
 use monitor::Monitor;
 use std::alloc::Global;
 
-/// The name of a guest.
+/// Returns a guest's name, or 902 if there is no such guest.
 fn name_of(machine: &Monitor, guest: usize) -> Result<ArrayString<16>, u32>
     ensures name { IfOk result (λ n. n.bytes ≡ name_nth machine.now.world guest) }
     ensures there { IfOk result (λ _. guest < length machine.now.world.guests) }
@@ -24,7 +24,7 @@ fn name_of(machine: &Monitor, guest: usize) -> Result<ArrayString<16>, u32>
     }
 }
 
-/// How many guests there are.
+/// Stores the number of guests.
 #[unsafe(no_mangle)]
 pub extern "C" fn pciguest_raw_guest_count(
     alloc: Global,
@@ -40,8 +40,8 @@ pub extern "C" fn pciguest_raw_guest_count(
     )
 }
 
-/// Writes the name of a guest by its index to the front of `out`, and tells how long it is, also where `out` has
-/// less room than that. Room for 16 bytes is enough for each name.
+/// Writes a guest's name to the front of `out`, and stores the length of the name even if `out` is
+/// too small. Every name fits in 16 bytes.
 #[unsafe(no_mangle)]
 pub extern "C" fn pciguest_raw_guest_name(
     alloc: Global,

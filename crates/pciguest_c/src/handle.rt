@@ -1,4 +1,4 @@
-//! What C holds.
+//! The handle through which C holds a session.
 ghost use Rattle.std.specs.{Prelude.{◌≡◌, Some, None, IfSome, IfNone, Err, is_some}, Bool.OnFalse, Fn.FnOnceReturnsAtMut};
 ghost use Rattle.model_handoff.specs.Changes.{MachineNow};
 ghost use Rattle.model_lines.specs.Sessions.{DrivenNow};
@@ -11,7 +11,7 @@ use session::{Board, Session};
 use std::alloc::Global;
 use std::mem::replace;
 
-/// A session, or none. All bytes 0 are none.
+/// A session, or an empty handle. An empty handle is all zero bytes.
 #[repr(C)]
 #[derive(Drop)]
 pub struct Handle {
@@ -23,7 +23,7 @@ pub struct Handle {
 impl Handle {
     ghost use Rattle.pciguest_c.specs.Handles.{session_of, machine_of, board_of};
 
-    /// No session.
+    /// Returns an empty handle.
     fn none() -> Handle
         ensures { session_of result ≡ None }
     {
@@ -33,7 +33,7 @@ impl Handle {
         }
     }
 
-    /// A session.
+    /// Returns a handle that contains a session.
     pub fn of(session: Box<Session>) -> Handle
         ensures { session_of result ≡ Some session.value }
     {
@@ -43,7 +43,7 @@ impl Handle {
         }
     }
 
-    /// Whether there is a session.
+    /// Returns whether the handle contains a session.
     pub fn is_live(&self) -> bool
         ensures told { result ≡ is_some (session_of self.now) }
         ensures none { OnFalse result (session_of self.now ≡ None) }
@@ -51,7 +51,7 @@ impl Handle {
         self.live
     }
 
-    /// Takes the session out, and leaves none.
+    /// Takes the session out and leaves the handle empty.
     pub fn take(&mut self, alloc: Global) -> Option<Box<Session>>
         ensures left { session_of self.new ≡ None }
         ensures session { IfSome result (λ b. session_of self.old ≡ Some b.value) }
@@ -64,7 +64,7 @@ impl Handle {
         Some(old.owner.into_box(alloc))
     }
 
-    /// What the machine answers, or 901 where there is none.
+    /// Calls a closure on the machine, or returns 901 if the handle doesn't contain one.
     pub fn ask_machine<T, F: FnOnce(&mut Monitor) -> Result<T, u32>>(
         &mut self,
         alloc: Global,
@@ -91,7 +91,8 @@ impl Handle {
         answer
     }
 
-    /// What the board that firmware drives answers, or 901 where there is none.
+    /// Calls a closure on the board that firmware drives, or returns 901 if the handle doesn't
+    /// contain one.
     pub fn ask_board<T, F: FnOnce(&mut Board) -> Result<T, u32>>(
         &mut self,
         alloc: Global,

@@ -1,4 +1,4 @@
-//! What C asks as the host. Each call answers 0, or the number of a refusal.
+//! Reads by the host, and moves of functions between slots. Each call returns 0 or an error number.
 ghost use Rattle.std.specs.Prelude.{◌≡◌, ◌<◌, None, Some, true, false, IfErr, IfOk, length, option_map};
 ghost use Rattle.accesses.specs.Accesses.{host_target_of, reply_of};
 ghost use Rattle.pciguest_c.specs.{Told.{at_bus, host_target_told}, Calls.{Answers, host_read, host_asked, move, are_guests, nothing, number}};
@@ -10,7 +10,7 @@ use accesses::{Bdf, HostAccess, HostAt, Reply};
 use monitor::Monitor;
 use std::alloc::Global;
 
-/// Where an access of the host goes, if there is such a space and such a physical number.
+/// Returns the target of a host access, or `None` if there is no such space, device or function.
 pub fn host_at(space: u32, bus: u8, device: u8, function: u8, place: u64) -> Option<HostAt>
     ensures { option_map host_target_of result
         ≡ host_target_told space (at_bus bus device function) place }
@@ -33,7 +33,7 @@ pub fn host_at(space: u32, bus: u8, device: u8, function: u8, place: u64) -> Opt
     }
 }
 
-/// Reads as the host, or 902 where there is no such place.
+/// Reads as the host, or returns 902 if there is no such space, device or function.
 #[tactic(auto, unfolding(crate::specs::Calls::host_asked))]
 fn host_asked(
     machine: &mut Monitor,
@@ -56,7 +56,7 @@ fn host_asked(
     Ok(machine.host_read(HostAccess { at, width }))
 }
 
-/// Refuses an index of two that no guest has.
+/// Checks that there are guests with both indices, or returns 902.
 fn check_guests(machine: &Monitor, from: usize, to: usize) -> Result<(), u32>
     ensures from { IfOk result (λ _. from < length machine.now.world.guests) }
     ensures to { IfOk result (λ _. to < length machine.now.world.guests) }
@@ -68,8 +68,8 @@ fn check_guests(machine: &Monitor, from: usize, to: usize) -> Result<(), u32>
     check_guest(machine, to)
 }
 
-/// Reads 1, 2 or 4 bytes as the host does: what the board shows at physical numbers. Bus, device and
-/// function are looked at for configuration space alone.
+/// Reads 1, 2 or 4 bytes as the host does, at a physical BDF, port or address. Bus, device and
+/// function are used only for configuration space.
 #[unsafe(no_mangle)]
 pub extern "C" fn pciguest_raw_host_read(
     alloc: Global,
@@ -92,7 +92,8 @@ pub extern "C" fn pciguest_raw_host_read(
     put_value(answer, value)
 }
 
-/// Moves the function in a slot of a guest to a slot of another, or of the same. It is then at reset.
+/// Moves the function in a guest's slot to a slot of another guest or of the same guest, and resets
+/// the function.
 #[unsafe(no_mangle)]
 pub extern "C" fn pciguest_raw_move(
     alloc: Global,

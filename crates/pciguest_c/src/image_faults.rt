@@ -1,4 +1,4 @@
-//! Where an image stops fitting a guest.
+//! The call that locates the first byte of an image that doesn't fit a guest.
 ghost use Rattle.std.specs.Prelude.{◌≡◌, ◌≢◌, ◌<◌, length};
 ghost use Rattle.session.specs.Stages.{machine_in};
 ghost use Rattle.board_told.specs.GuestFindings.{lone_asked};
@@ -11,11 +11,11 @@ use monitor::Monitor;
 use session::Session;
 use std::alloc::Global;
 
-/// In place of a slot where an image stops in none.
+/// The slot number reported for an image with no mismatch in a slot.
 const NO_SLOT: u64 = 32;
 
-/// Tells in which slot, and at which byte, an image that the guest refuses as one of other functions or of another version
-/// stops fitting it; or no slot, and how many bytes there are, of any other image.
+/// Stores the slot and the byte offset at which an image of other functions or of another version
+/// stops fitting the guest. For any other image, stores slot 32 and the length of the image.
 fn tell_stop(machine: &Monitor, guest: usize, image: &[u8], slot: &mut u64, offset: &mut usize)
     requires { guest < length machine.now.world.guests }
     ensures { IsStop (lone_asked machine.now.world guest) image.now slot.new offset.new }
@@ -32,7 +32,8 @@ fn tell_stop(machine: &Monitor, guest: usize, image: &[u8], slot: &mut u64, offs
     }
 }
 
-/// The same of a session, or 901 where no guests have its board, and 902 where there is no such guest.
+/// Locates the mismatch for a guest of the session's machine. Returns 901 if the session has no
+/// machine, or 902 if there is no such guest.
 fn tell_stop_in(
     session: &mut Session,
     guest: usize,
@@ -56,9 +57,9 @@ fn tell_stop_in(
     }
 }
 
-/// Tells in which slot and at which byte an image stops fitting a guest, which refuses it as one of other functions (906) or
-/// of another version (908). Of any other image it tells slot 32, and how many bytes there are. Nothing changes, and no
-/// memory is taken.
+/// Stores the slot and the byte offset at which an image stops fitting a guest, if the guest
+/// refuses it with 906 (other functions) or 908 (other version). For any other image, stores slot
+/// 32 and the length of the image. Nothing changes, and no memory is allocated.
 #[unsafe(no_mangle)]
 pub extern "C" fn pciguest_raw_image_fault(
     alloc: Global,

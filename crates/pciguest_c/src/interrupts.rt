@@ -1,4 +1,4 @@
-//! Which interrupt pin a function has, where that reaches bus 0, and whether its Command disables it.
+//! The interrupt pin of a function, its route to bus 0, and Interrupt Disable in Command.
 ghost use Rattle.std.specs.Prelude.{◌≡◌};
 ghost use Rattle.model_registers.specs.{ByteEnables.LiesInWord, Registers.{config, number}};
 ghost use Rattle.model_board.specs.Ports.{file_at};
@@ -11,8 +11,8 @@ use intx_swizzle::at_root;
 use monitor::{FunctionNow, Monitor, Seat};
 use paths::Path;
 
-/// The pin of a function, 1 to 4, and the device of bus 0 and its pin that it reaches; all 0 where it has none. And whether
-/// Command disables it.
+/// A function's interrupt pin, 1 to 4, and the device and pin on bus 0 to which it is routed. These
+/// fields are 0 if the function has no pin. `is_disabled` is Interrupt Disable in Command.
 #[repr(C)]
 #[derive(Clone, Copy)]
 pub struct Interrupt {
@@ -22,7 +22,8 @@ pub struct Interrupt {
     pub is_disabled: u32,
 }
 
-/// Of a function of a board that firmware drives nothing is told.
+/// The interrupt of a function on a board driven by firmware: all 0, because firmware reads
+/// Interrupt Pin itself.
 pub const NO_INTERRUPT: Interrupt = Interrupt {
     pin: 0,
     root_device: 0,
@@ -30,7 +31,8 @@ pub const NO_INTERRUPT: Interrupt = Interrupt {
     is_disabled: 0,
 };
 
-/// What a register holds on the board of the function at a path.
+/// Reads a register on the board of the function at a path, or returns 0 if there is no such
+/// function.
 fn number_at(machine: &Monitor, path: &Path, offset: u8, width: u64) -> u32
     requires { LiesInWord offset width }
     ensures { let fs = (board_state machine.now.world).functions in
@@ -43,7 +45,8 @@ fn number_at(machine: &Monitor, path: &Path, offset: u8, width: u64) -> u32
     }
 }
 
-/// What Command holds of the function in a slot, as its guest has it.
+/// Returns the guest's copy of the Command register for the function in a slot, or 0 if there is no
+/// such function.
 fn own_command(machine: &Monitor, seat: Seat) -> u32
     ensures { result ≡ own_command machine.now.world (seat_named seat) }
 {
@@ -56,7 +59,8 @@ fn own_command(machine: &Monitor, seat: Seat) -> u32
     }
 }
 
-/// What Command holds of a function, as the guest that has it does, or else on the board.
+/// Returns a function's Command register: the guest's copy if the function is assigned, or else the
+/// register on the board.
 fn command_now(machine: &Monitor, function: &FunctionNow) -> u32
     ensures { result ≡ command_now machine.now.world (function_named function.now) }
 {
@@ -66,7 +70,8 @@ fn command_now(machine: &Monitor, function: &FunctionNow) -> u32
     }
 }
 
-/// Where a pin of the function at a path reaches bus 0.
+/// Returns a pin with the device and pin on bus 0 to which it is routed, or zeros if the function
+/// has no pin.
 fn pin_route(path: &Path, pin: u32) -> (u32, u32, u32)
     ensures { result ≡ pin_route path.now pin }
 {
@@ -77,7 +82,7 @@ fn pin_route(path: &Path, pin: u32) -> (u32, u32, u32)
     (pin, u32::from(device), u32::from(root))
 }
 
-/// What is told of the interrupt of a function.
+/// Returns the interrupt description of a function.
 #[tactic(auto, unfolding(crate::specs::InterruptsTold::interrupt_of))]
 pub fn interrupt_of(machine: &Monitor, function: &FunctionNow) -> Interrupt
     ensures { result ≡ interrupt_of machine.now.world (function_named function.now) }

@@ -1,7 +1,6 @@
 //! Layer: program. Below: board_told.
 //!
-//! The library for C: a machine of a board file, or its board at reset, behind a handle, and what each is
-//! asked.
+//! The calls of the C library, on a machine made from a board file, or on its board at reset.
 #![tactic(auto)]
 
 mod asking;

@@ -1,4 +1,4 @@
-//! How C makes a machine, and frees it.
+//! The calls that create and free a machine.
 ghost use Rattle.std.specs.Prelude.{◌≡◌, ◌≢◌, ◌≤◌, ◌<◌, None, IfSome, IfNone, IsSome};
 ghost use Rattle.model_handoff.specs.Changes.{BeginsIn};
 ghost use Rattle.session.specs.Files.{Refuses, Breaks, IsOpened};
@@ -9,9 +9,9 @@ use crate::numbers::{IN_USE, MEMORY};
 use session::{Session, open};
 use std::alloc::Global;
 
-/// Sets up the board of a board file, and gives its functions to the guests of the file. A refusal is
-/// the file's (101 to 112), the board's (201 to 205), out of memory (199 or 299), or 903 where the
-/// handle holds a machine already.
+/// Sets up the board of a board file, and assigns its functions to the guests of the file. Returns
+/// 101 to 112 if the file is refused, 201 to 205 if the board can't be set up, 199 or 299 if memory
+/// is exhausted, or 903 if the handle is already in use.
 #[unsafe(no_mangle)]
 pub extern "C" fn pciguest_raw_new(alloc: Global, handle: &mut Handle, board: &[u8]) -> u32
     ensures made { result ≡ 0 → IsSome (machine_of handle.new) }
@@ -38,8 +38,8 @@ pub extern "C" fn pciguest_raw_new(alloc: Global, handle: &mut Handle, board: &[
     }
 }
 
-/// Frees the machine. The handle then holds none, and may be used for a new one; where it held none,
-/// nothing changes.
+/// Frees the machine. The handle is then empty and can be reused. Does nothing if the handle is
+/// already empty.
 #[unsafe(no_mangle)]
 pub extern "C" fn pciguest_raw_free(alloc: Global, handle: &mut Handle)
     ensures { session_of handle.new ≡ None }

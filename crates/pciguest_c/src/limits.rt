@@ -1,8 +1,8 @@
-//! How large things can be.
+//! The limits of every board and machine.
 ghost use Rattle.std.specs.Prelude.{◌≡◌};
 ghost use Rattle.pciguest_c.specs.LimitsTold.{limits};
 
-/// The greatest image of a guest in bytes, and how many there can be of other things.
+/// The largest guest image in bytes, and the largest numbers of functions, guests and other items.
 #[repr(C)]
 #[derive(Clone, Copy)]
 pub struct LimitsRow {
@@ -16,7 +16,7 @@ pub struct LimitsRow {
     pub reserved: [u64; 4],
 }
 
-/// Tells how large things can be, of any board.
+/// Stores the limits that hold for every board and machine.
 #[unsafe(no_mangle)]
 pub extern "C" fn pciguest_raw_limits(told: &mut LimitsRow) -> u32
     ensures told { told.new ≡ limits }

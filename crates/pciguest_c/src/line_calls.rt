@@ -1,4 +1,4 @@
-//! What a line does and writes, for C.
+//! The calls that run one line of a script or of a firmware session.
 ghost use Rattle.std.specs.Prelude.{◌≡◌, ◌≤◌, Some, length};
 ghost use Rattle.pciguest_c.specs.{Calls.{Answers, AnswersLine, run_line, buffer}, Handles.session_of, TextsTold.at_front};
 
@@ -10,7 +10,7 @@ use script::run_line;
 use session::Session;
 use std::alloc::Global;
 
-/// Puts what a line writes at the front of a buffer that has room for it, and tells how long it is.
+/// Copies a line's reply to the front of a large enough buffer, and stores the length of the reply.
 fn put_line(text: &LineText, out: &mut [u8], written: &mut usize) -> u32
     requires { 48 ≤ length out.old }
     ensures done { result ≡ 0 }
@@ -23,8 +23,9 @@ fn put_line(text: &LineText, out: &mut [u8], written: &mut usize) -> u32
     0
 }
 
-/// Runs one line of a script, which is given without its line feed. What it writes, nothing or one line
-/// with a line feed, is put at the front of `out`, which needs room for 48 bytes, and its length is told.
+/// Runs one line of a script, given without its line feed. Writes the reply, which is empty or one
+/// line with its line feed, to the front of `out`, and stores its length. Returns 902 if `out` has
+/// fewer than 48 bytes.
 #[unsafe(no_mangle)]
 pub extern "C" fn pciguest_raw_run_line(
     alloc: Global,
@@ -50,7 +51,8 @@ pub extern "C" fn pciguest_raw_run_line(
     }
 }
 
-/// Runs a line of a session, and puts what it writes at the front of a buffer that has room for it.
+/// Runs a line of a session and writes its reply to a buffer. Returns 902 if the buffer is too
+/// small, or 299 if memory is exhausted.
 fn run_on(session: &mut Session, line: &[u8], out: &mut [u8], written: &mut usize) -> u32
     ensures { AnswersLine line.now (length out.old) (Some session.old) (Some session.new) result
         (buffer out.old written.old) (buffer out.new written.new) }
@@ -66,11 +68,12 @@ fn run_on(session: &mut Session, line: &[u8], out: &mut [u8], written: &mut usiz
     }
 }
 
-/// Runs one line of a session over a board, which is given without its line feed: firmware's, or one that asks
-/// for an audit, for readiness or why something finds what it finds, or hands the board to its guests, and from
-/// there on a script's. What it writes is put at the front of `out`, which needs room for 48 bytes, and its
-/// length is told. Where a text of more than one line has less room than it needs, nothing happens, and its
-/// length is told.
+/// Runs one line of a session on a board, given without its line feed. While firmware drives the
+/// board, the line is a firmware command, an audit, a readiness check, a question why something
+/// responds, or the handover to the guests. After the handover, the line is a line of a script.
+/// Writes the reply to the front of `out`, which needs at least 48 bytes, and stores its length. If
+/// `out` is too small for a reply of several lines, stores only the length, and the line has no
+/// effect.
 #[unsafe(no_mangle)]
 pub extern "C" fn pciguest_raw_board_run_line(
     alloc: Global,

@@ -1,4 +1,4 @@
-//! Images that are loaded into guests.
+//! The call that loads an image into a guest.
 ghost use Rattle.std.specs.Prelude.{◌≡◌, ◌≢◌, ◌<◌, IfErr, IfOk, length};
 ghost use Rattle.monitor.specs.{ByIndex.name_nth, Loads.IsLoaded};
 ghost use Rattle.pciguest_c.specs.{Calls.AnswersLoad, ImagesTold.{load_number, load_asked}};
@@ -9,7 +9,7 @@ use crate::numbers::number_of_done;
 use monitor::Monitor;
 use std::alloc::Global;
 
-/// Loads bytes into a guest, or gives the number of why they can't be loaded.
+/// Loads an image into a guest, or returns the error number.
 #[tactic(auto, unfolding(crate::specs::ImagesTold::load_number))]
 fn load(machine: &mut Monitor, guest: usize, image: &[u8]) -> Result<(), u32>
     requires { guest < length machine.old.world.guests }
@@ -25,9 +25,10 @@ fn load(machine: &mut Monitor, guest: usize, image: &[u8]) -> Result<(), u32>
     }
 }
 
-/// Loads the bytes of an image into a guest, which then holds what the image says, and is counted once. Or refuses them
-/// and changes nothing: 905 for bytes that are no image, 908 for one of another version, or 906 for an image of other
-/// functions than the guest has in its slots; of these, what the first byte that fails tells. No memory is taken.
+/// Loads an image into a guest, whose state is then the saved one. The guest's change count
+/// increases by one. Returns 905 if the bytes aren't an image, 908 for another version of the
+/// format, or 906 if the guest has other functions in its slots. The first byte that fails decides
+/// between these. After an error, nothing has changed. No memory is allocated.
 #[unsafe(no_mangle)]
 pub extern "C" fn pciguest_raw_load(
     alloc: Global,

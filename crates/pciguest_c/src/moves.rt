@@ -1,4 +1,4 @@
-//! Which regions of a guest stand elsewhere than they were told before.
+//! The call that finds the regions of a guest that have moved since the last call.
 ghost use Rattle.std.specs.Prelude.{◌≡◌, ◌<◌, ◌==◌, Some, count_by, length};
 ghost use Rattle.pciguest_c.specs.{Calls.{Answers, IsAnswer, answer, moved, place_buffer}, MovesTold.{is_same, place_now, place_row, places_from}};
 
@@ -10,7 +10,8 @@ use monitor::Monitor;
 use session::Session;
 use std::alloc::Global;
 
-/// Where a region stands now, and where it stood when that was told before. All of it is 0 where there is none.
+/// A region now, and the same region when the row was last updated. Each is all 0 if there was no
+/// region.
 #[repr(C)]
 #[derive(Clone, Copy)]
 pub struct PlaceRow {
@@ -20,7 +21,8 @@ pub struct PlaceRow {
     pub reserved: u32,
 }
 
-/// Whether a region stands where another one does, and is open or closed as that is.
+/// Returns whether two descriptions of a region agree in all fields, including whether decode is
+/// enabled.
 fn is_same(one: &RegionTold, other: &RegionTold) -> bool
     ensures { result ≡ is_same one.now other.now }
 {
@@ -31,7 +33,7 @@ fn is_same(one: &RegionTold, other: &RegionTold) -> bool
         && one.is_open == other.is_open
 }
 
-/// The row of a region that stands here now and stood there before.
+/// Returns the row of a region from its current and its previous description.
 fn place_row(now: RegionTold, before: RegionTold) -> PlaceRow
     ensures { result ≡ place_row now before }
 {
@@ -44,7 +46,8 @@ fn place_row(now: RegionTold, before: RegionTold) -> PlaceRow
     }
 }
 
-/// Where a region of a guest stands, by its number: six for each slot.
+/// Returns the current description of a guest's region by its number, which is 6 times the slot
+/// plus the register.
 fn place_now(machine: &Monitor, guest: usize, number: usize) -> RegionTold
     requires { guest < length machine.now.world.guests }
     ensures { result ≡ place_now machine.now.world guest number }
@@ -55,7 +58,7 @@ fn place_now(machine: &Monitor, guest: usize, number: usize) -> RegionTold
     }
 }
 
-/// Tells of each row its region anew.
+/// Updates each row from the guest's current registers.
 fn put_places(machine: &Monitor, guest: usize, places: &mut [PlaceRow])
     requires { guest < length machine.now.world.guests }
     ensures { places.new ≡ places_from machine.now.world guest 0 places.old }
@@ -66,14 +69,15 @@ fn put_places(machine: &Monitor, guest: usize, places: &mut [PlaceRow])
     }
 }
 
-/// How many of these regions moved.
+/// Returns how many of the rows have moved.
 fn moved_among(places: &[PlaceRow]) -> usize
     ensures { result ≡ count_by (λ p. p.has_moved == 1) places.now }
 {
     places.iter().filter(|place| place.has_moved == 1).count()
 }
 
-/// Tells so of the guest of a session, or 901 where no guests have its board, and 902 where there is no such guest.
+/// Updates the rows for a guest of the session's machine. Returns 901 if the session has no
+/// machine, or 902 if there is no such guest.
 fn tell_moved(
     session: &mut Session,
     guest: usize,
@@ -97,8 +101,9 @@ fn tell_moved(
     }
 }
 
-/// Tells of each region of a guest where it stands now, six for each slot, and whether it stood elsewhere, or was open
-/// or closed otherwise, when these rows were told before; and how many did. No memory is taken.
+/// Updates rows that describe the guest's regions, six for each slot, and stores how many have
+/// changed since the rows were last updated. A region changes if it moves, or if its decode is
+/// enabled or disabled. No memory is allocated.
 #[unsafe(no_mangle)]
 pub extern "C" fn pciguest_raw_moved(
     alloc: Global,

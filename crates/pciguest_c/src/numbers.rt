@@ -1,29 +1,29 @@
-//! The numbers that calls answer.
+//! The error numbers of the calls.
 ghost use Rattle.std.specs.Prelude.{◌≡◌, ◌≢◌, IfOk, IfErr};
 ghost use Rattle.accesses.specs.{Accesses.reply_of, Replies.IsRefusal};
 ghost use Rattle.pciguest_c.specs.Told.{number_told, value_told};
 
 use accesses::Reply;
 
-/// The handle holds no machine, or no board.
+/// The handle contains no machine or no board.
 pub const NO_MACHINE: u32 = 901;
 
-/// An argument that the call does not take.
+/// An argument isn't valid for the call.
 pub const ARGUMENT: u32 = 902;
 
-/// The handle holds a machine, or a board, already.
+/// The handle already contains a machine or a board.
 pub const IN_USE: u32 = 903;
 
-/// A write was done on the board since reset.
+/// The board has been written to since reset.
 pub const NOT_AT_RESET: u32 = 904;
 
-/// Out of memory while a board file is read.
+/// Memory was exhausted while a board file was being read.
 pub const FILE_MEMORY: u32 = 199;
 
-/// Out of memory.
+/// Memory is exhausted.
 pub const MEMORY: u32 = 299;
 
-/// 0, or the number of a refusal.
+/// Returns 0, or the error number of a reply or of the call.
 pub fn number_of(answer: Result<Reply, u32>) -> u32
     ensures told { IfOk answer (λ r. result ≡ number_told (reply_of r)) }
     ensures refused { IfOk answer (λ r. result ≢ 0 → IsRefusal r) }
@@ -36,7 +36,7 @@ pub fn number_of(answer: Result<Reply, u32>) -> u32
     }
 }
 
-/// The same of what is told of nowhere.
+/// Returns 0 for any result, or the error number.
 pub fn number_of_done<T: Drop>(answer: Result<T, u32>) -> u32
     ensures done { IfOk answer (λ _. result ≡ 0) }
     ensures refused { IfErr answer (λ n. result ≡ n) }
@@ -47,7 +47,7 @@ pub fn number_of_done<T: Drop>(answer: Result<T, u32>) -> u32
     }
 }
 
-/// The same, and puts what was read where the value goes.
+/// Stores the value that was read, and returns 0 or the error number.
 pub fn put_value(answer: Result<Reply, u32>, value: &mut u32) -> u32
     ensures told { IfOk answer (λ r. result ≡ number_told (reply_of r)) }
     ensures value { IfOk answer (λ r. value.new ≡ value_told value.old (reply_of r)) }
@@ -62,7 +62,7 @@ pub fn put_value(answer: Result<Reply, u32>, value: &mut u32) -> u32
     number_of(answer)
 }
 
-/// Puts what is told where it goes: 0, or the number of a refusal.
+/// Stores a result and returns 0, or returns the error number.
 pub fn put_result<T: Drop>(answer: Result<T, u32>, told: &mut T) -> u32
     ensures told { IfOk answer (λ v. (result ≡ 0) × (told.new ≡ v)) }
     ensures refused { IfErr answer (λ n. (result ≡ n) × (told.new ≡ told.old)) }

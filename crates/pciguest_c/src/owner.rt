@@ -1,4 +1,4 @@
-//! The pointer that C holds.
+//! The pointer by which C owns a session.
 ghost use Rattle.std.specs.{Prelude.{◌≡◌, Option, Some, None, IsSome}, Coded.coded_option};
 ghost use Rattle.model_lines.specs.Sessions.{SessionNow};
 ghost use Rattle.pciguest_c.specs.Owning.{session_coded, owner_owns};
@@ -9,8 +9,8 @@ use std::alloc::Global;
 use std::marker::Model;
 use std::ptr::null_mut;
 
-/// A session on the heap, or nothing. Its field names no type that holds a `Vec`, since C may hold no
-/// pointer to one. Dropping it frees nothing: a session that is to be freed is taken out before.
+/// A session on the heap, or nothing. The field's type doesn't mention `Vec`, because C may not
+/// hold a pointer to one. Dropping an `Owner` frees nothing: the session has to be taken out first.
 #[repr(C)]
 #[derive(Drop)]
 pub struct Owner {
@@ -23,14 +23,14 @@ impl Model for Owner {
 }
 
 impl Owner {
-    /// Nothing.
+    /// Returns an owner of nothing.
     pub fn empty() -> Owner
         ensures { result.value ≡ None }
     {
         Owner { at: null_mut() }
     }
 
-    /// A session.
+    /// Returns the owner of a session.
     pub fn of(session: Unboxed<Session>) -> Owner
         ensures { result.value ≡ Some session.value }
     {
@@ -38,7 +38,7 @@ impl Owner {
         Owner { at: at as *mut () }
     }
 
-    /// The session.
+    /// Returns the session in its box.
     pub fn into_box(self, alloc: Global) -> Box<Session>
         requires { IsSome self.value }
         ensures { self.value ≡ Some result.value }
@@ -48,5 +48,5 @@ impl Owner {
     }
 }
 
-// C may hand a session on to another thread.
+// C may pass a session to another thread.
 unsafe impl Send for Owner {}

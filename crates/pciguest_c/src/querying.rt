@@ -1,5 +1,5 @@
-//! Where the regions of guests' functions stand, how often they may have come to stand elsewhere, and what guests'
-//! accesses hit.
+//! The calls that locate the regions of a guest, count how often they may have moved, and find the
+//! target of a guest's access.
 ghost use Rattle.std.specs.Prelude.{◌≡◌, Some, IfSome, option_map, slice_get};
 ghost use Rattle.monitor.specs.Queries.{region_named, hit_named};
 ghost use Rattle.pciguest_c.specs.{Handles.machine_of, Calls.{Answers, region, changed, locate, number, a_region, a_hit}, QueriesTold.{region_told, hit_told}};
@@ -11,7 +11,8 @@ use accesses::Place;
 use monitor::{GuestRegion, Hit, Space};
 use std::alloc::Global;
 
-/// A region of a guest's function, as C is told of it: `space` is 1 for ports and 2 for memory.
+/// A region of a guest's function, in the layout of the C struct. `space` is 1 for I/O and 2 for
+/// memory.
 #[repr(C)]
 #[derive(Clone, Copy)]
 pub struct RegionTold {
@@ -22,8 +23,8 @@ pub struct RegionTold {
     pub is_open: u32,
 }
 
-/// What an access hits, as C is told of it: the part is a region by its base address register, or 6 for
-/// configuration space. Where nothing is found, all of it is 0.
+/// The byte that an access reaches, in the layout of the C struct. `part` is a BAR, 0 to 5, or 6
+/// for configuration space. All fields are 0 if the access reaches nothing.
 #[repr(C)]
 #[derive(Clone, Copy)]
 pub struct HitTold {
@@ -33,7 +34,7 @@ pub struct HitTold {
     pub found: u32,
 }
 
-/// No region.
+/// The description of a missing region.
 pub const NO_REGION: RegionTold = RegionTold {
     first: 0,
     size: 0,
@@ -42,7 +43,7 @@ pub const NO_REGION: RegionTold = RegionTold {
     is_open: 0,
 };
 
-/// A region for C.
+/// Converts a region to its C struct.
 pub fn region_for(region: GuestRegion) -> RegionTold
     ensures { result ≡ region_told (region_named region) }
 {
@@ -58,7 +59,7 @@ pub fn region_for(region: GuestRegion) -> RegionTold
     }
 }
 
-/// What is hit, for C.
+/// Converts the target of an access to its C struct.
 fn hit_for(hit: Option<Hit>) -> HitTold
     ensures { result ≡ hit_told (option_map hit_named hit) }
 {
@@ -81,7 +82,8 @@ fn hit_for(hit: Option<Hit>) -> HitTold
     }
 }
 
-/// Where the region that begins at a base address register stands now, by the guest's own registers.
+/// Stores the current address and size of the region that begins at a BAR, according to the guest's
+/// own registers.
 #[unsafe(no_mangle)]
 pub extern "C" fn pciguest_raw_region(
     alloc: Global,
@@ -104,7 +106,8 @@ pub extern "C" fn pciguest_raw_region(
     put_result(answer, told)
 }
 
-/// The count of a guest, which grows where an answer of `pciguest_raw_region` for this guest may have changed.
+/// Stores a guest's change count, which increases whenever a result of `pciguest_raw_region` for
+/// this guest may have changed.
 #[unsafe(no_mangle)]
 pub extern "C" fn pciguest_raw_changed(
     alloc: Global,
@@ -124,7 +127,7 @@ pub extern "C" fn pciguest_raw_changed(
     put_result(answer, count)
 }
 
-/// What an access of a guest at a place hits: a byte of a function in one of its slots, or nothing.
+/// Stores the byte of the guest's functions that an access reaches, or zeros if it reaches nothing.
 #[unsafe(no_mangle)]
 pub extern "C" fn pciguest_raw_locate(
     alloc: Global,

@@ -1,4 +1,4 @@
-//! Functions of guests that are reset where they are, one or all of a guest.
+//! The calls that reset one function of a guest, or all of them, without moving them.
 ghost use Rattle.std.specs.Prelude.{◌≡◌, ◌<◌, length};
 ghost use Rattle.pciguest_c.specs.{Calls.{Answers, reset, reset_guest, nothing}, ImagesTold.after_restart};
 
@@ -8,7 +8,8 @@ use crate::numbers::{number_of, number_of_done};
 use monitor::Monitor;
 use std::alloc::Global;
 
-/// Resets the function in a slot of a guest, where it is. Nothing is carried over, as in a move.
+/// Resets the function in a guest's slot, which keeps the function. As in a move, no state is
+/// carried over.
 #[unsafe(no_mangle)]
 pub extern "C" fn pciguest_raw_reset(
     alloc: Global,
@@ -24,7 +25,7 @@ pub extern "C" fn pciguest_raw_reset(
     }))
 }
 
-/// Resets each function of a guest and its latch.
+/// Resets every function of a guest and its CONFIG_ADDRESS.
 #[tactic(auto, unfolding(crate::specs::ImagesTold::after_restart))]
 fn restart(machine: &mut Monitor, guest: usize)
     requires { guest < length machine.old.world.guests }
@@ -33,8 +34,8 @@ fn restart(machine: &mut Monitor, guest: usize)
     machine.reset_guest(guest);
 }
 
-/// Resets each function of a guest where it is, and the guest's address latch. Nothing is carried over, the guest is
-/// counted once, and no memory is taken.
+/// Resets every function of a guest, each in its slot, and the guest's CONFIG_ADDRESS. No state is
+/// carried over. The guest's change count increases by one, and no memory is allocated.
 #[unsafe(no_mangle)]
 pub extern "C" fn pciguest_raw_reset_guest(alloc: Global, handle: &mut Handle, guest: usize) -> u32
     ensures { Answers (reset_guest guest) handle.old handle.new result nothing nothing }

@@ -1,4 +1,4 @@
-//! Images of guests.
+//! The call that saves a guest as an image.
 ghost use Rattle.std.specs.Prelude.{◌≡◌, ◌<◌, Some, IfSome, length};
 ghost use Rattle.session.specs.Stages.{machine_in};
 ghost use Rattle.pciguest_c.specs.{Handles.machine_of, Calls.{Answers, IsAnswer, answer, save, buffer}, ImagesTold.{image_asked, IsTakenAsSaved}, TextsTold.IsTold};
@@ -10,7 +10,8 @@ use monitor::Monitor;
 use session::Session;
 use std::alloc::Global;
 
-/// Puts the image of a guest at the front of a buffer, if that has room for it, and tells how long it is.
+/// Writes the guest's image to the front of a buffer if it fits, and stores the length of the
+/// image.
 #[tactic(auto, unfolding(crate::specs::ImagesTold::IsTakenAsSaved))]
 fn save(machine: &Monitor, guest: usize, out: &mut [u8], needed: &mut usize) -> u32
     requires { guest < length machine.now.world.guests }
@@ -27,7 +28,8 @@ fn save(machine: &Monitor, guest: usize, out: &mut [u8], needed: &mut usize) -> 
     0
 }
 
-/// The same of a session, or 901 where no guests have its board, and 902 where there is no such guest.
+/// Saves a guest of the session's machine. Returns 901 if the session has no machine, or 902 if
+/// there is no such guest.
 fn save_in(session: &mut Session, guest: usize, out: &mut [u8], needed: &mut usize) -> u32
     ensures saved { IsAnswer (answer (save guest) (Some session.old) (buffer out.old needed.old))
         (Some session.new) result (buffer out.new needed.new) }
@@ -43,8 +45,8 @@ fn save_in(session: &mut Session, guest: usize, out: &mut [u8], needed: &mut usi
     }
 }
 
-/// Saves a guest: writes the bytes of its image to the front of `out`, and tells how many they are, also where
-/// `out` has less room than that. Nothing else changes, and no memory is taken.
+/// Saves a guest: writes its image to the front of `out`, and stores the length of the image even
+/// if `out` is too small. Nothing else changes, and no memory is allocated.
 #[unsafe(no_mangle)]
 pub extern "C" fn pciguest_raw_save(
     alloc: Global,

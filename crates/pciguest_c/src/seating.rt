@@ -1,4 +1,4 @@
-//! Functions of the board that come to a guest from none, or leave it for no other.
+//! The calls that assign functions to guests and unassign them.
 ghost use Rattle.std.specs.Prelude.{◌≡◌, IfErr, IfOk};
 ghost use Rattle.model_lines.specs.Sessions.{given};
 ghost use Rattle.pciguest_c.specs.Calls.{Answers, give, take, giving, tells, refusal, nothing};
@@ -10,7 +10,7 @@ use board_file::path_text::path_of;
 use monitor::{Monitor, Withheld};
 use std::alloc::Global;
 
-/// Gives a function by the text of its path, or gives the number of why that is refused.
+/// Assigns the function at a path to a guest, or returns the error number.
 #[tactic(auto, unfolding(crate::specs::Calls::giving))]
 fn give_at(machine: &mut Monitor, path: &[u8], guest: usize, slot: u64) -> Result<(), u32>
     ensures given { IfOk result (λ _.
@@ -19,7 +19,7 @@ fn give_at(machine: &mut Monitor, path: &[u8], guest: usize, slot: u64) -> Resul
     ensures kept { IfErr result (λ _. machine.new ≡ machine.old) }
 {
     check_guest(machine, guest)?;
-    // No endpoint stands at a text that is no path.
+    // A text that isn't a path is reported like a path without an endpoint.
     let Some(path) = path_of(path) else {
         return Err(u32::from(Withheld::NoEndpoint.number()));
     };
@@ -29,8 +29,8 @@ fn give_at(machine: &mut Monitor, path: &[u8], guest: usize, slot: u64) -> Resul
     }
 }
 
-/// Gives the function at a path, which no guest has, to a guest, into an empty slot: there and on the board it is
-/// at reset.
+/// Assigns the unassigned function at a path to an empty slot of a guest. The function is then at
+/// reset, both in the slot and on the board.
 #[unsafe(no_mangle)]
 pub extern "C" fn pciguest_raw_give(
     alloc: Global,
@@ -44,7 +44,8 @@ pub extern "C" fn pciguest_raw_give(
     number_of_done(handle.ask_machine(alloc, |machine| give_at(machine, path, guest, slot)))
 }
 
-/// Takes the function in a slot from its guest: the slot is then empty, and on the board the function is at reset.
+/// Unassigns the function in a guest's slot. The slot is then empty, and the function is at reset
+/// on the board.
 #[unsafe(no_mangle)]
 pub extern "C" fn pciguest_raw_take(
     alloc: Global,

@@ -1,5 +1,5 @@
-//! What C is told as a text, as lines or as JSON, of all that is wrong in the registers of a board, and of all that is
-//! lacking there.
+//! The calls that report the problems in a board's registers and the work left to do there, as
+//! lines or as JSON.
 ghost use Rattle.std.specs.Prelude.{◌≡◌, IfOk, IfErr, string_bytes};
 ghost use Rattle.model_lines.specs.Sessions.{driven};
 ghost use Rattle.board_told.specs.Telling.{told_by, counted_by};
@@ -12,7 +12,7 @@ use board_told::{Question, ReportForm, audit_in, ready_in};
 use session::{Board, CountedText};
 use std::alloc::{AllocError, Global};
 
-/// What answers a question of the registers.
+/// Returns the text that answers a question about the board's registers.
 fn answer_to(
     alloc: Global,
     board: &mut Board,
@@ -35,7 +35,7 @@ fn answer_to(
     }
 }
 
-/// The same, or 299 out of memory.
+/// Answers a question about the board's registers, or returns 299 if memory is exhausted.
 #[tactic(auto, unfolding(crate::specs::Calls::surveying))]
 fn survey_of(alloc: Global, board: &mut Board, question: Question) -> Result<CountedText, u32>
     ensures told { IfOk result (λ t. surveying question board.old
@@ -47,7 +47,7 @@ fn survey_of(alloc: Global, board: &mut Board, question: Question) -> Result<Cou
     answer_to(alloc, board, question).map_err(|_| MEMORY)
 }
 
-/// Tells this of the board in a handle.
+/// Writes the answer to a question about the board in a handle.
 fn tell_survey(
     alloc: Global,
     handle: &mut Handle,
@@ -67,9 +67,9 @@ fn tell_survey(
     }
 }
 
-/// Writes what is wrong in the registers of a board as they stand to the front of `out`, and tells how many
-/// problems there are; and how long the text is, also where `out` has less room than that. The board stays
-/// as it is.
+/// Writes the problems in the board's current registers to the front of `out`, and stores the
+/// number of problems. Stores the length of the text even if `out` is too small. The board doesn't
+/// change.
 #[unsafe(no_mangle)]
 pub extern "C" fn pciguest_raw_board_audit(
     alloc: Global,
@@ -86,7 +86,9 @@ pub extern "C" fn pciguest_raw_board_audit(
     tell_survey(alloc, handle, question, out, needed, count)
 }
 
-/// Writes so a JSON object on one line.
+/// Writes the problems in the board's current registers to the front of `out` as a one-line JSON
+/// object, and stores the number of problems. Stores the length of the text even if `out` is too
+/// small.
 #[unsafe(no_mangle)]
 pub extern "C" fn pciguest_raw_board_audit_json(
     alloc: Global,
@@ -103,9 +105,9 @@ pub extern "C" fn pciguest_raw_board_audit_json(
     tell_survey(alloc, handle, question, out, needed, count)
 }
 
-/// Writes what is wrong and what is lacking in the registers of a board as they stand, by the apertures of its
-/// file, to the front of `out`, and tells how many problems and lacks there are; and how long the text is, also
-/// where `out` has less room than that. The board stays as it is.
+/// Writes the problems in the board's current registers, and the work left to do given the
+/// apertures of its file, to the front of `out`. Stores the number of entries, and the length of
+/// the text even if `out` is too small. The board doesn't change.
 #[unsafe(no_mangle)]
 pub extern "C" fn pciguest_raw_board_ready(
     alloc: Global,
@@ -122,7 +124,9 @@ pub extern "C" fn pciguest_raw_board_ready(
     tell_survey(alloc, handle, question, out, needed, count)
 }
 
-/// Writes so a JSON object on one line.
+/// Writes the problems in the board's current registers and the work left to do to the front of
+/// `out` as a one-line JSON object. Stores the number of entries, and the length of the text even
+/// if `out` is too small.
 #[unsafe(no_mangle)]
 pub extern "C" fn pciguest_raw_board_ready_json(
     alloc: Global,

@@ -1,4 +1,4 @@
-//! The report of a board file, and what a check says of it.
+//! The report of a board file, and the text of a check.
 ghost use Rattle.std.specs.{Prelude.{◌≡◌, ◌≢◌, ◌⊎◌, ◌≤◌, ◌<◌, IfOk, IfErr, string_bytes}, Option.option_map_or};
 ghost use Rattle.model_guests.specs.World.{World};
 ghost use Rattle.session.specs.{Faults.number_of, Files.{Refuses, Breaks, IsSetUp}};
@@ -9,7 +9,7 @@ use board_told::{ReportForm, Style, Warned, check_text, list_in};
 use session::OpenFault;
 use std::alloc::Global;
 
-/// The report of a board file in a form, or the number of its refusal.
+/// Returns the report of a board file in a form, or the error number.
 pub fn report_of(alloc: Global, board: &[u8], form: ReportForm) -> Result<String, u32>
     ensures report { IfOk result (λ t.
         (w : World) × IsSetUp board.now w × (string_bytes t ≡ report_in form w)) }
@@ -23,7 +23,7 @@ pub fn report_of(alloc: Global, board: &[u8], form: ReportForm) -> Result<String
     }
 }
 
-/// The number of a fault, or 0.
+/// Returns the number of a fault, or 0 if there is none.
 fn number_or_zero(fault: Option<OpenFault>) -> u32
     ensures { result ≡ option_map_or number_of fault 0 }
 {
@@ -33,10 +33,11 @@ fn number_or_zero(fault: Option<OpenFault>) -> u32
     }
 }
 
-/// What a board file is called where a check tells of it.
+/// The file name in the text of a check.
 const BOARD_NAME: &str = "board.toml";
 
-/// What a check says of a board file, and the number that refuses the file or its board, or 0.
+/// Checks a board file. Returns the text, and the error number of the file or its board, or 0.
+/// Returns 199 or 299 if memory is exhausted.
 pub fn check_of(alloc: Global, board: &[u8]) -> Result<(String, u32), u32>
     ensures told { IfOk result (λ v. IsCheckOf board.now v.1) }
     ensures numbers { IfOk result (λ v. (v.1 < 299) × (v.1 ≢ 199)) }

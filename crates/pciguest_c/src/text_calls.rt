@@ -1,4 +1,5 @@
-//! What C is told as text.
+//! The calls that write the report of a board file or check it, and functions that write a text to
+//! the caller's buffer.
 ghost use Rattle.std.specs.Prelude.{◌≡◌, ◌≢◌, ◌<◌, ◌≤◌, ◌⊎◌, length};
 ghost use Rattle.model_guests.specs.Text.{Text};
 ghost use Rattle.pciguest_c.specs.{Checks.{IsCheckOf, IsReportIn}, TextsTold.{IsTold, at_front}};
@@ -8,7 +9,7 @@ use crate::text::{check_of, report_of};
 use board_told::ReportForm;
 use std::alloc::Global;
 
-/// Puts a text, or rows, at the front of a buffer that has room for it.
+/// Copies a text, or rows, to the front of a large enough buffer.
 pub fn put<T: Copy>(out: &mut [T], text: &[T])
     requires { length text.now ≤ length out.old }
     ensures { out.new ≡ at_front text.now out.old }
@@ -16,8 +17,8 @@ pub fn put<T: Copy>(out: &mut [T], text: &[T])
     out[..text.len()].copy_from_slice(text);
 }
 
-/// Tells how long a text is, or how many rows there are, and puts it at the front of a buffer, or answers 902 where that
-/// has less room.
+/// Stores the length of a text or the number of rows, and copies them to the front of a buffer.
+/// Returns 902 if the buffer is too small.
 pub fn tell<T: Copy>(text: &[T], out: &mut [T], needed: &mut usize) -> u32
     ensures text { IsTold text.now out.old out.new result }
     ensures needed { needed.new ≡ length text.now }
@@ -30,7 +31,8 @@ pub fn tell<T: Copy>(text: &[T], out: &mut [T], needed: &mut usize) -> u32
     0
 }
 
-/// The same with a number beside it, which stays where the buffer has less room.
+/// Copies a text to the front of a buffer and stores its length, as `tell` does. Stores a count too
+/// if the text fits.
 pub fn tell_counted(
     text: &[u8],
     counted: usize,
@@ -50,7 +52,7 @@ pub fn tell_counted(
     number
 }
 
-/// Tells the report of a board file in a form.
+/// Writes the report of a board file in a form.
 fn tell_report(
     alloc: Global,
     form: ReportForm,
@@ -66,8 +68,8 @@ fn tell_report(
     }
 }
 
-/// Writes the report of a board file to the front of `out`, and tells how long it is, also where `out`
-/// has less room than that.
+/// Writes the report of a board file to the front of `out`, and stores the length of the report
+/// even if `out` is too small.
 #[unsafe(no_mangle)]
 pub extern "C" fn pciguest_raw_report(
     alloc: Global,
@@ -81,7 +83,8 @@ pub extern "C" fn pciguest_raw_report(
     tell_report(alloc, ReportForm::Lines, board, out, needed)
 }
 
-/// Writes it so as a JSON object on one line.
+/// Writes the report of a board file to the front of `out` as a one-line JSON object, and stores
+/// the length of the report even if `out` is too small.
 #[unsafe(no_mangle)]
 pub extern "C" fn pciguest_raw_report_json(
     alloc: Global,
@@ -95,8 +98,8 @@ pub extern "C" fn pciguest_raw_report_json(
     tell_report(alloc, ReportForm::Json, board, out, needed)
 }
 
-/// Writes what a check says of a board file to the front of `out`, and tells how long it is, also where
-/// `out` has less room than that. The file is called `board.toml` there.
+/// Checks a board file, called `board.toml` in the text. Writes the text to the front of `out`, and
+/// stores its length even if `out` is too small.
 #[unsafe(no_mangle)]
 pub extern "C" fn pciguest_raw_check(
     alloc: Global,

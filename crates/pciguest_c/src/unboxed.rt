@@ -1,10 +1,10 @@
-//! A box as the pointer to what it holds.
+//! A box as a pointer to its contents.
 ghost use Rattle.std.specs.{Prelude.◌≡◌, Box.Ownership.box_owns};
 ghost use Rattle.pciguest_c.specs.Owning.{may_free};
 
 use std::marker::Model;
 
-/// What a box holds, by its pointer.
+/// The contents of a box, owned through a raw pointer.
 pub struct Unboxed<T> {
     pub at: *mut T,
     pub ghost value: { T },
@@ -15,7 +15,7 @@ impl<T> Model for Unboxed<T> {
 }
 
 impl<T: Drop> Unboxed<T> {
-    /// The pointer of a box, which is not freed.
+    /// Converts a box to its pointer without freeing the contents.
     pub fn of(whole: Box<T>) -> Unboxed<T>
         ensures { result.value ≡ whole.value }
     {

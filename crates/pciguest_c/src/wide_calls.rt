@@ -1,5 +1,6 @@
-//! What a device itself reads and writes of several bytes of a guest's function at once; and the guest of a region that is
-//! named by its slot and its register, as whoever maps the regions hands an access on.
+//! Accesses of 1 to 8 bytes of a guest's function, by the device or by the guest. The guest's
+//! accesses address a region by slot and BAR, as a hypervisor that maps the regions itself forwards
+//! them.
 ghost use Rattle.pciguest_c.specs.{Calls.{Answers, read_wide, write_wide, nothing, number}, declared.asking.Side.TheVariants.{Device, Guest}};
 
 use crate::asking::{Side, byte_at, part_for};
@@ -8,8 +9,8 @@ use crate::handle::Handle;
 use crate::numbers::{number_of_done, put_result};
 use std::alloc::Global;
 
-/// Reads 1 to 8 bytes of a guest's function as its device, all of one region or of configuration space, the lowest
-/// first. Nothing changes.
+/// Reads 1 to 8 bytes of one part of a guest's function, as its device does, as a little-endian
+/// number. Nothing changes.
 #[unsafe(no_mangle)]
 pub extern "C" fn pciguest_raw_device_read_wide(
     alloc: Global,
@@ -32,8 +33,8 @@ pub extern "C" fn pciguest_raw_device_read_wide(
     put_result(answer, value)
 }
 
-/// Writes the low 1 to 8 bytes of a value so, whatever a guest may change of them. Where one of them can't be read,
-/// none is written.
+/// Writes the low 1 to 8 bytes of a value to one part of a guest's function, as its device does,
+/// regardless of the write masks. If one byte can't be read, no byte is written.
 #[unsafe(no_mangle)]
 pub extern "C" fn pciguest_raw_device_write_wide(
     alloc: Global,
@@ -55,8 +56,8 @@ pub extern "C" fn pciguest_raw_device_write_wide(
     }))
 }
 
-/// Reads 1 to 8 bytes of a region as the guest, the lowest first: by slot, base address register and offset, at whatever
-/// address the region stands. Nothing changes.
+/// Reads 1 to 8 bytes of a region as the guest does, as a little-endian number. The region is
+/// addressed by slot, BAR and offset, wherever its base address is. Nothing changes.
 #[unsafe(no_mangle)]
 pub extern "C" fn pciguest_raw_region_read(
     alloc: Global,
@@ -79,8 +80,8 @@ pub extern "C" fn pciguest_raw_region_read(
     put_result(answer, value)
 }
 
-/// Writes the low 1 to 8 bytes of a value so, what a guest may change of them. Where one of them is refused, none is
-/// written.
+/// Writes the low 1 to 8 bytes of a value to a region as the guest does, within the write masks.
+/// The region is addressed by slot, BAR and offset. If one byte is refused, no byte is written.
 #[unsafe(no_mangle)]
 pub extern "C" fn pciguest_raw_region_write(
     alloc: Global,
