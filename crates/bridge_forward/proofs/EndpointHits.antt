@@ -1,7 +1,7 @@
 -- What an endpoint decodes is told by its Command and its base address registers.
 use Rattle.std.proofs.{Common.{◌≡◌, ℕ, zero, suc, ◌+◌, ◌*◌, ◌/◌, ◌^◌, ◌<◌, ◌≤◌, inl, inr, List, [], ◌∷◌, ◌++◌, map, refl, ap, sym, ◌∙◌, arith, rules}, Math.Nat.mod-eq_of_lt}
 use Rattle.lists.specs.Elements.{Each}
-use Rattle.model_registers.{specs.{Registers.{config, File, number, all_bytes}, Declarations.{Region, Kind, io_kind, mem32, mem64, registers_of, IsLawfulRegion, Endpoint}, EndpointTable.{BaseAddress, base_file, command_cells, opened, HasLawfulBases}, Decoding.{Space, base, base_address, first_hit}, OwnCopies.bare}, proofs.{Hits.{hits_by_bases, bases_of_registers}, RegisterFiles.field_reads, Parts.read_apart}}
+use Rattle.model_registers.{specs.{Registers.{config, File, number, all_bytes}, Declarations.{Region, Kind, io_kind, mem32, mem64, registers_of, IsLawfulRegion, Endpoint}, EndpointTable.{BaseAddress, base_file, command_cells, opened, HasLawfulBases, command_mask}, Decoding.{Space, base, base_address, first_hit}, OwnCopies.bare}, proofs.{Hits.{hits_by_bases, bases_of_registers}, RegisterFiles.field_reads, Parts.read_apart}}
 use Rattle.bridge_forward.{specs.EndpointParts.{region_parts, AreParts}, proofs.EndpointAccess.{lawful_bars, read_base, read_config}}
 
 standing_bare : (file : File) (rs : List Region) → map (base_address file) (map bare rs) ≡ map (base_address file) rs
@@ -18,7 +18,7 @@ module _ (d : Endpoint) (cells : File) (bars : List BaseAddress) (g : ℕ → Fi
   same_read : (off w : ℕ) → 0x10 ≤ off → off + w ≤ 0x28 → number own (config off) w ≡ number whole (config off) w
   same_read off w low high =
       let long = length-bytes w in
-      read_apart (all_bytes w) off 2 4 command 0x0547 0 (base_file bars) (inr (omega arith))
+      read_apart (all_bytes w) off 2 4 command command_mask 0 (base_file bars) (inr (omega arith))
       ∙ sym (read_base d cells bars g parts off (all_bytes w) low (omega (arith, long)))
     where
       length-bytes : (w : ℕ) → Rattle.std.proofs.Common.length (all_bytes w) ≡ w
@@ -43,7 +43,7 @@ module _ (d : Endpoint) (cells : File) (bars : List BaseAddress) (g : ℕ → Fi
 
   module _ (is : command ≡ number cells (config 4) 2) (small : command < 2 ^ 16) where
     word_same : number own (config 4) 2 ≡ number whole (config 4) 2
-    word_same = field_reads 2 4 command 0x0547 0 (base_file bars) ∙ mod-eq_of_lt small ∙ is ∙ sym (read_config d cells bars g parts 4 (all_bytes 2) (inl (omega arith)))
+    word_same = field_reads 2 4 command command_mask 0 (base_file bars) ∙ mod-eq_of_lt small ∙ is ∙ sym (read_config d cells bars g parts 4 (all_bytes 2) (inl (omega arith)))
 
     -- Command as its register has it
     pub command_now : command ≡ number whole (config 4) 2

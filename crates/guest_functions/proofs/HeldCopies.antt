@@ -1,7 +1,7 @@
 -- What a guest's own copies hold: bytes, of which none rises. A file goes on holding them.
 use Rattle.std.{proofs.{Common.{◌≡◌, ℕ, zero, suc, ◌+◌, ◌/◌, ◌<◌, Bool, cond, List, [], ◌∷◌, refl, sym, ap, subst, ◌∙◌, arith}, Math.Nat.pow-suc}, specs.{Prelude.{bit_and, bit_or}, Int.Bits.{or_zero_r, and_zero_r}}}
 use Rattle.lists.{specs.Elements.Each, proofs.EachLemmas.each_append}
-use Rattle.model_registers.{proofs.{BareRegions.bare_lawful, Files.{write_none, config_has_no_block}, RegisterFiles.change_at_place, Owned.{none_else, own_writes, raised_none}}, specs.{Cell.{Cell, raised}, Registers.{Place, config, block, after, PlacedCell, File, cell_at, write, raise, field}, FileLaws.{IsConfig, IsConfigFile}, Declarations.HasLawfulRegions, EndpointTable.{BaseAddress, base_file, command_cells}, OwnCopies.{OwnCopies, own_file, handed_on}}}
+use Rattle.model_registers.{proofs.{BareRegions.bare_lawful, Files.{write_none, config_has_no_block}, RegisterFiles.change_at_place, Owned.{none_else, own_writes, raised_none}}, specs.{Cell.{Cell, raised}, Registers.{Place, config, block, after, PlacedCell, File, cell_at, write, raise, field}, FileLaws.{IsConfig, IsConfigFile}, Declarations.HasLawfulRegions, EndpointTable.{BaseAddress, base_file, command_cells, command_mask}, OwnCopies.{OwnCopies, own_file, handed_on}}}
 use Rattle.guest_functions.{specs.CopyLaws.{CopiedRaise, HiddenRaise, CopiesStay, RaisedHeld, WrittenHeld, BlockWrittenHeld, LawfulCopies, SumOfBytes, EnabledBytesFit}, proofs.CopiedFiles.{own_change, other_change, hidden_change}}
 
 -- ---- what the copies are
@@ -20,7 +20,7 @@ low_bases [] = tt
 low_bases (b ∷ bs) = grind (arith, low_bases bs, each_append, low_field)
 
 low_own : (own : OwnCopies) → Each IsLowByte (own_file own)
-low_own own = each_append IsLowByte (command_cells own.command) (base_file own.bases) (low_field 2 4 own.command 0x0547) (low_bases own.bases)
+low_own own = each_append IsLowByte (command_cells own.command) (base_file own.bases) (low_field 2 4 own.command command_mask) (low_bases own.bases)
 
 record IsLowCell (c : Cell) : Type 0 where
   byte : c.value < 256
@@ -79,7 +79,7 @@ bases_config [] = tt
 bases_config (b ∷ bs) = grind (arith, bases_config bs, each_append, fields_config)
 
 own_config : (own : OwnCopies) → IsConfigFile (own_file own)
-own_config own = each_append (λ (e : PlacedCell). IsConfig e.place) (command_cells own.command) (base_file own.bases) (fields_config 2 4 own.command 0x0547) (bases_config own.bases)
+own_config own = each_append (λ (e : PlacedCell). IsConfig e.place) (command_cells own.command) (base_file own.bases) (fields_config 2 4 own.command command_mask) (bases_config own.bases)
 
 -- a write in a region leaves them
 pub block_written_held : BlockWrittenHeld

@@ -1,7 +1,7 @@
 //! A guest's own copies of Command, Header Type and the base address registers.
 ghost use Rattle.std.specs.Prelude.{◌≡◌, ◌≤◌, ◌<◌, ◌+◌, ◌%◌, false, if◌then◌else◌, map, bit_and};
 ghost use Rattle.lists.specs.Elements.{Each};
-ghost use Rattle.model_registers.specs.{Registers.{Place, config, File, cell_at, read, write}, ByteEnables.{lanes, enabled_bits}, RegisterLaws.merged, Declarations.{Endpoint, HasLawfulRegions}, EndpointTable.{opened, closed, endpoint_reset}, Decoding.{Function, lone_claim}, OwnCopies.{is_own, own_file, HoldsOwn, handed_on, bare}};
+ghost use Rattle.model_registers.specs.{Registers.{Place, config, File, cell_at, read, write}, ByteEnables.{lanes, enabled_bits}, RegisterLaws.merged, Declarations.{Endpoint, HasLawfulRegions}, EndpointTable.{opened, closed, endpoint_reset, command_mask}, Decoding.{Function, lone_claim}, OwnCopies.{is_own, own_file, HoldsOwn, handed_on, bare}};
 ghost use Rattle.bars.specs.{Kinds.named_space, Hits.named_hit, Resets.{at_reset, with_no_base}};
 
 use crate::word::Word;
@@ -32,7 +32,7 @@ impl Model for VirtualFunction {
 /// Returns Command after a write of the enabled bytes of its word (PCI Local Bus Specification 3.0,
 /// section 6.2.2).
 fn command_written(command: u16, enables: u8, value: u32) -> u16
-    ensures { result ≡ merged 2 command value (bit_and 0x0547 (enabled_bits (lanes enables))) }
+    ensures { result ≡ merged 2 command value (bit_and command_mask (enabled_bits (lanes enables))) }
 {
     let writable = u32::from(Command::of_endpoint().0);
     let mask = writable & enabled_bits(enables);

@@ -1,5 +1,6 @@
 //! The Command and Status registers as sets of flags (PCI Local Bus 3.0, chapters 6.2.2 and 6.2.3).
 ghost use Rattle.std.specs.Prelude.{◌≡◌, ⊤, [], ◌∷◌, codes};
+ghost use Rattle.model_registers.specs.EndpointTable.{command_mask};
 
 use bitflags::{Flag, Flags, bitflag_items};
 
@@ -45,7 +46,7 @@ impl Flags for Command {
 impl Command {
     /// Returns the bits that are writable in an endpoint: all named bits.
     pub fn of_endpoint() -> Command
-        ensures { result.0 ≡ 0x0547 }
+        ensures { result.0 ≡ command_mask }
     {
         Command(Command::of_bridge().0 | Command::INTERRUPT_DISABLE.0)
     }

@@ -1,7 +1,7 @@
 -- The steps by which a function is loaded, as segments of its file.
 use Rattle.std.{proofs.{Common.{◌≡◌, ℕ, zero, suc, ◌≤◌, List, [], ◌∷◌, ◌++◌, length, refl, sym, ap, ◌∙◌, subst, arith}, lemmas.List.{append_assoc, drop-drop}}, specs.Prelude.{take, drop, flat_map, true, false}}
 use Rattle.lists.{specs.Elements.{Each, EachPair}, proofs.Tests.right_true}
-use Rattle.model_registers.specs.{Cell.Cell, Registers.{Place, config, block, after, File, field, cells_from}, Declarations.{Region, ConfigBlock, Endpoint, IsLawfulRegion}, EndpointTable.{base_register, base_cells, region_cells, block_cells, header_type, header_cells, endpoint_reset}, CopiedFiles.places_of}
+use Rattle.model_registers.specs.{Cell.Cell, Registers.{Place, config, block, after, File, field, cells_from}, Declarations.{Region, ConfigBlock, Endpoint, IsLawfulRegion}, EndpointTable.{base_register, base_cells, region_cells, block_cells, header_type, header_cells, endpoint_reset, command_mask}, CopiedFiles.places_of}
 use Rattle.model_guests.proofs.DistinctPlaces.{Apart, distinct_places}
 use Rattle.model_images.{specs.{Images.{with_values, can_hold, fit_cells}, StepLaws.{put_run, header_steps, blocks_steps, blocks_size, base_size, region_steps, regions_steps, steps, LoadsBySteps}}, proofs.{Settling.{keeps, writes, puts, from, AreNoDeviceBytes, kept_field, written_field, put_cells, no_device_bytes}, Runs.{Segment, IsSegment, cells_of, segment_steps, steps_settle}}}
 
@@ -19,7 +19,7 @@ status d = record { way = puts; first = config 0x06; count = 2; file = field (co
 
 -- 00h to 07h
 abbrev first_segments : Endpoint → List Segment → List Segment
-first_segments d more = kept 0x00 2 d.vendor ∷ kept 0x02 2 d.device ∷ settable 0x04 2 0x0547 ∷ status d ∷ more
+first_segments d more = kept 0x00 2 d.vendor ∷ kept 0x02 2 d.device ∷ settable 0x04 2 command_mask ∷ status d ∷ more
 
 -- 08h to 0Eh
 abbrev class_segments : Endpoint → List Segment → List Segment
@@ -107,7 +107,7 @@ status_is d = record { places = refl; settles = put_cells (status d).file }
 
 first_settle : (d : Endpoint) (more : List Segment) → Each IsSegment more → Each IsSegment (first_segments d more)
 first_settle d more are =
-    (kept_is 0x00 2 d.vendor (refl, (refl, tt)), (kept_is 0x02 2 d.device (refl, (refl, tt)), (settable_is 0x04 2 0x0547 (refl, (refl, tt)), (status_is d, are))))
+    (kept_is 0x00 2 d.vendor (refl, (refl, tt)), (kept_is 0x02 2 d.device (refl, (refl, tt)), (settable_is 0x04 2 command_mask (refl, (refl, tt)), (status_is d, are))))
 
 class_settle : (d : Endpoint) (more : List Segment) → Each IsSegment more → Each IsSegment (class_segments d more)
 class_settle d more are =

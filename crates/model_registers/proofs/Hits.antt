@@ -1,7 +1,7 @@
 -- Which addresses a function decodes: by its Command and its bases alone.
 use Rattle.std.proofs.{Common.{◌≡◌, ℕ, ◌+◌, ◌-◌, ◌*◌, ◌/◌, ◌%◌, ◌^◌, ◌<◌, ◌≤◌, true, false, List, [], ◌∷◌, ◌++◌, map, refl, sym, ap, ap₂, ◌∙◌, arith, append_assoc, lit<, lit≤}, lemmas.Nat.{shr_split, shr_high}, Math.Nat.mod-eq_of_lt}
 use Rattle.lists.specs.Elements.{Each, EachPair, first_of_two, first_some}
-use Rattle.model_registers.{specs.{Registers.{config, File, number, all_bytes}, Declarations.{Kind, io_kind, mem32, mem64, Region, least_size, registers_of}, EndpointTable.{base_register, type_bits, base_width, BaseAddress, register_cells, base_file, command_cells, opened, IsLawfulBase, HasLawfulBases}, Decoding.{Space, base, base_address, hit_at, hit_of, first_hit}, BaseLaws.shown}, proofs.{RegisterFiles.field_reads, Parts.{IsBelow, read_above, field_below, below_append}, Bases.{base_room, base_multiple, size_limits, whole_bound}}}
+use Rattle.model_registers.{specs.{Registers.{config, File, number, all_bytes}, Declarations.{Kind, io_kind, mem32, mem64, Region, least_size, registers_of}, EndpointTable.{base_register, type_bits, base_width, BaseAddress, register_cells, base_file, command_cells, opened, IsLawfulBase, HasLawfulBases, command_mask}, Decoding.{Space, base, base_address, hit_at, hit_of, first_hit}, BaseLaws.shown}, proofs.{RegisterFiles.field_reads, Parts.{IsBelow, read_above, field_below, below_append}, Bases.{base_room, base_multiple, size_limits, whole_bound}}}
 
 pub hits_by_bases : (file : File) (rs : List Region) (space : Space) (a : ℕ) → first_hit file rs space a ≡ first_some (hit_at (number file (config 4) 2) space a) (map (base_address file) rs)
 hits_by_bases file [] space a = refl
@@ -55,7 +55,7 @@ every (r ∷ rs) = (omega arith, every rs)
 pub bases_of_registers : (bs : List BaseAddress) → HasLawfulBases bs → (command : ℕ) → map (base_address (command_cells command ++ base_file bs)) (map opened bs) ≡ bs
 bases_of_registers bs lawful command =
     bases_stand bs lawful.each lawful.regions.in_order
-    (command_cells command ++ base_file bs) (command_cells command) 6 refl (field_below 2 4 command 0x0547 0 6 (omega arith)) (every (map opened bs))
+    (command_cells command ++ base_file bs) (command_cells command) 6 refl (field_below 2 4 command command_mask 0 6 (omega arith)) (every (map opened bs))
 
 pub hits_of_registers : (bs : List BaseAddress) → HasLawfulBases bs → (command : ℕ) → command < 2 ^ 16 → (space : Space) (a : ℕ)
     → first_hit (command_cells command ++ base_file bs) (map opened bs) space a ≡ first_some (hit_at command space a) bs

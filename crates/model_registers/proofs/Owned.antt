@@ -1,7 +1,7 @@
 -- A function's file, parted into a guest's own copies and all other cells.
 use Rattle.std.{proofs.{Common.{◌≡◌, ℕ, zero, suc, ◌+◌, ◌*◌, ◌/◌, ◌%◌, ◌<◌, ◌≤◌, ◌⊎◌, Bool, true, false, ◌&&◌, ◌||◌, cond, List, [], ◌∷◌, ◌++◌, length, map, refl, sym, ap, ◌∙◌, subst, arith, eqb, leb, ltb, append_assoc, ◌-◌, ◌^◌}, lemmas.Bool.{cases_lt, cases_Bool, or_parts, and_cases, eqb-false, leb-false, ltb-false, or_right, and_from, le-leb, lt-ltb, or_cases, and_parts, eqb-true, leb-true, ltb-true, ne_eqb, and_right}}, specs.{Prelude.{bit_and, bit_or, flat_map}, Int.Bits.{or_zero_r, and_zero_r}}}
 use Rattle.lists.specs.Elements.{Each}
-use Rattle.model_registers.{specs.{Cell.{Cell, no_cell, written, raised}, Registers.{Place, config, block, place_eq, after, File, cell_at, read, write, all_bytes, field, cells_from}, Declarations.{ConfigBlock, Kind, Region, registers_of, IsLawfulRegion}, EndpointTable.{BaseAddress, base_width, type_bits, base_file, command_cells, opened, closed, region_cells, block_cells}, Decoding.{base, base_address}, OwnCopies.{is_own, OwnCopies, own_file, HoldsOwn, handed_on, IsLawfulOwn, OwnReads, OwnWrites, OwnStay, bare, OwnHits, ResetHoldsOwn}, CopiedFiles.with_copies}, proofs.{RegisterFiles.{place_same, change_at_place, above}, Hits.hits_by_bases, Parts.{IsOutside, cell_outside}}}
+use Rattle.model_registers.{specs.{Cell.{Cell, no_cell, written, raised}, Registers.{Place, config, block, place_eq, after, File, cell_at, read, write, all_bytes, field, cells_from}, Declarations.{ConfigBlock, Kind, Region, registers_of, IsLawfulRegion}, EndpointTable.{BaseAddress, base_width, type_bits, base_file, command_cells, opened, closed, region_cells, block_cells, command_mask}, Decoding.{base, base_address}, OwnCopies.{is_own, OwnCopies, own_file, HoldsOwn, handed_on, IsLawfulOwn, OwnReads, OwnWrites, OwnStay, bare, OwnHits, ResetHoldsOwn}, CopiedFiles.with_copies}, proofs.{RegisterFiles.{place_same, change_at_place, above}, Hits.hits_by_bases, Parts.{IsOutside, cell_outside}}}
 
 -- ---- the guest's copies put in
 
@@ -79,7 +79,7 @@ still_bases [] p = refl
 still_bases (b ∷ bs) p = still_field (4 * registers_of b.kind) (0x10 + 4 * b.index) (b.base + type_bits b.kind) (2 ^ base_width b.kind - b.size) (base_file bs) p (still_bases bs p)
 
 still_own : (own : OwnCopies) (p : Place) → IsStill (cell_at (own_file own) p)
-still_own own p = still_field 2 4 own.command 0x0547 (base_file own.bases) p (still_bases own.bases p)
+still_own own p = still_field 2 4 own.command command_mask (base_file own.bases) p (still_bases own.bases p)
 
 pub raised_none : (m : ℕ) → raised m no_cell ≡ no_cell
 raised_none m = ap (λ n. record { value = n; writable = 0; clearable = 0 }) (ap (bit_or 0) (and_zero_r m) ∙ or_zero_r 0)

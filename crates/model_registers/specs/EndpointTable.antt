@@ -69,9 +69,13 @@ block_cells b = cells_from (config b.offset) b.cells
 abbrev pub header_type : ℕ → Bool → ℕ
 header_type layout multifunction = layout + (if multifunction then 0x80 else 0)
 
--- the Command register: I/O and memory space, bus master, parity and system error response, interrupt disable
+-- the bits of Command that a write sets: I/O and memory space, bus master, parity and system error response, interrupt disable
+abbrev pub command_mask : ℕ
+command_mask = 0x0547
+
+-- the Command register
 abbrev pub command_cells : ℕ → File
-command_cells command = field (config 0x04) 2 command 0x0547 0
+command_cells command = field (config 0x04) 2 command command_mask 0
 
 -- the header with this Command, without base address registers
 abbrev pub header_cells : Endpoint → Bool → ℕ → File
