@@ -1,6 +1,6 @@
 """What is wrong in a register state, by a second hand: registers, cycles and the audit of docs/PROFILE.md."""
 from board import Endpoint, path_text
-from guests import endpoint_cells, number_at, put, write_at
+from guests import bits, endpoint_cells, number_at, put, write_at
 
 UPPER = {"16": 0, "32": 1, "none": 0}
 WIDE = {"32": 0, "64": 1, "none": 0}
@@ -10,8 +10,8 @@ def bridge_cells(bridge):
     """The configuration cells of a bridge at reset."""
     cells = {}
     put(cells, 0x00, 4, bridge.values["vendor"] | bridge.values["device"] << 16)
-    put(cells, 0x04, 2, 0, 0x0147)
-    put(cells, 0x06, 2, 0, 0, 0xF900)
+    put(cells, 0x04, 2, 0, bits("writable", 1, 0x04))
+    put(cells, 0x06, 2, 0, 0, bits("clears", 1, 0x06))
     put(cells, 0x08, 4, bridge.values.get("revision", 0) | 0x06040000)
     put(cells, 0x0C, 2, 0, 0xFFFF)
     put(cells, 0x18, 4, 0, 0xFFFFFFFF)

@@ -1,8 +1,18 @@
 """Guests as lone register files, by a second hand."""
+import pathlib
+import tomllib
+
 from board import Bar
+
+REGISTERS = tomllib.loads(pathlib.Path(__file__).parents[2].joinpath("docs/own.toml").read_text())["register"]
 
 ONES = {1: 0xFF, 2: 0xFFFF, 4: 0xFFFFFFFF}
 OWN_COPIES = set(range(0x04, 0x06)) | {0x0E} | set(range(0x10, 0x28))
+
+
+def bits(key, header, offset):
+    """The bits of a register that a write sets (writable), or that writing a one clears (clears), by docs/own.toml."""
+    return sum(row.get(key, 0) for row in REGISTERS if (row["header"], row["offset"]) == (header, offset))
 
 
 class Refusal(Exception):
@@ -43,8 +53,8 @@ def endpoint_cells(endpoint):
     values, cells = endpoint.values, {}
     put(cells, 0x00, 2, values["vendor"])
     put(cells, 0x02, 2, values["device"])
-    put(cells, 0x04, 2, 0, 0x0547)
-    put(cells, 0x06, 2, values.get("status", 0), 0, 0xF900)
+    put(cells, 0x04, 2, 0, bits("writable", 0, 0x04))
+    put(cells, 0x06, 2, values.get("status", 0), 0, bits("clears", 0, 0x06))
     put(cells, 0x08, 1, values.get("revision", 0))
     put(cells, 0x09, 3, values["class"])
     put(cells, 0x0C, 2, 0, 0xFFFF)

@@ -126,7 +126,7 @@ class Fuzz:
         for line in filter(MOVE.match, lines):
             there.answers(line)
         for name in there.world.guests:
-            for line in (b" cw 0 4 2 0x547", b" cw 0 0x10 4 0xfffffff0", b" raise 0 cfg 7 0xff", b" iw 0xcf8 4 0xffffffff"):
+            for line in (b" cw 0 4 2 0xffff", b" cw 0 0x10 4 0xfffffff0", b" raise 0 cfg 7 0xff", b" iw 0xcf8 4 0xffffffff"):
                 there.answers(name + line)
         return there
 

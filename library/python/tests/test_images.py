@@ -31,7 +31,7 @@ def replies(machine, lines):
 def arranged(board, lines):
     """Another board, after the moves of these lines and after events of its own."""
     machine = Machine(elsewhere(board))
-    own = ["cw 0 4 2 0x547", "cw 0 0x10 4 0xfffffff0", "raise 0 cfg 7 0xff", "iw 0xcf8 4 0xffffffff"]
+    own = ["cw 0 4 2 0xffff", "cw 0 0x10 4 0xfffffff0", "raise 0 cfg 7 0xff", "iw 0xcf8 4 0xffffffff"]
     replies(machine, [line for line in lines if line.startswith("host move ")])
     replies(machine, [f"{guest} {line}" for guest in machine.guests() for line in own])
     return machine

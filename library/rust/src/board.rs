@@ -127,8 +127,8 @@ impl Board {
     ///
     /// let mut board = Board::new(BOARD)?;
     /// let command = HostAt::Config { bus: 0, device: 1, function: 0, offset: 4 };
-    /// board.write(command, 2, 0xffff)?;
-    /// assert_eq!(board.read(command, 2)?, 0x0547); // what can be written of Command
+    /// board.write(command, 2, 0x0003)?; // decodes I/O and memory
+    /// assert_eq!(board.read(command, 2)?, 0x0003);
     /// # Ok::<(), pciguest::Error>(())
     /// ```
     pub fn write(&mut self, at: HostAt, width: u32, value: u32) -> Result<(), Error> {

@@ -129,7 +129,7 @@ fn arranged(board: &str, lines: &[&str]) -> Result<Machine, Error> {
     }
     for guest in machine.guests()? {
         for line in [
-            "cw 0 4 2 0x547",
+            "cw 0 4 2 0xffff",
             "cw 0 0x10 4 0xfffffff0",
             "raise 0 cfg 7 0xff",
             "iw 0xcf8 4 0xffffffff",
