@@ -1,6 +1,7 @@
 """What is wrong in a register state, by a second hand: registers, cycles and the audit of docs/PROFILE.md."""
 from board import Endpoint, path_text
-from guests import bits, endpoint_cells, number_at, put, write_at
+from guests import endpoint_cells, number_at, put, write_at
+from keys import bits
 
 UPPER = {"16": 0, "32": 1, "none": 0}
 WIDE = {"32": 0, "64": 1, "none": 0}

@@ -1,5 +1,8 @@
 """Random boards, by a generator of random numbers, and their board files."""
 
+from keys import RANGES
+
+IDENTITY = {"vendor", "device", "revision", "class"}
 SIZES = {"io": (2, 8), "mem32": (4, 31), "mem32p": (4, 31), "mem64": (4, 40), "mem64p": (4, 40)}
 MASKS = ["00", "ff", "0f", "f0", "55aa", "01", "80", "ff00", "7e"]
 
@@ -94,9 +97,8 @@ def identity(rng):
 def random_endpoint(rng, path):
     values = identity(rng)
     values["class"] = rng.choice([0, 0xFF0000, 0xFFFFFF, rng.randrange(1 << 24)])
-    for key, greatest in [("subvendor", 0xFFFF), ("subsystem", 0xFFFF), ("pin", 4), ("min_gnt", 0xFF),
-                          ("max_lat", 0xFF)]:
-        if rng.random() < 0.4:
+    for key, greatest in RANGES.items():
+        if key not in IDENTITY and rng.random() < 0.4:
             values[key] = rng.randint(0, greatest)
     if rng.random() < 0.5:
         values["status"] = rng.randrange(0x10000) & 0xF900

@@ -1,18 +1,9 @@
 """Guests as lone register files, by a second hand."""
-import pathlib
-import tomllib
-
 from board import Bar
-
-REGISTERS = tomllib.loads(pathlib.Path(__file__).parents[2].joinpath("docs/own.toml").read_text())["register"]
+from keys import NUMBERS, PLACES, bits
 
 ONES = {1: 0xFF, 2: 0xFFFF, 4: 0xFFFFFFFF}
 OWN_COPIES = set(range(0x04, 0x06)) | {0x0E} | set(range(0x10, 0x28))
-
-
-def bits(key, header, offset):
-    """The bits of a register that a write sets (writable), or that writing a one clears (clears), by docs/own.toml."""
-    return sum(row.get(key, 0) for row in REGISTERS if (row["header"], row["offset"]) == (header, offset))
 
 
 class Refusal(Exception):
@@ -51,24 +42,17 @@ def block_cells(cells, at, count, patterns):
 def endpoint_cells(endpoint):
     """The configuration cells of an endpoint as a guest sees it."""
     values, cells = endpoint.values, {}
-    put(cells, 0x00, 2, values["vendor"])
-    put(cells, 0x02, 2, values["device"])
+    for key in NUMBERS:
+        put(cells, *PLACES[key], values.get(key, 0))
     put(cells, 0x04, 2, 0, bits("writable", 0, 0x04))
     put(cells, 0x06, 2, values.get("status", 0), 0, bits("clears", 0, 0x06))
-    put(cells, 0x08, 1, values.get("revision", 0))
-    put(cells, 0x09, 3, values["class"])
     put(cells, 0x0C, 2, 0, 0xFFFF)
     for bar in endpoint.bars:
         wide = bar.kind.startswith("mem64")
         kind = 1 if bar.kind == "io" else (4 if wide else 0) | (8 if bar.kind.endswith("p") else 0)
         width = 8 if wide else 4
         put(cells, 0x10 + 4 * bar.index, width, kind, (1 << 8 * width) - bar.size)
-    put(cells, 0x2C, 2, values.get("subvendor", 0))
-    put(cells, 0x2E, 2, values.get("subsystem", 0))
     put(cells, 0x3C, 1, 0, 0xFF)
-    put(cells, 0x3D, 1, values.get("pin", 0))
-    put(cells, 0x3E, 1, values.get("min_gnt", 0))
-    put(cells, 0x3F, 1, values.get("max_lat", 0))
     for off, count, patterns in endpoint.config:
         block_cells(cells, off, count, patterns)
     return cells

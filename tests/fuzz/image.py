@@ -2,14 +2,13 @@
 own guests."""
 from functools import lru_cache
 
+from keys import WIDTHS
 from lone import KINDS
 
 MAGIC, VERSION, LATCH = 0x47494350, 1, 0x80FFFFFC
 IMAGE, OTHERS, OTHER_VERSION = 905, 906, 908
 HEADER = [*range(0x00, 0x0F), *range(0x2C, 0x30), *range(0x3C, 0x40)]
 STATUS = (0x06, 0x07)
-IDENTITY = [("vendor", 2), ("device", 2), ("revision", 1), ("class", 3), ("subvendor", 2), ("subsystem", 2), ("pin", 1),
-            ("min_gnt", 1), ("max_lat", 1), ("status", 2)]
 
 
 def le(value, count):
@@ -25,7 +24,7 @@ def masks(cells):
 def declaration(function):
     """The bytes of what a function declares."""
     endpoint = function.endpoint
-    told = b"".join(le(endpoint.values.get(key, 0), count) for key, count in IDENTITY)
+    told = b"".join(le(endpoint.values.get(key, 0), count) for key, count in WIDTHS.items())
     told += le(len(endpoint.bars), 1)
     for bar in sorted(endpoint.bars, key=lambda bar: bar.index):
         told += le(bar.index, 1) + le(KINDS.index(bar.kind), 1) + le(bar.size, 8) + le(bar.block, 2)

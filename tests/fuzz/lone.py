@@ -1,7 +1,7 @@
 """A board's guests as the program test_lone_guest takes them: their endpoints in plain numbers."""
+from keys import NUMBERS
 
 KINDS = ["io", "mem32", "mem32p", "mem64", "mem64p"]
-NUMBERS = ["vendor", "device", "revision", "class", "subvendor", "subsystem", "pin", "min_gnt", "max_lat", "status"]
 
 
 def runs(bar):

@@ -4,23 +4,11 @@ import re
 import tomllib
 from dataclasses import dataclass
 
+from keys import CHOICES, KEYS, NEEDED, OPTIONAL, RANGES
+
 WORDS = {102: "key", 103: "unknown key", 104: "number", 105: "place", 106: "register", 107: "size", 108: "too many",
          109: "guest name", 110: "slot", 111: "aperture", 112: "cell masks"}
-NEEDED = {"": ["host"], "host": ["io", "mem"], "endpoint": ["at", "vendor", "device", "class"],
-          "bar": ["index", "kind", "size"], "config": ["off", "block"],
-          "bridge": ["at", "vendor", "device", "io", "pref"], "guest": ["name", "slots"]}
-OPTIONAL = {"": ["endpoint", "bridge", "guest"], "host": ["pref"],
-            "endpoint": ["revision", "subvendor", "subsystem", "pin", "min_gnt", "max_lat", "status", "bar", "config"],
-            "bar": ["block", "reset", "rw", "w1c"], "config": ["reset", "rw", "w1c"], "bridge": ["revision"], "guest": []}
-KEYS = {"": "host endpoint bridge guest", "host": "io mem pref",
-        "endpoint": "at vendor device revision class subvendor subsystem pin min_gnt max_lat status bar config",
-        "bar": "index kind size block reset rw w1c", "config": "off block reset rw w1c",
-        "bridge": "at vendor device revision io pref", "guest": "name slots"}
-CHOICES = {("bar", "kind"): {"io", "mem32", "mem32p", "mem64", "mem64p"}, ("bridge", "io"): {"none", "16", "32"},
-           ("bridge", "pref"): {"none", "32", "64"}}
 TEXTS = {"at", "name", "reset", "rw", "w1c"}
-RANGES = {"vendor": 0xFFFE, "device": 0xFFFF, "revision": 0xFF, "class": 0xFFFFFF, "subvendor": 0xFFFF,
-          "subsystem": 0xFFFF, "pin": 4, "min_gnt": 0xFF, "max_lat": 0xFF}
 SIZES = {"io": (4, 256), "mem32": (16, 1 << 31), "mem32p": (16, 1 << 31), "mem64": (16, 1 << 40),
          "mem64p": (16, 1 << 40)}
 
@@ -139,7 +127,7 @@ def distance(word, other):
 
 def meant(kind, key):
     """The key that may be meant, or all."""
-    keys = KEYS[kind].split()
+    keys = KEYS[kind]
     for letters in [1, 2]:
         for one in keys:
             if 2 * letters <= len(one) and distance(key, one) <= letters:

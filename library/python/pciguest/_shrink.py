@@ -10,8 +10,8 @@ from typing import Callable, Iterator, List, Set
 
 from ._board_file import Document, Function, Path, functions, path_of, path_text
 
-#: keys without which a table may do
-OPTIONAL = ["config", "pin", "revision", "subvendor", "subsystem", "status", "min_gnt", "max_lat"]
+#: the keys of a function that it needs, or that get simpler values; any other key is removed
+KEPT = ["at", "vendor", "device", "class", "io", "pref", "bar"]
 OPTIONAL_OF_REGION = ["block", "reset", "rw", "w1c"]
 LEAST = {"io": 4}
 #: so many devices are left out in parts first
@@ -95,8 +95,8 @@ def with_simpler_tables(document: Document) -> Iterator[Document]:
 
 
 def simpler_tables(table: Document) -> Iterator[Document]:
-    for key in OPTIONAL:
-        if key in table:
+    for key in table:
+        if key not in KEPT:
             yield {each: value for each, value in table.items() if each != key}
     for key, value in PLAIN_VALUES.items():
         if table.get(key, value) != value:
