@@ -3,7 +3,7 @@
 --     decl_of      what was found of a declaration
 --     range_of, ended      the buses behind a bridge; the same with another last number
 use Rattle.std.specs.Prelude.{List, [], ℕ, Option, Some, None, map}
-use Rattle.model_registers.specs.{Declarations.{Bar, Region, Endpoint}, EndpointTable.opened}
+use Rattle.model_registers.specs.{Declarations.{Bar, Region, Endpoint, plain_endpoint}, EndpointTable.opened}
 use Rattle.model_board.specs.Board.{Decl, endpoint, bridge}
 use Rattle.model_set_up.specs.FunctionTable.{BusRange}
 use Rattle.bars.specs.Resets.{at_reset}
@@ -14,20 +14,7 @@ abbrev pub regions_of : List (Option Bar) → List Region
 regions_of bars = map opened (at_reset bars)
 
 abbrev pub with_identity : ℕ → ℕ → ℕ → List Region → Endpoint
-with_identity vendor device pin regions = record {
-  vendor = vendor;
-  device = device;
-  revision = 0;
-  class = 0;
-  subvendor = 0;
-  subsystem = 0;
-  pin = pin;
-  min_gnt = 0;
-  max_lat = 0;
-  status = 0;
-  regions = regions;
-  blocks = [];
-}
+with_identity vendor device pin regions = record (plain_endpoint vendor device 0) { pin = pin; regions = regions }
 
 abbrev pub decl_of : ℕ → ℕ → Found → Decl
 decl_of vendor device (FoundEndpoint pin bars) = endpoint (with_identity vendor device pin (regions_of bars))

@@ -44,23 +44,12 @@ impl Model for EndpointValues {
 }
 
 impl EndpointValues {
+    ghost use Rattle.model_registers.specs.Declarations.{plain_endpoint};
+
     /// Returns an endpoint with this identity and class code, without regions or device-specific
     /// registers. All other values are 0.
     pub fn plain(alloc: Global, vendor: u16, device: u16, class: u32) -> EndpointValues
-        ensures { result ≡ record {
-          vendor = vendor;
-          device = device;
-          revision = 0;
-          class = class;
-          subvendor = 0;
-          subsystem = 0;
-          pin = 0;
-          min_gnt = 0;
-          max_lat = 0;
-          status = 0;
-          regions = [];
-          blocks = [];
-        } }
+        ensures { result ≡ plain_endpoint vendor device class }
     {
         EndpointValues {
             vendor,

@@ -2,7 +2,7 @@
 --     main_board, main_apertures      two endpoints behind a bridge, and one beside it
 --     many_bridges      255 bridges
 use Rattle.std.specs.Prelude.{List, [], ◌∷◌, ℕ, zero, suc, ◌/◌, ◌%◌, true, false, replicate, ◌^◌, ◌++◌, Some}
-use Rattle.model_registers.specs.{Cell.Cell, Declarations.{Kind, io_kind, mem32, mem64, Region, Endpoint, no_io, io16, no_pref, pref64, Bridge}, Apertures.{Aperture, Apertures}}
+use Rattle.model_registers.specs.{Cell.Cell, Declarations.{Kind, io_kind, mem32, mem64, Region, Endpoint, plain_endpoint, no_io, io16, no_pref, pref64, Bridge}, Apertures.{Aperture, Apertures}}
 use Rattle.model_board.specs.{Paths.{Part, Path}, Board.{Decl, endpoint, bridge, Row, Board}}
 
 abbrev pub part : ℕ → ℕ → Part
@@ -25,20 +25,7 @@ abbrev pub constant_cell : ℕ → Cell
 constant_cell v = record { value = v; writable = 0; clearable = 0 }
 
 abbrev pub plain : ℕ → ℕ → ℕ → List Region → Endpoint
-plain id status pin regions = record {
-  vendor = 0x1234;
-  device = id;
-  revision = 0;
-  class = 0xff0000;
-  subvendor = 0;
-  subsystem = 0;
-  pin = pin;
-  min_gnt = 0;
-  max_lat = 0;
-  status = status;
-  regions = regions;
-  blocks = [];
-}
+plain id status pin regions = record (plain_endpoint 0x1234 id 0xff0000) { pin = pin; status = status; regions = regions }
 
 -- ---- the main board
 

@@ -4,7 +4,7 @@
 --     demo_world      one endpoint without regions, and one guest
 --     wide_world      an endpoint with a region of each kind and each field of the header declared, and one guest
 use Rattle.std.specs.Prelude.{List, [], ◌∷◌, ℕ, true, false, ◌^◌, ◌++◌, Some, None, codes}
-use Rattle.model_registers.specs.{Cell.{Cell, constant}, Declarations.{io_kind, mem32, mem64, Endpoint, Bridge}, Apertures.Apertures}
+use Rattle.model_registers.specs.{Cell.{Cell, constant}, Declarations.{io_kind, mem32, mem64, Endpoint, plain_endpoint, Bridge}, Apertures.Apertures}
 use Rattle.model_board.specs.{Paths.Path, Board.{endpoint, bridge, Board}, Examples.{part, function_at, aperture, plain, first_endpoint, third_endpoint, main_bridge, main_board, main_board_with, main_apertures}}
 use Rattle.model_guests.specs.World.{Guest, World}
 
@@ -54,11 +54,8 @@ writable_byte = record { value = 0; writable = 0xff; clearable = 0 }
 
 -- at 40h two registers of the device: one that is read and written in part, and one that the device raises
 abbrev pub wide_endpoint : Endpoint
-wide_endpoint = record {
-  vendor = 0x1af4;
-  device = 0x1041;
+wide_endpoint = record (plain_endpoint 0x1af4 0x1041 0x020080) {
   revision = 0x5a;
-  class = 0x020080;
   subvendor = 0x9abc;
   subsystem = 0xdef0;
   pin = 3;

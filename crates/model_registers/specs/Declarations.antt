@@ -2,7 +2,8 @@
 --     Kind, Bar      what a base address register opens, with its size
 --     Region      such a register's index, and the cells at the beginning of what it opens
 --     Endpoint, Bridge      the declared values of a function
-use Rattle.std.specs.Prelude.{List, ◌≡◌, ℕ, ◌+◌, Bool, ◌≤◌, length, ◌^◌}
+--     plain_endpoint      an endpoint with an identity and a class alone
+use Rattle.std.specs.Prelude.{List, [], ◌≡◌, ℕ, ◌+◌, Bool, ◌≤◌, length, ◌^◌}
 use Rattle.lists.specs.Elements.{Each, EachPair}
 use Rattle.model_registers.specs.Cell.{Cell}
 
@@ -73,6 +74,23 @@ pub record Endpoint : Type 0 where
   pub status : ℕ
   pub regions : List Region
   pub blocks : List ConfigBlock
+
+-- an endpoint of this identity and class: all other numbers are 0, and it has neither regions nor registers of its own
+abbrev pub plain_endpoint : ℕ → ℕ → ℕ → Endpoint
+plain_endpoint vendor device class = record {
+  vendor = vendor;
+  device = device;
+  revision = 0;
+  class = class;
+  subvendor = 0;
+  subsystem = 0;
+  pin = 0;
+  min_gnt = 0;
+  max_lat = 0;
+  status = 0;
+  regions = [];
+  blocks = [];
+}
 
 pub data IoDecode : Type 0 where
   no_io : IoDecode

@@ -6,26 +6,13 @@
 --     board_in      a table as a board of what was found
 --     PlacedAsFound      placement looks at nothing else of a board
 use Rattle.std.specs.Prelude.{List, [], ◌≡◌, ℕ, Option, Some, None, map}
-use Rattle.model_registers.specs.{Declarations.{Endpoint, no_io, no_pref, Bridge}, OwnCopies.bare, Apertures.Apertures}
+use Rattle.model_registers.specs.{Declarations.{Endpoint, plain_endpoint, no_io, no_pref, Bridge}, OwnCopies.bare, Apertures.Apertures}
 use Rattle.model_board.specs.{Paths.Path, Board.{Decl, endpoint, bridge, Row, Board, IsBoard}, BusNumbers.{secondary, subordinate, bus_of, Enumerates}, Lawful.HasLawfulDecls}
 use Rattle.model_set_up.specs.SetUpWrites.{planned, placement_rules}
 
 -- identity and pin
 abbrev pub met_endpoint : Endpoint → Endpoint
-met_endpoint d = record {
-  vendor = d.vendor;
-  device = d.device;
-  revision = 0;
-  class = 0;
-  subvendor = 0;
-  subsystem = 0;
-  pin = d.pin;
-  min_gnt = 0;
-  max_lat = 0;
-  status = 0;
-  regions = [];
-  blocks = [];
-}
+met_endpoint d = record (plain_endpoint d.vendor d.device 0) { pin = d.pin }
 
 abbrev pub met_bridge : Bridge → Bridge
 met_bridge d = record { vendor = d.vendor; device = d.device; revision = 0; io = no_io; pref = no_pref }
