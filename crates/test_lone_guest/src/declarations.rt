@@ -1,8 +1,8 @@
 //! A parser for files of guests. Each line is a keyword and its operands:
 //!
 //! - `guest NAME` starts a guest. Its endpoints follow, slot 0 first.
-//! - `endpoint VENDOR DEVICE REVISION CLASS SUBVENDOR SUBSYSTEM PIN MIN_GNT MAX_LAT STATUS` starts
-//!   an endpoint. Its regions and its device-specific configuration registers follow.
+//! - `endpoint VALUE..` starts an endpoint, with the values of the registers in
+//!   `function::DECLARED`. Its regions and its device-specific configuration registers follow.
 //! - `bar INDEX KIND SIZE` declares a region. KIND is 0 (I/O), 1 (32-bit memory), 2 (32-bit
 //!   prefetchable memory), 3 (64-bit memory) or 4 (64-bit prefetchable memory).
 //! - `cells COUNT VALUE WRITABLE CLEARED` appends COUNT identical registers to the last region.
@@ -34,42 +34,28 @@ fn byte(number: u64) -> u8 {
     u8::try_from(number).unwrap_or(0)
 }
 
-fn word(number: u64) -> u16 {
-    u16::try_from(number).unwrap_or(0)
+fn number(text: &str) -> u64 {
+    text.parse::<u64>().unwrap_or(0)
 }
 
-/// Returns an endpoint without regions.
-fn endpoint(alloc: Global, numbers: [u64; 10]) -> LoneEndpoint {
-    let [
-        vendor,
-        device,
-        revision,
-        class,
-        subvendor,
-        subsystem,
-        pin,
-        min_gnt,
-        max_lat,
-        status,
-    ] = numbers;
-    let class = u32::try_from(class).unwrap_or(0);
-    LoneEndpoint {
-        revision: byte(revision),
-        subvendor: word(subvendor),
-        subsystem: word(subsystem),
-        pin: byte(pin),
-        min_gnt: byte(min_gnt),
-        max_lat: byte(max_lat),
-        status: word(status),
-        ..LoneEndpoint::plain(alloc, word(vendor), word(device), class)
+/// Returns an endpoint with these values, without regions.
+fn endpoint(alloc: Global, values: &[&str]) -> Option<LoneEndpoint> {
+    let mut numbers = Vec::new(alloc);
+    for text in values {
+        numbers.push(number(text)).ok()?;
     }
+    Some(LoneEndpoint {
+        numbers,
+        bar: Vec::new(alloc),
+        config: Vec::new(alloc),
+    })
 }
 
 /// Parses the operands of a line. Missing ones are 0.
-fn numbers_of(words: &[&str]) -> [u64; 10] {
-    let mut numbers = [0u64; 10];
-    for (number, text) in numbers.iter_mut().zip(words.iter()) {
-        *number = text.parse::<u64>().unwrap_or(0);
+fn numbers_of(words: &[&str]) -> [u64; 4] {
+    let mut numbers = [0u64; 4];
+    for (slot, text) in numbers.iter_mut().zip(words.iter()) {
+        *slot = number(text);
     }
     numbers
 }
@@ -83,8 +69,8 @@ impl Declared {
     }
 
     /// Adds the region or the registers in a line to the last endpoint.
-    fn add_part(&mut self, alloc: Global, kind: &str, numbers: [u64; 10]) -> Option<()> {
-        let [first, second, third, fourth, ..] = numbers;
+    fn add_part(&mut self, alloc: Global, kind: &str, numbers: [u64; 4]) -> Option<()> {
+        let [first, second, third, fourth] = numbers;
         let last = self.guests.last_mut()?.last_mut()?;
         match kind {
             "bar" => {
@@ -127,7 +113,7 @@ impl Declared {
             [] => Some(()),
             ["guest", name] => self.add_guest(alloc, name),
             ["endpoint", rest @ ..] => {
-                let added = endpoint(alloc, numbers_of(rest));
+                let added = endpoint(alloc, rest)?;
                 self.guests.last_mut()?.push(added).ok()
             }
             [kind, rest @ ..] => self.add_part(alloc, kind, numbers_of(rest)),
