@@ -3,7 +3,8 @@ ghost use Rattle.std.specs.Prelude.{◌≡◌, IfOk, IfErr, string_bytes};
 ghost use Rattle.model_guests.specs.World.{World};
 ghost use Rattle.window_packing.specs.Readies.{IsReady};
 ghost use Rattle.session.specs.{Faults.{OnFile, OnSetUp}, Files.{Refuses, Breaks, IsSetUp}};
-ghost use Rattle.board_told.specs.Listing.{reported_in, report_in, IsReadyOf};
+ghost use Rattle.model_handoff.specs.FoundReport.{IsSetUpOf};
+ghost use Rattle.board_told.specs.Listing.{report_in, IsReadyOf};
 
 use accesses::GuestDecl;
 use board_file::read_board;
@@ -40,8 +41,9 @@ fn report_in(
     guests: &[GuestDecl],
     form: ReportForm,
 ) -> Result<String, AllocError>
-    ensures text { IfOk result (λ t. string_bytes t ≡ reported_in form
-        (record { functions = ready.now.table; plan = ready.now.plan; guests = guests.now })) }
+    ensures text { IfOk result (λ t. (w : World) → IsSetUpOf
+        (record { functions = ready.now.table; plan = ready.now.plan; guests = guests.now }) w
+        → string_bytes t ≡ report_in form w) }
     ensures ready { IsReady ready.now }
 {
     match form {

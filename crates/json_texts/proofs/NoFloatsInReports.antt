@@ -5,8 +5,8 @@ use Rattle.model_registers.specs.BridgeTable.{Window}
 use Rattle.model_board.specs.{Paths.Path, Board.{Decl, endpoint, bridge}}
 use Rattle.model_set_up.specs.{FunctionTable.{BusRange, TableRow}, SetUpWrites.{Writes, to_endpoint, to_bridge, Setting}}
 use Rattle.model_guests.specs.World.{Guest}
-use Rattle.model_handoff.specs.Report.{SetUpBoard}
-use Rattle.json_texts.specs.ReportValue.{region_value, known_interrupt, named_window, written_regions, written_windows, found_buses, decl_value, function_values, slot_values, guest_value, report_value}
+use Rattle.model_handoff.specs.FoundReport.{SetUpBoard}
+use Rattle.json_texts.specs.{ReportValue.{region_value, slot_values, guest_value}, FoundValue.{known_interrupt, named_window, written_regions, written_windows, found_buses, decl_value, function_values, found_value}}
 
 -- ---- lists of values, and null where there is none
 
@@ -64,5 +64,5 @@ none_in_guest g = rw (none_in_slots 0 g.slots) refl
 none_in_guests : (gs : List Guest) → items_have_float (items_of (map guest_value gs)) ≡ false
 none_in_guests gs = none_mapped guest_value none_in_guest gs
 
-pub none_in_report : (s : SetUpBoard) → has_float (report_value s) ≡ false
+pub none_in_report : (s : SetUpBoard) → has_float (found_value s) ≡ false
 none_in_report s = rw (none_in_functions s.functions s.plan.settings, none_in_guests s.guests) refl

@@ -1,7 +1,7 @@
 -- The rows of functions are used up where the shorter of two lists ends.
 use Rattle.std.proofs.{Common.{◌≡◌, ℕ, List, [], ◌∷◌, length, drop, min, refl, arith}, lemmas.{List.drop_all, Bool.cases_lt}}
 use Rattle.model_set_up.specs.{FunctionTable.TableRow, SetUpWrites.Setting}
-use Rattle.json_texts.specs.ReportValue.{function_values}
+use Rattle.json_texts.specs.FoundValue.{function_values}
 
 function_values_nil : (rs : List TableRow) → function_values rs [] ≡ []
 function_values_nil [] = refl

@@ -1,4 +1,5 @@
 pub mod ReportValue
+pub mod FoundValue
 pub mod FunctionMembers
 pub mod AuditValue
 pub mod WhyValue

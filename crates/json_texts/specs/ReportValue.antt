@@ -1,22 +1,22 @@
 -- The report of a board that is set up, as a JSON value: functions in path order with their regions and interrupts,
--- windows, and guests. The members of an object stand in the order of their names.
+-- windows, and guests. It is said of the board itself, as the report in lines is. The members of an object stand in the
+-- order of their names.
 --     natural, array_of      a number; values one after the other
 --     region_value      a region, from its base address register
---     pin_value, known_interrupt      a pin, with the device of bus 0 that it reaches and the pin there; null but for 1 to 4
---     named_window      a window, null where its base is above its limit
---     written_regions, written_windows      what is written into a function
+--     pin_value, interrupt_value      a pin, with the device of bus 0 that it reaches and the pin there; null for pin 0
+--     pool_window, bridge_windows      the windows of a bridge, each null where nothing is placed behind it
 --     endpoint_value, bridge_value      a function, from what is told of it
---     function_value, function_values      a function; those of a table, each with what is written into it
+--     row_value b a r      a function of a board, with its regions or windows where they are placed
 --     guest_value      a guest with its slots
---     report_value      the whole value, of what is reported
---     report_json_text      its text and a line feed, of a world
-use Rattle.std.specs.Prelude.{List, [], ◌∷◌, ℕ, ◌+◌, ◌++◌, if◌then◌else◌, nat_lt, ◌==◌, ◌||◌, Option, Some, None, map, not, count_by, codes}
+--     report_value      the whole value, of a world
+--     report_json_text      its text and a line feed
+use Rattle.std.specs.Prelude.{List, [], ◌∷◌, ℕ, ◌+◌, ◌-◌, ◌++◌, if◌then◌else◌, ◌==◌, map, not, count_by, codes}
 use Rattle.serde_json.specs.{Data.{Data, null, number, unsigned, string, array, object, member, no_members}, View.items_of, Written.compact_text}
-use Rattle.model_registers.specs.{EndpointTable.BaseAddress, BridgeTable.Window}
-use Rattle.model_board.specs.{Paths.{Path, last_part}, Board.{Decl, endpoint, bridge, is_bridge}, Interrupts.{root_device, root_pin}}
-use Rattle.model_set_up.specs.{FunctionTable.{BusRange, TableRow}, SetUpWrites.{Writes, to_endpoint, to_bridge, Setting}}
+use Rattle.model_registers.specs.{EndpointTable.BaseAddress, Apertures.Apertures}
+use Rattle.model_board.specs.{Paths.{Path, last_part}, Board.{endpoint, bridge, is_bridge, Row, Board}, BusNumbers.{bus_of, secondary, subordinate}, Interrupts.{root_device, root_pin}}
+use Rattle.model_set_up.specs.{Pools.{Pool, io_pool, mem_pool, pref_pool, unit_of}, Placement.{Item, need, items_on, bus_first}, SetUpWrites.placed_base}
 use Rattle.model_guests.specs.{Text.Text, World.{Guest, World}, PathTexts.path_text}
-use Rattle.model_handoff.specs.Report.{kind_text, pin_text, SetUpBoard, set_up_board}
+use Rattle.model_handoff.specs.Report.{kind_text, pin_text}
 
 abbrev pub natural : ℕ → Data
 natural n = number (unsigned n)
@@ -40,8 +40,9 @@ pin_value p pin = object (
     member (codes "root_device") (natural (root_device p)) (
     member (codes "root_pin") (string (pin_text (root_pin p pin))) no_members)))
 
-abbrev pub known_interrupt : Path → ℕ → Data
-known_interrupt p pin = if pin == 0 || nat_lt 4 pin then null else pin_value p pin
+-- pin 0 says that there is none
+abbrev pub interrupt_value : Path → ℕ → Data
+interrupt_value p pin = if pin == 0 then null else pin_value p pin
 
 -- the addresses from the first to the last
 abbrev pub range_value : ℕ → ℕ → Data
@@ -49,33 +50,28 @@ range_value first last = object (
     member (codes "first") (natural first) (
     member (codes "last") (natural last) no_members))
 
--- a window without items has its base above its limit
-abbrev pub named_window : Window → Data
-named_window w = if nat_lt w.last w.first then null else range_value w.first w.last
-
 abbrev pub windows_value : Data → Data → Data → Data
 windows_value io mem pref = object (
     member (codes "io") io (
     member (codes "mem") mem (
     member (codes "pref") pref no_members)))
 
-abbrev pub written_regions : Writes → List Data
-written_regions (to_endpoint command bases) = map region_value bases
-written_regions (to_bridge w) = []
+-- the window of a bus that begins at an address: it extends over what its items need
+abbrev pub items_window : (unit first : ℕ) → List Item → Data
+items_window unit first [] = null
+items_window unit first (i ∷ is) = range_value first (first + need unit (i ∷ is) - 1)
 
-abbrev pub written_windows : Writes → Data
-written_windows (to_endpoint command bases) = null
-written_windows (to_bridge w) = windows_value (named_window w.io) (named_window w.mem) (named_window w.pref)
+abbrev pub pool_window : Board → Apertures → Path → Pool → Data
+pool_window b a p pool = items_window (unit_of pool) (bus_first b a pool p) (items_on b a pool p)
+
+abbrev pub bridge_windows : Board → Apertures → Path → Data
+bridge_windows b a p = windows_value (pool_window b a p io_pool) (pool_window b a p mem_pool) (pool_window b a p pref_pool)
 
 abbrev pub buses_value : ℕ → ℕ → ℕ → Data
 buses_value primary secondary subordinate = object (
     member (codes "primary") (natural primary) (
     member (codes "secondary") (natural secondary) (
     member (codes "subordinate") (natural subordinate) no_members)))
-
-abbrev pub found_buses : ℕ → Option BusRange → Data
-found_buses bus None = null
-found_buses bus (Some behind) = buses_value bus behind.first behind.last
 
 -- ---- functions
 
@@ -104,19 +100,16 @@ bridge_value bus p vendor device buses windows = object (
     member (codes "vendor") (natural vendor) (
     member (codes "windows") windows no_members)))))))))
 
-abbrev pub decl_value : ℕ → Option BusRange → Path → Decl → Writes → Data
-decl_value bus behind p (endpoint d) w =
-    endpoint_value bus p d.vendor d.device (known_interrupt p d.pin) (written_regions w)
-decl_value bus behind p (bridge d) w =
-    bridge_value bus p d.vendor d.device (found_buses bus behind) (written_windows w)
-
-abbrev pub function_value : TableRow → Writes → Data
-function_value r w = decl_value r.bus r.behind r.path r.decl w
-
-abbrev pub function_values : List TableRow → List Setting → List Data
-function_values [] ss = []
-function_values (r ∷ rs) [] = []
-function_values (r ∷ rs) (s ∷ ss) = function_value r s.writes ∷ function_values rs ss
+abbrev pub row_value : Board → Apertures → Row → Data
+row_value b a r =
+    elim r.decl [
+      | endpoint d ↦
+          endpoint_value (bus_of b r.path) r.path d.vendor d.device (interrupt_value r.path d.pin)
+          (map (λ q. region_value (placed_base b a r.path q)) d.regions)
+      | bridge d ↦
+          bridge_value (bus_of b r.path) r.path d.vendor d.device
+          (buses_value (bus_of b r.path) (secondary b r.path) (subordinate b r.path)) (bridge_windows b a r.path)
+    ]
 
 -- ---- guests
 
@@ -145,13 +138,13 @@ board_value bridges endpoints functions guests = object (
     member (codes "functions") (array_of functions) (
     member (codes "guests") (array_of (map guest_value guests)) no_members))))
 
-abbrev pub report_value : SetUpBoard → Data
-report_value s =
-    board_value (count_by (λ r. is_bridge r.decl) s.functions) (count_by (λ r. not (is_bridge r.decl)) s.functions)
-    (function_values s.functions s.plan.settings) s.guests
+abbrev pub report_value : World → Data
+report_value w =
+    board_value (count_by (λ r. is_bridge r.decl) w.board) (count_by (λ r. not (is_bridge r.decl)) w.board)
+    (map (row_value w.board w.apertures) w.board) w.guests
 
 abbrev pub value_line : Data → Text
 value_line d = compact_text d ++ 10 ∷ []
 
 abbrev pub report_json_text : World → Text
-report_json_text w = value_line (report_value (set_up_board w))
+report_json_text w = value_line (report_value w)

@@ -3,7 +3,7 @@ ghost use Rattle.std.specs.Prelude.{◌≡◌, ◌≤◌, IfOk, map};
 ghost use Rattle.serde_json.specs.View.{view};
 ghost use Rattle.bars.specs.Slots.{placed, bases_from};
 ghost use Rattle.window_packing.specs.Plans.{writes_of};
-ghost use Rattle.json_texts.specs.ReportValue.{region_value, pin_value, known_interrupt, named_window, windows_value, written_regions, written_windows};
+ghost use Rattle.json_texts.specs.{ReportValue.{region_value, pin_value, windows_value}, FoundValue.{known_interrupt, named_window, written_regions, written_windows}};
 
 use bars::BasedRegion;
 use intx_swizzle::at_root;

@@ -3,7 +3,7 @@
 ghost use Rattle.std.specs.Prelude.{◌≡◌, IfOk, OnOk, map};
 ghost use Rattle.serde_json.specs.View.{view, members_view};
 ghost use Rattle.window_packing.specs.Plans.{writes_of};
-ghost use Rattle.json_texts.specs.{ReportValue.{known_interrupt, written_regions, written_windows, buses_value, endpoint_value, bridge_value, function_value, function_values}, FunctionMembers.{place_members, with_identity, vendor_of, device_id_of}};
+ghost use Rattle.json_texts.specs.{ReportValue.{buses_value, endpoint_value, bridge_value}, FoundValue.{known_interrupt, written_regions, written_windows, function_value, function_values}, FunctionMembers.{place_members, with_identity, vendor_of, device_id_of}};
 
 use crate::function_parts::{known_interrupt, written_regions, written_windows};
 use crate::problem_parts::path_value;

@@ -1,7 +1,9 @@
 //! Renders the listing of a board as JSON.
 ghost use Rattle.std.specs.Prelude.{◌≡◌, IfOk, string_bytes};
 ghost use Rattle.serde_json.specs.View.{view};
-ghost use Rattle.json_texts.specs.ReportValue.{value_line, report_value};
+ghost use Rattle.model_guests.specs.World.{World};
+ghost use Rattle.model_handoff.specs.FoundReport.{IsSetUpOf};
+ghost use Rattle.json_texts.specs.{ReportValue.{value_line, report_json_text}, FoundValue.{found_value}};
 
 use crate::functions::function_values;
 use crate::has_value::values;
@@ -20,7 +22,7 @@ fn report_value(
     guests: &[GuestDecl],
 ) -> Result<Value, AllocError>
     ensures { IfOk result (λ v. view v
-        ≡ report_value (record { functions = table.now; plan = plan.now; guests = guests.now })) }
+        ≡ found_value (record { functions = table.now; plan = plan.now; guests = guests.now })) }
 {
     let bridges = bridges(table.rows());
     let endpoints = endpoints(table.rows());
@@ -42,8 +44,11 @@ pub fn report_json(
     plan: &Plan,
     guests: &[GuestDecl],
 ) -> Result<String, AllocError>
-    ensures { IfOk result (λ t. string_bytes t ≡ value_line
-        (report_value (record { functions = table.now; plan = plan.now; guests = guests.now }))) }
+    ensures board { IfOk result (λ t. (w : World)
+        → IsSetUpOf (record { functions = table.now; plan = plan.now; guests = guests.now }) w
+        → string_bytes t ≡ report_json_text w) }
+    ensures found { IfOk result (λ t. string_bytes t ≡ value_line
+        (found_value (record { functions = table.now; plan = plan.now; guests = guests.now }))) }
 {
     let value = report_value(alloc, table, plan, guests)?;
     let mut text = value.to_string(alloc)?;

@@ -11,6 +11,7 @@ pub mod SetUpCase
 pub mod SetUpLaws
 pub mod AfterSetUp
 pub mod ReportLaws
+pub mod BoardReport
 pub mod Examples
 pub mod Kept
 pub mod Views

@@ -6,6 +6,7 @@ pub mod SetUpCase
 pub mod SetUpLaws
 pub mod AfterSetUp
 pub mod Report
+pub mod FoundReport
 pub mod ReportLaws
 pub mod Examples
 pub mod Kept

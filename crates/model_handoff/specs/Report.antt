@@ -1,24 +1,18 @@
--- The report of a board that is set up: functions in path order with their regions and interrupts, windows, and guests.
---     SetUpBoard, set_up_board      what is reported: the functions that set-up finds, its plan, and the guests; of a world
+-- The report of a board that is set up: functions in path order with their regions and interrupts, windows, and guests. It
+-- is said of the board itself: of its functions, its bus numbers, where its regions and windows are placed, and its pins.
 --     numbers_text      bus, device and function number as BB:DD.F
 --     base_line, pin_line      the line of a region; of a pin, with the device of bus 0 that it reaches and the pin there
---     window_lines      the lines of a bridge's windows but for those whose base is above their limit
---     function_text      an endpoint with its regions and its interrupt, or a bridge with its buses and windows
---     slot_lines      the slots of a guest
---     report_of, report      the whole text, of what is reported; of a world
-use Rattle.std.specs.Prelude.{List, [], ◌∷◌, ℕ, ◌+◌, ◌++◌, true, false, if◌then◌else◌, nat_lt, ◌==◌, ◌||◌, Option, Some, None, flat_map, map, not, count_by, codes, decimal}
-use Rattle.model_registers.specs.{Declarations.{Kind, io_kind, mem32, mem64}, EndpointTable.BaseAddress, BridgeTable.Window}
-use Rattle.model_board.specs.{Paths.{Path, last_part}, Board.{Decl, endpoint, bridge, is_bridge}, Interrupts.{root_device, root_pin}}
-use Rattle.model_set_up.specs.{FunctionTable.{BusRange, TableRow, sized_table}, SetUpWrites.{Writes, to_endpoint, to_bridge, Setting, Plan, planned}}
-use Rattle.model_guests.specs.{Text.{Text, text_of_lines, ended}, World.{Guest, World}, PathTexts.{hexadecimal, path_text}, Replies.hex_digits}
-
-pub record SetUpBoard : Type 0 where
-  pub functions : List TableRow
-  pub plan : Plan
-  pub guests : List Guest
-
-abbrev pub set_up_board : World → SetUpBoard
-set_up_board w = record { functions = sized_table w.board; plan = planned w.board w.apertures; guests = w.guests }
+--     region_lines      the regions of an endpoint, each where it is placed
+--     interrupt_lines      the pin of an endpoint, if it has one
+--     window_lines      the windows of a bridge behind which something is placed
+--     function_lines      an endpoint with its regions and its interrupt, or a bridge with its buses and windows
+--     guest_lines      the slots of a guest
+--     report_lines, report      all lines, and the whole text, of a world
+use Rattle.std.specs.Prelude.{List, [], ◌∷◌, ℕ, ◌+◌, ◌-◌, ◌++◌, true, false, if◌then◌else◌, ◌==◌, flat_map, map, not, count_by, codes, decimal}
+use Rattle.model_registers.specs.{Declarations.{Kind, io_kind, mem32, mem64, Endpoint, Bridge}, EndpointTable.BaseAddress, Apertures.Apertures}
+use Rattle.model_board.specs.{Paths.{Path, last_part}, Board.{endpoint, bridge, is_bridge, Row, Board}, BusNumbers.{bus_of, secondary, subordinate}, Interrupts.{root_device, root_pin}}
+use Rattle.model_set_up.specs.{Pools.{Pool, io_pool, mem_pool, pref_pool, unit_of}, Placement.{Item, need, items_on, bus_first}, SetUpWrites.placed_base}
+use Rattle.model_guests.specs.{Text.{Text, text_of_lines}, World.{Guest, World}, PathTexts.{hexadecimal, path_text}, Replies.hex_digits}
 
 -- ---- fields
 
@@ -40,18 +34,10 @@ pin_text pin = codes "INT" ++ (64 + pin) ∷ []
 abbrev pub identity_text : ℕ → ℕ → Text
 identity_text vendor device = hex_digits 4 vendor ++ codes ":" ++ hex_digits 4 device
 
-abbrev pub identity_of : Decl → Text
-identity_of (endpoint d) = identity_text d.vendor d.device
-identity_of (bridge d) = identity_text d.vendor d.device
-
 -- Primary, Secondary and Subordinate Bus Number
 abbrev pub range_text : ℕ → ℕ → ℕ → Text
 range_text bus first last =
     codes " buses " ++ hex_digits 2 bus ++ codes " " ++ hex_digits 2 first ++ codes " " ++ hex_digits 2 last
-
-abbrev pub buses_text : ℕ → Option BusRange → Text
-buses_text bus None = []
-buses_text bus (Some behind) = range_text bus behind.first behind.last
 
 -- ---- lines of a function
 
@@ -60,58 +46,52 @@ abbrev pub head_text : ℕ → Path → Text → Text → Text
 head_text bus p kind identity =
     numbers_text bus (last_part p).device (last_part p).function ++ codes " " ++ path_text p ++ kind ++ identity
 
-abbrev pub row_head : TableRow → Text → Text
-row_head r kind = head_text r.bus r.path kind (identity_of r.decl)
-
 abbrev pub base_line : BaseAddress → Text
 base_line r =
     codes "  bar" ++ decimal r.index ++ codes " " ++ kind_text r.kind ++ codes " at " ++ hexadecimal r.base
     ++ codes " size " ++ hexadecimal r.size
 
-abbrev pub base_lines : Writes → List Text
-base_lines (to_endpoint command bases) = map base_line bases
-base_lines (to_bridge w) = []
+abbrev pub region_lines : Board → Apertures → Path → Endpoint → List Text
+region_lines b a p d = map (λ r. base_line (placed_base b a p r)) d.regions
 
 abbrev pub pin_line : Path → ℕ → Text
 pin_line p pin =
     codes "  irq " ++ pin_text pin ++ codes " at " ++ decimal (root_device p) ++ codes " " ++ pin_text (root_pin p pin)
 
--- pins are 1 to 4
-abbrev pub known_pin_lines : Path → ℕ → List Text
-known_pin_lines p pin = if pin == 0 || nat_lt 4 pin then [] else pin_line p pin ∷ []
+-- pin 0 says that there is none
+abbrev pub interrupt_lines : Path → ℕ → List Text
+interrupt_lines p pin = if pin == 0 then [] else pin_line p pin ∷ []
 
--- a window without items has its base above its limit
-abbrev pub named_window_lines : Text → Window → List Text
-named_window_lines name w =
-    if nat_lt w.last w.first then []
-    else (codes "  " ++ name ++ codes " " ++ hexadecimal w.first ++ codes " " ++ hexadecimal w.last) ∷ []
+abbrev pub addresses_line : Text → ℕ → ℕ → Text
+addresses_line name first last = codes "  " ++ name ++ codes " " ++ hexadecimal first ++ codes " " ++ hexadecimal last
 
-abbrev pub window_lines : Writes → List Text
-window_lines (to_endpoint command bases) = []
-window_lines (to_bridge w) =
-    named_window_lines (codes "io") w.io ++ named_window_lines (codes "mem") w.mem
-    ++ named_window_lines (codes "pref") w.pref
+-- the window of a bus that begins at an address: it extends over what its items need
+abbrev pub items_lines : Text → (unit first : ℕ) → List Item → List Text
+items_lines name unit first [] = []
+items_lines name unit first (i ∷ is) = addresses_line name first (first + need unit (i ∷ is) - 1) ∷ []
 
--- what ends an endpoint's first line, and the lines after it; the same of a bridge
-abbrev pub endpoint_text : Path → ℕ → Writes → Text
-endpoint_text p pin w = codes "\n" ++ text_of_lines (base_lines w) ++ text_of_lines (known_pin_lines p pin)
+abbrev pub pool_lines : Board → Apertures → Path → Text → Pool → List Text
+pool_lines b a p name pool = items_lines name (unit_of pool) (bus_first b a pool p) (items_on b a pool p)
 
-abbrev pub windows_text : Writes → Text
-windows_text w = codes "\n" ++ text_of_lines (window_lines w)
+abbrev pub window_lines : Board → Apertures → Path → List Text
+window_lines b a p =
+    pool_lines b a p (codes "io") io_pool ++ pool_lines b a p (codes "mem") mem_pool
+    ++ pool_lines b a p (codes "pref") pref_pool
 
-abbrev pub decl_text : ℕ → Option BusRange → Path → Decl → Writes → Text
-decl_text bus behind p (endpoint d) w =
-    head_text bus p (codes " endpoint ") (identity_text d.vendor d.device) ++ endpoint_text p d.pin w
-decl_text bus behind p (bridge d) w =
-    head_text bus p (codes " bridge ") (identity_text d.vendor d.device) ++ (buses_text bus behind ++ windows_text w)
+abbrev pub endpoint_lines : Board → Apertures → Path → Endpoint → List Text
+endpoint_lines b a p d =
+    head_text (bus_of b p) p (codes " endpoint ") (identity_text d.vendor d.device)
+    ∷ (region_lines b a p d ++ interrupt_lines p d.pin)
 
-abbrev pub function_text : TableRow → Writes → Text
-function_text r w = decl_text r.bus r.behind r.path r.decl w
+abbrev pub bridge_lines : Board → Apertures → Path → Bridge → List Text
+bridge_lines b a p d =
+    (head_text (bus_of b p) p (codes " bridge ") (identity_text d.vendor d.device)
+    ++ range_text (bus_of b p) (secondary b p) (subordinate b p))
+    ∷ window_lines b a p
 
-abbrev pub functions_text : List TableRow → List Setting → Text
-functions_text [] ss = []
-functions_text (r ∷ rs) [] = []
-functions_text (r ∷ rs) (s ∷ ss) = function_text r s.writes ++ functions_text rs ss
+abbrev pub function_lines : Board → Apertures → Row → List Text
+function_lines b a r =
+    elim r.decl [ endpoint d ↦ endpoint_lines b a r.path d | bridge d ↦ bridge_lines b a r.path d ]
 
 -- ---- guests, and the whole
 
@@ -122,17 +102,19 @@ abbrev pub slot_lines : Text → ℕ → List Path → List Text
 slot_lines name n [] = []
 slot_lines name n (p ∷ ps) = slot_line name n p ∷ slot_lines name (n + 1) ps
 
-abbrev pub guests_text : List Guest → Text
-guests_text guests = flat_map (λ g. text_of_lines (slot_lines g.name 0 g.slots)) guests
+abbrev pub guest_lines : Guest → List Text
+guest_lines g = slot_lines g.name 0 g.slots
 
 abbrev pub counts_text : (endpoints bridges : ℕ) → Text
 counts_text endpoints bridges = codes "endpoints " ++ decimal endpoints ++ codes " bridges " ++ decimal bridges
 
-abbrev pub count_line : List TableRow → Text
-count_line rs = counts_text (count_by (λ r. not (is_bridge r.decl)) rs) (count_by (λ r. is_bridge r.decl) rs)
+abbrev pub counts_line : Board → Text
+counts_line b = counts_text (count_by (λ r. not (is_bridge r.decl)) b) (count_by (λ r. is_bridge r.decl) b)
 
-abbrev pub report_of : SetUpBoard → Text
-report_of s = ended (count_line s.functions) ++ functions_text s.functions s.plan.settings ++ guests_text s.guests
+abbrev pub report_lines : World → List Text
+report_lines w =
+    counts_line w.board
+    ∷ (flat_map (function_lines w.board w.apertures) w.board ++ flat_map guest_lines w.guests)
 
 abbrev pub report : World → Text
-report w = report_of (set_up_board w)
+report w = text_of_lines (report_lines w)

@@ -1,4 +1,5 @@
--- What a report, which is made of what set-up finds and writes, tells of the board itself.
+-- The text that is made of what set-up finds and writes is the report of the board.
+--     ReportOfBoard      so it is of each world whose declarations are lawful
 --     is_closed w, is_empty is      the base of the window is above its limit; there are no items
 --     ClosedWithoutItems      set-up closes just the windows behind which nothing is placed
 --     CountsOfBoard, IdentitiesOfBoard      the functions that are counted, and their identities, are those of the board
@@ -7,7 +8,11 @@ use Rattle.std.specs.Prelude.{◌≡◌, Bool, true, false, nat_lt, ◌==◌, if
 use Rattle.model_registers.specs.{Declarations.Endpoint, DeclarationRules.IsLawfulEndpoint, Apertures.Apertures, BridgeTable.Window}
 use Rattle.model_board.specs.{Paths.Path, Board.{Decl, Board, is_bridge}, Lawful.HasLawfulDecls}
 use Rattle.model_set_up.specs.{Pools.{io_pool, mem_pool, pref_pool}, Placement.{Item, items_on}, SetUp.windows_of, FunctionTable.{found_decl, sized_table}}
-use Rattle.model_handoff.specs.Report.{counts_text, count_line, identity_of, pin_line, known_pin_lines}
+use Rattle.model_guests.specs.World.{World}
+use Rattle.model_handoff.specs.{Report.{counts_text, pin_line, report}, FoundReport.{set_up_board, count_line, identity_of, known_pin_lines, found_report}}
+
+abbrev pub ReportOfBoard : Type 0
+ReportOfBoard = (w : World) → HasLawfulDecls w.board → found_report (set_up_board w) ≡ report w
 
 abbrev pub is_closed : Window → Bool
 is_closed w = nat_lt w.last w.first

@@ -1,2 +1,3 @@
 pub mod PathTexts
 pub mod RowTexts
+mod Boards

@@ -1,7 +1,7 @@
 -- The rows of functions are used up where the shorter of two lists ends.
 use Rattle.std.proofs.{Common.{◌≡◌, ℕ, List, [], ◌∷◌, length, drop, min, refl, arith}, lemmas.{List.drop_all, Bool.cases_lt}}
 use Rattle.model_set_up.specs.{FunctionTable.TableRow, SetUpWrites.Setting}
-use Rattle.model_handoff.specs.Report.{functions_text}
+use Rattle.model_handoff.specs.FoundReport.{functions_text}
 
 functions_text_nil : (rs : List TableRow) → functions_text rs [] ≡ []
 functions_text_nil [] = refl

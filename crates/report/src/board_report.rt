@@ -2,8 +2,8 @@
 ghost use Rattle.std.specs.Prelude.{◌≡◌, OnOk, IfOk, not, count_by, string_bytes};
 ghost use Rattle.lists.specs.Texts.{Adds};
 ghost use Rattle.model_board.specs.Board.{is_bridge};
-ghost use Rattle.model_guests.specs.Text.{ended};
-ghost use Rattle.model_handoff.specs.Report.{count_line, functions_text, guests_text, report_of};
+ghost use Rattle.model_guests.specs.{Text.{ended}, World.{World}};
+ghost use Rattle.model_handoff.specs.{Report.{report}, FoundReport.{IsSetUpOf, count_line, functions_text, guests_text, found_report}};
 
 use crate::lines::{push_function, push_guest};
 use accesses::GuestDecl;
@@ -76,8 +76,11 @@ pub fn report_text(
     plan: &Plan,
     guests: &[GuestDecl],
 ) -> Result<String, AllocError>
-    ensures { IfOk result (λ t. string_bytes t
-        ≡ report_of (record { functions = table.now; plan = plan.now; guests = guests.now })) }
+    ensures board { IfOk result (λ t. (w : World)
+        → IsSetUpOf (record { functions = table.now; plan = plan.now; guests = guests.now }) w
+        → string_bytes t ≡ report w) }
+    ensures found { IfOk result (λ t. string_bytes t
+        ≡ found_report (record { functions = table.now; plan = plan.now; guests = guests.now })) }
 {
     let mut text = String::new(alloc);
     push_counts(&mut text, table.rows())?;

@@ -2,7 +2,7 @@
 ghost use Rattle.std.specs.Prelude.{◌≡◌, ◌++◌, ◌≤◌, OnOk, map};
 ghost use Rattle.lists.specs.Texts.{Adds};
 ghost use Rattle.model_guests.specs.Text.{ended, text_of_lines};
-ghost use Rattle.model_handoff.specs.Report.{base_line, base_lines, pin_text, pin_line, known_pin_lines, named_window_lines, window_lines, range_text, row_head, endpoint_text, windows_text, function_text, slot_line, slot_lines};
+ghost use Rattle.model_handoff.specs.{Report.{base_line, pin_text, pin_line, range_text, slot_line, slot_lines}, FoundReport.{base_lines, known_pin_lines, named_window_lines, written_windows, row_head, endpoint_text, windows_text, function_text}};
 ghost use Rattle.bars.specs.Slots.{placed, bases_from};
 ghost use Rattle.window_packing.specs.Plans.{writes_of};
 
@@ -102,7 +102,7 @@ fn push_bases(text: &mut String, writes: &Writes) -> Result<(), AllocError>
 /// Appends the lines of a bridge's windows as set-up wrote them.
 fn push_windows(text: &mut String, writes: &Writes) -> Result<(), AllocError>
     ensures { OnOk result (Adds text.old text.new
-        (text_of_lines (window_lines (writes_of writes.now)))) }
+        (text_of_lines (written_windows (writes_of writes.now)))) }
 {
     match writes {
         Writes::Endpoint { .. } => Ok(()),

@@ -1,6 +1,6 @@
 use Rattle.std.proofs.Common.{◌≡◌, ◌++◌, drop, length, map}
 use Rattle.serde_json.specs.View.{view}
-use Rattle.json_texts.specs.ReportValue.{function_values}
+use Rattle.json_texts.specs.FoundValue.{function_values}
 use Rattle.json_texts.proofs.functions.function_values.Given as goal
 
 abbrev pub invariant-loop-row : goal.invariant-loop-row

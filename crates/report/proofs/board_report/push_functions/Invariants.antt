@@ -1,5 +1,5 @@
 use Rattle.std.proofs.Common.{◌≡◌, ◌++◌, drop, length, string_bytes}
-use Rattle.model_handoff.specs.Report.{functions_text}
+use Rattle.model_handoff.specs.FoundReport.{functions_text}
 use Rattle.report.proofs.board_report.push_functions.Given as goal
 
 abbrev pub invariant-loop-row : goal.invariant-loop-row

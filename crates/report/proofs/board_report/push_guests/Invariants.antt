@@ -1,5 +1,5 @@
 use Rattle.std.proofs.Common.{◌≡◌, ◌++◌, drop, string_bytes}
-use Rattle.model_handoff.specs.Report.{guests_text}
+use Rattle.model_handoff.specs.FoundReport.{guests_text}
 use Rattle.report.proofs.board_report.push_guests.Given as goal
 
 abbrev pub invariant-loop-guest : goal.invariant-loop-guest
