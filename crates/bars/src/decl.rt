@@ -21,10 +21,16 @@ pub enum Kind {
     Mem64 { pref: bool },
 }
 
-/// The error for a size that isn't a power of two or is outside the limits of its kind.
+/// The reason why a BAR of some kind can't have a size.
 #[derive(Clone, Copy, Debug, PartialEq, Eq, Error)]
-#[error("a region's size is a power of two within the limits of its kind")]
-pub struct BarFault;
+pub enum BarFault {
+    #[error("too small")]
+    TooSmall,
+    #[error("too large")]
+    TooLarge,
+    #[error("not a power of two")]
+    NotPower,
+}
 
 impl Space {
     /// Returns the bit of the Command register that enables decoding in this space (section 6.2.2).
@@ -89,7 +95,7 @@ impl Kind {
     }
 
     /// Returns the minimum and maximum region size of this kind, in bytes.
-    fn limits(self) -> (u64, u64)
+    pub fn limits(self) -> (u64, u64)
         ensures least { result.0 ≡ least_size (kind_of self) }
         ensures greatest { result.1 ≡ greatest_size (kind_of self) }
     {
@@ -129,8 +135,14 @@ impl BarDecl {
         ensures declared { IfOk result (λ b. b ≡ record { kind = kind_of kind; size = size }) }
     {
         let (least, greatest) = kind.limits();
-        if !size.is_power_of_two() || size < least || size > greatest {
-            return Err(BarFault);
+        if size < least {
+            return Err(BarFault::TooSmall);
+        }
+        if greatest < size {
+            return Err(BarFault::TooLarge);
+        }
+        if !size.is_power_of_two() {
+            return Err(BarFault::NotPower);
         }
         Ok(BarDecl { kind, size })
     }

@@ -5,10 +5,28 @@ ghost use Rattle.model_registers.specs.Apertures.{is_of_units, is_io_aperture, i
 use std::marker::Model;
 use thiserror::Error;
 
-/// The error for invalid apertures.
+/// The reason why an aperture isn't valid.
 #[derive(Clone, Copy, Debug, PartialEq, Eq, Error)]
-#[error("aperture")]
-pub struct ApertureFault;
+pub enum ApertureFault {
+    #[error("empty, the last address is below the first")]
+    Empty,
+    #[error("not whole units of 4 KB, as 0x1000 to 0xffff are")]
+    Pages,
+    #[error("not whole units of 1 MB, as 0xc0000000 to 0xdfffffff are")]
+    Megabytes,
+    #[error("too low, it begins below 0x1000")]
+    BelowIo,
+    #[error("too high, it ends above 0xffff")]
+    AboveIo,
+    #[error("too high, it ends above 0xffffffff")]
+    AboveMem,
+    #[error("too high, it ends above 0x7fffffffffffffff")]
+    AbovePref,
+    #[error("across 4 GB, it begins below 0x100000000 and ends above")]
+    Across,
+    #[error("meets mem")]
+    MeetsMem,
+}
 
 impl ApertureFault {
     /// Returns the error number, 111.
@@ -45,35 +63,72 @@ impl Aperture {
         self.first <= self.last && self.first % unit == 0 && self.last % unit == unit - 1
     }
 
-    fn is_io(&self) -> bool
-        ensures { result ≡ is_io_aperture self.now }
+    /// Checks that the aperture is nonempty and consists of whole units of `unit` bytes. A part of
+    /// a unit is `fault`.
+    fn check_units(&self, unit: u64, fault: ApertureFault) -> Result<(), ApertureFault>
+        requires { 0 < unit }
+        ensures { is_ok result ≡ is_of_units unit self.now }
     {
-        self.is_of_units(1 << 12) && self.first >= 0x1000 && self.last <= 0xffff
+        if self.is_of_units(unit) {
+            Ok(())
+        } else if self.last < self.first {
+            Err(ApertureFault::Empty)
+        } else {
+            Err(fault)
+        }
     }
 
-    fn is_mem(&self) -> bool
-        ensures { result ≡ is_mem_aperture self.now }
+    /// Checks an aperture for I/O: whole 4 KB pages within 1000h to FFFFh.
+    pub fn check_io(&self) -> Result<(), ApertureFault>
+        ensures { is_ok result ≡ is_io_aperture self.now }
     {
-        self.is_of_units(1 << 20) && self.last < 1 << 32
+        self.check_units(1 << 12, ApertureFault::Pages)?;
+        if self.first < 0x1000 {
+            Err(ApertureFault::BelowIo)
+        } else if self.last > 0xffff {
+            Err(ApertureFault::AboveIo)
+        } else {
+            Ok(())
+        }
     }
 
-    fn is_pref(&self, mem: &Aperture) -> bool
-        ensures { result ≡ is_pref_aperture mem.now self.now }
+    /// Checks an aperture for memory: whole megabytes below 4 GB.
+    pub fn check_mem(&self) -> Result<(), ApertureFault>
+        ensures { is_ok result ≡ is_mem_aperture self.now }
     {
-        self.is_of_units(1 << 20)
-            && self.last < 1 << 63
-            && (self.last < 1 << 32 || self.first >= 1 << 32)
-            && (mem.last < self.first || self.last < mem.first)
+        self.check_units(1 << 20, ApertureFault::Megabytes)?;
+        if self.last < 1 << 32 {
+            Ok(())
+        } else {
+            Err(ApertureFault::AboveMem)
+        }
+    }
+
+    /// Checks an aperture for prefetchable memory beside one for memory: whole megabytes below
+    /// 2^63, entirely below or above 4 GB, without overlapping memory.
+    pub fn check_pref(&self, mem: &Aperture) -> Result<(), ApertureFault>
+        ensures { is_ok result ≡ is_pref_aperture mem.now self.now }
+    {
+        self.check_units(1 << 20, ApertureFault::Megabytes)?;
+        if self.last >= 1 << 63 {
+            Err(ApertureFault::AbovePref)
+        } else if self.last >= 1 << 32 && self.first < 1 << 32 {
+            Err(ApertureFault::Across)
+        } else if mem.last < self.first || self.last < mem.first {
+            Ok(())
+        } else {
+            Err(ApertureFault::MeetsMem)
+        }
     }
 }
 
-/// Returns whether the prefetchable aperture is valid, if there is one.
-fn has_lawful_pref(mem: &Aperture, pref: &Option<Aperture>) -> bool
-    ensures { result ≡ has_lawful_pref mem.now pref.now }
+/// Checks the aperture for prefetchable memory, if there is one.
+fn check_pref(mem: &Aperture, pref: &Option<Aperture>) -> Result<(), ApertureFault>
+    ensures { is_ok result ≡ has_lawful_pref mem.now pref.now }
 {
     match pref {
-        Some(pref) => pref.is_pref(mem),
-        None => true,
+        Some(pref) => pref.check_pref(mem),
+        None => Ok(()),
     }
 }
 
@@ -113,9 +168,9 @@ impl Apertures {
             ↔ IsLawfulApertures (record { io = io; mem = mem; pref = pref }) }
         ensures apertures { IfOk result (λ a. a ≡ record { io = io; mem = mem; pref = pref }) }
     {
-        if !io.is_io() || !mem.is_mem() || !has_lawful_pref(&mem, &pref) {
-            return Err(ApertureFault);
-        }
+        io.check_io()?;
+        mem.check_mem()?;
+        check_pref(&mem, &pref)?;
         Ok(Apertures { io, mem, pref })
     }
 
