@@ -131,7 +131,7 @@ holds 'boards and scripts of which nothing is expected' unexpected
 # ---- a type has a name of its own, but for the faults of set-up and of the program
 shared=Fault
 homonyms() {
-  diff <(grep -oE '^pub (struct|enum|union|trait|type) \w+' crates/*/src/*.rt | awk -F '[/: ]' '{ print $2, $NF }' | sort -u |
+  diff <(grep -roE --include='*.rt' '^pub (struct|enum|union|trait|type) \w+' crates/*/src | awk -F '[/: ]' '{ print $2, $NF }' | sort -u |
     cut -d ' ' -f 2 | sort | uniq -d) <(tr ' ' '\n' <<< "$shared")
 }
 holds 'types of one name in two crates, or that are no longer' homonyms

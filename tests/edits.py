@@ -72,8 +72,8 @@ class Function:
 
 def module_of(file):
     """The path of a file's module below the crate."""
-    stem = pathlib.Path(file).stem
-    return [stem] * (stem not in ("lib", "main"))
+    _, *path = pathlib.PurePath(file).with_suffix("").parts
+    return path if path not in (["lib"], ["main"]) else []
 
 
 def trait_of(impl):
@@ -93,7 +93,8 @@ class Source:
 
     def __init__(self, crate, folder):
         self.crate, self.folder = crate, pathlib.Path(folder)
-        self.texts = {f"src/{it.name}": it.read_text(encoding="utf-8") for it in sorted((self.folder / "src").glob("*.rt"))}
+        files = sorted((self.folder / "src").rglob("*.rt"))
+        self.texts = {str(it.relative_to(self.folder)): it.read_text(encoding="utf-8") for it in files}
         self.types = {name: module_of(file) for file, text in self.texts.items() for name in TYPE.findall(text)}
         self.functions = {file: [*self.functions_of(file, text)] for file, text in self.texts.items()}
 
