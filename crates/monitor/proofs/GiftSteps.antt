@@ -9,7 +9,7 @@ use Rattle.model_handoff.{specs.{ViewLaws.sits, Giving.{has_closed_region, give_
 use Rattle.bars.specs.{declared.region.BasedRegion.BasedRegion, Resets.with_no_base, Slots.bases_from}
 use Rattle.bridge_forward.specs.{BasesNow.{bases_of, bases_nth}, ByIndex.ranges_told, Lending.as_endpoint, RoutingRows.window_of, declared.by_index.RangesNow.{RangesNow, TheVariants.{Regions, Windows}}}
 use Rattle.host_bridge.specs.HostState.{HostState}
-use Rattle.monitor.{specs.{declared.{guest.{Held.Held, Guest.Guest}, withheld.Withheld.TheVariants.{PastSlots, NoEndpoint, HasGuest, SlotTaken, ClosedRegion}}, Beginnings.IsStanding, ByIndex.name_nth, Keeping.{AreGuests, IsHeld, IsKept, IsSlot}, Moves.is_taken, Seatings.{IsEndpointAt, MakesGift, gift_nth, has_index, is_closed_base, is_closed_slot}}, proofs.{Carried.held_carried, Indexed.in_slots, FirstFunctions.{function_of, lawful_there}, MoveSteps.taken_lent, Steps.{GuestAt, kept_nth}, TakenOver.declared_there}}
+use Rattle.monitor.{specs.{declared.{guest.{Held.Held, Guest.Guest}, slots.assign_error.Withheld.TheVariants.{PastSlots, NoEndpoint, HasGuest, SlotTaken, ClosedRegion}}, Beginnings.IsStanding, ByIndex.name_nth, Keeping.{AreGuests, IsHeld, IsKept, IsSlot}, Moves.is_taken, Seatings.{IsEndpointAt, MakesGift, gift_nth, has_index, is_closed_base, is_closed_slot}}, proofs.{Carried.held_carried, Indexed.in_slots, FirstFunctions.{function_of, lawful_there}, MoveSteps.taken_lent, Steps.{GuestAt, kept_nth}, TakenOver.declared_there}}
 
 -- ---- the endpoint at a path
 

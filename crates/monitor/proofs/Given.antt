@@ -6,7 +6,7 @@ use Rattle.model_findings.specs.Orderly.{IsStateOfBoard}
 use Rattle.model_guests.specs.{Slots.reset_function, Text.Text, World.declared, Guests.{GuestNow, GuestsNow, guest_named, with_guest, with_slot_filled}, WorldNow.{WorldNow, board_state}}
 use Rattle.model_handoff.{specs.{Kept.IsLawfulOver, ViewLaws.with_seated_reset, Giving.{Gift, with_reset_at, give_fault, after_give, given}}, proofs.{Keeping.keeps_board, Regions.state_stays, Alike.IsAlike, Giving.{CanGive, can_give, given_is, is_alike, board_after_gift, lawful_after_gift, shown_after_gift}, GivenSeats.below}}
 use Rattle.host_bridge.specs.{ByIndex.with_reset_nth, HostState.{HostState, with_functions}}
-use Rattle.monitor.{specs.{declared.{guest.{Held.Held, Guest.Guest}, withheld.Withheld.Withheld}, ByIndex.{name_nth, guest_nth, lone_nth}, Keeping.{AreGuests, IsKept, IsSlot, AreSlots}, Moves.{HasSlot, IsExchanged}, Seatings.{MakesGift, gift_nth}}, proofs.{Carried.guests_carried, Steps.{guests_set, with_named, GuestAt, named, slots_put}, TakenOver.reset_row, TakingSteps.reset_by, Calls.{Leaves, leaves}, Exchanges.{has_nth, items_are, latch_stays}}}
+use Rattle.monitor.{specs.{declared.{guest.{Held.Held, Guest.Guest}, slots.assign_error.Withheld.Withheld}, ByIndex.{name_nth, guest_nth, lone_nth}, Keeping.{AreGuests, IsKept, IsSlot, AreSlots}, Moves.{HasSlot, IsExchanged}, Seatings.{MakesGift, gift_nth}}, proofs.{Carried.guests_carried, Steps.{guests_set, with_named, GuestAt, named, slots_put}, TakenOver.reset_row, TakingSteps.reset_by, Calls.{Leaves, leaves}, Exchanges.{has_nth, items_are, latch_stays}}}
 
 -- what is made in the world that is kept
 pub makes_gift : {w : WorldNow} {h : HostState} {names : List Text} {gs lent : List Guest} → IsKept w h names gs → {p : Path} {i n : ℕ} {r : Result Held Withheld} → lent ≡ gs

@@ -7,7 +7,7 @@ use Rattle.model_registers.specs.{Registers.File, Declarations.Region, OwnCopies
 use Rattle.model_board.specs.{Paths.Path, State.State}
 use Rattle.model_guests.specs.{Slots.slot_at, WorldNow.WorldNow}
 use Rattle.bars.specs.declared.region.BasedRegion.{BasedRegion}
-use Rattle.monitor.{specs.{declared.{guest.{Held.Held, Guest.Guest}, own_registers.OwnRegisters.OwnRegisters}, Keeping.{IsHeld, AreSlots}, ByIndex.{guest_nth, lone_nth}, Queries.IsGuestNth, OwnTold.{own_now, own_told, standing}}, proofs.Steps.{slot_there, slot_empty}}
+use Rattle.monitor.{specs.{declared.{guest.{Held.Held, Guest.Guest}, queries.own_registers.OwnRegisters.OwnRegisters}, Keeping.{IsHeld, AreSlots}, ByIndex.{guest_nth, lone_nth}, Queries.IsGuestNth, OwnTold.{own_now, own_told, standing}}, proofs.Steps.{slot_there, slot_empty}}
 use Rattle.bars.specs.Slots as bars
 
 -- ---- six registers

@@ -6,7 +6,7 @@ use Rattle.lists.specs.Elements.{first_of_two}
 use Rattle.paths.specs.BusAddresses.{bus_address_of}
 use Rattle.bridge_forward.specs.ByIndex.{ranges_told}
 use Rattle.findings.specs.Identities.{identity_told}
-use Rattle.monitor.specs.{declared.{guest.Guest.Guest, seat.Seat.Seat, functions.FunctionNow.FunctionNow}, InSlots.is_at}
+use Rattle.monitor.specs.{declared.{guest.Guest.Guest, slots.assignment.Seat.Seat, queries.functions.FunctionNow.FunctionNow}, InSlots.is_at}
 use Rattle.model_handoff.specs.Functions as model
 
 abbrev pub seat_named : Seat → model.Seat

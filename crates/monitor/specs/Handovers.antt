@@ -12,7 +12,7 @@ use Rattle.model_guests.specs.{Text.Text, World.World}
 use Rattle.model_handoff.specs.Regions.{HandoffFault, in_disorder, closed_region, first_fault}
 use Rattle.findings.specs.Findings.{problem_of}
 use Rattle.host_bridge.specs.HostState.{HostState}
-use Rattle.monitor.specs.declared.handover.HandoverFault.{HandoverFault, TheVariants.{NotInOrder, Closed, Memory}}
+use Rattle.monitor.specs.declared.handover.fault.HandoverFault.{HandoverFault, TheVariants.{NotInOrder, Closed, Memory}}
 
 -- of one function, if it is given
 abbrev pub closed_if_given : List Path → RoutingRow → Option PlacedRegion

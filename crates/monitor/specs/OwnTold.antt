@@ -5,7 +5,7 @@
 use Rattle.std.specs.Prelude.{ℕ, map}
 use Rattle.bars.specs.{declared.region.BasedRegion.BasedRegion, Slots.bases_from}
 use Rattle.model_registers.specs.{Registers.File, OwnCopies.OwnCopies, Decoding.{Function, base, base_address, command_word}}
-use Rattle.monitor.specs.declared.own_registers.OwnRegisters.{OwnRegisters}
+use Rattle.monitor.specs.declared.queries.own_registers.OwnRegisters.{OwnRegisters}
 
 abbrev pub own_now : Function → OwnCopies
 own_now f = record { command = command_word f.file; bases = map (base_address f.file) f.decl.regions }

@@ -6,7 +6,7 @@ use Rattle.bars.specs.Kinds.{named_space}
 use Rattle.headers.specs.Places.{place_of}
 use Rattle.model_registers.specs.OwnCopies.{IsLawfulOwn}
 use Rattle.model_guests.specs.{Slots.Landing, Guests.lone_of, WorldNow.WorldNow}
-use Rattle.monitor.specs.{declared.{guest.{Held.Held, Guest.Guest}, regions.GuestRegion.GuestRegion, locating.Hit.Hit}, Keeping.AreSlots, ByIndex.{guest_nth, name_nth, lone_nth}}
+use Rattle.monitor.specs.{declared.{guest.{Held.Held, Guest.Guest}, queries.regions.GuestRegion.GuestRegion, queries.locate.Hit.Hit}, Keeping.AreSlots, ByIndex.{guest_nth, name_nth, lone_nth}}
 use Rattle.model_handoff.specs.GuestRegions as model
 
 pub record IsGuestNth (w : WorldNow) (i : ℕ) (g : Guest) : Type 0 where

@@ -13,7 +13,7 @@ use Rattle.model_registers.specs.{Declarations.Endpoint, EndpointTable.BaseAddre
 use Rattle.model_board.specs.{Paths.Path, Board.{endpoint}, AtReset.board_at, Ports.file_at, State.{State}}
 use Rattle.model_guests.specs.{Slots.reset_function, World.declared, WorldNow.WorldNow}
 use Rattle.model_handoff.specs.Giving.{Gift, give_fault}
-use Rattle.monitor.specs.{declared.{guest.{Held.Held, Guest.Guest}, withheld.Withheld.{Withheld, TheVariants.{PastSlots, NoEndpoint, HasGuest, SlotTaken, ClosedRegion}}}, ByIndex.name_nth, InSlots.is_at, Keeping.IsSlot}
+use Rattle.monitor.specs.{declared.{guest.{Held.Held, Guest.Guest}, slots.assign_error.Withheld.{Withheld, TheVariants.{PastSlots, NoEndpoint, HasGuest, SlotTaken, ClosedRegion}}}, ByIndex.name_nth, InSlots.is_at, Keeping.IsSlot}
 
 abbrev pub gift_nth : WorldNow → Path → ℕ → ℕ → Gift
 gift_nth w p i n = record { path = p; to = name_nth w i; slot = n }

@@ -10,13 +10,13 @@ ghost use Rattle.accesses.specs.{Accesses.{access_of, host_access_of, op_of, par
 ghost use Rattle.monitor.specs.{Views.texts, ByIndex.{name_nth, lone_nth}, Counts.{after_access_nth, after_event_nth}, Reaches.target_in, Moves.move_nth, Queries.IsGuestNth};
 ghost use Rattle.model_guests.specs.Accesses as guests;
 
-use crate::config::{function_in, held_in, number_read, write_in};
-use crate::counting::tells_regions;
+use crate::access::change_count::tells_regions;
+use crate::access::config::{function_in, held_in, number_read, write_in};
+use crate::access::config_address::write_latch;
+use crate::access::decode::{landing, located};
+use crate::device::raise::{has_place, raise_on_board};
 use crate::guest::Guest;
-use crate::landing::{landing, located};
-use crate::latch::write_latch;
-use crate::moving::{hand_over, move_fault};
-use crate::raising::{has_place, raise_on_board};
+use crate::slots::moving::{hand_over, move_fault};
 use accesses::{Access, At, HostAccess, HostAt, Names, Op, Place, Refusal, Reply, nothing};
 use bars::Space;
 use config_bytes::{enables_of, into_lanes, lowered};

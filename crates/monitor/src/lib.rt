@@ -16,38 +16,15 @@
 //! ```
 #![tactic(auto)]
 
-mod auditing;
-mod beginning;
-mod closed;
-mod config;
-mod counting;
+mod access;
 mod device;
 mod engine;
-mod functions;
-mod gift;
-mod giving;
 mod guest;
 mod handover;
-mod landing;
-mod latch;
-mod loading;
-mod loads;
-mod locating;
 mod monitor;
-mod moving;
-mod own_registers;
-mod raising;
-mod region_byte;
-mod regions;
-mod reset;
-mod restarting;
-mod saving;
-mod seat;
-mod seating;
-mod standing;
-mod stopping;
-mod taking;
-mod withheld;
+mod queries;
+mod saved;
+mod slots;
 
 pub use accesses::{
     Access, At, Bdf, GuestDecl, HostAccess, HostAt, Names, Op, Place, Refusal, Reply,
@@ -55,13 +32,13 @@ pub use accesses::{
 pub use bars::Space;
 pub use engine::Engine;
 pub use findings::{Lack, Problem};
-pub use functions::FunctionNow;
-pub use handover::{HandoverFault, Refused, handover_words};
+pub use handover::fault::{HandoverFault, Refused, handover_words};
 pub use images::ImageFault;
-pub use locating::Hit;
 pub use monitor::Monitor;
-pub use own_registers::OwnRegisters;
-pub use regions::GuestRegion;
-pub use seat::Seat;
-pub use stopping::ImageStop;
-pub use withheld::Withheld;
+pub use queries::functions::FunctionNow;
+pub use queries::locate::Hit;
+pub use queries::own_registers::OwnRegisters;
+pub use queries::regions::GuestRegion;
+pub use saved::mismatch::ImageStop;
+pub use slots::assign_error::Withheld;
+pub use slots::assignment::Seat;

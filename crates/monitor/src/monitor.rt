@@ -7,7 +7,7 @@ ghost use Rattle.bus_scan.specs.declared.fault.Fault.TheVariants.{Memory};
 ghost use Rattle.monitor.specs.{Beginnings.{world_on, world_of}, Handovers.IsFaultOf};
 
 use crate::engine::Engine;
-use crate::handover::{HandoverFault, Refused, first_fault};
+use crate::handover::fault::{HandoverFault, Refused, first_fault};
 use accesses::GuestDecl;
 use bus_scan::Fault;
 use claim_table::Table;

@@ -10,7 +10,7 @@ use Rattle.model_board.specs.AtReset.{board_at}
 use Rattle.model_guests.specs.WorldNow.{board_state, names_now}
 use Rattle.model_handoff.specs.Changes.{BeginsIn, MachineNow}
 use Rattle.model_lines.specs.Sessions.{DrivenNow, SessionNow, at_reset}
-use Rattle.monitor.specs.{declared.handover.HandoverFault.HandoverFault, Beginnings.with_no_slots, Handovers.number_of}
+use Rattle.monitor.specs.{declared.handover.fault.HandoverFault.HandoverFault, Beginnings.with_no_slots, Handovers.number_of}
 use Rattle.session.specs.{Boards.IsRefusalOf, Files.{BreaksRule, IsAtFirst}, Stages.{board_in, machine_in}}
 
 pub record SetsUp (o : Option DrivenNow) (before after : Option SessionNow) (n : ℕ) : Type 0 where

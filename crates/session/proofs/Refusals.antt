@@ -4,7 +4,7 @@
 use Rattle.std.{proofs.Common.{◌≡◌, true, false, [], ◌++◌, append-nil, arith}, specs.Prelude.{IfSome, IsSome}}
 use Rattle.model_guests.specs.Text.{Text, ended}
 use Rattle.model_lines.specs.Sessions.{refused_line, handover_output}
-use Rattle.monitor.specs.{declared.handover.HandoverFault.{HandoverFault, TheVariants.{NotInOrder, Closed, Memory}}, Handovers.{number_of, words_of, handoff_fault}}
+use Rattle.monitor.specs.{declared.handover.fault.HandoverFault.{HandoverFault, TheVariants.{NotInOrder, Closed, Memory}}, Handovers.{number_of, words_of, handoff_fault}}
 use Rattle.session.specs.Tellings.{cause_text}
 
 abbrev refusal : HandoverFault → Text

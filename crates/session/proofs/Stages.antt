@@ -6,7 +6,7 @@ use Rattle.std.{proofs.Common.{◌≡◌, false, true, None, sym, ap, ◌∙◌,
 use Rattle.model_guests.specs.{Text.Text, Guests.GuestNow, WorldNow.WorldNow}
 use Rattle.model_handoff.{specs.{Changes.{MachineNow, BeginsIn}, Regions.first_fault}, proofs.Served.fault_decides}
 use Rattle.model_lines.{specs.{GivenLaws.IsGiven, Requests.{for_guests, request}, Sessions.{DrivenNow, SessionNow, driven, given, handover_output, told_output, after_session_line, session_output}, FirmwareLines.{line_output, meaning}}, proofs.SessionLines.handover_leaves}
-use Rattle.monitor.specs.{declared.handover.HandoverFault.{HandoverFault, TheVariants.{NotInOrder, Closed, Memory}}, Handovers.{number_of, handoff_fault}}
+use Rattle.monitor.specs.{declared.handover.fault.HandoverFault.{HandoverFault, TheVariants.{NotInOrder, Closed, Memory}}, Handovers.{number_of, handoff_fault}}
 use Rattle.session.specs.{Boards.{IsHandedOverAs, IsRefusalOf}, Refusals.{handover_refusal, refusal_by, refusal_in, request_refusal}, Stages.{board_in, IsDriven}}
 
 machine_is : (m : MachineNow) (w : WorldNow) → m.world ≡ w → m.counts ≡ map (λ (g : GuestNow). 0) m.world.guests

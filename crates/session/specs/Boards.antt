@@ -8,7 +8,7 @@ use Rattle.model_guests.specs.World.{Guest, IsLawfulWorld}
 use Rattle.model_handoff.specs.{Handoffs.IsHandoff, Regions.first_fault}
 use Rattle.model_lines.specs.{GivenLaws.IsGiven, Sessions.{DrivenNow, SessionNow, given, at_reset, handed_over}}
 use Rattle.host_bridge.specs.HostState.{HostState}
-use Rattle.monitor.specs.{Beginnings.world_on, Handovers.handoff_fault, declared.handover.HandoverFault.HandoverFault}
+use Rattle.monitor.specs.{Beginnings.world_on, Handovers.handoff_fault, declared.handover.fault.HandoverFault.HandoverFault}
 
 abbrev pub board_now : HostState → List Guest → Bool → DrivenNow
 board_now h guests written = record { world = world_on h guests; state = h.state; written = written }

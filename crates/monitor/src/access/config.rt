@@ -1,0 +1,102 @@
+//! Configuration accesses by guests.
+ghost use Rattle.std.specs.Prelude.{◌≡◌, ◌%◌, IfErr, IfNone, IfOk, IfSome, Some, None, slice_get, unwrap_or};
+ghost use Rattle.model_registers.specs.{Registers.{config, number}, ByteEnables.IsWidth};
+ghost use Rattle.accesses.specs.Refusals.{number_of};
+ghost use Rattle.monitor.specs.{InSlots.{IsInSlot, IsSlotFault}, Counts.{counts_of, counted_nth}, Configs.{IsSeen, IsHolding, WritesOwn, HoldsAt, WritesGuest}};
+
+use crate::access::change_count::counted;
+use crate::guest::{Guest, Held};
+use accesses::Refusal;
+use config_bytes::{enables_of, lowered};
+use host_bridge::Host;
+
+/// Reads 1, 2 or 4 bytes at a configuration offset of a function as its guest sees it: Command,
+/// Header Type and the base address registers from the guest's copies, and all other bytes from the
+/// board.
+pub(crate) fn number_read(host: &mut Host, held: &Held, off: u8, width: u64) -> u32
+    requires seen { IsSeen host.old held.now }
+    requires width { IsWidth width }
+    requires aligned { off % width ≡ 0 }
+    ensures value { (seen : IsSeen host.old held.now) →
+        result ≡ number seen.file (config off) width }
+    ensures after { host.new ≡ host.old }
+{
+    let from = u64::from(off);
+    let word = off / 4 * 4;
+    let (own, others) = held
+        .own
+        .config_read(u16::from(word), enables_of(from, width));
+    let rest = host.config_read_nth(held.index, word, others);
+    lowered(from, own + rest)
+}
+
+/// Returns the function in a slot.
+pub(crate) fn held_in(slots: &[Option<Held>], slot: usize) -> Option<&Held>
+    ensures empty { IfNone result (unwrap_or (slice_get slots.now slot) None ≡ None) }
+    ensures there { IfSome result (λ r. slice_get slots.now slot ≡ Some (Some r.now)) }
+{
+    match slots.get(slot) {
+        Some(Some(held)) => Some(held),
+        _ => None,
+    }
+}
+
+/// Returns the function in a slot, or the reason why there is none: 303 for a slot above 31, 601
+/// for an empty slot.
+pub(crate) fn function_in(slots: &[Option<Held>], slot: u64) -> Result<&Held, Refusal>
+    ensures there { IfOk result (λ r. IsInSlot slots.now slot r.now) }
+    ensures refused { IfErr result (λ why. IsSlotFault slots.now slot (number_of why)) }
+{
+    if slot > 31 {
+        return Err(Refusal::Range);
+    }
+    match held_in(slots, slot as usize) {
+        Some(held) => Ok(held),
+        None => Err(Refusal::EmptySlot),
+    }
+}
+
+/// Writes the guest's copies among the enabled bytes of a word, and returns the function's index on
+/// the host and the byte enables to forward to the board.
+pub(crate) fn write_own(
+    slots: &mut [Option<Held>],
+    slot: usize,
+    word: u8,
+    enables: u8,
+    value: u32,
+) -> (usize, u8)
+    requires holds { IsHolding slots.old slot }
+    requires aligned { word % 4 ≡ 0 }
+    ensures { (holds : IsHolding slots.old slot) →
+        WritesOwn slots.old slot holds word enables value slots.new result }
+{
+    match &mut slots[slot] {
+        Some(held) => {
+            let others = held.own.config_write(u16::from(word), enables, value);
+            (held.index, others)
+        }
+        None => unreachable!(),
+    }
+}
+
+/// Writes the copies in a slot of a guest, as `write_own` does. Increments the guest's change count
+/// if `changes` is set.
+pub(crate) fn write_in(
+    guests: &mut [Guest],
+    guest: usize,
+    slot: usize,
+    word: u8,
+    enables: u8,
+    value: u32,
+    changes: bool,
+) -> (usize, u8)
+    requires holds { HoldsAt guests.old guest slot }
+    requires aligned { word % 4 ≡ 0 }
+    ensures written { (holds : HoldsAt guests.old guest slot)
+        → WritesGuest guests.old guest slot holds word enables value guests.new result }
+    ensures counts { counts_of guests.new ≡ counted_nth guest changes (counts_of guests.old) }
+{
+    let guest = &mut guests[guest];
+    guest.changed = counted(guest.changed, changes);
+    write_own(&mut guest.slots, slot, word, enables, value)
+}

@@ -1,0 +1,45 @@
+//! The decoding of guest addresses.
+ghost use Rattle.std.specs.Prelude.{◌≡◌, List, Option, IfSome, option_map};
+ghost use Rattle.model_board.specs.{Paths.Path, State.State};
+ghost use Rattle.model_guests.specs.Slots.{Slots, landing_from};
+ghost use Rattle.bars.specs.Kinds.{named_space};
+ghost use Rattle.monitor.specs.{Configs.IsHolding, Keeping.AreSlots, Landings.landing_of, Reaches.LandsIn};
+
+use crate::access::config::held_in;
+use crate::guest::Held;
+use bars::Space;
+use host_bridge::Located;
+
+/// Returns the first region that decodes an address according to the guest's own registers, by slot
+/// and then by base address register: the slot, the register and the offset in the region.
+pub(crate) fn landing(slots: &[Option<Held>], space: Space, addr: u64) -> Option<(usize, u8, u64)>
+    ensures landing { (s : State) (qs : List (Option Path)) (fs : Slots)
+        → AreSlots s qs fs slots.now →
+        option_map landing_of result ≡ landing_from 0 (named_space space) addr fs }
+    ensures there { IfSome result (λ l. LandsIn slots.now (named_space space) addr l) }
+{
+    for slot in 0..slots.len() {
+        if let Some(held) = held_in(slots, slot) {
+            if let Some((region, offset)) = held.own.decode(space, addr) {
+                return Some((slot, region, offset));
+            }
+        }
+    }
+    None
+}
+
+/// Returns the location on the board of an offset in a region of the function in a slot.
+pub(crate) fn located(slots: &[Option<Held>], slot: usize, region: u8, offset: u64) -> Located
+    requires { IsHolding slots.now slot }
+    ensures { (holds : IsHolding slots.now slot) →
+        result ≡ record { index = holds.held.index; region = region; offset = offset } }
+{
+    let Some(held) = &slots[slot] else {
+        unreachable!()
+    };
+    Located {
+        index: held.index,
+        region,
+        offset,
+    }
+}

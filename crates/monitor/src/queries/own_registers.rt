@@ -1,0 +1,119 @@
+//! The register values that a guest has to itself: its CONFIG_ADDRESS, and its copies for the
+//! function in each slot.
+ghost use Rattle.std.specs.Prelude.{◌≡◌, ◌<◌, ℕ, length, option_map};
+ghost use Rattle.model_registers.specs.{Registers.File, OwnCopies.{HoldsOwn, IsLawfulOwn}, Decoding.{Function, command_word}};
+ghost use Rattle.model_board.specs.{Paths.Path, State.State};
+ghost use Rattle.model_guests.specs.{Slots.slot_at, Guests.lone_of, WorldNow.WorldNow};
+ghost use Rattle.monitor.specs.{Keeping.IsHeld, ByIndex.{name_nth, lone_nth}, Queries.IsGuestNth, OwnTold.{own_now, own_told, standing}};
+ghost use Rattle.bars.specs.Slots as bars;
+
+use crate::access::config::held_in;
+use crate::engine::Engine;
+use crate::guest::{Guest, Held};
+use crate::queries::regions::base_of;
+use bars::BasedRegion;
+use guest_functions::Latch;
+use host_bridge::Route;
+
+/// Command and the base address registers of a function, from the guest's copies.
+#[derive(Clone, Copy, Debug)]
+pub struct OwnRegisters {
+    pub command: u16,
+    /// The regions with their bases, each at the index of its first base address register.
+    pub regions: [Option<BasedRegion>; 6],
+}
+
+/// Returns the guest's Command.
+fn command_of(held: &Held) -> u16
+    ensures { (file : File) → HoldsOwn file held.now.own → result ≡ command_word file }
+{
+    let (command, _) = held.own.config_read(4, 0b0011);
+    command as u16
+}
+
+/// Returns the region that begins at a base address register, with the base from the guest's
+/// copies.
+fn region_held(held: &Held, bar: usize) -> Option<BasedRegion>
+    ensures told { (s : State) (p : Path) (f : Function) → IsHeld s p f held.now
+        → IsLawfulOwn held.now.own →
+        result ≡ option_map (standing f.file bar) (bars.slot_at held.now.placed bar) }
+    ensures six { length held.now.placed ≡ 6 }
+{
+    match held.placed.get(bar) {
+        Some(Some(region)) => {
+            let kind = region.decl.kind();
+            Some(BasedRegion {
+                decl: region.decl,
+                base: base_of(held, bar as u16, kind),
+            })
+        }
+        Some(None) => None,
+        None => None,
+    }
+}
+
+/// Returns the guest's copies of a function's registers.
+fn registers_of(held: &Held) -> OwnRegisters
+    ensures { (s : State) (p : Path) (f : Function) → IsHeld s p f held.now
+        → IsLawfulOwn held.now.own → own_told result ≡ own_now f }
+{
+    OwnRegisters {
+        command: command_of(held),
+        regions: [
+            region_held(held, 0),
+            region_held(held, 1),
+            region_held(held, 2),
+            region_held(held, 3),
+            region_held(held, 4),
+            region_held(held, 5),
+        ],
+    }
+}
+
+/// Returns the guest's copies for the function in a slot, or None if the slot is empty.
+fn registers_in(guest: &Guest, slot: usize) -> Option<OwnRegisters>
+    ensures { (w : WorldNow) (i : ℕ) → IsGuestNth w i guest.now
+        → option_map own_told result ≡ option_map own_now (slot_at (lone_nth w i).slots slot) }
+{
+    match held_in(&guest.slots, slot) {
+        Some(held) => Some(registers_of(held)),
+        None => None,
+    }
+}
+
+/// Returns the number of slots of a guest.
+fn slot_count(guest: &Guest) -> usize
+    ensures { (w : WorldNow) (i : ℕ) → IsGuestNth w i guest.now
+        → result ≡ length (lone_nth w i).slots }
+{
+    guest.slots.len()
+}
+
+impl<R: Route> Engine<R> {
+    /// Returns a guest's CONFIG_ADDRESS.
+    pub fn latch(&self, guest: usize) -> Latch
+        requires { guest < length self.now.world.guests }
+        ensures { result ≡ (lone_of self.now.world.guests (name_nth self.now.world guest)).latch }
+    {
+        self.guest(guest).latch
+    }
+
+    /// Returns the number of slots of a guest.
+    pub fn slots(&self, guest: usize) -> usize
+        requires { guest < length self.now.world.guests }
+        ensures { result
+            ≡ length (lone_of self.now.world.guests (name_nth self.now.world guest)).slots }
+    {
+        slot_count(self.guest(guest))
+    }
+
+    /// Returns the guest's Command and base address registers for the function in a slot, or None
+    /// for an empty slot and past the last slot. Allocates no memory.
+    pub fn own_registers(&self, guest: usize, slot: usize) -> Option<OwnRegisters>
+        requires { guest < length self.now.world.guests }
+        ensures { let g = lone_of self.now.world.guests (name_nth self.now.world guest) in
+            option_map own_told result ≡ option_map own_now (slot_at g.slots slot) }
+    {
+        registers_in(self.guest(guest), slot)
+    }
+}

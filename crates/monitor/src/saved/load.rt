@@ -1,0 +1,160 @@
+//! Loading of a guest from saved bytes: its slots in order, and then CONFIG_ADDRESS. No call
+//! allocates memory.
+ghost use Rattle.std.specs.Prelude.{◌≡◌, ◌<◌, List, ℕ, None, Ok, IfSome, IsSome, true, length, map, option_map, take, drop};
+ghost use Rattle.model_guests.specs.{Slots.slot_at, Guests.lone_of};
+ghost use Rattle.model_images.specs.{Images.lone_of_image, ImageBytes.image_of, LoadedBytes.{after_latch, load_fault}, TakenBytes.{le_number, slot_size, taken_image}};
+ghost use Rattle.images.specs.Faults.{number_of};
+ghost use Rattle.monitor.specs.{ByIndex.{lone_nth, name_nth, with_lone_nth}, Counts.{counts_of, counted_nth}, Keeping.IsKept, Moves.HasSlot, Views.slot_shown, Loads.{AreLoadable, CanLoad, IsLoaded, KeepsWorld, Takes, slot_loaded, slots_loaded, value_span}};
+
+use crate::access::config_address::write_latch;
+use crate::engine::Engine;
+use crate::guest::{Guest, Held};
+use crate::saved::load_function::load_function;
+use crate::saved::save::{compare_image, slot_shown};
+use crate::slots::reset_guest::restart;
+use host_bridge::{Host, Route};
+use images::{ImageFault, after_latch, declaration_size, values_size};
+use model_images::saved_guests_are_taken;
+
+/// Returns the bytes after the first `count`, or none if there are fewer.
+fn behind(bytes: &[u8], count: usize) -> &[u8]
+    ensures { result.now ≡ drop count bytes.now }
+{
+    if bytes.len() < count {
+        return &[];
+    }
+    &bytes[count..]
+}
+
+/// Returns the first `count` bytes, or all if there are fewer.
+fn front(bytes: &[u8], count: usize) -> &[u8]
+    ensures { result.now ≡ take count bytes.now }
+{
+    if bytes.len() < count {
+        return bytes;
+    }
+    &bytes[..count]
+}
+
+/// Returns how many bytes of a slot precede its register values, and how many values there are.
+/// Returns None for an empty slot.
+fn value_span(host: &Host, slots: &[Option<Held>], slot: usize) -> Option<(usize, usize)>
+    ensures { let fs = map (slot_shown host.now.state.functions) slots.now in
+        result ≡ option_map value_span (slot_at fs slot) }
+{
+    let (endpoint, _) = slot_shown(host, slots.get(slot)?)?;
+    let decl = endpoint.decl();
+    Some((1 + declaration_size(decl), values_size(decl)))
+}
+
+/// Loads the function in a slot from the bytes at the front, and returns the bytes after the slot.
+/// No change is counted.
+fn load_slot<'a>(
+    host: &mut Host,
+    guests: &mut [Guest],
+    guest: usize,
+    slot: usize,
+    bytes: &'a [u8],
+) -> &'a [u8]
+    requires there { guest < length guests.old }
+    requires can { (k : KeepsWorld host.old guests.old)
+        × CanLoad (slot_at (lone_nth k.world guest).slots slot) bytes.now }
+    ensures kept { (k : KeepsWorld host.old guests.old)
+        → CanLoad (slot_at (lone_nth k.world guest).slots slot) bytes.now
+        → let loaded = slot_loaded slot bytes.now (lone_nth k.world guest) in
+        IsKept (with_lone_nth guest loaded k.world) host.new k.names guests.new }
+    ensures behind { (k : KeepsWorld host.old guests.old)
+        → result.now ≡ drop
+        (slot_size (slot_at (lone_nth k.world guest).slots slot)) bytes.now }
+    ensures counts { counts_of guests.new ≡ counts_of guests.old }
+{
+    let Some((first, count)) = value_span(host, &guests[guest].slots, slot) else {
+        return behind(bytes, 1);
+    };
+    let bytes = behind(bytes, first);
+    load_function(host, guests, guest, slot, front(bytes, count));
+    behind(bytes, count)
+}
+
+/// Loads all slots of a guest.
+fn load_slots(host: &mut Host, guests: &mut [Guest], guest: usize, bytes: &[u8])
+    requires there { guest < length guests.old }
+    requires can { (k : KeepsWorld host.old guests.old)
+        × AreLoadable (lone_nth k.world guest).slots bytes.now }
+    ensures kept { (k : KeepsWorld host.old guests.old)
+        → AreLoadable (lone_nth k.world guest).slots bytes.now
+        → let loaded = slots_loaded bytes.now (lone_nth k.world guest) in
+        IsKept (with_lone_nth guest loaded k.world) host.new k.names guests.new }
+    ensures counts { counts_of guests.new ≡ counts_of guests.old }
+{
+    let mut left = bytes;
+    for slot in 0..32 {
+        left = load_slot(host, guests, guest, slot, left);
+    }
+}
+
+/// Returns the value of CONFIG_ADDRESS at the front of the bytes, or 0 if there is no valid one.
+fn latch_in(bytes: &[u8]) -> u32
+    ensures { (rest : List ℕ) → after_latch bytes.now ≡ Ok rest
+        → result ≡ le_number (take 4 bytes.now) }
+{
+    match after_latch(bytes) {
+        Ok((latch, _)) => latch,
+        Err(_) => 0,
+    }
+}
+
+/// Loads bytes that fit the guest. The guest is reset, which counts as one change, and then its
+/// functions and its CONFIG_ADDRESS are loaded.
+fn load_image(host: &mut Host, guests: &mut [Guest], guest: usize, bytes: &[u8])
+    requires has { HasSlot guests.old guest 31 }
+    requires takes { (k : KeepsWorld host.old guests.old)
+        × Takes (lone_nth k.world guest) bytes.now }
+    ensures kept { (k : KeepsWorld host.old guests.old)
+        → Takes (lone_nth k.world guest) bytes.now
+        → let loaded = lone_of_image (taken_image (lone_nth k.world guest) bytes.now) in
+        IsKept (with_lone_nth guest loaded k.world) host.new k.names guests.new }
+    ensures counts { counts_of guests.new ≡ counted_nth guest true (counts_of guests.old) }
+{
+    restart(host, guests, guest);
+    load_slots(host, guests, guest, behind(bytes, 12));
+    write_latch(guests, guest, latch_in(behind(bytes, 8)));
+}
+
+impl<R: Route> Engine<R> {
+    /// Loads bytes that a comparison has found to fit the guest.
+    fn load_taken(&mut self, guest: usize, bytes: &[u8])
+        requires there { guest < length self.old.world.guests }
+        requires accepted { let g = lone_of self.old.world.guests (name_nth self.old.world guest) in
+            load_fault g bytes.now ≡ None }
+        ensures { IsLoaded self.old (name_nth self.old.world guest) bytes.now self.new }
+    {
+        let _ = &self.names;
+        load_image(&mut self.host, &mut self.guests, guest, bytes);
+    }
+
+    /// Loads a guest from saved bytes. Its functions and its CONFIG_ADDRESS then have the saved
+    /// values. They reach them from reset, by writes that the guest and its devices could make
+    /// themselves. The load counts as one change of the guest, and other guests aren't affected.
+    /// Refuses with 905 if they are not a saved state, 906 if the guest has other functions in its
+    /// slots, or 908 if they have another version of the format. A refusal changes nothing. The
+    /// first byte that doesn't fit decides. Allocates no memory.
+    pub fn load(&mut self, guest: usize, bytes: &[u8]) -> Option<ImageFault>
+        requires { guest < length self.old.world.guests }
+        ensures fault { let g = lone_of self.old.world.guests (name_nth self.old.world guest) in
+            option_map number_of result ≡ load_fault g bytes.now }
+        ensures no_image { IfSome result (λ why.
+            number_of why ≡ 905 → image_of bytes.now ≡ None) }
+        ensures refused { IsSome result → self.new ≡ self.old }
+        ensures loaded { result ≡ None
+            → IsLoaded self.old (name_nth self.old.world guest) bytes.now self.new }
+    {
+        saved_guests_are_taken();
+        let _ = &self.names;
+        if let Err(why) = compare_image(&self.host, &self.guests[guest], bytes) {
+            return Some(why);
+        }
+        self.load_taken(guest, bytes);
+        None
+    }
+}

@@ -1,0 +1,122 @@
+//! The checks before an unassigned function is assigned to a guest.
+ghost use Rattle.std.specs.{Prelude.{◌≡◌, ◌<◌, IfNone, IfSome, List, None, Some, length, slice_get}, List.list_any};
+ghost use Rattle.model_registers.specs.Decoding.{command_word, opens_space};
+ghost use Rattle.model_board.specs.{AtReset.board_at, State.BoardFunction};
+ghost use Rattle.model_findings.specs.Orderly.{IsStateOfBoard};
+ghost use Rattle.model_guests.specs.{Text.Text, World.declared, WorldNow.WorldNow};
+ghost use Rattle.bars.specs.Kinds.{named_space};
+ghost use Rattle.bridge_forward.specs.BasesNow.{bases_of};
+ghost use Rattle.monitor.specs.{Keeping.IsKept, InSlots.is_at, Seatings.{IsEndpointAt, MakesGift, has_index, is_closed_base, is_closed_slot}};
+
+use crate::guest::{Guest, Held};
+use crate::handover::guest_records::held_of;
+use crate::slots::assign_error::Withheld;
+use crate::slots::assignment::is_at;
+use crate::slots::moving::is_taken;
+use bars::{BasedRegion, Space};
+use bridge_forward::RangesNow;
+use host_bridge::Host;
+use paths::Path;
+
+/// Returns the index of the endpoint at a path.
+fn endpoint_at(host: &Host, path: &Path) -> Option<usize>
+    ensures none { IfNone result (declared (board_at host.now.state.functions) path.now ≡ None) }
+    ensures there { IfSome result (λ i. IsEndpointAt host.now.state path.now i) }
+{
+    let Some(index) = host.index_of(path) else {
+        return None;
+    };
+    match host.ranges_nth(index) {
+        Some(RangesNow::Regions(_)) => Some(index),
+        Some(
+            RangesNow::Windows {
+                io: _,
+                mem: _,
+                pref: _,
+            },
+        ) => None,
+        None => None,
+    }
+}
+
+/// Returns whether the function at an index is in a slot of the guest.
+fn has(guest: &Guest, index: usize) -> bool
+    ensures { result ≡ list_any (is_at index) guest.now.slots.items }
+{
+    guest.slots.iter().any(|slot| is_at(slot, index))
+}
+
+/// Returns whether the function at an index is assigned to any guest.
+fn has_guest(guests: &[Guest], index: usize) -> bool
+    ensures { result ≡ has_index index guests.now }
+{
+    guests.iter().any(|guest| has(guest, index))
+}
+
+/// Returns whether Command enables decoding in a space.
+fn opens(command: u32, space: Space) -> bool
+    ensures { result ≡ opens_space command (named_space space) }
+{
+    command & u32::from(space.command_bit()) != 0
+}
+
+/// Returns whether Command disables the region at a base address register.
+fn is_closed(command: u32, region: &Option<BasedRegion>) -> bool
+    ensures { result ≡ is_closed_slot command region.now }
+{
+    match region {
+        Some(region) => !opens(command, region.decl.kind().space()),
+        None => false,
+    }
+}
+
+/// Returns whether Command disables any of these regions.
+fn any_closed(command: u32, placed: &[Option<BasedRegion>; 6]) -> bool
+    ensures { result ≡ list_any (is_closed_slot command) placed.now }
+{
+    placed.iter().any(|region| is_closed(command, region))
+}
+
+/// Returns whether the board's Command disables a region of the function at an index.
+fn has_closed(host: &Host, index: usize) -> bool
+    ensures { (f : BoardFunction) → slice_get host.now.state.functions index ≡ Some f
+        → result ≡ list_any (is_closed_base (command_word f.file)) (bases_of f.decl f.file) }
+{
+    let placed = host.placed_nth(index);
+    match host.number_nth(index, 4, 2) {
+        Some(command) => any_closed(command, &placed),
+        None => false,
+    }
+}
+
+/// Returns the function at a path for a guest's slot, or the reason why it can't be assigned: the
+/// first failed check.
+pub(crate) fn gift(
+    host: &Host,
+    guests: &[Guest],
+    path: &Path,
+    guest: usize,
+    slot: u64,
+) -> Result<Held, Withheld>
+    requires board { IsStateOfBoard host.now.state.functions }
+    requires inside { guest < length guests.now }
+    ensures { (w : WorldNow) (names : List Text) → IsKept w host.now names guests.now
+        → MakesGift w path.now guest slot result }
+{
+    if slot > 31 {
+        return Err(Withheld::PastSlots);
+    }
+    let Some(index) = endpoint_at(host, path) else {
+        return Err(Withheld::NoEndpoint);
+    };
+    if has_guest(guests, index) {
+        return Err(Withheld::HasGuest);
+    }
+    if is_taken(&guests[guest].slots, slot as usize) {
+        return Err(Withheld::SlotTaken);
+    }
+    if has_closed(host, index) {
+        return Err(Withheld::ClosedRegion);
+    }
+    Ok(held_of(host, index))
+}

@@ -1,0 +1,90 @@
+//! Moves of functions between slots.
+ghost use Rattle.std.specs.Prelude.{◌≡◌, ◌<◌, Some, length, option_map, slice_get, slice_set};
+ghost use Rattle.accesses.specs.Refusals.{number_of};
+ghost use Rattle.monitor.specs.{Configs.HoldsAt, Counts.{counts_of, counted_both, counted_nth}, Moves.{is_taken, fault_between, HasSlot, IsExchanged, HandsOver}};
+
+use crate::access::change_count::counted;
+use crate::access::config::held_in;
+use crate::guest::{Guest, Held};
+use accesses::Refusal;
+use host_bridge::Host;
+use std::mem::replace;
+
+/// Returns whether a slot is occupied.
+pub(crate) fn is_taken(slots: &[Option<Held>], slot: usize) -> bool
+    ensures { result ≡ is_taken slots.now slot }
+{
+    held_in(slots, slot).is_some()
+}
+
+/// Returns the first check that a move fails: 303 if a slot is above 31, 601 if the source slot is
+/// empty, 602 if the target slot is occupied.
+pub(crate) fn move_fault(
+    from: &[Option<Held>],
+    slot: u64,
+    to: &[Option<Held>],
+    target: u64,
+) -> Option<Refusal>
+    ensures { option_map number_of result ≡ fault_between from.now slot to.now target }
+{
+    if slot > 31 || target > 31 {
+        Some(Refusal::Range)
+    } else if !is_taken(from, slot as usize) {
+        Some(Refusal::EmptySlot)
+    } else if is_taken(to, target as usize) {
+        Some(Refusal::SlotTaken)
+    } else {
+        None
+    }
+}
+
+/// Replaces the content of a slot, and returns the former content.
+fn exchange(slots: &mut [Option<Held>], slot: usize, held: Option<Held>) -> Option<Held>
+    requires { slot < length slots.old }
+    ensures slots { slots.new ≡ slice_set slots.old slot held }
+    ensures was { slice_get slots.old slot ≡ Some result }
+{
+    replace(&mut slots[slot], held)
+}
+
+/// Replaces the content of a slot of a guest, and returns the former content. Increments the
+/// guest's change count if `changes` is set.
+pub(crate) fn exchange_in(
+    guests: &mut [Guest],
+    guest: usize,
+    slot: usize,
+    held: Option<Held>,
+    changes: bool,
+) -> Option<Held>
+    requires { HasSlot guests.old guest slot }
+    ensures exchanged { IsExchanged guests.old guest slot result held guests.new }
+    ensures counts { counts_of guests.new ≡ counted_nth guest changes (counts_of guests.old) }
+{
+    let guest = &mut guests[guest];
+    guest.changed = counted(guest.changed, changes);
+    exchange(&mut guest.slots, slot, held)
+}
+
+/// Moves a function to another slot and resets it: the guest's copies here, and all other registers
+/// on the board. Increments the change counts of the source guest and the target guest, only once
+/// if they are the same guest.
+pub(crate) fn hand_over(
+    host: &mut Host,
+    guests: &mut [Guest],
+    from: usize,
+    slot: usize,
+    to: usize,
+    target: usize,
+)
+    requires holds { HoldsAt guests.old from slot }
+    requires has { HasSlot guests.old to target }
+    ensures over { HandsOver host.old guests.old from slot to target host.new guests.new }
+    ensures counts { counts_of guests.new ≡ counted_both from to (counts_of guests.old) }
+{
+    let Some(mut held) = exchange_in(guests, from, slot, None, true) else {
+        unreachable!()
+    };
+    held.own.reset();
+    host.reset_nth(held.index);
+    let _empty = exchange_in(guests, to, target, Some(held), to != from);
+}
