@@ -6,7 +6,7 @@ set -u
 cd "$(dirname "$0")/.."
 passed=0
 failed=0
-documents=(*.md docs/*.md docs/lessons/*.md {boards,examples,examples/{audit,kvm,qemu},page,tests}/README.md)
+documents=(*.md docs/*.md docs/lessons/*.md {boards,examples,examples/{audit,kvm,qemu},page,tests}/README.md crates/*/README.md)
 index=docs/DEFINITIONS.md
 room=$(mktemp -d)
 trap 'rm -rf "$room"' EXIT
