@@ -1,7 +1,7 @@
 //! Refusals of accesses, device events and script lines.
 ghost use Rattle.std.specs.Prelude.{◌≡◌, ◌≤◌, ◌++◌, codes, decimal, length};
 ghost use Rattle.model_guests.specs.Replies.{refusal_words};
-ghost use Rattle.accesses.specs.Refusals.{number_of, refusal_numbered};
+ghost use Rattle.accesses.specs.Refusals.{number_of};
 
 /// The reason why an access, a raise, a move, a query or a line is refused. Each has a number and a
 /// message.
@@ -39,23 +39,6 @@ impl Refusal {
             Refusal::LongLine => 403,
             Refusal::EmptySlot => 601,
             Refusal::SlotTaken => 602,
-        }
-    }
-
-    /// Returns the refusal with this number, if there is one.
-    pub fn of_number(number: u32) -> Option<Refusal>
-        ensures { result ≡ refusal_numbered number }
-    {
-        match number {
-            301 => Some(Refusal::Misaligned),
-            302 => Some(Refusal::Width),
-            303 => Some(Refusal::Range),
-            401 => Some(Refusal::BadLine),
-            402 => Some(Refusal::UnknownGuest),
-            403 => Some(Refusal::LongLine),
-            601 => Some(Refusal::EmptySlot),
-            602 => Some(Refusal::SlotTaken),
-            _ => None,
         }
     }
 

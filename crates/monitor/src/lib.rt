@@ -32,7 +32,7 @@ pub use accesses::{
 pub use bars::Space;
 pub use engine::Engine;
 pub use findings::{Lack, Problem};
-pub use handover::fault::{HandoverFault, Refused, handover_words};
+pub use handover::fault::{HandoverFault, Refused};
 pub use images::ImageFault;
 pub use monitor::Monitor;
 pub use queries::functions::FunctionNow;

@@ -21,7 +21,7 @@ pub enum HandoverFault {
 }
 
 /// Returns the message for the number of a fault, or an empty string for any other number.
-pub fn handover_words(number: u32) -> &'static str
+fn handover_words(number: u32) -> &'static str
     ensures { result.now ≡ handover_words number }
 {
     match number {
