@@ -13,7 +13,7 @@ INSTALL := PREFIX='$(PREFIX)' DESTDIR='$(DESTDIR)' LIBDIR='$(LIBDIR)' tools/inst
 BOARD := boards/main.toml
 
 .PHONY: demo list lspci has-lspci has-qemu has-kvm has-firmware has-kit has-peers gate test edits build library install \
-  uninstall dist wheel cargo deb deb-test bench bench-peers hostile fuzz qemu kvm firmware kit corpus peers page browse site outside try try-page quick clean
+  uninstall bindings dist wheel cargo deb deb-test bench bench-peers hostile fuzz qemu kvm firmware kit corpus peers page browse site outside try try-page quick clean
 
 # Proves and builds the program, and runs a script over the demo board.
 demo: build
@@ -39,7 +39,7 @@ pciguest:
 # that the documents print, each growth of memory refused in turn on the main board, and some board files with mistakes; and
 # beside all these the edits, each crate's once it is proved. Parts between brackets run side by side. At the end stands how
 # long each took.
-FIRST := [ tests/documents.sh tests/kit.sh tests/tools.sh tests/bindings.sh tests/bench.sh ]
+FIRST := [ tests/documents.sh tests/kit.sh tests/tools.sh tests/bench.sh ]
 PROGRAM := 'tests/try.sh test_streams' tests/program.sh tests/commands.sh \
   'python3 tests/hostile/growths.py crates/pciguest/out/pciguest --quick --arrays crates/test_arrays/out/test_arrays' \
   'python3 tests/fuzz/mistakes.py crates/pciguest/out/pciguest --files 200'
@@ -72,6 +72,11 @@ build:
 # Leaves the proved library for C as library/libpciguest.a and library/libpciguest.so.0, beside library/pciguest.h.
 library:
 	@$(PROVE) --library
+
+# What is generated from library/pciguest.h: the calls in C, the declarations in Rust and Python, and the manual. Every target and
+# tool that needs these files makes them first.
+bindings:
+	@tools/bindings
 
 # Puts the program, the library for C, Rust and Python, examples, manual, documents and completions below PREFIX, once they
 # are built:
@@ -126,7 +131,7 @@ bench-peers: pciguest
 
 # The proved program as it is used by one who means harm: memory refused, streams that fail, by its calls and as it runs, odd
 # files and great sizes; and the library given images that were changed. It takes cc and Python 3, and some minutes.
-hostile: pciguest library/libpciguest.a
+hostile: bindings pciguest library/libpciguest.a
 	@$(PROVE) test_arrays
 	@python3 tests/hostile/growths.py ./pciguest --arrays crates/test_arrays/out/test_arrays
 	@for part in streams surroundings sizes; do python3 tests/hostile/$$part.py ./pciguest; done
@@ -138,7 +143,7 @@ hostile: pciguest library/libpciguest.a
 # and ten thousand guests and a thousand machines that the library saves and loads elsewhere. make fuzz SEED=.. begins with
 # another board.
 SEED := 1
-fuzz: pciguest library/libpciguest.so.0
+fuzz: bindings pciguest library/libpciguest.so.0
 	@$(PROVE) test_lone_guest
 	@tests/cases.py ./pciguest crates/test_lone_guest/out/test_lone_guest
 	@python3 tests/fuzz/fuzz.py ./pciguest --lone crates/test_lone_guest/out/test_lone_guest --boards 850 --seed $(SEED)
@@ -173,10 +178,10 @@ has-kvm:
 # names where they are missing, and some minutes.
 # make firmware ROM=my.rom OPTIONS=..: a ROM of one's own in that PC, and what it leaves; OPTIONS=--help tells the options.
 ifdef ROM
-firmware: has-firmware library/libpciguest.so.0
+firmware: has-firmware bindings library/libpciguest.so.0
 	@PYTHONPATH=library/python /usr/bin/python3 -B -m pciguest.rom_test $(ROM) $(OPTIONS)
 else
-firmware: has-firmware pciguest library/libpciguest.so.0
+firmware: has-firmware bindings pciguest library/libpciguest.so.0
 	@tests/firmware/firmware.py ./pciguest
 	@tests/firmware/edits.py ./pciguest
 	@tests/firmware/broken.py ./pciguest
@@ -188,19 +193,19 @@ has-firmware:
 # The kit that tests firmware and hypervisors of others, over the library: the enumerator of examples/firmware is right on
 # many boards, and each of its mistakes is found. It takes Debian's packages, which it names where they are missing, and
 # some minutes.
-kit: has-kit library/libpciguest.so.0
+kit: has-kit bindings library/libpciguest.so.0
 	@/usr/bin/python3 -B -m unittest discover -s tests/kit
 	@/usr/bin/python3 -B -m pytest -q -p no:cacheprovider tests/kit/strategies_test.py
 	@tests/kit/mistakes.py
 
 # Transcripts for those who test a virtual PCI of their own: corpus/; and which writes they notice where they are lost.
-corpus: library/libpciguest.so.0
+corpus: bindings library/libpciguest.so.0
 	@tests/kit/corpus.py corpus
 
 # QEMU's devices on random trees: random accesses, each reply of which is as the board's or differs by a rule; and EDK2 and
 # Linux on such trees, with all that is wrong in the registers that each leaves. It takes Debian's packages, and a quarter of
 # an hour.
-peers: has-peers library/libpciguest.so.0
+peers: has-peers bindings library/libpciguest.so.0
 	@tests/kit/peers.py
 	@tests/kit/edk2.py
 	@tests/kit/edk2.py --tight --trees 5
@@ -275,6 +280,7 @@ try:
 	  cd crates/pciguest && rt try -- demo < ../../boards/demo.script; fi
 
 clean:
+	rm -f $(shell tools/bindings --list)
 	rm -rf crates/*/out page/out library/rust/target corpus pciguest pciguest.html library/libpciguest.a library/libpciguest.so.0
 	rm -rf site packages pciguest-*-x86_64-linux.tar.gz pciguest-unproved library/unproved
 	@for example in qemu kvm; do $(MAKE) --no-print-directory -C examples/$$example clean; done

@@ -170,6 +170,7 @@ holds "code of a crate of one's own that is not there" strange_code
 
 # ---- the manual: the numbers of docs/errors.md with their words, but for those that calls alone answer, and the calls of the
 # header
+tools/bindings
 lacking_numbers() {
   sed -n 's/^| \([1-8][0-9]\{2\}\) | `\([^`]*\)` |.*/\1 Ta \2 Ta/p' docs/errors.md | sort -u |
     while read -r row; do grep -qF ".It $row " man/pciguest.1 || echo "man/pciguest.1: $row"; done

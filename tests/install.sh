@@ -104,10 +104,10 @@ fi
 
 # ---- the manual, where something that reads it is there
 if command -v mandoc > /dev/null; then
-  for page in man/*; do holds "$page" mandoc -T lint -W warning "$page"; done
+  for page in man/*.[0-9]; do holds "$page" mandoc -T lint -W warning "$page"; done
 elif command -v man > /dev/null; then
   is_clean() { [ -z "$(man --warnings -E UTF-8 -l -Tutf8 -Z "$1" 2>&1 > /dev/null | tee /dev/stderr)" ]; }
-  for page in man/*; do holds "$page" is_clean "$page"; done
+  for page in man/*.[0-9]; do holds "$page" is_clean "$page"; done
 else
   skips 'the manual' 'no mandoc and no man' mandoc
 fi

@@ -5,6 +5,7 @@ set -u
 cd "$(dirname "$0")/kit"
 python3 -c 'import tomllib' 2> /dev/null ||
   { echo 'skipped: the kit (no Python 3.11: apt-get install python3)'; echo '0 passed, 0 failed'; exit 0; }
+../../tools/bindings
 told=$(python3 -B -m unittest discover 2>&1)
 status=$?
 count=$(sed -n 's/^Ran \([0-9]*\) tests.*/\1/p' <<< "$told")

@@ -13,6 +13,7 @@ board=$top/boards/main.toml
 compile=${CC:-cc}
 [ -x "$program" ] || { echo "no program at $program: make build"; echo '0 passed, 1 failed'; exit 1; }
 command -v "$compile" > /dev/null || { skips 'the library' 'no C compiler' gcc; counted; exit; }
+tools/bindings
 [ -e library/libpciguest.a ] || tools/library || { echo '0 passed, 1 failed'; exit 1; }
 
 cd "$room" || exit 1

@@ -43,8 +43,11 @@ lines and numbers are explained in docs/board-file.md, docs/script-language.md a
 what is proved of the library. This module itself is tested.
 """
 
+try:
+    from ._calls import VERSION
+except ModuleNotFoundError:  # (in a fresh clone)
+    raise ImportError("pciguest/_calls.py is missing: tools/bindings at the top of the repository generates it") from None
 from ._board import Audit, Board, Readiness
-from ._calls import VERSION
 from ._declared import Register
 from ._devices import Device
 from ._differs import DeclaredOtherwise

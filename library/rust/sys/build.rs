@@ -1,5 +1,5 @@
 //! Links libpciguest.a from the folder PCIGUEST_LIBRARY_DIR, or the first of the usual ones that has it. Where there is none,
-//! `cargo doc` and `cargo check` go on.
+//! `cargo doc` and `cargo check` go on. In a clone of the repository, the script also generates the declarations.
 
 use std::env;
 use std::path::{Path, PathBuf};
@@ -14,6 +14,7 @@ fn main() {
     if target("CARGO_CFG_TARGET_OS") != "linux" || target("CARGO_CFG_TARGET_ARCH") != "x86_64" {
         refuse("the library is for Linux on x86-64 alone");
     }
+    declarations();
     let folder = folder();
     let archive = folder.join(ARCHIVE);
     println!("cargo:rerun-if-changed={}", archive.display());
@@ -29,6 +30,18 @@ fn main() {
         Err(error) => refuse(&format!("{}: {error}", folder.display())),
     }
     println!("cargo:rustc-link-lib=static=pciguest");
+}
+
+/// Generates `src/raw.rs` if it is missing, as in a fresh clone. A package contains the file.
+fn declarations() {
+    let here = Path::new(env!("CARGO_MANIFEST_DIR"));
+    let (raw, script) = (here.join("src/raw.rs"), here.join("../../../tools/bindings"));
+    if !raw.is_file() && script.is_file() {
+        let _ = Command::new(script).status();
+    }
+    if !raw.is_file() {
+        refuse("src/raw.rs is missing: tools/bindings in the repository generates it, with Python 3.11");
+    }
 }
 
 /// The folder that is named, or the first that has an archive: that of the crate; that in which `make library` leaves it in the

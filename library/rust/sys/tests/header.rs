@@ -1,5 +1,5 @@
-//! The crate and the library are of the version of the header. What the crate declares is written from there by
-//! `tools/bindings`, which `tests/tools.sh` looks after.
+//! The crate and the library are of the version of the header. `tools/bindings` generates the declarations
+//! from there; `tests/tools.sh` tests it.
 
 const HEADER: &str = include_str!("../../../pciguest.h");
 
