@@ -125,6 +125,8 @@ for kind in "${kinds[@]}"; do
     holds "$kind: the check of $(basename "$file")" sh -c 'cmp wanted.text found.text && cmp wanted.fault found.fault'
   done
 
+  holds "$kind: the rows of refusals are built" build "rows.$kind" "$top/tests/library/refusal_rows.c" "${words[@]}"
+  holds "$kind: the rows of refusals" "./rows.$kind" "$board" "$top/tests/library/refusals.txt"
   { "$program" list --json "$board"; "$program" list "$board"; } > wanted.report
   holds "$kind: what is refused" sh -c "./refusals.$kind '$board' > report"
   holds "$kind: the reports" cmp report wanted.report

@@ -28,36 +28,28 @@ static uint32_t line(struct pciguest_board *board, const char *text, char *reply
     return pciguest_board_run_line(board, text, strlen(text), reply, PCIGUEST_REPLY, written);
 }
 
-/* No call does anything to a board that isn't there. */
+/* The calls that tests/library/refusals.txt lacks do nothing to a board that isn't there. */
 static void without_a_board(void)
 {
     struct pciguest_board none = {0};
     struct pciguest machine = {0};
-    struct pciguest_board_function told = {.is_found = 9};
-    uint32_t value = 7;
     size_t count = 8;
     char reply[PCIGUEST_REPLY] = "unchanged";
 
     IS(sizeof none, 2 * sizeof(void *));
-    IS(pciguest_board_read(&none, PCIGUEST_IO, 0, 0, 0, 0, 1, &value), 901);
-    IS(pciguest_board_write(&none, PCIGUEST_IO, 0, 0, 0, 0, 1, 0), 901);
     IS(line(&none, "host ir 0 1", reply, &count), 901);
     IS(pciguest_board_count(&none, &count), 901);
-    IS(pciguest_board_function(&none, 0, &told), 901);
     IS(pciguest_board_audit(&none, reply, sizeof reply, &count, &count), 901);
     IS(pciguest_board_ready(&none, reply, sizeof reply, &count, &count), 901);
     IS(pciguest_board_audit_json(&none, reply, sizeof reply, &count, &count), 901);
     IS(pciguest_board_ready_json(&none, reply, sizeof reply, &count, &count), 901);
-    IS(pciguest_board_why_json(&none, PCIGUEST_IO, 0, 0, 0, 0, reply, sizeof reply, &count), 901);
     IS(pciguest_set_up(&none, &machine), 901);
     IS(pciguest_board_guests(&none, &machine), 901);
     pciguest_board_free(&none);
     pciguest_board_free(&none);
     IS(none.live, 0);
     IS(machine.live, 0);
-    IS(value, 7);
     IS(count, 8);
-    IS(told.is_found, 9);
     IS(strcmp(reply, "unchanged"), 0);
 }
 
@@ -104,7 +96,7 @@ static void null_pointers(struct pciguest_board *board)
     IS(pciguest_set_up(board, NULL), 902);
 }
 
-/* What is refused, in the order of the checks; none of it is a write, so the board is at reset afterwards. */
+/* What is refused beside tests/library/refusals.txt; none of it is a write, so the board is at reset afterwards. */
 static void refusals(struct pciguest_board *board)
 {
     uint32_t value = 7;
@@ -113,22 +105,9 @@ static void refusals(struct pciguest_board *board)
 
     IS(pciguest_board_new(board, file, length), 903);
     IS(pciguest_board_read(board, 3, 0, 0, 0, 0, 4, &value), 902);
-    IS(pciguest_board_read(board, PCIGUEST_CONFIG, 0, 32, 0, 0, 4, &value), 902);
-    IS(pciguest_board_read(board, PCIGUEST_CONFIG, 0, 0, 8, 0, 4, &value), 902);
-    IS(pciguest_board_read(board, PCIGUEST_CONFIG, 0, 1, 0, 257, 3, &value), 302);
-    IS(pciguest_board_read(board, PCIGUEST_CONFIG, 0, 1, 0, 257, 4, &value), 301);
-    IS(pciguest_board_read(board, PCIGUEST_CONFIG, 0, 1, 0, 256, 4, &value), 303);
     IS(pciguest_board_read(board, PCIGUEST_IO, 0, 32, 8, 1ull << 32, 1, &value), 303);
-    IS(pciguest_board_read(board, PCIGUEST_MEMORY, 0, 0, 0, 0, 8, &value), 302);
     IS(pciguest_board_write(board, 3, 0, 0, 0, 0, 4, 0), 902);
-    IS(pciguest_board_write(board, PCIGUEST_CONFIG, 0, 32, 0, 4, 2, 2), 902);
-    IS(pciguest_board_write(board, PCIGUEST_CONFIG, 0, 1, 0, 5, 3, 2), 302);
-    IS(pciguest_board_write(board, PCIGUEST_CONFIG, 0, 1, 0, 5, 2, 2), 301);
-    IS(pciguest_board_write(board, PCIGUEST_MEMORY, 0, 0, 0, UINT64_MAX, 2, 2), 301);
-    IS(pciguest_board_write(board, PCIGUEST_IO, 0, 0, 0, 1ull << 32, 4, 2), 303);
     IS(pciguest_board_why_json(board, 3, 0, 0, 0, 0, reply, sizeof reply, &count), 902);
-    IS(pciguest_board_why_json(board, PCIGUEST_CONFIG, 0, 32, 0, 0, reply, sizeof reply, &count), 902);
-    IS(pciguest_board_why_json(board, PCIGUEST_CONFIG, 0, 0, 8, 0, reply, sizeof reply, &count), 902);
     IS(pciguest_board_run_line(board, "host ir 0 1", 11, reply, sizeof reply - 1, &count), 902);
     IS(value, 7);
     IS(count, 8);

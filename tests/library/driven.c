@@ -138,7 +138,6 @@ int main(int argc, char **argv)
 {
     static uint8_t file[65536];
     struct pciguest_board board = PCIGUEST_BOARD_INIT;
-    struct pciguest_board_function told;
     FILE *input = argc == 4 ? fopen(argv[1], "rb") : NULL;
     size_t length, count = 0;
 
@@ -150,8 +149,6 @@ int main(int argc, char **argv)
     IS(pciguest_board_new(&board, file, length), 0);
     IS(pciguest_board_count(&board, &count), 0);
     IS(count, FUNCTIONS);
-    IS(pciguest_board_function(&board, FUNCTIONS, &told), 902);
-    IS(pciguest_board_function(&board, SIZE_MAX, &told), 902);
     asking_keeps_config_address(&board);
     for (uint64_t left = strtoull(argv[2], NULL, 10); left > 0; left--) {
         for (size_t index = 0; index < FUNCTIONS; index++)

@@ -188,7 +188,6 @@ static int compare_slots(struct pciguest *machine)
 /* All that is told now. */
 static void ask(struct pciguest *machine)
 {
-    struct pciguest_function none;
     size_t count = 0;
     int given = 0;
 
@@ -204,13 +203,6 @@ static void ask(struct pciguest *machine)
         given += (int)row->is_given;
     }
     IS(compare_slots(machine), (uint64_t)given);
-    memset(&none, 0x5a, sizeof none);
-    IS(pciguest_function(machine, FUNCTIONS, &none), 902);
-    IS(pciguest_function(machine, SIZE_MAX, &none), 902);
-    IS(pciguest_slot(machine, 0, SLOTS, &none), 303);
-    IS(pciguest_slot(machine, GUESTS, 0, &none), 902);
-    for (size_t i = 0; i < sizeof none; i++)
-        IS(((const uint8_t *)&none)[i], 0x5a);
 }
 
 /* An event at random. */

@@ -1,4 +1,4 @@
-"""Firmware on `boards/main.toml`, by calls and by lines, and what is refused."""
+"""Firmware on `boards/main.toml`, by calls and by lines; test_refusal_rows.py has most of what is refused."""
 
 import json
 import random
@@ -85,7 +85,6 @@ class BoardFunctions(Case):
         self.assertEqual(told.function.regions[0], ("memory", 0xC0000000, 0x1000000, True, True))
         self.assertEqual(board.function(1).function.windows.prefetchable, (0xC0000000, 0xC0FFFFFF))
         self.assertFalse(board.function(1).opens_memory)
-        self.refused(902, board.function, 4)
         with self.assertRaises(ValueError):
             board.function(-1)
 
@@ -131,7 +130,6 @@ class Audits(Case):
             self.board.why_json("mem", 0)
         with self.assertRaises(ValueError):
             self.board.why_json("config", bus=256)
-        self.refused(902, self.board.why_json, "config", 0, 0, 32)
 
     def asked(self, chosen):
         """Places to ask about: the words of a line, of the first line of its reply, and of the call."""
@@ -239,14 +237,8 @@ class Guests(Case):
 
 class Refusals(Case):
     def test_accesses(self):
-        space = self.board.config[0, 1, 0]
-        self.refused(302, lambda: space[257:3])
-        self.refused(301, lambda: space[257:4])
-        self.refused(303, lambda: space[256:4])
-        self.refused(902, lambda: self.board.config[0, 32, 0][0:4])
-        self.refused(303, self.board.io.__setitem__, slice(1 << 32, 1), 0)
         with self.assertRaises(ValueError):
-            space[4:2] = 1 << 32
+            self.board.config[0, 1, 0][4:2] = 1 << 32
 
     def test_boards(self):
         self.refused(101, Board, "x")

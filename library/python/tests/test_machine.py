@@ -1,4 +1,4 @@
-"""Each call on `boards/main.toml`, and what is refused."""
+"""Each call on `boards/main.toml`; test_refusal_rows.py has most of what is refused."""
 
 import gc
 import random
@@ -57,8 +57,6 @@ class Guests(Case):
         status[6:2] = 0x8000
         self.assertEqual(status[6:2] & 0x8000, 0)
         self.a.raise_bits(0, 0, 0xFF, region=1)
-        self.refused(303, self.a.raise_bits, 0, 4096, 0xFF, 1)
-        self.refused(601, self.a.raise_bits, 31, 7, 0x80)
         for region in (6, 7, 0xFFFFFFFF):
             self.refused(902, self.a.raise_bits, 0, 7, 0x80, region)
 
@@ -77,9 +75,6 @@ class Guests(Case):
         self.assertEqual((a.changed(), self.b.changed()), (3, 0))
         self.assertFalse(a.region(1, 0).is_open)
         self.assertIsNone(a.locate("memory", 0x2000000010))
-        for slot, register, answer in ((0, 2, 303), (0, 0xFFFFFFFF, 303), (31, 0, 601), (32, 0, 303)):
-            self.refused(answer, a.region, slot, register)
-        self.refused(303, a.locate, "io", 1 << 32)
         with self.assertRaises(ValueError):
             a.locate("config", 0)
         with self.assertRaises(ValueError):
@@ -103,8 +98,6 @@ class Guests(Case):
             "why: I/O 0xcfc: offset 0x0 of 01:00.0 by the latch, 0x80010000\n"
             "why: I/O 0xcfc: 01:00.0 is no slot\n",
         )
-        self.refused(303, a.why, "io", 1 << 32)
-        self.refused(303, a.why, "config", 0, 32)
         with self.assertRaises(ValueError):
             a.why("mem", 0)
 
@@ -120,7 +113,6 @@ class Guests(Case):
                              (f"memory {address:#x}", ("memory", address))):
                 lines = why_lines(guest.why_json(*at), what, latch)
                 self.assertEqual(guest.why(*at), "".join(f"why: {each}\n" for each in lines))
-        self.refused(303, self.a.why_json, "config", 0, 32)
 
     def test_a_function_moves(self):
         self.a.config[0][4:2] = 2
@@ -129,27 +121,18 @@ class Guests(Case):
         self.assertEqual(self.a.config[0][0:4], 0xFFFFFFFF)
         self.assertEqual(self.b.config[5][0:4], 0x00011234)
         self.assertEqual(self.b.config[5][4:2], 0)
-        self.refused(601, self.machine.move, self.a, 0, self.b, 6)
-        self.refused(602, self.machine.move, self.a, 1, self.b, 5)
-        self.refused(303, self.machine.move, self.a, 1, self.b, 32)
         with Machine(MAIN) as other, self.assertRaises(ValueError):
             other.move(self.a, 1, other.guest("b"), 6)
 
     def test_a_function_is_taken_and_given(self):
         machine, a, b = self.machine, self.a, self.b
-        self.refused(602, machine.give, "1.0", b, 5)
         a.config[0][0x3C:1] = 0x5A
         machine.take(a, 0)
         self.assertEqual(a.config[0][0:4], 0xFFFFFFFF)
         self.assertFalse([function for function in machine.functions() if function.path == "1.0"][0].seat)
-        self.refused(601, machine.take, a, 0)
-        self.refused(303, machine.take, a, 32)
         self.refused(602, machine.give, "1.0", a, 1)
         machine.give("1.0", b, 5)
         self.assertEqual((b.config[5][0:4], b.config[5][0x3C:1]), (0x00011234, 0))
-        for path in ("", "2.0", "1.1", "1.0/", "01.0"):
-            self.refused(303, machine.give, path, a, 0)
-        self.refused(303, machine.give, "1.0", a, 32)
         with Machine(MAIN) as other:
             for call in (lambda: other.give("1.0", a, 0), lambda: other.take(b, 5)):
                 with self.assertRaises(ValueError):
@@ -159,11 +142,6 @@ class Guests(Case):
         a = self.a
         a.device_write(0, 7, 0xA5)
         self.assertEqual((a.device_read(0, 7), a.config[0][7:1]), (0xA5, 0xA5))
-        for offset in (0, 4, 5, 8, 0x0E, 0x10, 0x3C, 0x3F, 0x100):
-            self.refused(303, a.device_read, 0, offset)
-            self.refused(303, a.device_write, 0, offset, 1)
-        self.refused(303, a.device_write, 0, 4096, 1, 1)
-        self.refused(601, a.device_read, 31, 0, 1)
         self.refused(902, a.device_read, 0, 0, 6)
         with self.assertRaises(ValueError):
             a.device_write(0, 7, 256)
@@ -175,10 +153,6 @@ class Guests(Case):
         a.device_write(0, 1, 0x0123456789ABCDEF, region=1, width=8)
         self.assertEqual(a.device_read(0, 8, region=1), 0x01)
         self.assertEqual(a.device_read(0, 3, region=1, width=4), 0x456789AB)
-        for offset, width, answer in ((0, 0, 302), (0, 9, 302), (4093, 4, 303), ((1 << 64) - 1, 1, 303)):
-            self.refused(answer, a.device_read, 0, offset, 1, width)
-            self.refused(answer, a.device_write, 0, offset, 0, 1, width)
-        self.refused(303, a.device_write, 0, 7, 0, None, 2)
         self.assertEqual(a.device_read(0, 7), 0x5A)
         for value, width in ((1 << 16, 2), (-1, 4), (0, -1), (1 << 64, 8)):
             with self.assertRaises(ValueError):
@@ -191,10 +165,6 @@ class Guests(Case):
         a.config[0][0x14:4], a.config[0][4:2] = 0x80000000, 3
         a.region_write(0, 1, 1, 0x0123456789ABCDEF, width=8)
         self.assertEqual(a.region_read(0, 1, 1, width=8), a.memory.wide[0x80000001:8])
-        for offset, width, answer in ((0, 0, 302), (0, 9, 302), (4093, 4, 303), ((1 << 64) - 1, 1, 303)):
-            self.refused(answer, a.region_read, 0, 1, offset, width)
-            self.refused(answer, a.region_write, 0, 1, offset, 0, width)
-        self.refused(601, a.region_read, 31, 1, 0)
         self.refused(902, a.region_read, 0, 6, 0)
 
     def test_a_function_is_reset(self):
@@ -203,8 +173,6 @@ class Guests(Case):
         function[0x3C:1] = 0x5A
         self.a.reset(0)
         self.assertEqual((function[0:4], function[4:2], function[0x3C:1], other[4:2]), (0x00011234, 0, 0, 2))
-        self.refused(601, self.a.reset, 31)
-        self.refused(303, self.a.reset, 32)
         with self.assertRaises(ValueError):
             self.a.reset(-1)
 
@@ -216,8 +184,6 @@ class Hosts(Case):
         self.assertEqual(host.config[1, 1, 0][2:2], 0x0004)
         self.assertEqual(host.memory[0x400000000:1], 0xA5)
         self.assertEqual(host.io[0x4000:2], 0xFFFF)
-        self.refused(902, lambda: host.config[0, 32, 0][0:4])
-        self.refused(902, lambda: host.config[0, 0, 8][0:4])
 
     def test_the_host_writes_nothing(self):
         with self.assertRaises(TypeError):
@@ -242,7 +208,6 @@ class BoardFunctions(Case):
         self.assertEqual(bridge.windows.io, (0x1000, 0x1FFF))
         self.assertEqual(bridge.windows.prefetchable, (0x400000000, 0x400FFFFFF))
         self.assertEqual(bridge.regions, (None,) * 6)
-        self.refused(902, machine.function, 4)
 
     def test_a_function_by_its_slot(self):
         a, b = self.a, self.b
@@ -250,8 +215,6 @@ class BoardFunctions(Case):
         moved = b.function(7)
         self.assertEqual((moved.path, moved.seat), ("2.0/1.0", (1, 7)))
         self.assertEqual(moved, self.machine.function(3))
-        self.refused(601, a.function, 1)
-        self.refused(303, a.function, 32)
         with self.assertRaises(ValueError):
             a.function(-1)
         with self.assertRaises(ValueError):
@@ -275,12 +238,6 @@ class Refusals(Case):
         a = self.a
         refusal = self.refused(301, lambda: a.memory[0xD0000001:4])
         self.assertEqual((refusal.words, str(refusal)), ("misaligned", "301 misaligned"))
-        self.refused(302, lambda: a.memory[0xD0000001:3])
-        self.refused(303, lambda: a.config[32][0:4])
-        self.refused(303, lambda: a.config[0][256:4])
-        self.refused(303, a.io.__setitem__, slice(1 << 32, 1), 0)
-        self.refused(902, self.machine.guest, "nobody")
-        self.refused(902, self.machine.guest, "")
 
     def test_boards(self):
         self.assertTrue(str(self.refused(101, Machine, "x")).startswith("101 not TOML\nboard.toml:1: refused"))

@@ -1,4 +1,4 @@
-//! Each call on `boards/main.toml`, and what is refused.
+//! Each call on `boards/main.toml`. `refusal_rows.rs` has most of what is refused.
 
 use pciguest::{
     At, Bar, Error, Guest, Hit, HostAt, Interrupt, Machine, Part, Places, Ranges, Space, Window,
@@ -8,15 +8,6 @@ const BOARD: &str = include_str!("../../../boards/main.toml");
 
 fn config(slot: u64, offset: u64) -> At {
     At::Config { slot, offset }
-}
-
-fn on_bus_0(device: u8, function: u8, offset: u64) -> HostAt {
-    HostAt::Config {
-        bus: 0,
-        device,
-        function,
-        offset,
-    }
 }
 
 /// The number by which a call is refused.
@@ -70,9 +61,6 @@ fn the_guests_have_names() -> Result<(), Error> {
     assert_eq!(machine.guests()?, ["a", "b"]);
     let b = machine.guest("b")?;
     assert_eq!(machine.guest_name(b)?, "b");
-    for index in [2, usize::MAX] {
-        assert_eq!(number(machine.guest_name(Guest::of_index(index))), 902);
-    }
     Ok(())
 }
 
@@ -89,21 +77,6 @@ fn a_device_has_wide_registers() -> Result<(), Error> {
     assert_eq!(
         machine.device_read_wide(a, 0, region, 0, 8)?,
         (0x0123_4567_89ab_cdef << 8) | u64::from(machine.device_read(a, 0, region, 0)?)
-    );
-    for (offset, width, answer) in [(0, 0, 302), (0, 9, 302), (4093, 4, 303), (u64::MAX, 1, 303)] {
-        assert_eq!(
-            number(machine.device_read_wide(a, 0, region, offset, width)),
-            answer
-        );
-        assert_eq!(
-            number(machine.device_write_wide(a, 0, region, offset, width, 0)),
-            answer
-        );
-    }
-    assert_eq!(machine.device_read(a, 0, Part::Config, 7)?, 0x5a);
-    assert_eq!(
-        number(machine.device_write_wide(a, 0, Part::Config, 7, 2, 0)),
-        303
     );
     assert_eq!(machine.device_read(a, 0, Part::Config, 7)?, 0x5a);
     Ok(())
@@ -123,13 +96,6 @@ fn a_region_is_reached_wherever_it_stands() -> Result<(), Error> {
     machine.region_write(a, 0, 1, 1, 8, 0x0123_4567_89ab_cdef)?;
     let by_address = machine.read_wide(a, place, 8)?;
     assert_eq!(machine.region_read(a, 0, 1, 1, 8)?, by_address);
-    for (offset, width, answer) in [(0, 0, 302), (0, 9, 302), (4093, 4, 303), (u64::MAX, 1, 303)] {
-        let read = machine.region_read(a, 0, 1, offset, width);
-        assert_eq!(number(read), answer);
-        let written = machine.region_write(a, 0, 1, offset, width, 0);
-        assert_eq!(number(written), answer);
-    }
-    assert_eq!(number(machine.region_read(a, 31, 1, 0, 1)), 601);
     assert_eq!(number(machine.region_read(a, 0, 6, 0, 1)), 902);
     Ok(())
 }
@@ -146,14 +112,14 @@ fn a_guest_finds_its_function_by_ports() -> Result<(), Error> {
 #[test]
 fn the_host_sees_the_board() -> Result<(), Error> {
     let mut machine = Machine::new(BOARD)?;
-    assert_eq!(machine.host_read(on_bus_0(2, 0, 0), 4)?, 0x0002_1234);
-    let behind = HostAt::Config {
-        bus: 1,
-        device: 1,
+    let at = |bus, device, offset| HostAt::Config {
+        bus,
+        device,
         function: 0,
-        offset: 2,
+        offset,
     };
-    assert_eq!(machine.host_read(behind, 2)?, 0x0004);
+    assert_eq!(machine.host_read(at(0, 2, 0), 4)?, 0x0002_1234);
+    assert_eq!(machine.host_read(at(1, 1, 2), 2)?, 0x0004);
     let cell = HostAt::Memory {
         address: 0x4_0000_0000,
     };
@@ -171,11 +137,6 @@ fn a_device_raises_a_bit() -> Result<(), Error> {
     machine.write(a, config(0, 6), 2, 0x8000)?;
     assert_eq!(machine.read(a, config(0, 6), 2)? & 0x8000, 0);
     machine.raise(a, 0, Part::Region(1), 0, 0xff)?;
-    assert_eq!(
-        number(machine.raise(a, 0, Part::Region(1), 4096, 0xff)),
-        303
-    );
-    assert_eq!(number(machine.raise(a, 31, Part::Config, 7, 0x80)), 601);
     for register in [6, 7, 255] {
         assert_eq!(
             number(machine.raise(a, 0, Part::Region(register), 0, 1)),
@@ -224,11 +185,6 @@ fn regions_stand_where_their_guest_put_them() -> Result<(), Error> {
     machine.reset(a, 1)?;
     assert_eq!((machine.changed(a)?, machine.changed(b)?), (4, 0));
     assert!(!machine.region(a, 1, 0)?.is_open);
-    for (slot, register, answer) in [(0, 2, 303), (0, u32::MAX, 303), (31, 0, 601), (32, 0, 303)] {
-        assert_eq!(number(machine.region(a, slot, register)), answer);
-    }
-    assert_eq!(number(machine.region(Guest::of_index(2), 0, 0)), 902);
-    assert_eq!(number(machine.changed(Guest::of_index(2))), 902);
     assert_eq!(number(machine.locate(a, config(0, 256))), 303);
     Ok(())
 }
@@ -270,9 +226,6 @@ fn a_guest_is_told_why() -> Result<(), Error> {
         "why: I/O 0xcfe: offset 0x42 of 00:01.0 by the latch, 0x80000840\n\
          why: I/O 0xcfe: slot 1 configuration offset 0x42 answers\n"
     );
-    assert_eq!(number(machine.why(a, config(0, 256))), 303);
-    assert_eq!(number(machine.why_json(a, config(0, 256))), 303);
-    assert_eq!(number(machine.why(Guest::of_index(2), bell)), 902);
     Ok(())
 }
 
@@ -286,9 +239,6 @@ fn a_function_moves() -> Result<(), Error> {
     assert_eq!(machine.read(a, config(0, 0), 4)?, u32::MAX);
     assert_eq!(machine.read(b, config(5, 0), 4)?, 0x0001_1234);
     assert_eq!(machine.read(b, config(5, 4), 2)?, 0);
-    assert_eq!(number(machine.move_function(a, 0, b, 6)), 601);
-    assert_eq!(number(machine.move_function(a, 1, b, 5)), 602);
-    assert_eq!(number(machine.move_function(a, 1, b, 32)), 303);
     Ok(())
 }
 
@@ -299,18 +249,6 @@ fn a_device_reads_and_writes_its_own() -> Result<(), Error> {
     machine.device_write(a, 0, Part::Config, 7, 0xa5)?;
     assert_eq!(machine.device_read(a, 0, Part::Config, 7)?, 0xa5);
     assert_eq!(machine.read(a, config(0, 7), 1)?, 0xa5);
-    for offset in [0, 4, 5, 8, 0x0e, 0x10, 0x3c, 0x3f, 0x100] {
-        assert_eq!(number(machine.device_read(a, 0, Part::Config, offset)), 303);
-        assert_eq!(
-            number(machine.device_write(a, 0, Part::Config, offset, 1)),
-            303
-        );
-    }
-    assert_eq!(
-        number(machine.device_write(a, 0, Part::Region(1), 4096, 1)),
-        303
-    );
-    assert_eq!(number(machine.device_read(a, 31, Part::Region(1), 0)), 601);
     assert_eq!(number(machine.device_read(a, 0, Part::Region(6), 0)), 902);
     Ok(())
 }
@@ -327,9 +265,6 @@ fn a_function_is_reset() -> Result<(), Error> {
     assert_eq!(machine.read(a, config(0, 4), 2)?, 0);
     assert_eq!(machine.read(a, config(0, 0x3c), 1)?, 0);
     assert_eq!(machine.read(a, config(1, 4), 2)?, 2);
-    assert_eq!(number(machine.reset(a, 31)), 601);
-    assert_eq!(number(machine.reset(a, 32)), 303);
-    assert_eq!(number(machine.reset(Guest::of_index(2), 0)), 902);
     Ok(())
 }
 
@@ -337,23 +272,13 @@ fn a_function_is_reset() -> Result<(), Error> {
 fn a_function_is_taken_and_given() -> Result<(), Error> {
     let mut machine = Machine::new(BOARD)?;
     let (a, b) = (machine.guest("a")?, machine.guest("b")?);
-    assert_eq!(number(machine.give("1.0", b, 5)), 602);
     machine.write(a, config(0, 0x3c), 1, 0x5a)?;
     machine.take(a, 0)?;
     assert_eq!(machine.read(a, config(0, 0), 4)?, 0xffff_ffff);
-    assert_eq!(number(machine.take(a, 0)), 601);
-    assert_eq!(number(machine.take(a, 32)), 303);
-    assert_eq!(number(machine.take(Guest::of_index(2), 0)), 902);
     assert_eq!(number(machine.give("1.0", a, 1)), 602);
     machine.give("1.0", b, 5)?;
     assert_eq!(machine.read(b, config(5, 0), 4)?, 0x0001_1234);
     assert_eq!(machine.read(b, config(5, 0x3c), 1)?, 0);
-    assert_eq!(number(machine.give("1.0", a, 0)), 602);
-    for path in ["", "2.0", "1.1", "1.0/", "01.0"] {
-        assert_eq!(number(machine.give(path, a, 0)), 303);
-    }
-    assert_eq!(number(machine.give("1.0", a, 32)), 303);
-    assert_eq!(number(machine.give("1.0", Guest::of_index(2), 0)), 902);
     Ok(())
 }
 
@@ -394,25 +319,10 @@ fn accesses_are_refused() -> Result<(), Error> {
     assert!(
         matches!(machine.read(a, memory, 3), Err(Error::Access(refusal)) if refusal.words() == "width")
     );
-    assert_eq!(number(machine.read(a, config(32, 0), 4)), 303);
-    assert_eq!(number(machine.read(a, config(0, 256), 4)), 303);
-    assert_eq!(
-        number(machine.write(a, At::Io { port: 1 << 32 }, 1, 0)),
-        303
-    );
-    for index in [2, usize::MAX] {
-        let nobody = Guest::of_index(index);
-        assert!(matches!(
-            machine.read(nobody, config(0, 0), 4),
-            Err(Error::Argument(_))
-        ));
-        assert_eq!(number(machine.write(nobody, config(0, 0), 4, 0)), 902);
-        assert_eq!(number(machine.move_function(nobody, 0, a, 9)), 902);
-    }
-    assert_eq!(number(machine.guest("nobody")), 902);
-    assert_eq!(number(machine.guest("")), 902);
-    assert_eq!(number(machine.host_read(on_bus_0(32, 0, 0), 4)), 902);
-    assert_eq!(number(machine.host_read(on_bus_0(0, 8, 0), 4)), 902);
+    assert!(matches!(
+        machine.read(Guest::of_index(2), config(0, 0), 4),
+        Err(Error::Argument(_))
+    ));
     Ok(())
 }
 
@@ -511,10 +421,6 @@ fn a_function_is_told_by_its_slot() -> Result<(), Error> {
     let moved = machine.slot_function(b, 7)?;
     assert_eq!((moved.path.as_str(), moved.seat), ("2.0/1.0", Some((b, 7))));
     assert_eq!(moved, machine.function(3)?);
-    assert_eq!(number(machine.slot_function(a, 1)), 601);
-    assert_eq!(number(machine.slot_function(a, 32)), 303);
-    assert_eq!(number(machine.slot_function(Guest::of_index(2), 0)), 902);
-    assert_eq!(number(machine.function(4)), 902);
     Ok(())
 }
 
@@ -546,7 +452,6 @@ fn regions_that_move_are_told() -> Result<(), Error> {
     let gone = machine.moved(a, &mut places)?;
     assert_eq!(seats(&gone), [(0, 0), (0, 1)]);
     assert!(gone.iter().all(|it| it.now.is_none()) && gone[1].before == Some(now));
-    assert_eq!(number(machine.moved(Guest::of_index(2), &mut places)), 902);
     Ok(())
 }
 
