@@ -40,7 +40,7 @@ int main(int argc, char **argv)
     COST("write memory", 1000000, pciguest_write(&machine, 0, PCIGUEST_MEMORY, 0, 0xc0100010, 4, i));
     COST("write CONFIG_ADDRESS", 1000000, pciguest_write(&machine, 0, PCIGUEST_IO, 0, 0xcf8, 4, 0x80000000));
     COST("read CONFIG_DATA", 1000000, pciguest_read(&machine, 0, PCIGUEST_IO, 0, 0xcfc, 4, &value));
-    COST("raise a bit of Status", 1000000, pciguest_raise(&machine, 0, 0, PCIGUEST_RAISE_CONFIG, 7, 0x80));
+    COST("raise a bit of Status", 1000000, pciguest_raise(&machine, 0, 0, PCIGUEST_PART_CONFIG, 7, 0x80));
     COST("reset a function", 1000000, pciguest_reset(&machine, 0, 0));
     COST("read a byte as the device", 1000000, pciguest_device_read_wide(&machine, 0, 0, 1, 0x10, 1, &wide));
     COST("write a byte as the device", 1000000, pciguest_device_write_wide(&machine, 0, 0, 1, 0x10, 1, (uint8_t)i));

@@ -69,8 +69,9 @@ struct pciguest_board {
 enum pciguest_space { PCIGUEST_CONFIG = 0, PCIGUEST_IO = 1, PCIGUEST_MEMORY = 2 };
 
 /* The part of a function that a raise or a device's own access addresses: configuration space, or a
- * region, identified by its base address register, 0 to 5. */
-enum pciguest_part { PCIGUEST_RAISE_CONFIG = 6 };
+ * region, identified by its base address register, 0 to 5. PCIGUEST_RAISE_CONFIG is the name that
+ * PCIGUEST_PART_CONFIG had before 0.4.0. */
+enum pciguest_part { PCIGUEST_PART_CONFIG = 6, PCIGUEST_RAISE_CONFIG = 6 };
 
 /* Describes where a region of a guest's function is now, according to the guest's own registers.
  * The region occupies `size` addresses of its space, starting at `first`, and responds to them
@@ -96,7 +97,7 @@ struct pciguest_place {
 enum { PCIGUEST_PLACES = 192 };
 
 /* Describes the byte that an access reaches. `part` is a base address register, 0 to 5, for the
- * region that begins there, or PCIGUEST_RAISE_CONFIG for configuration space. All fields are 0 if
+ * region that begins there, or PCIGUEST_PART_CONFIG for configuration space. All fields are 0 if
  * the access reaches nothing. */
 struct pciguest_hit {
     uint64_t slot;
@@ -132,13 +133,14 @@ struct pciguest_window {
 };
 
 /* Describes the interrupt pin of a function, from 1 for INTA# to 4 for INTD#, and the device and
- * pin on bus 0 to which it is routed. On each bus except bus 0, the pin advances by the device
- * number, and 1 follows 4. PCI-to-PCI Bridge Architecture 1.2, chapter 9.1, defines this rule for
- * add-in cards; here it applies to every bridge. `pin`, `root_device` and `root_pin` are 0 if the
- * function has no pin. Interrupts are not delivered. */
+ * pin on the board's bus 0 to which it is routed. (On the guest's own bus, the pin isn't routed.)
+ * On each bus except bus 0, the pin advances by the device number, and 1 follows 4. PCI-to-PCI
+ * Bridge Architecture 1.2, chapter 9.1, defines this rule for add-in cards; here it applies to
+ * every bridge. `pin`, `root_device` and `root_pin` are 0 if the function has no pin. Interrupts
+ * are not delivered. */
 struct pciguest_interrupt {
     uint32_t pin;         /* the value of Interrupt Pin */
-    uint32_t root_device; /* the device on bus 0 */
+    uint32_t root_device; /* the device on the board's bus 0 */
     uint32_t root_pin;    /* that device's pin */
     uint32_t is_disabled; /* 1 or 0: Interrupt Disable, in the guest's copy if there is one */
 };
@@ -335,8 +337,9 @@ static inline bool pciguest_ends_within(uint32_t space, uint64_t place, uint32_t
  * cycles. So the call splits the access as a bridge would: into the pieces that pciguest_piece
  * returns, in ascending order of addresses. The byte at the lowest address is the lowest byte of
  * the value.
- * Returns 0 on success; 302 if the width isn't 1 to 8; 303 if the slot is out of range, or if the
- * access extends past the end of its space; 902 if there is no such guest or space. Since 0.3.0. */
+ * Returns 0 on success; 302 if the width isn't 1 to 8; 303 if the access extends past the end of its
+ * space, or if the slot is out of range; 902 if there is no such guest or space. The width and the
+ * end of the access are checked first, even before 901 and 902. Since 0.3.0. */
 uint32_t pciguest_read_wide(struct pciguest *machine, size_t guest, uint32_t space, uint64_t slot,
                             uint64_t place, uint32_t width, uint64_t *value);
 
@@ -345,8 +348,9 @@ uint32_t pciguest_read_wide(struct pciguest *machine, size_t guest, uint32_t spa
  * step, but it may need several bus cycles. So the call splits the access as a bridge would: into
  * the pieces that pciguest_piece returns, in ascending order of addresses. The byte at the lowest
  * address is the lowest byte of the value.
- * Returns 0 on success; 302 if the width isn't 1 to 8; 303 if the slot is out of range, or if the
- * access extends past the end of its space; 902 if there is no such guest or space. Since 0.3.0. */
+ * Returns 0 on success; 302 if the width isn't 1 to 8; 303 if the access extends past the end of its
+ * space, or if the slot is out of range; 902 if there is no such guest or space. The width and the
+ * end of the access are checked first, even before 901 and 902. Since 0.3.0. */
 uint32_t pciguest_write_wide(struct pciguest *machine, size_t guest, uint32_t space, uint64_t slot,
                              uint64_t place, uint32_t width, uint64_t value);
 
@@ -533,9 +537,10 @@ uint32_t pciguest_changed(struct pciguest *machine, size_t guest, uint64_t *coun
  * register B is `places[6 * S + B]`, and PCIGUEST_PLACES rows cover all slots; `room` is the number
  * of rows that the caller has. In each of these rows, `now` says where the region is, `before`
  * where it was when the row was last updated, and `has_moved` whether the two differ. A region that
- * is back where it was, as at the end of sizing, has not moved. So a hypervisor unmaps `before` and
- * maps `now` in the rows that moved, each if its `is_open` is 1, and calls again when
- * pciguest_changed stores another count. Allocates no memory.
+ * is back where it was, as at the end of sizing, has not moved. So a hypervisor first unmaps `before`
+ * in all rows that moved and then maps `now` in them, each if its `is_open` is 1; two regions may
+ * have changed places. It calls again when pciguest_changed stores another count. Allocates no
+ * memory.
  * Returns 0 on success; 902 if there is no such guest. Since 0.4.0. */
 uint32_t pciguest_moved(struct pciguest *machine, size_t guest, struct pciguest_place *places,
                         size_t room, size_t *count);

@@ -94,7 +94,7 @@ static void act(struct pciguest *machine, size_t guest, struct trap trap, const 
 {
     if (!trap.is_write || !hit->found)
         return;
-    if (hit->part == PCIGUEST_RAISE_CONFIG)
+    if (hit->part == PCIGUEST_PART_CONFIG)
         tell_traps(machine, guest);
     else if (hit->offset < DOORBELL + 4 && hit->offset + trap.width > DOORBELL)
         ring(machine, guest, hit);

@@ -142,7 +142,7 @@ static void act(struct machine *machine, const struct access *access, const stru
     enum device device = machine->devices[hit->slot];
     uint64_t end = hit->offset + access->width;
 
-    if (hit->part == PCIGUEST_RAISE_CONFIG) {
+    if (hit->part == PCIGUEST_PART_CONFIG) {
         if (access->is_write) {
             follow_regions(machine);
             drive_line(machine, hit->slot);
@@ -168,7 +168,7 @@ uint64_t now(void)
 static void make(struct machine *machine, struct access *access, const struct pciguest_hit *hit)
 {
     struct pciguest *guests = &machine->board->guests;
-    bool is_region = hit->found && hit->part != PCIGUEST_RAISE_CONFIG;
+    bool is_region = hit->found && hit->part != PCIGUEST_PART_CONFIG;
     uint32_t number = PCIGUEST_OUT_OF_RANGE;
 
     if (is_region && access->is_write)

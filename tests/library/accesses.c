@@ -91,7 +91,7 @@ static void step(struct pciguest *machine, char *line, char *reply)
         return;
     case 1:
         sprintf(line, "%s raise %" PRIu64 " cfg 7 0x80\n", guests[guest], slot);
-        fault = pciguest_raise(machine, guest, slot, PCIGUEST_RAISE_CONFIG, 7, 0x80);
+        fault = pciguest_raise(machine, guest, slot, PCIGUEST_PART_CONFIG, 7, 0x80);
         reply_line(reply, guests[guest], fault, false, 0, 0);
         return;
     case 2:

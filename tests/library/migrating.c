@@ -64,7 +64,7 @@ static void arrange(struct pciguest *machine, char *const *lines, size_t count)
     for (size_t guest = 0; guest < guests; guest++) {
         (void)pciguest_write(machine, guest, PCIGUEST_CONFIG, 0, 4, 2, 0xffff);
         (void)pciguest_write(machine, guest, PCIGUEST_CONFIG, 0, 0x10, 4, 0xfffffff0);
-        (void)pciguest_raise(machine, guest, 0, PCIGUEST_RAISE_CONFIG, 7, 0xff);
+        (void)pciguest_raise(machine, guest, 0, PCIGUEST_PART_CONFIG, 7, 0xff);
         (void)pciguest_write(machine, guest, PCIGUEST_IO, 0, 0xcf8, 4, 0xffffffff);
     }
 }

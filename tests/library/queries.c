@@ -189,10 +189,10 @@ static void event(struct pciguest *machine, bool *touched)
         touched[guest] = pciguest_reset(machine, guest, slot) == 0;
         return;
     case 2:
-        (void)pciguest_raise(machine, guest, slot, below(2) ? PCIGUEST_RAISE_CONFIG : 1, below(0x40), 0xff);
+        (void)pciguest_raise(machine, guest, slot, below(2) ? PCIGUEST_PART_CONFIG : 1, below(0x40), 0xff);
         return;
     case 3:
-        (void)pciguest_device_write_wide(machine, guest, slot, below(2) ? PCIGUEST_RAISE_CONFIG : 1, below(0x100), 1,
+        (void)pciguest_device_write_wide(machine, guest, slot, below(2) ? PCIGUEST_PART_CONFIG : 1, below(0x100), 1,
                                          below(256));
         return;
     case 4:

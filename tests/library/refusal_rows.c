@@ -32,7 +32,7 @@ static uint64_t number_of(const char *word)
     for (uint64_t space = 0; space < 3; space++)
         if (!strcmp(word, spaces[space]))
             return space;
-    return strcmp(word, "configuration") ? strtoull(word, NULL, 0) : PCIGUEST_RAISE_CONFIG;
+    return strcmp(word, "configuration") ? strtoull(word, NULL, 0) : PCIGUEST_PART_CONFIG;
 }
 
 /* Makes the call of a row. */

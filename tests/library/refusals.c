@@ -119,7 +119,7 @@ static void bad_arguments(struct pciguest *machine, const uint8_t *board, size_t
     IS(pciguest_read(machine, 0, 3, 0, 0, 4, &value), 902);
     IS(pciguest_load(machine, 0, reply, sizeof reply), 905);
     IS(pciguest_load_all(machine, reply, sizeof reply), 905);
-    IS(pciguest_region_read(machine, 0, 0, PCIGUEST_RAISE_CONFIG, 0x40, 4, &wide), 303);
+    IS(pciguest_region_read(machine, 0, 0, PCIGUEST_PART_CONFIG, 0x40, 4, &wide), 303);
     IS(pciguest_run_line(machine, "a cr 0 0 4", 10, reply, sizeof reply - 1, &count), 902);
     IS(value, 7);
     IS(count, 8);
@@ -352,22 +352,22 @@ static void devices(struct pciguest *machine)
     for (uint64_t offset = 0; offset < 0x101; offset++) {
         bool reached = offset == 6 || offset == 7 || (offset >= 0x40 && offset < 0x100);
 
-        IS(pciguest_device_read_wide(machine, 0, 0, PCIGUEST_RAISE_CONFIG, offset, 1, &wide), reached ? 0 : 303);
-        IS(pciguest_device_write_wide(machine, 0, 0, PCIGUEST_RAISE_CONFIG, offset, 1, wide), reached ? 0 : 303);
+        IS(pciguest_device_read_wide(machine, 0, 0, PCIGUEST_PART_CONFIG, offset, 1, &wide), reached ? 0 : 303);
+        IS(pciguest_device_write_wide(machine, 0, 0, PCIGUEST_PART_CONFIG, offset, 1, wide), reached ? 0 : 303);
     }
-    IS(pciguest_device_write_wide(machine, 0, 0, PCIGUEST_RAISE_CONFIG, 7, 1, 0xa5), 0);
-    IS(pciguest_device_read_wide(machine, 0, 0, PCIGUEST_RAISE_CONFIG, 7, 1, &wide), 0);
+    IS(pciguest_device_write_wide(machine, 0, 0, PCIGUEST_PART_CONFIG, 7, 1, 0xa5), 0);
+    IS(pciguest_device_read_wide(machine, 0, 0, PCIGUEST_PART_CONFIG, 7, 1, &wide), 0);
     IS(wide, 0xa5);
     IS(pciguest_read(machine, 0, PCIGUEST_CONFIG, 0, 7, 1, &value), 0);
     IS(value, 0xa5);
     IS(pciguest_write(machine, 0, PCIGUEST_CONFIG, 0, 7, 1, 0xff), 0); /* the driver clears what it may */
-    IS(pciguest_device_read_wide(machine, 0, 0, PCIGUEST_RAISE_CONFIG, 7, 1, &wide), 0);
+    IS(pciguest_device_read_wide(machine, 0, 0, PCIGUEST_PART_CONFIG, 7, 1, &wide), 0);
     IS(wide, 0xa5 & ~0xf9);
-    IS(pciguest_device_write_wide(machine, 0, 0, PCIGUEST_RAISE_CONFIG, 6, 2, 0x5aa5), 0);
+    IS(pciguest_device_write_wide(machine, 0, 0, PCIGUEST_PART_CONFIG, 6, 2, 0x5aa5), 0);
     IS(pciguest_read(machine, 0, PCIGUEST_CONFIG, 0, 6, 2, &value), 0);
     IS(value, 0x5aa5);
-    IS(pciguest_device_write_wide(machine, 0, 0, PCIGUEST_RAISE_CONFIG, 7, 2, 0), 303); /* and 08h is none of its own */
-    IS(pciguest_device_read_wide(machine, 0, 0, PCIGUEST_RAISE_CONFIG, 6, 2, &wide), 0);
+    IS(pciguest_device_write_wide(machine, 0, 0, PCIGUEST_PART_CONFIG, 7, 2, 0), 303); /* and 08h is none of its own */
+    IS(pciguest_device_read_wide(machine, 0, 0, PCIGUEST_PART_CONFIG, 6, 2, &wide), 0);
     IS(wide, 0x5aa5);
     IS(pciguest_device_write_wide(machine, 0, 0, 1, 4095, 1, 0x5a), 0); /* no cell stands there */
     IS(pciguest_device_read_wide(machine, 0, 0, 1, 4095, 1, &wide), 0);
@@ -478,8 +478,8 @@ static void earlier_devices(struct pciguest *machine)
            refused[i].number);
     }
     IS(value, 7);
-    IS(pciguest_raw_device_write(machine, 0, 0, PCIGUEST_RAISE_CONFIG, 7, 0xa5), 0);
-    IS(pciguest_raw_device_read(machine, 0, 0, PCIGUEST_RAISE_CONFIG, 7, &value), 0);
+    IS(pciguest_raw_device_write(machine, 0, 0, PCIGUEST_PART_CONFIG, 7, 0xa5), 0);
+    IS(pciguest_raw_device_read(machine, 0, 0, PCIGUEST_PART_CONFIG, 7, &value), 0);
     IS(value, 0xa5);
     IS(pciguest_reset(machine, 0, 0), 0);
 }

@@ -73,7 +73,7 @@ static void ask_machine(void)
     BUSY(pciguest_write(&machine, 0, PCIGUEST_CONFIG, 0, 4, 2, 3));
     BUSY(pciguest_read_wide(&machine, 0, PCIGUEST_CONFIG, 0, 0, 9, &wide));
     BUSY(pciguest_write_wide(&machine, 0, PCIGUEST_CONFIG, 0, 4, 3, 3));
-    BUSY(pciguest_raise(&machine, 0, 0, PCIGUEST_RAISE_CONFIG, 7, 0x80));
+    BUSY(pciguest_raise(&machine, 0, 0, PCIGUEST_PART_CONFIG, 7, 0x80));
     BUSY(pciguest_host_read(&machine, PCIGUEST_CONFIG, 0, 1, 0, 0, 4, &value));
     BUSY(pciguest_move(&machine, 0, 0, 1, 7));
     BUSY(pciguest_reset(&machine, 0, 0));

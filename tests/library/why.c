@@ -107,7 +107,7 @@ static void expect(struct pciguest *machine, size_t guest, uint32_t space, uint6
     IS(pciguest_locate(machine, guest, space, slot, place, &hit), 0);
     if (!hit.found)
         lost(machine, guest, space, slot, place, shows, latch);
-    else if (hit.part == PCIGUEST_RAISE_CONFIG)
+    else if (hit.part == PCIGUEST_PART_CONFIG)
         add("slot %" PRIu64 " configuration offset 0x%" PRIx64 " answers\n", hit.slot, hit.offset);
     else
         add("slot %" PRIu64 " bar%" PRIu32 " offset 0x%" PRIx64 " answers\n", hit.slot, hit.part, hit.offset);

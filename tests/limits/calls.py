@@ -71,9 +71,9 @@ def slot_calls(library, machine, guest, slot):
     library.number("read", *key, CONFIG, slot, 0, 4, of=c_uint32)
     library.ok("write_wide", *key, CONFIG, slot, 0x0C, 7, 0)
     library.number("read_wide", *key, CONFIG, slot, 1, 8, of=c_uint64)
-    library.ok("raise", *key, slot, declared.RAISE_CONFIG, 7, 0)
-    library.ok("device_write_wide", *key, slot, declared.RAISE_CONFIG, 0x40, 1, 1)
-    library.number("device_read_wide", *key, slot, declared.RAISE_CONFIG, 0x40, 1, of=c_uint64)
+    library.ok("raise", *key, slot, declared.PART_CONFIG, 7, 0)
+    library.ok("device_write_wide", *key, slot, declared.PART_CONFIG, 0x40, 1, 1)
+    library.number("device_read_wide", *key, slot, declared.PART_CONFIG, 0x40, 1, of=c_uint64)
     row = library.number("slot", *key, slot, of=declared.FunctionTold)
     for bar in range(declared.BARS):
         region = library.number("region", *key, slot, bar, of=declared.RegionTold)

@@ -5,7 +5,7 @@ from __future__ import annotations
 from ctypes import byref
 from typing import TYPE_CHECKING, Callable, Iterator, List, NamedTuple, Optional, Tuple
 
-from ._calls import ARGUMENT, CONFIG, IO, RAISE_CONFIG, HitTold
+from ._calls import ARGUMENT, CONFIG, IO, PART_CONFIG, HitTold
 from ._devices import Device
 from ._differs import DeclaredOtherwise, first_difference
 from ._functions import Function
@@ -123,7 +123,7 @@ class Attaching(SavedMachine):
         """What an access of a guest at a port or an address hits."""
         told = HitTold()
         self._call("locate", guest, space, 0, place, byref(told))
-        return Hit(told.slot, None if told.part == RAISE_CONFIG else told.part, told.offset) if told.found else None
+        return Hit(told.slot, None if told.part == PART_CONFIG else told.part, told.offset) if told.found else None
 
     def _touch(self, access: Access, value: int = 0) -> List[Touch]:
         """What a cycle of the bus touches of a device, if it touches one. Asked before a write, which may move the function."""

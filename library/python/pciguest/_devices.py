@@ -5,7 +5,7 @@ from __future__ import annotations
 from ctypes import byref, c_uint64
 from typing import TYPE_CHECKING, Any, ClassVar, Dict, Iterator, Optional, Tuple
 
-from ._calls import RAISE_CONFIG
+from ._calls import PART_CONFIG
 from ._declared import Register, declared, endpoint
 from ._library import number
 
@@ -119,7 +119,7 @@ class Device:
             raise ValueError("the device is attached to no machine")
         if self._seat is None:
             raise ValueError("no guest has the function of the device")
-        return (*self._seat, RAISE_CONFIG if register.bar is None else register.bar)
+        return (*self._seat, PART_CONFIG if register.bar is None else register.bar)
 
     def _read(self, register: Register) -> int:
         value, read, place = 0, c_uint64(), self._place(register)

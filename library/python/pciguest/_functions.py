@@ -34,9 +34,9 @@ class Windows(NamedTuple):
 
 
 class Interrupt(NamedTuple):
-    """The interrupt pin of a function, from 1 for INTA# to 4 for INTD#, and the device of bus 0 and its pin that it reaches:
-    the pin moves on by the device number on each bus but bus 0. These are 0 where the function has no pin. Interrupt
-    Disable is as the guest that has the function wrote it, else as on the board. No interrupt is delivered."""
+    """The interrupt pin of a function, from 1 for INTA# to 4 for INTD#, and the device and pin on the board's bus 0 to which it
+    is routed: on each bus except bus 0, the pin advances by the device number. All of these are 0 if the function has no pin.
+    Interrupt Disable is in the guest's copy of Command if a guest has the function. No interrupt is delivered."""
 
     pin: int
     root_device: int

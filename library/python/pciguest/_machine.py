@@ -8,7 +8,7 @@ from pathlib import Path
 from typing import Any, Callable, Iterator, List, Optional, Tuple, Union
 
 from ._attached import Attaching, Touch
-from ._calls import BARS, CONFIG, GUEST_NAME, IO, MEMORY, PLACES, RAISE_CONFIG, FunctionTold, Handle, PlaceTold, RegionTold
+from ._calls import BARS, CONFIG, GUEST_NAME, IO, MEMORY, PLACES, PART_CONFIG, FunctionTold, Handle, PlaceTold, RegionTold
 from ._functions import Function, function_of
 from ._held import Held, as_bytes
 from ._images import Saved
@@ -255,11 +255,11 @@ class Guest(Saved):
         self.machine._call("raise", self.index, *place, number("mask", mask, 8))
 
     def _byte(self, slot: int, offset: int, region: Optional[int]) -> Tuple[int, int, int]:
-        part = RAISE_CONFIG
+        part = PART_CONFIG
         if region is not None:
             # the library's number of configuration space is no register; the next one is nothing, and is refused
             asked = number("region", region, 32)
-            part = asked if asked < RAISE_CONFIG else RAISE_CONFIG + 1
+            part = asked if asked < PART_CONFIG else PART_CONFIG + 1
         return number("slot", slot, 64), part, number("offset", offset, 64)
 
     def device_read(self, slot: int, offset: int, region: Optional[int] = None, width: int = 1) -> int:

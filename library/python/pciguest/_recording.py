@@ -5,7 +5,7 @@ from __future__ import annotations
 from typing import Any, List, Optional, Tuple, Union
 
 from ._board import Board
-from ._calls import CONFIG, IO, MEMORY, RAISE_CONFIG
+from ._calls import CONFIG, IO, MEMORY, PART_CONFIG
 from ._held import Held
 from ._lines import is_question
 from ._machine import Machine
@@ -85,7 +85,7 @@ class RecordedMachine(Recorded, Machine):
             return f"host move {self._name(source)} {slot} {self._name(target)} {target_slot}"
         if name == "raise":
             guest, slot, part, offset, mask = arguments
-            where = "cfg" if part == RAISE_CONFIG else f"bar{part}"
+            where = "cfg" if part == PART_CONFIG else f"bar{part}"
             return f"{self._name(guest)} raise {slot} {where} {offset:#x} {mask:#x}"
         if name not in ("read", "write"):
             return None

@@ -38,12 +38,12 @@ pub struct Function {
     pub interrupt: Interrupt,
 }
 
-/// The interrupt pin of a function, and where it reaches bus 0. No interrupt is delivered.
+/// The interrupt pin of a function, and where it reaches the board's bus 0. No interrupt is delivered.
 #[derive(Clone, Copy, Debug, Default, PartialEq, Eq)]
 pub struct Interrupt {
     /// From 1 for INTA# to 4 for INTD#; 0 where the function has none, as are then the next two.
     pub pin: u8,
-    /// The device on bus 0 that the pin reaches.
+    /// The device on the board's bus 0 that the pin reaches. (On the guest's own bus, the pin isn't routed.)
     pub root_device: u8,
     /// The pin of this device that it reaches: it moves on by the device number on each bus but bus 0.
     pub root_pin: u8,

@@ -1,9 +1,9 @@
 //! Where an access or a raise goes, and where regions stand.
 
-use crate::raw::{self, RAISE_CONFIG};
+use crate::raw::{self, PART_CONFIG};
 
 /// No part of a function: the library refuses it.
-const NO_PART: u32 = RAISE_CONFIG + 1;
+const NO_PART: u32 = PART_CONFIG + 1;
 
 /// A guest of a machine, as [`Machine::guest`](crate::Machine::guest) finds it by its name. It means the guest at the
 /// same index in another machine.
@@ -135,7 +135,7 @@ impl Part {
     /// The part, as the header takes it.
     pub(crate) fn number(self) -> u32 {
         match self {
-            Part::Config => RAISE_CONFIG,
+            Part::Config => PART_CONFIG,
             Part::Region(register) if register < 6 => u32::from(register),
             Part::Region(_) => NO_PART,
         }
@@ -144,7 +144,7 @@ impl Part {
     /// The part of a number that the library tells.
     fn of_number(number: u32) -> Part {
         match number {
-            RAISE_CONFIG => Part::Config,
+            PART_CONFIG => Part::Config,
             register => Part::Region(register as u8),
         }
     }
