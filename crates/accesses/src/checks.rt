@@ -100,7 +100,7 @@ impl HostAccess {
 
 /// Returns the reply to an unclaimed access, as after a master abort: a read returns all ones, and
 /// a write is dropped.
-pub fn nothing(op: Op, width: u64) -> Reply
+pub fn master_abort(op: Op, width: u64) -> Reply
     requires { IsWidth width }
     ensures reply { reply_of result ≡ perform (op_of op) width [] None }
     ensures shown { IsShown result }

@@ -2,7 +2,7 @@
 use Rattle.std.{proofs.{Common.{◌≡◌, ℕ, ◌+◌, ◌-◌, ◌^◌, ◌<◌, ◌≤◌, List, [], ◌∷◌, map, refl, sym, subst, ap, ap₂, ◌∙◌, arith, rules}, Math.Nat.mod-eq_of_lt, lemmas.Nat.{and_block, pow_pos}}, specs.Prelude.{Option, Some, None, bit_and}}
 use Rattle.lists.specs.Elements.{Each}
 use Rattle.model_registers.specs.{Declarations.{Kind, Bar, Region, IsLawfulSize, IsLawfulRegion, HasLawfulRegions}, EndpointTable.{base_width, BaseAddress, opened, IsLawfulBase, HasLawfulBases}, BaseLaws.overwritten}
-use Rattle.bars.specs.{declared.region.BasedRegion.BasedRegion, Slots.{placed, bases_from, with_no_base_in}, Resets.{reset_from, at_reset, with_no_base}}
+use Rattle.bars.specs.{declared.region.BarWithBase.BarWithBase, Slots.{placed, bases_from, with_no_base_in}, Resets.{reset_from, at_reset, with_no_base}}
 
 -- a mask of 64 bits clears the same bits of a number of 32 bits
 pub and_narrow : (v m : ℕ) → v < 2 ^ 32 → m < 2 ^ 32 → bit_and v (2 ^ 64 - 1 - m) ≡ bit_and v (2 ^ 32 - 1 - m)
@@ -39,7 +39,7 @@ no_base_each (b ∷ bs) h = grind (arith, mod-eq_of_lt, size_positive, pow_pos, 
 pub no_base_lawful : (bs : List BaseAddress) → HasLawfulBases bs → HasLawfulBases (map with_no_base bs)
 no_base_lawful bs h = record { regions = subst HasLawfulRegions (sym (no_base_opened bs)) h.regions; each = no_base_each bs h.each }
 
-pub no_base_from : (slots : List (Option BasedRegion)) (n : ℕ) → bases_from n (map with_no_base_in slots) ≡ map with_no_base (bases_from n slots)
+pub no_base_from : (slots : List (Option BarWithBase)) (n : ℕ) → bases_from n (map with_no_base_in slots) ≡ map with_no_base (bases_from n slots)
 no_base_from [] n = refl
 no_base_from (None ∷ slots) n = no_base_from slots (n + 1)
 no_base_from (Some r ∷ slots) n = ap (λ (bs : List BaseAddress). with_no_base (placed n r) ∷ bs) (no_base_from slots (n + 1))

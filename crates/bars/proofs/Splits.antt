@@ -2,16 +2,16 @@
 use Rattle.std.{proofs.{Common.{◌≡◌, ℕ, zero, suc, ◌+◌, ◌*◌, ◌/◌, ◌%◌, ◌^◌, ◌<◌, ◌≤◌, ◌⊎◌, Bool, List, [], ◌∷◌, ◌++◌, map, refl, sym, ap, ap₂, ◌∙◌, subst, arith, rules}, lemmas.Nat.shl_whole, Math.Nat.{add-zero, zero-add}}, specs.Prelude.{Option, Some, None, slice_get, slice_set}}
 use Rattle.lists.{specs.Elements.{Each, EachPair}, proofs.Indices.set_same}
 use Rattle.model_registers.{specs.{ByteEnables.enabled_bits, Declarations.{Region, registers_of, HasLawfulRegions}, EndpointTable.{BaseAddress, opened, IsLawfulBase, HasLawfulBases}, BaseLaws.{shown, word_at, rebased, rewritten}}, proofs.Bases.{word_low, word_high, word_apart, rewritten_low, rewritten_high, rewritten_apart, rewritten_lawful, registers_positive}}
-use Rattle.bars.specs.{declared.{region.BasedRegion.BasedRegion, slots.ShownPart.ShownPart}, Slots.{placed, bases_from, slot_at}, Parts.{IsPartAt, IsUnused, IsLowerPart, IsUpperPart}}
+use Rattle.bars.specs.{declared.{region.BarWithBase.BarWithBase, base_registers.ShownPart.ShownPart}, Slots.{placed, bases_from, slot_at}, Parts.{IsPartAt, IsUnused, IsLowerPart, IsUpperPart}}
 
 -- the registers round a region, which stay when it changes
-pub record Split (n : ℕ) (slots : List (Option BasedRegion)) (i : ℕ) (r : BasedRegion) : Type 0 where
+pub record Split (n : ℕ) (slots : List (Option BarWithBase)) (i : ℕ) (r : BarWithBase) : Type 0 where
   pub pre : List BaseAddress
   pub post : List BaseAddress
   pub whole : bases_from n slots ≡ pre ++ (placed (n + i) r ∷ post)
-  pub put : (s : BasedRegion) → bases_from n (slice_set slots i (Some s)) ≡ pre ++ (placed (n + i) s ∷ post)
+  pub put : (s : BarWithBase) → bases_from n (slice_set slots i (Some s)) ≡ pre ++ (placed (n + i) s ∷ post)
 
-pub split : (slots : List (Option BasedRegion)) (n i : ℕ) (r : BasedRegion) → slot_at slots i ≡ Some r → Split n slots i r
+pub split : (slots : List (Option BarWithBase)) (n i : ℕ) (r : BarWithBase) → slot_at slots i ≡ Some r → Split n slots i r
 split [] n i r h = cc
 split (None ∷ slots) n zero r h = cc
 split (Some q ∷ slots) n zero r h =
@@ -20,7 +20,7 @@ split (Some q ∷ slots) n zero r h =
     record {
       pre = [];
       post = post;
-      whole = ap₂ (λ m (x : BasedRegion). placed m x ∷ post) (sym (add-zero n)) same;
+      whole = ap₂ (λ m (x : BarWithBase). placed m x ∷ post) (sym (add-zero n)) same;
       put = λ s. ap (λ m. placed m s ∷ post) (sym (add-zero n));
     }
 split (None ∷ slots) n (suc i) r h = grind (arith, split slots (n + 1) i r h)
@@ -102,13 +102,13 @@ part_written : (reg : ℕ) (ons : List Bool) (x : ℕ) (p : ShownPart) → IsLow
 unfolding with_base
 part_written reg ons x p low = search (rules, rewritten_low, with_base, rewritten_high)
 
-part_split : (slots : List (Option BasedRegion)) (reg : ℕ) (p : ShownPart) → IsPartAt slots reg p → Split 0 slots p.slot p.region
+part_split : (slots : List (Option BarWithBase)) (reg : ℕ) (p : ShownPart) → IsPartAt slots reg p → Split 0 slots p.slot p.region
 part_split slots reg p at = split slots 0 p.slot p.region at.region
 
 order_at : (bs cs : List BaseAddress) → HasLawfulBases bs → bs ≡ cs → EachPair InOrder (map opened cs)
 order_at bs cs lawful e = (subst HasLawfulBases e lawful).regions.in_order
 
-pub read_part : (slots : List (Option BasedRegion)) → HasLawfulBases (bases_from 0 slots) → (reg : ℕ) (p : ShownPart) → IsPartAt slots reg p → word_at reg (bases_from 0 slots) ≡ shown (placed 0 p.region) / 2 ^ p.shift
+pub read_part : (slots : List (Option BarWithBase)) → HasLawfulBases (bases_from 0 slots) → (reg : ℕ) (p : ShownPart) → IsPartAt slots reg p → word_at reg (bases_from 0 slots) ≡ shown (placed 0 p.region) / 2 ^ p.shift
 read_part slots lawful reg p at =
     let s : Split 0 slots p.slot p.region = part_split slots reg p at in
     let b : BaseAddress = placed p.slot p.region in
@@ -116,12 +116,12 @@ read_part slots lawful reg p at =
     let order : EachPair InOrder (map opened (s.pre ++ (b ∷ s.post))) = order_at (bases_from 0 slots) (s.pre ++ (b ∷ s.post)) lawful whole in
     ap (word_at reg) whole ∙ word_past reg s.pre (b ∷ s.post) (before reg b (part_of reg p at.half) s.pre s.post order) ∙ part_word reg p s.post at.half
 
-pub write_part : (slots : List (Option BasedRegion)) → HasLawfulBases (bases_from 0 slots) → (reg : ℕ) (ons : List Bool) (x : ℕ) (p : ShownPart) → IsPartAt slots reg p
+pub write_part : (slots : List (Option BarWithBase)) → HasLawfulBases (bases_from 0 slots) → (reg : ℕ) (ons : List Bool) (x : ℕ) (p : ShownPart) → IsPartAt slots reg p
     → bases_from 0 (slice_set slots p.slot (Some (record p.region { base = rebased (placed 0 p.region) (x * 2 ^ p.shift) (enabled_bits ons * 2 ^ p.shift) }))) ≡ map (rewritten reg ons x) (bases_from 0 slots)
 write_part slots lawful reg ons x p at =
     let s : Split 0 slots p.slot p.region = part_split slots reg p at in
     let b : BaseAddress = placed p.slot p.region in
-    let r : BasedRegion = record p.region { base = rebased (placed 0 p.region) (x * 2 ^ p.shift) (enabled_bits ons * 2 ^ p.shift) } in
+    let r : BarWithBase = record p.region { base = rebased (placed 0 p.region) (x * 2 ^ p.shift) (enabled_bits ons * 2 ^ p.shift) } in
     let whole : bases_from 0 slots ≡ s.pre ++ (b ∷ s.post) = s.whole ∙ ap (λ m. s.pre ++ (placed m p.region ∷ s.post)) (zero-add p.slot) in
     let order : EachPair InOrder (map opened (s.pre ++ (b ∷ s.post))) = order_at (bases_from 0 slots) (s.pre ++ (b ∷ s.post)) lawful whole in
     let of : IsOf reg b = part_of reg p at.half in
@@ -133,28 +133,28 @@ shift_fits : (reg : ℕ) (p : ShownPart) → IsLowerPart reg p ⊎ IsUpperPart r
 shift_fits reg p low x h = grind (arith, shl_whole)
 
 -- the same in 64 bits, as the program shifts
-pub stored_part : (slots : List (Option BasedRegion)) → HasLawfulBases (bases_from 0 slots) → (reg : ℕ) (ons : List Bool) (x : ℕ) (p : ShownPart) → IsPartAt slots reg p
-    → x < 2 ^ 32 → enabled_bits ons < 2 ^ 32 → (r : BasedRegion)
+pub stored_part : (slots : List (Option BarWithBase)) → HasLawfulBases (bases_from 0 slots) → (reg : ℕ) (ons : List Bool) (x : ℕ) (p : ShownPart) → IsPartAt slots reg p
+    → x < 2 ^ 32 → enabled_bits ons < 2 ^ 32 → (r : BarWithBase)
     → r ≡ record p.region { base = rebased (placed 0 p.region) (x * 2 ^ p.shift % 2 ^ 64) (enabled_bits ons * 2 ^ p.shift % 2 ^ 64) }
     → bases_from 0 (slice_set slots p.slot (Some r)) ≡ map (rewritten reg ons x) (bases_from 0 slots)
 stored_part slots lawful reg ons x p at hx he r e =
     let exact : r ≡ record p.region { base = rebased (placed 0 p.region) (x * 2 ^ p.shift) (enabled_bits ons * 2 ^ p.shift) } = grind (arith, shift_fits) in
-    ap (λ (q : BasedRegion). bases_from 0 (slice_set slots p.slot (Some q))) exact ∙ write_part slots lawful reg ons x p at
+    ap (λ (q : BarWithBase). bases_from 0 (slice_set slots p.slot (Some q))) exact ∙ write_part slots lawful reg ons x p at
 
-there : (slots : List (Option BasedRegion)) (i : ℕ) (r : BasedRegion) → slot_at slots i ≡ Some r → slice_get slots i ≡ Some (Some r)
+there : (slots : List (Option BarWithBase)) (i : ℕ) (r : BarWithBase) → slot_at slots i ≡ Some r → slice_get slots i ≡ Some (Some r)
 there slots i r h = grind arith
 
 -- a write that leaves a region's base leaves all bases
-pub still_stored : (slots : List (Option BasedRegion)) → HasLawfulBases (bases_from 0 slots) → (reg : ℕ) (ons : List Bool) (x : ℕ) (p : ShownPart) → IsPartAt slots reg p
-    → x < 2 ^ 32 → enabled_bits ons < 2 ^ 32 → (r : BasedRegion)
+pub still_stored : (slots : List (Option BarWithBase)) → HasLawfulBases (bases_from 0 slots) → (reg : ℕ) (ons : List Bool) (x : ℕ) (p : ShownPart) → IsPartAt slots reg p
+    → x < 2 ^ 32 → enabled_bits ons < 2 ^ 32 → (r : BarWithBase)
     → r ≡ record p.region { base = rebased (placed 0 p.region) (x * 2 ^ p.shift % 2 ^ 64) (enabled_bits ons * 2 ^ p.shift % 2 ^ 64) }
     → r.base ≡ p.region.base → map (rewritten reg ons x) (bases_from 0 slots) ≡ bases_from 0 slots
 still_stored slots lawful reg ons x p at hx he r e same =
-    let unmoved : r ≡ p.region = e ∙ ap (λ n. record p.region { base = n }) (sym (ap (λ (q : BasedRegion). q.base) e) ∙ same) in
+    let unmoved : r ≡ p.region = e ∙ ap (λ n. record p.region { base = n }) (sym (ap (λ (q : BarWithBase). q.base) e) ∙ same) in
     sym (stored_part slots lawful reg ons x p at hx he r e)
-    ∙ ap (λ (q : BasedRegion). bases_from 0 (slice_set slots p.slot (Some q))) unmoved ∙ ap (bases_from 0) (set_same slots p.slot (Some p.region) (there slots p.slot p.region at.region))
+    ∙ ap (λ (q : BarWithBase). bases_from 0 (slice_set slots p.slot (Some q))) unmoved ∙ ap (bases_from 0) (set_same slots p.slot (Some p.region) (there slots p.slot p.region at.region))
 
-pub lawful_part : (slots : List (Option BasedRegion)) → HasLawfulBases (bases_from 0 slots) → (reg : ℕ) (p : ShownPart) → IsPartAt slots reg p → IsLawfulBase (placed 0 p.region)
+pub lawful_part : (slots : List (Option BarWithBase)) → HasLawfulBases (bases_from 0 slots) → (reg : ℕ) (p : ShownPart) → IsPartAt slots reg p → IsLawfulBase (placed 0 p.region)
 lawful_part slots lawful reg p at =
     let s : Split 0 slots p.slot p.region = part_split slots reg p at in
     let own : IsLawfulBase (placed (0 + p.slot) p.region) = each_lawful (placed (0 + p.slot) p.region) s.pre s.post (subst HasLawfulBases s.whole lawful).each in
@@ -162,13 +162,13 @@ lawful_part slots lawful reg p at =
 
 -- ---- a register of no region
 
-above_from : (slots : List (Option BasedRegion)) (n reg : ℕ) → reg < n → Each (IsApartFrom reg) (bases_from n slots)
+above_from : (slots : List (Option BarWithBase)) (n reg : ℕ) → reg < n → Each (IsApartFrom reg) (bases_from n slots)
 above_from [] n reg h = tt
 above_from (None ∷ slots) n reg h = above_from slots (n + 1) reg (omega arith)
 above_from (Some q ∷ slots) n reg h = ((λ e. absurd (omega arith), λ two e. absurd (omega arith)), above_from slots (n + 1) reg (omega arith))
 
-unused_from : (slots : List (Option BasedRegion)) (n i reg : ℕ) → reg ≡ n + i → slot_at slots i ≡ None
-    → ((j : ℕ) (r : BasedRegion) → j + 1 ≡ i → slot_at slots j ≡ Some r → registers_of r.decl.kind ≡ 2 → ⊥) → Each (IsApartFrom reg) (bases_from n slots)
+unused_from : (slots : List (Option BarWithBase)) (n i reg : ℕ) → reg ≡ n + i → slot_at slots i ≡ None
+    → ((j : ℕ) (r : BarWithBase) → j + 1 ≡ i → slot_at slots j ≡ Some r → registers_of r.decl.kind ≡ 2 → ⊥) → Each (IsApartFrom reg) (bases_from n slots)
 unused_from [] n i reg e own below = tt
 unused_from (None ∷ slots) n zero reg e own below = above_from slots (n + 1) reg (omega arith)
 unused_from (Some q ∷ slots) n zero reg e own below = absurd (let no : ⊥ = cc in no)
@@ -176,17 +176,17 @@ unused_from (None ∷ slots) n (suc i) reg e own below = unused_from slots (n + 
 unused_from (Some q ∷ slots) n (suc i) reg e own below =
     ((λ same. absurd (omega arith), λ two next. below 0 q (omega arith) refl two), unused_from slots (n + 1) i reg (omega arith) own (λ j r je. below (suc j) r (omega arith)))
 
-unused : (slots : List (Option BasedRegion)) (reg : ℕ) → IsUnused slots reg → Each (IsApartFrom reg) (bases_from 0 slots)
+unused : (slots : List (Option BarWithBase)) (reg : ℕ) → IsUnused slots reg → Each (IsApartFrom reg) (bases_from 0 slots)
 unused slots reg h = unused_from slots 0 reg reg (sym (zero-add reg)) h.own h.below
 
 none_shown : (reg : ℕ) (bs : List BaseAddress) → Each (IsApartFrom reg) bs → word_at reg bs ≡ 0
 none_shown reg [] h = refl
 none_shown reg (b ∷ bs) h = word_apart reg b bs h.0.0 h.0.1 ∙ none_shown reg bs h.1
 
-pub read_unused : (slots : List (Option BasedRegion)) (reg : ℕ) → IsUnused slots reg → word_at reg (bases_from 0 slots) ≡ 0
+pub read_unused : (slots : List (Option BarWithBase)) (reg : ℕ) → IsUnused slots reg → word_at reg (bases_from 0 slots) ≡ 0
 read_unused slots reg h = none_shown reg (bases_from 0 slots) (unused slots reg h)
 
-pub write_unused : (slots : List (Option BasedRegion)) (reg : ℕ) (ons : List Bool) (x : ℕ) → IsUnused slots reg → map (rewritten reg ons x) (bases_from 0 slots) ≡ bases_from 0 slots
+pub write_unused : (slots : List (Option BarWithBase)) (reg : ℕ) (ons : List Bool) (x : ℕ) → IsUnused slots reg → map (rewritten reg ons x) (bases_from 0 slots) ≡ bases_from 0 slots
 write_unused slots reg ons x h = rewritten_past reg ons x (bases_from 0 slots) (unused slots reg h)
 
 -- ---- what a write leaves

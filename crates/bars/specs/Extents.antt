@@ -5,15 +5,15 @@
 --     AreExtents slots e      the same of all ports and of all memory, and of the memory below 4 GB and from there on
 use Rattle.std.specs.Prelude.{◌≡◌, ℕ, ◌<◌, ◌≤◌, ◌^◌, ◌-◌, ◌⊎◌, List, Option, None}
 use Rattle.model_registers.specs.Decoding.{Space, io, memory}
-use Rattle.bars.specs.{declared.{region.BasedRegion.BasedRegion, extent.{Extent.Extent, Extents.Extents}}, Hits.hit_from}
+use Rattle.bars.specs.{declared.{region.BarWithBase.BarWithBase, extent.{Extent.Extent, Extents.Extents}}, Hits.hit_from}
 
 abbrev pub IsOutside : Extent → ℕ → Type 0
 IsOutside e a = (a < e.least) ⊎ (e.greatest < a)
 
-abbrev pub IsExtent : Space → ℕ → ℕ → List (Option BasedRegion) → Extent → Type 0
+abbrev pub IsExtent : Space → ℕ → ℕ → List (Option BarWithBase) → Extent → Type 0
 IsExtent space first last slots e = (a : ℕ) → first ≤ a → a ≤ last → IsOutside e a → hit_from space a 0 slots ≡ None
 
-abbrev pub AreExtents : List (Option BasedRegion) → Extents → Type 0
+abbrev pub AreExtents : List (Option BarWithBase) → Extents → Type 0
 AreExtents slots e =
     IsExtent io 0 (2 ^ 64 - 1) slots e.io
     × IsExtent memory 0 (2 ^ 64 - 1) slots e.mem

@@ -5,9 +5,9 @@
 use Rattle.std.specs.Prelude.{List, [], ◌∷◌, ℕ, ◌+◌, ◌-◌, ◌&&◌, nat_le, nat_lt, if◌then◌else◌, Option, Some, None, option_map}
 use Rattle.lists.specs.Elements.{first_of_two}
 use Rattle.model_registers.specs.Decoding.{Space, same_space, space_of, Hit}
-use Rattle.bars.specs.declared.region.BasedRegion.{BasedRegion}
+use Rattle.bars.specs.declared.region.BarWithBase.{BarWithBase}
 
-abbrev pub offset_in : Space → ℕ → BasedRegion → Option ℕ
+abbrev pub offset_in : Space → ℕ → BarWithBase → Option ℕ
 offset_in space a r =
     if same_space (space_of r.decl.kind) space && nat_le r.base a && nat_lt a (r.base + r.decl.size)
     then Some (a - r.base) else None
@@ -16,7 +16,7 @@ abbrev pub hit_in : ℕ → ℕ → Hit
 hit_in n off = record { index = n; offset = off }
 
 -- the first region of slots, of which the first is that at index n
-abbrev pub hit_from : Space → ℕ → ℕ → List (Option BasedRegion) → Option Hit
+abbrev pub hit_from : Space → ℕ → ℕ → List (Option BarWithBase) → Option Hit
 hit_from space a n [] = None
 hit_from space a n (None ∷ slots) = hit_from space a (n + 1) slots
 hit_from space a n (Some r ∷ slots) =

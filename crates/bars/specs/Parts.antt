@@ -3,7 +3,7 @@
 --     IsUnused slots reg      no region has a register at the index reg
 use Rattle.std.specs.Prelude.{◌≡◌, ℕ, ◌+◌, List, Option, Some, None, ◌⊎◌}
 use Rattle.model_registers.specs.Declarations.{registers_of}
-use Rattle.bars.specs.{declared.{region.BasedRegion.BasedRegion, slots.ShownPart.ShownPart}, Slots.slot_at}
+use Rattle.bars.specs.{declared.{region.BarWithBase.BarWithBase, base_registers.ShownPart.ShownPart}, Slots.slot_at}
 
 abbrev pub IsLowerPart : ℕ → ShownPart → Type 0
 IsLowerPart reg p = (p.slot ≡ reg) × (p.shift ≡ 0)
@@ -11,10 +11,10 @@ IsLowerPart reg p = (p.slot ≡ reg) × (p.shift ≡ 0)
 abbrev pub IsUpperPart : ℕ → ShownPart → Type 0
 IsUpperPart reg p = (p.slot + 1 ≡ reg) × (p.shift ≡ 32) × (registers_of p.region.decl.kind ≡ 2)
 
-pub record IsPartAt (slots : List (Option BasedRegion)) (reg : ℕ) (p : ShownPart) : Type 0 where
+pub record IsPartAt (slots : List (Option BarWithBase)) (reg : ℕ) (p : ShownPart) : Type 0 where
   pub region : slot_at slots p.slot ≡ Some p.region
   pub half : IsLowerPart reg p ⊎ IsUpperPart reg p
 
-pub record IsUnused (slots : List (Option BasedRegion)) (reg : ℕ) : Type 0 where
+pub record IsUnused (slots : List (Option BarWithBase)) (reg : ℕ) : Type 0 where
   pub own : slot_at slots reg ≡ None
-  pub below : (i : ℕ) (r : BasedRegion) → i + 1 ≡ reg → slot_at slots i ≡ Some r → registers_of r.decl.kind ≡ 2 → ⊥
+  pub below : (i : ℕ) (r : BarWithBase) → i + 1 ≡ reg → slot_at slots i ≡ Some r → registers_of r.decl.kind ≡ 2 → ⊥

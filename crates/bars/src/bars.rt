@@ -3,10 +3,10 @@ ghost use Rattle.std.specs.Prelude.{◌≡◌, ◌<◌, ◌++◌, map};
 ghost use Rattle.model_registers.specs.{Registers.{read, write}, ByteEnables.lanes, Declarations.HasLawfulRegions, EndpointTable.{base_register, base_file, command_cells, opened, HasLawfulBases}, Decoding.first_hit};
 ghost use Rattle.bars.specs.{Kinds.named_space, Hits.named_hit, Resets.{at_reset, with_no_base}, Slots.bases_from};
 
+use crate::base_registers::BaseRegisters;
 use crate::decl::{BarDecl, Space};
 use crate::lanes::enabled_bits;
-use crate::region::BasedRegion;
-use crate::slots::Slots;
+use crate::region::BarWithBase;
 use std::marker::Model;
 
 /// The six base address registers of a function, at 10h to 27h.
@@ -17,7 +17,7 @@ use std::marker::Model;
 /// every region.
 #[derive(Debug, Drop)]
 pub struct Bars {
-    slots: Slots,
+    slots: BaseRegisters,
 }
 
 impl Model for Bars {
@@ -40,12 +40,12 @@ impl Bars {
         ensures { result ≡ at_reset decls }
     {
         Bars {
-            slots: Slots::new(decls),
+            slots: BaseRegisters::new(decls),
         }
     }
 
     /// Returns the regions with their current bases, indexed by their first register.
-    pub fn regions(&self) -> &[Option<BasedRegion>; 6]
+    pub fn regions(&self) -> &[Option<BarWithBase>; 6]
         ensures bases { bases_from 0 result.now ≡ self.now }
         ensures lawful { HasLawfulBases self.now }
     {

@@ -1,9 +1,9 @@
 //! Address ranges that bound a function's regions.
 ghost use Rattle.std.specs.Prelude.{◌≡◌, ◌≤◌, ◌↔◌, ℕ, List, Option, IsTrue, None};
-ghost use Rattle.bars.specs.{Kinds.named_space, Hits.{offset_in, hit_from}, declared.region.BasedRegion.BasedRegion, Extents.{IsOutside, AreExtents}};
+ghost use Rattle.bars.specs.{Kinds.named_space, Hits.{offset_in, hit_from}, declared.region.BarWithBase.BarWithBase, Extents.{IsOutside, AreExtents}};
 
 use crate::decl::Space;
-use crate::region::BasedRegion;
+use crate::region::BarWithBase;
 
 /// The lowest and the highest address of a set of regions. For an empty set, `least` is above
 /// `greatest`.
@@ -44,7 +44,7 @@ impl Extent {
 
     /// Returns the extent widened by `region`, if the region is in `space` and overlaps addresses
     /// `first` to `last`.
-    pub fn with(self, space: Space, first: u64, last: u64, region: BasedRegion) -> Extent
+    pub fn with(self, space: Space, first: u64, last: u64, region: BarWithBase) -> Extent
         ensures wider { (a : ℕ) → IsOutside result a → IsOutside self a }
         ensures holds { (a : ℕ) → first ≤ a → a ≤ last → IsOutside result a →
             offset_in (named_space space) a region ≡ None }
@@ -64,7 +64,7 @@ impl Extents {
     /// Returns whether `addr` is outside the extent of its space, or outside that of its half of
     /// memory.
     pub fn is_outside(self, space: Space, addr: u64) -> bool
-        ensures { (slots : List (Option BasedRegion)) → AreExtents slots self → IsTrue result
+        ensures { (slots : List (Option BarWithBase)) → AreExtents slots self → IsTrue result
             → hit_from (named_space space) addr 0 slots ≡ None }
     {
         match space {

@@ -4,15 +4,15 @@
 #![tactic(auto)]
 
 mod bars;
+mod base_registers;
 mod decl;
 mod extent;
 mod lanes;
 mod region;
 mod sizing;
-mod slots;
 
 pub use bars::Bars;
 pub use decl::{BarDecl, BarFault, Kind, Space};
 pub use lanes::enabled_bits;
-pub use region::BasedRegion;
+pub use region::BarWithBase;
 pub use sizing::size_of_mask;

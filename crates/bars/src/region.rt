@@ -7,12 +7,12 @@ use crate::decl::{BarDecl, Space};
 
 /// A declared region with the base address in its registers.
 #[derive(Clone, Copy, Debug)]
-pub struct BasedRegion {
+pub struct BarWithBase {
     pub decl: BarDecl,
     pub base: u64,
 }
 
-impl BasedRegion {
+impl BarWithBase {
     /// Returns the value that the BAR reads, as one integer: the base address and the type bits.
     pub fn shown(&self) -> u64
         requires { IsLawfulBase (placed 0 self.now) }
@@ -23,13 +23,13 @@ impl BasedRegion {
 
     /// Returns the region after a write of the `enabled` bits of `value` to its BAR. The bits below
     /// the size are read-only.
-    pub fn written(self, value: u64, enabled: u64) -> BasedRegion
+    pub fn written(self, value: u64, enabled: u64) -> BarWithBase
         requires { IsLawfulBase (placed 0 self) }
         ensures { result ≡ record self { base = rebased (placed 0 self) value enabled } }
     {
         let writable = self.decl.kind().base_bits() - (self.decl.size() - 1);
         let mask = writable & enabled;
-        BasedRegion {
+        BarWithBase {
             base: (self.base & !mask) | (value & mask),
             decl: self.decl,
         }

@@ -1,9 +1,9 @@
 //! The target of the timed accesses.
 ghost use Rattle.std.specs.Prelude.{◌≡◌, ◌%◌, ◌^◌, ◌<◌};
 
-use bars::{BasedRegion, Space};
+use bars::{BarWithBase, Space};
 use host_bridge::Bdf;
-use window_packing::{Ready, Setting, Writes};
+use window_packing::{FunctionProgram, Ready, RegisterValues};
 
 /// A function, and a memory address that is a multiple of 4 and below 2^63.
 #[derive(Clone, Copy)]
@@ -15,7 +15,7 @@ pub(crate) struct Target {
 }
 
 /// Returns the target in a region, if it is a memory region.
-fn target_at(at: Bdf, placed: Option<BasedRegion>) -> Option<Target> {
+fn target_at(at: Bdf, placed: Option<BarWithBase>) -> Option<Target> {
     let region = placed?;
     let addr = region.base;
     if region.decl.kind().space() == Space::Mem && addr % 4 == 0 && addr < 1 << 63 {
@@ -26,9 +26,9 @@ fn target_at(at: Bdf, placed: Option<BasedRegion>) -> Option<Target> {
 }
 
 /// Returns the target in a function after set-up, if it has a memory region.
-fn target_in(setting: &Setting) -> Option<Target> {
+fn target_in(setting: &FunctionProgram) -> Option<Target> {
     match &setting.writes {
-        Writes::Endpoint { command: _, bases } => {
+        RegisterValues::Endpoint { command: _, bases } => {
             for region in bases.iter() {
                 if let Some(target) = target_at(setting.at, *region) {
                     return Some(target);
@@ -36,7 +36,7 @@ fn target_in(setting: &Setting) -> Option<Target> {
             }
             None
         }
-        Writes::Bridge {
+        RegisterValues::Bridge {
             io: _,
             mem: _,
             pref: _,

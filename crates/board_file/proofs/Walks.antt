@@ -2,10 +2,10 @@
 --     GoesOn      what is there with those of the elements that are left
 --     range_more, joined      steps of lists of entries
 use Rattle.std.{proofs.{Common.{◌≡◌, ℕ, ◌+◌, List, [], ◌∷◌, ◌++◌, map, drop, zero-add, append_assoc, arith}, lemmas.List.FromFn.map-range_with_len_more}, specs.List.{enumerate_from, flat_map, range_with_len}}
-use Rattle.board_file.specs.{Problems.{Found, found_of}, declared.finding.Breach.Breach}
+use Rattle.board_file.specs.{Problems.{Found, found_of}, declared.finding.Violation.Violation}
 
 -- with those of the elements from i on, the problems are those at first and those of all elements
-abbrev pub GoesOn : {A : Type 0} → (ℕ × A → List Found) → List A → ℕ → List Breach → List Breach → Type 0
+abbrev pub GoesOn : {A : Type 0} → (ℕ × A → List Found) → List A → ℕ → List Violation → List Violation → Type 0
 GoesOn of xs i first problems =
     map found_of problems ++ flat_map of (enumerate_from i (drop i xs)) ≡ map found_of first ++ flat_map of (enumerate_from 0 xs)
 

@@ -6,7 +6,7 @@
 --     problems_of ms fault      all entries that break a rule of this fault
 use Rattle.std.specs.{Prelude.{ℕ, Bool, true, not, ◌||◌, List, [], ◌∷◌, ◌++◌, length, map, flat_map, is_some, if◌then◌else◌}, List.{enumerate_from, range_with_len}, Option.option_map_or}
 use Rattle.toml.specs.Data.{Members, no_members, member, get_member}
-use Rattle.board_file.specs.{Entries.{Endpoint, File, file}, Schema.{Field, fields, form_at, has_form}, Tables.{level_of, table_at}, Problems.{Found, problems_in}, declared.{schema.Level.Level, fault.BoardFault.BoardFault, rule.Rule.Rule, entry.Entry.Entry}}
+use Rattle.board_file.specs.{Entries.{Endpoint, File, file}, Schema.{Field, fields, form_at, has_form}, Tables.{level_of, table_at}, Problems.{Found, problems_in}, declared.{schema.TableKind.TableKind, fault.BoardFault.BoardFault, rule.Rule.Rule, entry.Entry.Entry}}
 use Rattle.board_file.specs.declared.fault.BoardFault.TheVariants as fault
 use Rattle.board_file.specs.declared.rule.Rule.TheVariants as rule
 use Rattle.board_file.specs.declared.entry.Entry.TheVariants as entry
@@ -39,7 +39,7 @@ of_field e ms f =
     unless_kept_at e f.key rule.Needed (not f.is_needed || is_some (get_member f.key ms))
     ++ unless_kept_at e f.key rule.Form (option_map_or (has_form f.form) (get_member f.key ms) true)
 
-abbrev pub of_member : Entry → Level → List ℕ → List Found
+abbrev pub of_member : Entry → TableKind → List ℕ → List Found
 of_member e l k = unless_kept_at e k rule.Known (is_some (form_at k (fields l)))
 
 -- the keys that a table has
@@ -47,7 +47,7 @@ abbrev pub keys_in : Members → List (List ℕ)
 keys_in no_members = []
 keys_in (member k d ms) = k ∷ keys_in ms
 
-abbrev pub of_table : BoardFault → Entry → Level → Members → List Found
+abbrev pub of_table : BoardFault → Entry → TableKind → Members → List Found
 of_table fault.Key e l ms = flat_map (of_field e ms) (fields l)
 of_table fault.UnknownKey e l ms = flat_map (of_member e l) (keys_in ms)
 of_table _ e l ms = []

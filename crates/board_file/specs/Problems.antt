@@ -6,7 +6,7 @@
 --     Adds these old new      the problems, and then these
 --     none ps      there are none
 use Rattle.std.specs.{Prelude.{◌≡◌, ℕ, Bool, true, false, List, [], ◌∷◌, ◌++◌, map, flat_map, if◌then◌else◌}, List.enumerate_from}
-use Rattle.board_file.specs.{Entries.{Bar, Config, Endpoint, Bridge, Guest, File}, Functions.standings, PathEntries.{PathEntry, path_texts, path_entries}, RuleFaults.key_of, EntryRules.{file_rules, host_rules, path_rules, endpoint_rules, bar_rules, config_rules, bridge_rules, guest_rules}, declared.{fault.BoardFault.BoardFault, entry.Entry.Entry, rule.Rule.Rule, finding.Breach.Breach}}
+use Rattle.board_file.specs.{Entries.{Bar, Config, Endpoint, Bridge, Guest, File}, Functions.standings, PathEntries.{PathEntry, path_texts, path_entries}, RuleFaults.key_of, EntryRules.{file_rules, host_rules, path_rules, endpoint_rules, bar_rules, config_rules, bridge_rules, guest_rules}, declared.{fault.BoardFault.BoardFault, entry.Entry.Entry, rule.Rule.Rule, finding.Violation.Violation}}
 use Rattle.model_board.specs.Places.{Standing}
 use Rattle.board_file.specs.declared.fault.BoardFault.TheVariants as fault
 use Rattle.board_file.specs.declared.entry.Entry.TheVariants as entry
@@ -16,14 +16,14 @@ pub record Found : Type 0 where
   pub rule : Rule
   pub key : List ℕ
 
-abbrev pub found_of : Breach → Found
+abbrev pub found_of : Violation → Found
 found_of p = record { entry = p.entry; rule = p.rule; key = p.key.now }
 
 abbrev pub none : {A : Type 0} → List A → Bool
 none [] = true
 none (x ∷ xs) = false
 
-abbrev pub Adds : List Found → List Breach → List Breach → Type 0
+abbrev pub Adds : List Found → List Violation → List Violation → Type 0
 Adds these old new = map found_of new ≡ map found_of old ++ these
 
 -- ---- rules that are broken

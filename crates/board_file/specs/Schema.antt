@@ -4,25 +4,25 @@
 --     form_at      what stands at a key
 use Rattle.std.specs.{Prelude.{ℕ, codes, Bool, true, false, ◌&&◌, List, [], ◌∷◌, length, ◌==◌, Option, Some, None, is_some, if◌then◌else◌}, List.list_all}
 use Rattle.toml.specs.Data.{Data, string, array, Items, no_items, item, as_integer, as_str, as_table}
-use Rattle.board_file.specs.{Texts.{same_text, region_kind, io_decode, pref_decode}, declared.schema.{Level.Level, Words.{Words, TheVariants.{RegionKind, IoDecode, PrefDecode}}, Form.{Form, TheVariants.{Integer, Text, Word, Pair, Texts, Table, Tables}}, Field.Field as FieldInCode}}
-use Rattle.board_file.specs.declared.schema.Level.TheVariants as level
+use Rattle.board_file.specs.{Texts.{same_text, region_kind, io_decode, pref_decode}, declared.schema.{TableKind.TableKind, Keyword.{Keyword, TheVariants.{RegionKind, IoDecode, PrefDecode}}, ValueType.{ValueType, TheVariants.{Integer, Text, Word, Pair, Texts, Table, Tables}}, Field.Field as FieldInCode}}
+use Rattle.board_file.specs.declared.schema.TableKind.TheVariants as level
 
 pub record Field : Type 0 where
   pub key : List ℕ
   pub is_needed : Bool
-  pub form : Form
+  pub form : ValueType
 
 abbrev pub field_of : FieldInCode → Field
 field_of f = record { key = f.key.now; is_needed = f.needed; form = f.form }
 
-abbrev pub needed : List ℕ → Form → Field
+abbrev pub needed : List ℕ → ValueType → Field
 needed k form = record { key = k; is_needed = true; form = form }
 
-abbrev pub optional : List ℕ → Form → Field
+abbrev pub optional : List ℕ → ValueType → Field
 optional k form = record { key = k; is_needed = false; form = form }
 
 -- the keys of a table
-abbrev pub fields : Level → List Field
+abbrev pub fields : TableKind → List Field
 fields level.Top =
     needed (codes "host") (Table level.Host)
     ∷ optional (codes "endpoint") (Tables level.Endpoint)
@@ -68,7 +68,7 @@ fields level.Bridge =
 fields level.Guest = needed (codes "name") Text ∷ needed (codes "slots") Texts ∷ []
 
 -- what stands at a key
-abbrev pub form_at : List ℕ → List Field → Option Form
+abbrev pub form_at : List ℕ → List Field → Option ValueType
 form_at k [] = None
 form_at k (f ∷ fs) = if same_text f.key k then Some f.form else form_at k fs
 
@@ -77,13 +77,13 @@ list_of no_items = []
 list_of (item d ds) = d ∷ list_of ds
 
 -- the word is one of those for its key
-abbrev pub is_listed : Words → List ℕ → Bool
+abbrev pub is_listed : Keyword → List ℕ → Bool
 is_listed RegionKind t = is_some (region_kind t)
 is_listed IoDecode t = is_some (io_decode t)
 is_listed PrefDecode t = is_some (pref_decode t)
 
 -- the value has the type, or is one of the words, that stands at its key
-abbrev pub has_form : Form → Data → Bool
+abbrev pub has_form : ValueType → Data → Bool
 has_form Integer d = is_some (as_integer d)
 has_form Text d = is_some (as_str d)
 has_form (Word words) (string t) = is_listed words t

@@ -6,8 +6,8 @@
 --     level_of entry      the kind of table that it has to be
 use Rattle.std.specs.Prelude.{ℕ, codes, List, Option, Some, None, option_and_then}
 use Rattle.toml.specs.Data.{Data, Members, get_member, at, as_table}
-use Rattle.board_file.specs.declared.{schema.Level.Level, entry.Entry.Entry}
-use Rattle.board_file.specs.declared.schema.Level.TheVariants as level
+use Rattle.board_file.specs.declared.{schema.TableKind.TableKind, entry.Entry.Entry}
+use Rattle.board_file.specs.declared.schema.TableKind.TheVariants as level
 use Rattle.board_file.specs.declared.entry.Entry.TheVariants as entry
 
 -- the table at an index of the list at a key
@@ -42,7 +42,7 @@ owner_key (entry.Guest i) = Some (codes "name")
 owner_key (entry.Slot i j) = Some (codes "name")
 owner_key e = Some (codes "at")
 
-abbrev pub level_of : Entry → Option Level
+abbrev pub level_of : Entry → Option TableKind
 level_of entry.File = Some level.Top
 level_of entry.Host = Some level.Host
 level_of (entry.Endpoint i) = Some level.Endpoint

@@ -16,7 +16,7 @@ use std::alloc::{AllocError, Global};
 
 /// A broken rule, with the entry and key at which it is broken.
 #[derive(Clone, Copy, Debug)]
-pub struct Breach<'a> {
+pub struct Violation<'a> {
     pub entry: Entry,
     pub rule: Rule,
     pub key: &'a str,
@@ -24,7 +24,7 @@ pub struct Breach<'a> {
 
 /// Appends a problem for each rule that the entry doesn't keep.
 pub(crate) fn push_broken(
-    problems: &mut Vec<Breach<'_>>,
+    problems: &mut Vec<Violation<'_>>,
     entry: Entry,
     rules: &[(Rule, bool)],
 ) -> Result<(), AllocError>
@@ -32,7 +32,7 @@ pub(crate) fn push_broken(
 {
     'rules: for (rule, kept) in rules {
         if !*kept {
-            problems.push(Breach {
+            problems.push(Violation {
                 entry,
                 rule: *rule,
                 key: rule.key(),
@@ -44,7 +44,7 @@ pub(crate) fn push_broken(
 
 /// Appends the problems of the file as a whole.
 fn push_file(
-    problems: &mut Vec<Breach<'_>>,
+    problems: &mut Vec<Violation<'_>>,
     fault: BoardFault,
     file: &FileEntries<'_>,
 ) -> Result<(), AllocError>
@@ -66,7 +66,7 @@ fn push_file(
 
 /// Appends the problems of the apertures.
 fn push_host(
-    problems: &mut Vec<Breach<'_>>,
+    problems: &mut Vec<Violation<'_>>,
     fault: BoardFault,
     file: &FileEntries<'_>,
 ) -> Result<(), AllocError>
@@ -90,7 +90,7 @@ fn push_host(
 /// Appends the problems of all values except paths.
 fn push_values(
     alloc: Global,
-    problems: &mut Vec<Breach<'_>>,
+    problems: &mut Vec<Violation<'_>>,
     file: &FileEntries<'_>,
     fault: BoardFault,
 ) -> Result<(), AllocError>
@@ -109,7 +109,7 @@ pub(crate) fn value_problems<'a>(
     alloc: Global,
     source: &Source<'_>,
     fault: BoardFault,
-) -> Result<Vec<Breach<'a>>, AllocError>
+) -> Result<Vec<Violation<'a>>, AllocError>
     ensures { IfOk result (λ v. map found_of v.items ≡ problems_in source.now.file fault) }
 {
     let mut problems = Vec::new(alloc);

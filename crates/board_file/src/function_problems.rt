@@ -6,7 +6,7 @@ use crate::blocks::{has_own_offsets, is_block};
 use crate::entries::{BarEntry, BridgeEntry, ConfigEntry, EndpointEntry, FileEntries};
 use crate::entry::Entry;
 use crate::fault::BoardFault;
-use crate::finding::{Breach, push_broken};
+use crate::finding::{Violation, push_broken};
 use crate::numbers::{config_ends, has_few_slashes, has_only_bits, is_between};
 use crate::regions::{has_own_registers, is_index, is_size};
 use crate::rule::Rule;
@@ -15,7 +15,7 @@ use std::alloc::{AllocError, Global};
 /// Appends the problems of a BAR.
 fn push_bar(
     alloc: Global,
-    problems: &mut Vec<Breach<'_>>,
+    problems: &mut Vec<Violation<'_>>,
     fault: BoardFault,
     endpoint: usize,
     index: usize,
@@ -50,7 +50,7 @@ fn push_bar(
 /// Appends the problems of a configuration block.
 fn push_config(
     alloc: Global,
-    problems: &mut Vec<Breach<'_>>,
+    problems: &mut Vec<Violation<'_>>,
     fault: BoardFault,
     endpoint: usize,
     configs: &[ConfigEntry<'_>],
@@ -88,7 +88,7 @@ fn push_config(
 
 /// Appends the problems of an endpoint's numbers.
 fn push_numbers(
-    problems: &mut Vec<Breach<'_>>,
+    problems: &mut Vec<Violation<'_>>,
     entry: Entry,
     endpoint: &EndpointEntry<'_>,
 ) -> Result<(), AllocError>
@@ -115,7 +115,7 @@ fn push_numbers(
 
 /// Appends the problems of an endpoint, except those of its BARs and configuration blocks.
 fn push_endpoint(
-    problems: &mut Vec<Breach<'_>>,
+    problems: &mut Vec<Violation<'_>>,
     fault: BoardFault,
     index: usize,
     endpoint: &EndpointEntry<'_>,
@@ -141,7 +141,7 @@ fn push_endpoint(
 /// Appends the problems of an endpoint's BARs.
 fn push_bars(
     alloc: Global,
-    problems: &mut Vec<Breach<'_>>,
+    problems: &mut Vec<Violation<'_>>,
     fault: BoardFault,
     endpoint: usize,
     bars: &[BarEntry<'_>],
@@ -158,7 +158,7 @@ fn push_bars(
 /// Appends the problems of an endpoint's configuration blocks.
 fn push_configs(
     alloc: Global,
-    problems: &mut Vec<Breach<'_>>,
+    problems: &mut Vec<Violation<'_>>,
     fault: BoardFault,
     endpoint: usize,
     configs: &[ConfigEntry<'_>],
@@ -177,7 +177,7 @@ fn push_configs(
 /// configuration blocks.
 pub(crate) fn push_endpoints(
     alloc: Global,
-    problems: &mut Vec<Breach<'_>>,
+    problems: &mut Vec<Violation<'_>>,
     file: &FileEntries<'_>,
     fault: BoardFault,
 ) -> Result<(), AllocError>
@@ -195,7 +195,7 @@ pub(crate) fn push_endpoints(
 
 /// Appends the problems of a bridge.
 fn push_bridge(
-    problems: &mut Vec<Breach<'_>>,
+    problems: &mut Vec<Violation<'_>>,
     fault: BoardFault,
     index: usize,
     bridge: &BridgeEntry<'_>,
@@ -224,7 +224,7 @@ fn push_bridge(
 
 /// Appends the problems of all bridges.
 pub(crate) fn push_bridges(
-    problems: &mut Vec<Breach<'_>>,
+    problems: &mut Vec<Violation<'_>>,
     file: &FileEntries<'_>,
     fault: BoardFault,
 ) -> Result<(), AllocError>

@@ -5,14 +5,14 @@ ghost use Rattle.board_file.specs.{EntryRules.guest_rules, Problems.{Adds, broke
 use crate::entries::{FileEntries, GuestEntry};
 use crate::entry::Entry;
 use crate::fault::BoardFault;
-use crate::finding::{Breach, push_broken};
+use crate::finding::{Violation, push_broken};
 use crate::guests::{is_name, is_own_name};
 use crate::rule::Rule;
 use std::alloc::AllocError;
 
 /// Appends the problems of a guest.
 fn push_guest(
-    problems: &mut Vec<Breach<'_>>,
+    problems: &mut Vec<Violation<'_>>,
     file: &FileEntries<'_>,
     fault: BoardFault,
     index: usize,
@@ -41,7 +41,7 @@ fn push_guest(
 
 /// Appends the problems of all guests.
 pub(crate) fn push_guests(
-    problems: &mut Vec<Breach<'_>>,
+    problems: &mut Vec<Violation<'_>>,
     file: &FileEntries<'_>,
     fault: BoardFault,
 ) -> Result<(), AllocError>

@@ -6,11 +6,11 @@ ghost use Rattle.board_file.specs.{KeyProblems.{with_endpoint, tables_of, unless
 use crate::entries::{EndpointEntry, FileEntries};
 use crate::entry::Entry;
 use crate::fault::BoardFault;
-use crate::finding::Breach;
+use crate::finding::Violation;
 use crate::keys::fields;
 use crate::reading::value_at;
 use crate::rule::Rule;
-use crate::schema::{Field, Form, Level, form_at, has_form};
+use crate::schema::{Field, TableKind, ValueType, form_at, has_form};
 use crate::source::Source;
 use crate::tables::{level_of, table_at};
 use std::alloc::{AllocError, Global};
@@ -57,7 +57,7 @@ fn tables(alloc: Global, file: &FileEntries<'_>) -> Result<Vec<Entry>, AllocErro
 
 /// Appends a problem at a key, unless the rule is kept.
 fn push_unless<'a>(
-    problems: &mut Vec<Breach<'a>>,
+    problems: &mut Vec<Violation<'a>>,
     entry: Entry,
     key: &'a str,
     rule: Rule,
@@ -69,12 +69,12 @@ fn push_unless<'a>(
     if kept {
         return Ok(());
     }
-    problems.push(Breach { entry, rule, key })?;
+    problems.push(Violation { entry, rule, key })?;
     Ok(())
 }
 
 /// Returns whether a value has the required form. A missing value passes.
-fn keeps_form(form: Form, value: Option<&Value>) -> bool
+fn keeps_form(form: ValueType, value: Option<&Value>) -> bool
     ensures { result
         ≡ option_map_or (has_form form) (option_map (λ v. view v.now) value.entry) true }
 {
@@ -86,7 +86,7 @@ fn keeps_form(form: Form, value: Option<&Value>) -> bool
 
 /// Appends the problems of one defined key of a table.
 fn push_field(
-    problems: &mut Vec<Breach<'_>>,
+    problems: &mut Vec<Violation<'_>>,
     entry: Entry,
     table: &Table,
     field: &Field,
@@ -108,9 +108,9 @@ fn push_field(
 
 /// Appends the problems of all defined keys of a table.
 fn push_fields(
-    problems: &mut Vec<Breach<'_>>,
+    problems: &mut Vec<Violation<'_>>,
     entry: Entry,
-    level: Level,
+    level: TableKind,
     table: &Table,
 ) -> Result<(), AllocError>
     ensures { OnOk result (Adds (flat_map (of_field entry (table_view table.now)) (fields level))
@@ -124,9 +124,9 @@ fn push_fields(
 
 /// Appends a problem for each key of a table that isn't defined for its level.
 fn push_unknown<'a>(
-    problems: &mut Vec<Breach<'a>>,
+    problems: &mut Vec<Violation<'a>>,
     entry: Entry,
-    level: Level,
+    level: TableKind,
     table: &'a Table,
 ) -> Result<(), AllocError>
     ensures { OnOk result (Adds (flat_map (of_member entry level) (keys_in (table_view table.now)))
@@ -142,10 +142,10 @@ fn push_unknown<'a>(
 
 /// Appends the problems of a table's keys.
 fn push_table<'a>(
-    problems: &mut Vec<Breach<'a>>,
+    problems: &mut Vec<Violation<'a>>,
     fault: BoardFault,
     entry: Entry,
-    level: Level,
+    level: TableKind,
     table: &'a Table,
 ) -> Result<(), AllocError>
     ensures { OnOk result (Adds (of_table fault entry level (table_view table.now))
@@ -160,7 +160,7 @@ fn push_table<'a>(
 
 /// Appends the problems of an entry's keys. An entry without a table has none.
 fn push_entry<'a>(
-    problems: &mut Vec<Breach<'a>>,
+    problems: &mut Vec<Violation<'a>>,
     fault: BoardFault,
     document: &'a Table,
     entry: Entry,
@@ -179,7 +179,7 @@ pub(crate) fn key_problems<'a>(
     alloc: Global,
     source: &Source<'a>,
     fault: BoardFault,
-) -> Result<Vec<Breach<'a>>, AllocError>
+) -> Result<Vec<Violation<'a>>, AllocError>
     ensures { IfOk result (λ v.
         map found_of v.items ≡ key_problems (table_view source.now.document.now) fault) }
 {

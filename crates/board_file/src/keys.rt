@@ -2,7 +2,7 @@
 ghost use Rattle.std.specs.Prelude.{◌≡◌, map};
 ghost use Rattle.board_file.specs.Schema.{fields, field_of};
 
-use crate::schema::{Field, Form, Level, Words};
+use crate::schema::{Field, Keyword, TableKind, ValueType};
 
 // Defines a required key.
 macro_rules! needed {
@@ -27,74 +27,77 @@ macro_rules! optional {
 }
 
 const TOP: [Field; 4] = [
-    needed!("host", Form::Table(Level::Host)),
-    optional!("endpoint", Form::Tables(Level::Endpoint)),
-    optional!("bridge", Form::Tables(Level::Bridge)),
-    optional!("guest", Form::Tables(Level::Guest)),
+    needed!("host", ValueType::Table(TableKind::Host)),
+    optional!("endpoint", ValueType::Tables(TableKind::Endpoint)),
+    optional!("bridge", ValueType::Tables(TableKind::Bridge)),
+    optional!("guest", ValueType::Tables(TableKind::Guest)),
 ];
 
 const HOST: [Field; 3] = [
-    needed!("io", Form::Pair),
-    needed!("mem", Form::Pair),
-    optional!("pref", Form::Pair),
+    needed!("io", ValueType::Pair),
+    needed!("mem", ValueType::Pair),
+    optional!("pref", ValueType::Pair),
 ];
 
 const ENDPOINT: [Field; 13] = [
-    needed!("at", Form::Text),
-    needed!("vendor", Form::Integer),
-    needed!("device", Form::Integer),
-    optional!("revision", Form::Integer),
-    needed!("class", Form::Integer),
-    optional!("subvendor", Form::Integer),
-    optional!("subsystem", Form::Integer),
-    optional!("pin", Form::Integer),
-    optional!("min_gnt", Form::Integer),
-    optional!("max_lat", Form::Integer),
-    optional!("status", Form::Integer),
-    optional!("bar", Form::Tables(Level::Bar)),
-    optional!("config", Form::Tables(Level::Config)),
+    needed!("at", ValueType::Text),
+    needed!("vendor", ValueType::Integer),
+    needed!("device", ValueType::Integer),
+    optional!("revision", ValueType::Integer),
+    needed!("class", ValueType::Integer),
+    optional!("subvendor", ValueType::Integer),
+    optional!("subsystem", ValueType::Integer),
+    optional!("pin", ValueType::Integer),
+    optional!("min_gnt", ValueType::Integer),
+    optional!("max_lat", ValueType::Integer),
+    optional!("status", ValueType::Integer),
+    optional!("bar", ValueType::Tables(TableKind::Bar)),
+    optional!("config", ValueType::Tables(TableKind::Config)),
 ];
 
 const BAR: [Field; 7] = [
-    needed!("index", Form::Integer),
-    needed!("kind", Form::Word(Words::RegionKind)),
-    needed!("size", Form::Integer),
-    optional!("block", Form::Integer),
-    optional!("reset", Form::Text),
-    optional!("rw", Form::Text),
-    optional!("w1c", Form::Text),
+    needed!("index", ValueType::Integer),
+    needed!("kind", ValueType::Word(Keyword::RegionKind)),
+    needed!("size", ValueType::Integer),
+    optional!("block", ValueType::Integer),
+    optional!("reset", ValueType::Text),
+    optional!("rw", ValueType::Text),
+    optional!("w1c", ValueType::Text),
 ];
 
 const CONFIG: [Field; 5] = [
-    needed!("off", Form::Integer),
-    needed!("block", Form::Integer),
-    optional!("reset", Form::Text),
-    optional!("rw", Form::Text),
-    optional!("w1c", Form::Text),
+    needed!("off", ValueType::Integer),
+    needed!("block", ValueType::Integer),
+    optional!("reset", ValueType::Text),
+    optional!("rw", ValueType::Text),
+    optional!("w1c", ValueType::Text),
 ];
 
 const BRIDGE: [Field; 6] = [
-    needed!("at", Form::Text),
-    needed!("vendor", Form::Integer),
-    needed!("device", Form::Integer),
-    optional!("revision", Form::Integer),
-    needed!("io", Form::Word(Words::IoDecode)),
-    needed!("pref", Form::Word(Words::PrefDecode)),
+    needed!("at", ValueType::Text),
+    needed!("vendor", ValueType::Integer),
+    needed!("device", ValueType::Integer),
+    optional!("revision", ValueType::Integer),
+    needed!("io", ValueType::Word(Keyword::IoDecode)),
+    needed!("pref", ValueType::Word(Keyword::PrefDecode)),
 ];
 
-const GUEST: [Field; 2] = [needed!("name", Form::Text), needed!("slots", Form::Texts)];
+const GUEST: [Field; 2] = [
+    needed!("name", ValueType::Text),
+    needed!("slots", ValueType::Texts),
+];
 
 /// Returns the keys that are defined for a table of this level.
-pub fn fields(level: Level) -> &'static [Field]
+pub fn fields(level: TableKind) -> &'static [Field]
     ensures { map field_of result.now ≡ fields level }
 {
     match level {
-        Level::Top => &TOP,
-        Level::Host => &HOST,
-        Level::Endpoint => &ENDPOINT,
-        Level::Bar => &BAR,
-        Level::Config => &CONFIG,
-        Level::Bridge => &BRIDGE,
-        Level::Guest => &GUEST,
+        TableKind::Top => &TOP,
+        TableKind::Host => &HOST,
+        TableKind::Endpoint => &ENDPOINT,
+        TableKind::Bar => &BAR,
+        TableKind::Config => &CONFIG,
+        TableKind::Bridge => &BRIDGE,
+        TableKind::Guest => &GUEST,
     }
 }

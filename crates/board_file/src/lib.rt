@@ -36,6 +36,6 @@ mod texts;
 pub use checks::order;
 pub use entry::Entry;
 pub use fault::BoardFault;
-pub use finding::Breach;
+pub use finding::Violation;
 pub use rule::Rule;
 pub use source::{Source, read_board};

@@ -4,7 +4,7 @@ ghost use Rattle.board_file.specs.{Functions.standings, Problems.{Adds, of_path,
 
 use crate::entries::FileEntries;
 use crate::fault::BoardFault;
-use crate::finding::{Breach, push_broken};
+use crate::finding::{Violation, push_broken};
 use crate::path_entries::{PathEntry, asked_entries};
 use crate::path_sets::PathSets;
 use crate::places::FunctionPath;
@@ -13,7 +13,7 @@ use std::alloc::{AllocError, Global};
 
 /// Appends the problems of the path of a function or slot.
 fn push_path(
-    problems: &mut Vec<Breach<'_>>,
+    problems: &mut Vec<Violation<'_>>,
     functions: &PathSets<'_>,
     fault: BoardFault,
     at: &PathEntry<'_, '_>,
@@ -52,7 +52,7 @@ fn push_path(
 /// Appends the problems of all paths that a check examines.
 pub(crate) fn push_paths(
     alloc: Global,
-    problems: &mut Vec<Breach<'_>>,
+    problems: &mut Vec<Violation<'_>>,
     file: &FileEntries<'_>,
     functions: &[FunctionPath],
     fault: BoardFault,

@@ -6,7 +6,7 @@ ghost use Rattle.board_file.specs.{EntryRules.has_indices, Functions.region, Rul
 
 use crate::entries::{BarEntry, EndpointEntry};
 use bars::{BarDecl, Kind};
-use headers::{TakesRegisters, have_own_registers};
+use headers::{UsesBars, have_own_registers};
 
 /// Returns whether the index of a BAR is 0 to 5.
 pub(crate) fn is_index(bar: &BarEntry<'_>) -> bool
@@ -22,7 +22,7 @@ fn has_indices(endpoint: &EndpointEntry<'_>) -> bool
     endpoint.bars.iter().all(|bar| is_index(bar))
 }
 
-impl<'a> TakesRegisters for BarEntry<'a> {
+impl<'a> UsesBars for BarEntry<'a> {
     ghost region = { region };
 
     fn index(&self) -> u64 {

@@ -9,7 +9,7 @@ use toml::value::{Array, Value};
 
 /// A kind of table.
 #[derive(Clone, Copy)]
-pub enum Level {
+pub enum TableKind {
     Top,
     Host,
     Endpoint,
@@ -21,7 +21,7 @@ pub enum Level {
 
 /// A set of words that a value can be chosen from.
 #[derive(Clone, Copy)]
-pub enum Words {
+pub enum Keyword {
     RegionKind,
     IoDecode,
     PrefDecode,
@@ -29,17 +29,17 @@ pub enum Words {
 
 /// The form of a value: its type, and its words if it has any.
 #[derive(Clone, Copy)]
-pub enum Form {
+pub enum ValueType {
     Integer,
     Text,
-    Word(Words),
+    Word(Keyword),
     /// An array of two integers.
     Pair,
     /// An array of strings.
     Texts,
-    Table(Level),
+    Table(TableKind),
     /// An array of tables.
-    Tables(Level),
+    Tables(TableKind),
 }
 
 /// A key of a table.
@@ -47,11 +47,11 @@ pub enum Form {
 pub struct Field {
     pub key: &'static str,
     pub needed: bool,
-    pub form: Form,
+    pub form: ValueType,
 }
 
 /// Returns the form of a key's value, or `None` if the key isn't defined for the level.
-pub fn form_at(level: Level, key: &str) -> Option<Form>
+pub fn form_at(level: TableKind, key: &str) -> Option<ValueType>
     ensures { result ≡ form_at key.now (fields level) }
 {
     'search: for field in fields(level) {
@@ -63,19 +63,19 @@ pub fn form_at(level: Level, key: &str) -> Option<Form>
 }
 
 /// Returns whether the text is one of the words.
-fn is_listed(words: Words, text: &str) -> bool
+fn is_listed(words: Keyword, text: &str) -> bool
     ensures { result ≡ is_listed words text.now }
 {
     match words {
-        Words::RegionKind => region_kind(text).is_some(),
-        Words::IoDecode => io_decode(text).is_some(),
-        Words::PrefDecode => pref_decode(text).is_some(),
+        Keyword::RegionKind => region_kind(text).is_some(),
+        Keyword::IoDecode => io_decode(text).is_some(),
+        Keyword::PrefDecode => pref_decode(text).is_some(),
     }
 }
 
 /// Returns whether the value is a string that is one of the words.
-fn is_word(words: Words, value: &Value) -> bool
-    ensures { result ≡ has_form (Form.Word words) (view value.now) }
+fn is_word(words: Keyword, value: &Value) -> bool
+    ensures { result ≡ has_form (ValueType.Word words) (view value.now) }
 {
     match value.as_str() {
         Some(text) => is_listed(words, text),
@@ -84,23 +84,23 @@ fn is_word(words: Words, value: &Value) -> bool
 }
 
 /// Returns whether the value has the form.
-pub fn has_form(form: Form, value: &Value) -> bool
+pub fn has_form(form: ValueType, value: &Value) -> bool
     ensures { result ≡ has_form form (view value.now) }
 {
     match form {
-        Form::Integer => value.is_integer(),
-        Form::Text => value.is_str(),
-        Form::Word(words) => is_word(words, value),
-        Form::Table(_) => value.is_table(),
-        Form::Pair => match value {
+        ValueType::Integer => value.is_integer(),
+        ValueType::Text => value.is_str(),
+        ValueType::Word(words) => is_word(words, value),
+        ValueType::Table(_) => value.is_table(),
+        ValueType::Pair => match value {
             Value::Array(items) => items.len() == 2 && all_integers(items),
             _ => false,
         },
-        Form::Texts => match value {
+        ValueType::Texts => match value {
             Value::Array(items) => all_texts(items),
             _ => false,
         },
-        Form::Tables(_) => match value {
+        ValueType::Tables(_) => match value {
             Value::Array(items) => all_tables(items),
             _ => false,
         },

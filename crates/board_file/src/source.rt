@@ -11,7 +11,7 @@ use crate::board::build;
 use crate::checks::order;
 use crate::entries::FileEntries;
 use crate::fault::BoardFault;
-use crate::finding::{Breach, value_problems};
+use crate::finding::{Violation, value_problems};
 use crate::key_problems::key_problems;
 use crate::places::{FunctionPath, function_paths};
 use crate::reading::read_entries;
@@ -56,7 +56,11 @@ impl<'a> Source<'a> {
 
     /// Returns all problems with this fault, in file order. A problem names the entry, the broken
     /// rule and the key.
-    pub fn problems(&self, alloc: Global, fault: BoardFault) -> Result<Vec<Breach<'a>>, AllocError>
+    pub fn problems(
+        &self,
+        alloc: Global,
+        fault: BoardFault,
+    ) -> Result<Vec<Violation<'a>>, AllocError>
         ensures { let ms = table_view self.now.document.now in
             IfOk result (λ v. map found_of v.items ≡ problems_of ms fault) }
     {

@@ -5,7 +5,7 @@ ghost use Rattle.board_file.specs.Tables.{table_in, table_at, value_at, owner_of
 
 use crate::entry::Entry;
 use crate::reading::value_at as member;
-use crate::schema::Level;
+use crate::schema::TableKind;
 use toml::Table;
 use toml::value::Value;
 
@@ -117,17 +117,17 @@ pub fn owner_name(document: &Table, entry: Entry) -> Option<&str>
 }
 
 /// Returns the kind of table that an entry has to be, or `None` for a slot.
-pub fn level_of(entry: Entry) -> Option<Level>
+pub fn level_of(entry: Entry) -> Option<TableKind>
     ensures { result ≡ level_of entry }
 {
     match entry {
-        Entry::File => Some(Level::Top),
-        Entry::Host => Some(Level::Host),
-        Entry::Endpoint(_) => Some(Level::Endpoint),
-        Entry::Bar(_, _) => Some(Level::Bar),
-        Entry::Config(_, _) => Some(Level::Config),
-        Entry::Bridge(_) => Some(Level::Bridge),
-        Entry::Guest(_) => Some(Level::Guest),
+        Entry::File => Some(TableKind::Top),
+        Entry::Host => Some(TableKind::Host),
+        Entry::Endpoint(_) => Some(TableKind::Endpoint),
+        Entry::Bar(_, _) => Some(TableKind::Bar),
+        Entry::Config(_, _) => Some(TableKind::Config),
+        Entry::Bridge(_) => Some(TableKind::Bridge),
+        Entry::Guest(_) => Some(TableKind::Guest),
         Entry::Slot(_, _) => None,
     }
 }

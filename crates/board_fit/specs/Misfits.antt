@@ -5,7 +5,7 @@
 --     reasons f fault      the one or the other, where the fault is that
 use Rattle.std.specs.{Prelude.{ℕ, nat_lt, Bool, true, false, ◌&&◌, List, [], ◌∷◌, filter, length, map, flat_map, Option, if◌then◌else◌}, List.{position, enumerate_from}, Option.option_map_or}
 use Rattle.model_registers.specs.Declarations.{Kind, io_kind, mem32, mem64, IoDecode, no_io, io16, io32}
-use Rattle.model_board.specs.Paths.{Path, leads_to}
+use Rattle.model_board.specs.Paths.{Path, is_ancestor_of}
 use Rattle.bus_scan.specs.declared.fault.Fault.{Fault, TheVariants.{Buses, NoIoWindow}}
 use Rattle.board_file.specs.{Entries.{Bar, Endpoint, Bridge, File}, PathTexts.path_at}
 use Rattle.board_fit.specs.declared.remark.Remark.{Remark}
@@ -22,7 +22,7 @@ is_closed io16 = false
 is_closed io32 = false
 
 abbrev pub closes : Path → Bridge → Bool
-closes p b = is_closed b.io && leads_to (path_at b.at) p
+closes p b = is_closed b.io && is_ancestor_of (path_at b.at) p
 
 abbrev pub first_closed : List Bridge → Path → Option ℕ
 first_closed bs p = position (closes p) bs

@@ -9,9 +9,9 @@ use Rattle.std.specs.{Prelude.{ℕ, ◌*◌, ◌==◌, Bool, false, not, ◌&&�
 use Rattle.model_board.specs.Paths.{Path, path_eq, parent}
 use Rattle.board_file.specs.{Entries.{Endpoint, Bridge, Guest, File}, EntryRules.are_same_place, PathTexts.path_at}
 use Rattle.window_packing.specs.declared.pool_uses.PoolUse.{PoolUse}
-use Rattle.board_fit.specs.declared.{pool_fit.PoolFit.PoolFit, remark.Remark.Remark, warned.Warned.Warned}
+use Rattle.board_fit.specs.declared.{pool_fit.PoolFit.PoolFit, remark.Remark.Remark, warning_level.WarningLevel.WarningLevel}
 use Rattle.board_fit.specs.declared.remark.Remark.TheVariants as remark
-use Rattle.board_fit.specs.declared.warned.Warned.TheVariants as warned
+use Rattle.board_fit.specs.declared.warning_level.WarningLevel.TheVariants as warned
 
 -- a remark on an entry of the file, by its place there
 abbrev pub with_index : {A : Type 0} → (ℕ → Remark) → ℕ × A → Remark
@@ -81,11 +81,11 @@ abbrev pub all_wide_apertures : List PoolFit → List Remark
 all_wide_apertures xs = map wide_aperture (filter is_wide xs)
 
 -- on a small board wide apertures are no mistake
-abbrev pub wide_apertures : Warned → List PoolFit → List Remark
+abbrev pub wide_apertures : WarningLevel → List PoolFit → List Remark
 wide_apertures warned.Likely xs = []
 wide_apertures warned.All xs = all_wide_apertures xs
 
 -- ---- all
 
-abbrev pub warnings : Warned → File → List PoolFit → List Remark
+abbrev pub warnings : WarningLevel → File → List PoolFit → List Remark
 warnings w f xs = empty_bridges f ++ endpoints_of_none f ++ guests_without_slots f.guests ++ wide_apertures w xs

@@ -14,7 +14,7 @@ use crate::misfit::reasons;
 use crate::placed_remark::{PlacedRemark, with_places};
 use crate::pool_fit::{PoolFit, pool_fits};
 use crate::remark::Remark;
-use crate::warned::Warned;
+use crate::warning_level::WarningLevel;
 use crate::warnings::warnings;
 use board_file::Source;
 use board_file::entries::FileEntries;
@@ -41,7 +41,7 @@ pub struct Verdict {
 /// Returns warnings if there is no fault, and the entries that cause the fault if there is one.
 fn remarks(
     alloc: Global,
-    warned: Warned,
+    warned: WarningLevel,
     file: &FileEntries<'_>,
     fits: &[PoolFit],
     fault: Option<Fault>,
@@ -74,7 +74,7 @@ fn placed(
 /// Builds the verdict from the fits of the pools and the fault.
 fn with_remarks(
     alloc: Global,
-    warned: Warned,
+    warned: WarningLevel,
     source: &Source<'_>,
     fits: Vec<PoolFit>,
     fault: Option<Fault>,
@@ -98,7 +98,7 @@ fn with_remarks(
 /// Computes the fits of the pools and builds the verdict.
 fn judge_fits(
     alloc: Global,
-    warned: Warned,
+    warned: WarningLevel,
     source: &Source<'_>,
     table: &FunctionTable,
     apertures: &Apertures,
@@ -133,7 +133,7 @@ fn can_be_placed(alloc: Global, table: &FunctionTable, apertures: &Apertures) ->
 /// Returns the verdict on a board with this function table.
 fn judge_table(
     alloc: Global,
-    warned: Warned,
+    warned: WarningLevel,
     source: &Source<'_>,
     table: &FunctionTable,
     apertures: &Apertures,
@@ -156,7 +156,7 @@ fn judge_table(
 /// possible mistakes to warn about. Fails only if memory is exhausted.
 pub fn judge(
     alloc: Global,
-    warned: Warned,
+    warned: WarningLevel,
     source: &Source<'_>,
     host: Host,
 ) -> Result<Verdict, AllocError>

@@ -13,7 +13,7 @@ mod placed_remark;
 mod pool_fit;
 mod remark;
 mod rendering;
-mod warned;
+mod warning_level;
 mod warnings;
 
 pub use judging::{Verdict, judge};
@@ -21,4 +21,4 @@ pub use placed_remark::PlacedRemark;
 pub use pool_fit::PoolFit;
 pub use remark::Remark;
 pub use rendering::verdict_text;
-pub use warned::Warned;
+pub use warning_level::WarningLevel;

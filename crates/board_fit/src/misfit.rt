@@ -36,7 +36,7 @@ fn is_closed(io: IoDecode) -> bool
 fn closes(path: &Path, bridge: &BridgeEntry<'_>) -> bool
     ensures { result ≡ closes path.now bridge.now }
 {
-    is_closed(bridge.io) && bridge.at.path().leads_to(path)
+    is_closed(bridge.io) && bridge.at.path().is_ancestor_of(path)
 }
 
 /// Returns the index of the first bridge above the path that has no I/O window.

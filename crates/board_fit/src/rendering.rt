@@ -4,7 +4,7 @@ use crate::placed_remark::PlacedRemark;
 use crate::pool_fit::PoolFit;
 use crate::remark::Remark;
 use board_file::Source;
-use diagnostics::{Beside, Head, Telling, push_below};
+use diagnostics::{Beside, Head, RenderOptions, push_below};
 use std::alloc::{AllocError, Global};
 use std::fmt;
 use window_packing::Pool;
@@ -74,7 +74,7 @@ fn label_of(remark: Remark) -> &'static str {
 fn push_remark<'a>(
     alloc: Global,
     text: &mut String,
-    telling: &Telling<'a>,
+    telling: &RenderOptions<'a>,
     source: &Source<'a>,
     placed: &PlacedRemark,
 ) -> Result<(), AllocError> {
@@ -113,7 +113,7 @@ fn push_head(text: &mut String, name: &str, verdict: &Verdict) -> Result<(), All
 /// each remark. Fails only if memory is exhausted.
 pub fn verdict_text(
     alloc: Global,
-    telling: &Telling<'_>,
+    telling: &RenderOptions<'_>,
     source: &Source<'_>,
     verdict: &Verdict,
 ) -> Result<String, AllocError> {

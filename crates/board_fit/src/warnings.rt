@@ -7,7 +7,7 @@ ghost use Rattle.board_fit.specs.{PathSets.{bridges_outside, endpoints_outside},
 use crate::path_sets::{bridges_above, given_paths};
 use crate::pool_fit::PoolFit;
 use crate::remark::Remark;
-use crate::warned::Warned;
+use crate::warning_level::WarningLevel;
 use board_file::entries::{BridgeEntry, EndpointEntry, FileEntries, GuestEntry};
 use board_file::path_text::PathText;
 use paths::Path;
@@ -134,21 +134,21 @@ fn all_wide_apertures(alloc: Global, fits: &[PoolFit]) -> Result<Vec<Remark>, Al
 /// Returns the remarks on wide apertures if these warnings are selected.
 fn wide_apertures(
     alloc: Global,
-    warned: Warned,
+    warned: WarningLevel,
     fits: &[PoolFit],
 ) -> Result<Vec<Remark>, AllocError>
     ensures { IfOk result (λ v. v.items ≡ wide_apertures warned fits.now) }
 {
     match warned {
-        Warned::Likely => Ok(Vec::new(alloc)),
-        Warned::All => all_wide_apertures(alloc, fits),
+        WarningLevel::Likely => Ok(Vec::new(alloc)),
+        WarningLevel::All => all_wide_apertures(alloc, fits),
     }
 }
 
 /// Returns all possible mistakes in a file, given the fits of its pools.
 pub(crate) fn warnings(
     alloc: Global,
-    warned: Warned,
+    warned: WarningLevel,
     file: &FileEntries<'_>,
     fits: &[PoolFit],
 ) -> Result<Vec<Remark>, AllocError>

@@ -8,14 +8,14 @@
 use Rattle.std.specs.{Prelude.{◌≡◌, ◌≤◌, ℕ, List, [], ◌∷◌, ◌++◌, length, map, option_map, IfSome, unwrap_or, IsPermutation}, List.Sorted.{IsNonDecreasingBy, IsStableByKey}, Ordering.nat_cmp}
 use Rattle.toml.specs.Data.{Members}
 use Rattle.lists.specs.Elements.{Each}
-use Rattle.board_file.specs.{declared.{fault.BoardFault.BoardFault, finding.Breach.Breach}, Problems.found_of, KeyProblems.problems_of, Meaning.file_checks}
+use Rattle.board_file.specs.{declared.{fault.BoardFault.BoardFault, finding.Violation.Violation}, Problems.found_of, KeyProblems.problems_of, Meaning.file_checks}
 use Rattle.diagnostics.specs.{declared.text_place.TextPlace.TextPlace, LineNumbers.line_of, EntryPlaces.IsPlaceOf}
 use Rattle.board_refusal.specs.declared.placed_breach.PlacedBreach.{PlacedBreach}
 use Rattle.board_file.specs.declared.fault.BoardFault.TheVariants as fault
 
 -- ---- places
 
-abbrev pub problem_of : PlacedBreach → Breach
+abbrev pub problem_of : PlacedBreach → Violation
 problem_of t = t.problem
 
 pub record HasPlace (text : List ℕ) (ms : Members) (t : PlacedBreach) : Type 0 where
@@ -36,7 +36,7 @@ abbrev pub line_or_zero : PlacedBreach → ℕ
 line_or_zero t = unwrap_or (option_map (λ p. p.line) t.place) 0
 
 -- those without a line come first, and those of one line keep the order of the file's entries
-pub record ArePlaced (text : List ℕ) (ms : Members) (problems : List Breach) (told : List PlacedBreach) : Type 0 where
+pub record ArePlaced (text : List ℕ) (ms : Members) (problems : List Violation) (told : List PlacedBreach) : Type 0 where
   pub found : List PlacedBreach
   pub are_all : map problem_of found ≡ problems
   pub have_places : Each (HasPlace text ms) found
@@ -47,7 +47,7 @@ pub record ArePlaced (text : List ℕ) (ms : Members) (problems : List Breach) (
 -- ---- all that is wrong
 
 pub record AreOfCheck (text : List ℕ) (ms : Members) (check : BoardFault) (told : List PlacedBreach) : Type 0 where
-  pub problems : List Breach
+  pub problems : List Violation
   pub are_all : map found_of problems ≡ problems_of ms check
   pub are_placed : ArePlaced text ms problems told
 

@@ -1,7 +1,7 @@
 //! Causes of unknown keys and of values with the wrong form.
 
 use board_file::keys::fields;
-use board_file::schema::{Field, Form, Level, Words, form_at};
+use board_file::schema::{Field, Keyword, TableKind, ValueType, form_at};
 use std::alloc::{AllocError, Global};
 use strsim::levenshtein;
 
@@ -26,7 +26,7 @@ fn nearest(
 pub(crate) fn push_known(
     alloc: Global,
     text: &mut String,
-    level: Level,
+    level: TableKind,
     key: &str,
 ) -> Result<(), AllocError> {
     let fields = fields(level);
@@ -43,19 +43,19 @@ pub(crate) fn push_known(
 }
 
 /// Returns a hint on how to write the value of a key.
-pub(crate) fn asked(level: Level, key: &str) -> &'static str {
+pub(crate) fn asked(level: TableKind, key: &str) -> &'static str {
     match form_at(level, key) {
-        Some(Form::Integer) => ": write an integer, as 16 or 0x10, without quotes",
-        Some(Form::Text) => ": write a text in quotes",
-        Some(Form::Word(Words::RegionKind)) => {
+        Some(ValueType::Integer) => ": write an integer, as 16 or 0x10, without quotes",
+        Some(ValueType::Text) => ": write a text in quotes",
+        Some(ValueType::Word(Keyword::RegionKind)) => {
             ": write one of io, mem32, mem32p, mem64, mem64p in quotes"
         }
-        Some(Form::Word(Words::IoDecode)) => ": write one of none, 16, 32 in quotes",
-        Some(Form::Word(Words::PrefDecode)) => ": write one of none, 32, 64 in quotes",
-        Some(Form::Pair) => ": write two integers in brackets, as [0x1000, 0xffff]",
-        Some(Form::Texts) => ": write texts in brackets, each in quotes",
-        Some(Form::Table(_)) => ": write a table, its header in brackets",
-        Some(Form::Tables(_)) => ": write tables, each header in double brackets",
+        Some(ValueType::Word(Keyword::IoDecode)) => ": write one of none, 16, 32 in quotes",
+        Some(ValueType::Word(Keyword::PrefDecode)) => ": write one of none, 32, 64 in quotes",
+        Some(ValueType::Pair) => ": write two integers in brackets, as [0x1000, 0xffff]",
+        Some(ValueType::Texts) => ": write texts in brackets, each in quotes",
+        Some(ValueType::Table(_)) => ": write a table, its header in brackets",
+        Some(ValueType::Tables(_)) => ": write tables, each header in double brackets",
         None => "",
     }
 }

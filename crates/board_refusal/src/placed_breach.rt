@@ -4,7 +4,7 @@ ghost use Rattle.toml.specs.View.{table_view};
 ghost use Rattle.board_refusal.specs.Telling.{HasPlace, line_or_zero, ArePlaced};
 
 use crate::others::{other_of, taker_of};
-use board_file::Breach;
+use board_file::Violation;
 use board_file::entries::FileEntries;
 use diagnostics::{Other, Places, TextPlace, place_of, with_place};
 use std::alloc::{AllocError, Global};
@@ -12,7 +12,7 @@ use std::alloc::{AllocError, Global};
 /// A problem with its place in the file, if the place was found and confirmed.
 #[derive(Clone, Copy, Debug)]
 pub struct PlacedBreach<'a> {
-    pub problem: Breach<'a>,
+    pub problem: Violation<'a>,
     pub place: Option<TextPlace>,
     /// The BAR without registers of its own, if that is the problem.
     pub taker: Option<Other>,
@@ -25,7 +25,7 @@ fn placed<'a>(
     alloc: Global,
     places: &Places<'_>,
     file: &FileEntries<'_>,
-    problem: &Breach<'a>,
+    problem: &Violation<'a>,
 ) -> Result<PlacedBreach<'a>, AllocError>
     ensures same { IfOk result (λ t. t.problem ≡ problem.now) }
     ensures place { IfOk result
@@ -60,7 +60,7 @@ pub(crate) fn with_places<'a>(
     alloc: Global,
     places: &Places<'_>,
     file: &FileEntries<'_>,
-    problems: &[Breach<'a>],
+    problems: &[Violation<'a>],
 ) -> Result<Vec<PlacedBreach<'a>>, AllocError>
     ensures { IfOk result (λ v.
         ArePlaced places.now.text.now (table_view places.now.document.now) problems.now v.items) }

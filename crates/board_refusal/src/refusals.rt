@@ -8,7 +8,7 @@ use crate::placed_breach::PlacedBreach;
 use crate::problems::placed_problems;
 use board_file::{BoardFault, Source};
 use diagnostics::{
-    Head, LineNumber, Style, Telling, TextPlace, line_of, push_below, push_shown_line,
+    Head, LineNumber, RenderOptions, Style, TextPlace, line_of, push_below, push_shown_line,
 };
 use std::alloc::{AllocError, Global};
 use toml::de::Error;
@@ -18,7 +18,7 @@ use toml::de::Error;
 fn push_problem(
     alloc: Global,
     text: &mut String,
-    telling: Telling<'_>,
+    telling: RenderOptions<'_>,
     source: &Source<'_>,
     told: &PlacedBreach<'_>,
 ) -> Result<(), AllocError> {
@@ -52,7 +52,13 @@ pub fn refusal_text(
     let problems = placed_problems(alloc, source, fault)?;
     let mut text = String::new(alloc);
     for problem in &problems {
-        push_problem(alloc, &mut text, Telling { style, name }, source, problem)?;
+        push_problem(
+            alloc,
+            &mut text,
+            RenderOptions { style, name },
+            source,
+            problem,
+        )?;
     }
     let count = problems.len();
     let noun = if count == 1 { "problem" } else { "problems" };

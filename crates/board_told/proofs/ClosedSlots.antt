@@ -7,11 +7,11 @@ use Rattle.std.{proofs.Common.{◌≡◌, ℕ, zero, suc, ◌+◌, ◌-◌, ◌<
 use Rattle.model_registers.specs.{Declarations.Region, OwnCopies.OwnCopies, Decoding.{Space, Function, opens_space, command_word, base_address}}
 use Rattle.model_guests.specs.Slots.{Slots, slot_at}
 use Rattle.model_lines.specs.WhyGuests.{closed_region, region_holds, closed_from, ClosedRegion}
-use Rattle.bars.specs.{declared.region.BasedRegion.BasedRegion, Slots.placed, Hits.offset_in}
+use Rattle.bars.specs.{declared.region.BarWithBase.BarWithBase, Slots.placed, Hits.offset_in}
 use Rattle.monitor.specs.OwnTold.{own_now}
 use Rattle.board_told.specs.GuestFindings.{base_holds, closed_base, closed_at, closed_by, closed_in}
 
-pub holds_by_offset : (space : Space) (n : ℕ) (r : BasedRegion) → is_some (offset_in space n r) ≡ base_holds space n (placed 0 r)
+pub holds_by_offset : (space : Space) (n : ℕ) (r : BarWithBase) → is_some (offset_in space n r) ≡ base_holds space n (placed 0 r)
 holds_by_offset space n r = grind arith
 
 module _ (space : Space) (n : ℕ) where

@@ -1,12 +1,12 @@
 -- What answers a question of the registers of a board.
 --     audit_in form ps, ready_in form ps ls      some problems, and also some lacks, in a form
 --     told_by q a fs, counted_by q a fs      the text that answers a question of some functions, by these apertures, and
---         how many problems and lacks it counts
+--         how many problems and readiness_issues it counts
 use Rattle.std.specs.Prelude.{ℕ, List, length}
 use Rattle.model_registers.specs.Apertures.{Apertures}
 use Rattle.model_board.specs.State.{BoardFunction}
 use Rattle.model_guests.specs.Text.{Text}
-use Rattle.model_findings.specs.{AuditText.audit_text, Problems.{Problem, problems}, Lacks.{Lack, lacks, lack_count}, ReadyText.ready_text}
+use Rattle.model_findings.specs.{AuditText.audit_text, Problems.{Problem, problems}, ReadinessIssues.{ReadinessIssue, readiness_issues, issue_count}, ReadyText.ready_text}
 use Rattle.json_texts.specs.AuditValue.{problems_json, lacks_json}
 use Rattle.board_told.specs.declared.{listing.ReportForm.{ReportForm, TheVariants.{Lines, Json}}, telling.Question.{Question, TheVariants.{Audit, Ready}}}
 
@@ -14,14 +14,14 @@ abbrev pub audit_in : ReportForm → List Problem → Text
 audit_in Lines ps = audit_text ps
 audit_in Json ps = problems_json ps
 
-abbrev pub ready_in : ReportForm → List Problem → List Lack → Text
+abbrev pub ready_in : ReportForm → List Problem → List ReadinessIssue → Text
 ready_in Lines ps ls = ready_text ps ls
 ready_in Json ps ls = lacks_json ps ls
 
 abbrev pub told_by : Question → Apertures → List BoardFunction → Text
 told_by (Audit form) a fs = audit_in form (problems fs)
-told_by (Ready form) a fs = ready_in form (problems fs) (lacks a fs)
+told_by (Ready form) a fs = ready_in form (problems fs) (readiness_issues a fs)
 
 abbrev pub counted_by : Question → Apertures → List BoardFunction → ℕ
 counted_by (Audit form) a fs = length (problems fs)
-counted_by (Ready form) a fs = lack_count a fs
+counted_by (Ready form) a fs = issue_count a fs

@@ -10,9 +10,9 @@ ghost use Rattle.board_told.specs.Checking.{IsFaultOf, IsOutOfMemory};
 ghost use Rattle.board_file.specs.Faults as of_file;
 
 use board_file::{BoardFault, Source};
-use board_fit::{Warned, judge, verdict_text};
+use board_fit::{WarningLevel, judge, verdict_text};
 use board_refusal::{refusal_text, unread_text};
-use diagnostics::{Style, Telling};
+use diagnostics::{RenderOptions, Style};
 use host_bridge::Host;
 use session::OpenFault;
 use std::alloc::{AllocError, Global};
@@ -29,7 +29,7 @@ pub struct Checked {
 /// Reports why the bytes can't be parsed as TOML, and where the parser stopped.
 fn refuse_bytes(
     alloc: Global,
-    telling: &Telling<'_>,
+    telling: &RenderOptions<'_>,
     board: &[u8],
     error: &Error,
 ) -> Result<Checked, OpenFault>
@@ -50,7 +50,7 @@ fn refuse_bytes(
 /// Reports each entry that breaks a rule of the board-file format.
 fn refuse(
     alloc: Global,
-    telling: &Telling<'_>,
+    telling: &RenderOptions<'_>,
     source: &Source<'_>,
     fault: BoardFault,
 ) -> Result<Checked, OpenFault>
@@ -82,8 +82,8 @@ fn of_board(fault: Option<bus_scan::Fault>) -> Option<OpenFault>
 /// Judges the board of an accepted file and renders the verdict.
 fn judge_board(
     alloc: Global,
-    telling: &Telling<'_>,
-    warned: Warned,
+    telling: &RenderOptions<'_>,
+    warned: WarningLevel,
     source: &Source<'_>,
     host: Host,
 ) -> Result<Checked, AllocError>
@@ -102,8 +102,8 @@ fn judge_board(
 /// Like `judge_board`, but reports exhausted memory as a set-up fault (299).
 fn accept(
     alloc: Global,
-    telling: &Telling<'_>,
-    warned: Warned,
+    telling: &RenderOptions<'_>,
+    warned: WarningLevel,
     source: &Source<'_>,
     host: Host,
 ) -> Result<Checked, OpenFault>
@@ -126,14 +126,14 @@ fn accept(
 pub fn check_text(
     alloc: Global,
     style: Style,
-    warned: Warned,
+    warned: WarningLevel,
     name: &str,
     board: &[u8],
 ) -> Result<Checked, OpenFault>
     ensures fault { IfOk result (λ c. IsFaultOf board.now c.fault) }
     ensures memory { IfErr result IsOutOfMemory }
 {
-    let telling = Telling { style, name };
+    let telling = RenderOptions { style, name };
     let document = match toml::table_from_slice(alloc, board) {
         Ok(document) => document,
         Err(e) if e.is_memory() => return Err(OpenFault::File(BoardFault::Memory)),

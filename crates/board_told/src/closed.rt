@@ -6,7 +6,7 @@ ghost use Rattle.model_lines.specs.WhyGuests.{closed_from};
 ghost use Rattle.bars.specs.{Kinds.named_space, Slots.{placed, bases_from}};
 ghost use Rattle.board_told.specs.GuestFindings.{lone_asked, base_holds, closed_at, closed_in, closed_told};
 
-use bars::{BasedRegion, Space};
+use bars::{BarWithBase, Space};
 use findings::opens;
 use monitor::Monitor;
 use std::alloc::{AllocError, Global};
@@ -24,7 +24,7 @@ pub struct ClosedInSlot {
 }
 
 /// Returns whether a BAR contains an address of the given space.
-fn holds(region: &BasedRegion, space: Space, addr: u64) -> bool
+fn holds(region: &BarWithBase, space: Space, addr: u64) -> bool
     ensures { result ≡ base_holds (named_space space) addr (placed 0 region.now) }
 {
     region.offset_of(space, addr).is_some()
@@ -38,7 +38,7 @@ fn add_holding(
     addr: u64,
     slot: usize,
     command: u16,
-    regions: &[Option<BasedRegion>; 6],
+    regions: &[Option<BarWithBase>; 6],
 ) -> Result<(), AllocError>
     ensures { let bases = bases_from 0 regions.now in
         OnOk result (map closed_told closed.new.items ≡ map closed_told closed.old.items

@@ -10,7 +10,7 @@ ghost use Rattle.board_told.specs.GuestFindings.{lone_asked, fault_at, lost_by, 
 use crate::closed::{ClosedInSlot, all_closed};
 use accesses::{At, Refusal};
 use bars::Space;
-use monitor::{Hit, Monitor};
+use monitor::{DecodedByte, Monitor};
 use paths::{Bdf, Select};
 use std::alloc::{AllocError, Global};
 
@@ -18,7 +18,7 @@ use std::alloc::{AllocError, Global};
 #[derive(Debug, Drop)]
 pub enum Finding {
     /// A byte of a function in one of the guest's slots.
-    Answers(Hit),
+    Answers(DecodedByte),
     /// No function claims the address. The disabled BARs that contain the address are listed by
     /// slot and then by BAR index.
     Nobody(Vec<ClosedInSlot>),

@@ -10,8 +10,8 @@ ghost use Rattle.board_told.specs.{GuestFindings.finding_told, GuestLines.{head_
 use crate::closed::ClosedInSlot;
 use crate::finding::Finding;
 use accesses::{At, Place};
-use findings_told::{ShownCommand, numbers};
-use monitor::Hit;
+use findings_render::{ShownCommand, numbers};
+use monitor::DecodedByte;
 use std::alloc::AllocError;
 use std::fmt;
 
@@ -33,7 +33,7 @@ impl fmt::Display for ShownPlace {
 
 /// Displays the byte that answers an access.
 #[derive(Clone, Copy)]
-struct ShownHit(Hit);
+struct ShownHit(DecodedByte);
 
 impl fmt::Display for ShownHit {
     ghost output = { λ h. Some (finding_text (answers (hit_named h.0))) };

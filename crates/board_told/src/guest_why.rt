@@ -14,7 +14,7 @@ use crate::finding_lines::{push_closed_of, push_head};
 use crate::listing::ReportForm;
 use accesses::{At, Place};
 use findings::{PortUse, port_use};
-use findings_told::push_use;
+use findings_render::push_use;
 use json_texts::{HasValue, number_value, values, why_json};
 use monitor::Monitor;
 use paths::Latch;

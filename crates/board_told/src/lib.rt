@@ -18,7 +18,7 @@ mod listing;
 mod numbered;
 mod telling;
 
-pub use board_fit::Warned;
+pub use board_fit::WarningLevel;
 pub use checking::{Checked, check_text};
 pub use closed::ClosedInSlot;
 pub use diagnostics::Style;

@@ -1,10 +1,10 @@
 //! Renders the problems and unmet requirements of a board's registers.
 ghost use Rattle.std.specs.Prelude.{◌≡◌, ◌+◌, IfOk, length, map, string_bytes};
-ghost use Rattle.findings.specs.Findings.{problem_of, lack_of};
+ghost use Rattle.findings.specs.Findings.{problem_of, issue_of};
 ghost use Rattle.board_told.specs.Telling.{audit_in, ready_in};
 
 use crate::listing::ReportForm;
-use findings::{Lack, Problem};
+use findings::{Problem, ReadinessIssue};
 use json_texts::{lacks_json, problems_json};
 use session::CountedText;
 use std::alloc::{AllocError, Global};
@@ -45,20 +45,22 @@ pub fn ready_in(
     alloc: Global,
     form: ReportForm,
     problems: &[Problem],
-    lacks: &[Lack],
+    readiness_issues: &[ReadinessIssue],
 ) -> Result<CountedText, AllocError>
-    ensures text { let ps = map problem_of problems.now in let ls = map lack_of lacks.now in
+    ensures text { let ps = map problem_of problems.now in
+        let ls = map issue_of readiness_issues.now in
         IfOk result (λ t. string_bytes t.text ≡ ready_in form ps ls) }
-    ensures count { let ps = map problem_of problems.now in let ls = map lack_of lacks.now in
+    ensures count { let ps = map problem_of problems.now in
+        let ls = map issue_of readiness_issues.now in
         IfOk result (λ t. t.count ≡ length ps + length ls) }
 {
     match form {
-        ReportForm::Lines => CountedText::of_lacks(alloc, problems, lacks),
+        ReportForm::Lines => CountedText::of_issues(alloc, problems, readiness_issues),
         ReportForm::Json => {
-            let text = lacks_json(alloc, problems, lacks)?;
+            let text = lacks_json(alloc, problems, readiness_issues)?;
             Ok(CountedText {
                 text,
-                count: problems.len() + lacks.len(),
+                count: problems.len() + readiness_issues.len(),
             })
         }
     }

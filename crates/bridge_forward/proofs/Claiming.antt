@@ -2,7 +2,7 @@
 use Rattle.std.{proofs.{Common.{◌≡◌, ℕ, ◌+◌, ◌<◌, ◌≤◌, Bool, true, false, not, ◌&&◌, ◌||◌, cond, Option, Some, None, List, [], ◌∷◌, length, zero, suc, refl, ap, ◌∙◌, arith, ◌⊎◌, rules}, lemmas.Option.slice_get_within}, specs.{Option.option_map_or, List.{slice_get, list_all}}}
 use Rattle.lists.{specs.Elements.{first_of_two, first_some}, proofs.{Indices.{map_at, at_map, fails_at}, Tests.asked_false}}
 use Rattle.model_registers.specs.Decoding.{Space, Hit, lone_claim}
-use Rattle.model_board.specs.{Paths.leads_to, State.BoardFunction, Windows.forwards, Claims.{is_forwarded, claim_at, endpoint_hit, claim_of, first_claim}}
+use Rattle.model_board.specs.{Paths.is_ancestor_of, State.BoardFunction, Windows.forwards, Claims.{is_forwarded, claim_at, endpoint_hit, claim_of, first_claim}}
 use Rattle.bridge_forward.{specs.{Bridges.BridgeFunction, declared.{bus.Node.Node, function.Function.{Function, TheVariants.{Endpoint, Bridge}}}, Layout.{function_of, functions_of, IsLaidOut}}, proofs.Nodes.{inside, leads_within, within_of_leads, nested}}
 use Rattle.model_registers.specs.Decoding as decoding
 
@@ -46,8 +46,8 @@ module _ (nodes : List Node) (laid : IsLaidOut nodes) (space : Space) (a : ℕ) 
   shut_behind : (i j : ℕ) (m n : Node) → slice_get nodes i ≡ Some m → slice_get nodes j ≡ Some n → i < j → j < m.end → forwards space a (function_of m) ≡ false → claim_of fs space a (function_of n) ≡ None
   shut_behind i j m n em en l g f =
       ap (λ t. cond t (option_map_or (λ (h : Hit). Some (claim_at n.path h)) (endpoint_hit (function_of n) space a) None) None)
-      (fails_at (λ (x : BoardFunction). not (leads_to x.path n.path) || forwards space a x) fs i (function_of m) (map_at function_of nodes i m em)
-      (asked_false (leads_to m.path n.path) (forwards space a (function_of m)) (leads_within nodes laid i j m n em en l g) f))
+      (fails_at (λ (x : BoardFunction). not (is_ancestor_of x.path n.path) || forwards space a x) fs i (function_of m) (map_at function_of nodes i m em)
+      (asked_false (is_ancestor_of m.path n.path) (forwards space a (function_of m)) (leads_within nodes laid i j m n em en l g) f))
 
   no_claim : (n : Node) → endpoint_hit (function_of n) space a ≡ None → claim_of fs space a (function_of n) ≡ None
   no_claim n d = search rules

@@ -1,16 +1,16 @@
 -- A tree as one list: what its extents say of paths.
 use Rattle.std.{proofs.{Common.{◌≡◌, ℕ, ◌+◌, ◌<◌, ◌≤◌, true, false, ◌&&◌, Some, List, [], ◌∷◌, length, refl, sym, arith, inl, inr, ◌⊎◌, subst, rules}, lemmas.{Bool.Decides.nat_tests, Option.slice_get_within, List.length-map}}, specs.{Prelude.nat_lt, List.slice_get}}
 use Rattle.lists.{specs.Elements.{Each, EachPair}, proofs.Indices.{at_below, each_at, pair_at, any_at, map_at, at_map}}
-use Rattle.model_board.{specs.{State.BoardFunction, Paths.{Path, path_eq, path_before, leads_to, parent, last_part, IsPath}}, proofs.{PathOrder.path_same, PathEnds.{snoc, leads_up, leads_self, leads_trans, leads_longer}}}
+use Rattle.model_board.{specs.{State.BoardFunction, Paths.{Path, path_eq, path_before, is_ancestor_of, parent, last_part, IsPath}}, proofs.{PathOrder.path_same, PathEnds.{snoc, leads_up, leads_self, leads_trans, leads_longer}}}
 use Rattle.bridge_forward.specs.{declared.bus.Node.Node, Layout.{functions_of, paths_of, EndsAt, IsLaidOut}, Search.IsSide}
 use Rattle.paths.proofs.Paths.{length-parent}
 
 -- a path behind a bus stands on it, or its parent is behind that bus
-pub on_or_behind : (bus p : Path) → 0 < length p → leads_to bus p ≡ true → (bus ≡ parent p) ⊎ (leads_to bus (parent p) ≡ true)
-on_or_behind bus p some h = leads_up bus (parent p) (last_part p) (subst (λ q. leads_to bus q ≡ true) (snoc p some) h)
+pub on_or_behind : (bus p : Path) → 0 < length p → is_ancestor_of bus p ≡ true → (bus ≡ parent p) ⊎ (is_ancestor_of bus (parent p) ≡ true)
+on_or_behind bus p some h = leads_up bus (parent p) (last_part p) (subst (λ q. is_ancestor_of bus q ≡ true) (snoc p some) h)
 
-pub parent_leads : (p : Path) → 0 < length p → leads_to (parent p) p ≡ true
-parent_leads p some = subst (λ q. leads_to (parent p) q ≡ true) (sym (snoc p some)) (leads_self (parent p) (last_part p))
+pub parent_leads : (p : Path) → 0 < length p → is_ancestor_of (parent p) p ≡ true
+parent_leads p some = subst (λ q. is_ancestor_of (parent p) q ≡ true) (sym (snoc p some)) (leads_self (parent p) (last_part p))
 
 module _ (nodes : List Node) (laid : IsLaidOut nodes) where
   path_at : (i : ℕ) (n : Node) → slice_get nodes i ≡ Some n → slice_get (paths_of nodes) i ≡ Some n.path
@@ -25,17 +25,17 @@ module _ (nodes : List Node) (laid : IsLaidOut nodes) where
   pub inside : (i : ℕ) (n : Node) → slice_get nodes i ≡ Some n → (i < n.end) × (n.end ≤ length nodes)
   inside i n e = let w = ends i n e in (w.after, rw (← length-map nodes (λ (m : Node). m.path)) w.within)
 
-  pub leads : (i j : ℕ) (m n : Node) → slice_get nodes i ≡ Some m → slice_get nodes j ≡ Some n → leads_to m.path n.path ≡ (nat_lt i j && nat_lt j m.end)
+  pub leads : (i j : ℕ) (m n : Node) → slice_get nodes i ≡ Some m → slice_get nodes j ≡ Some n → is_ancestor_of m.path n.path ≡ (nat_lt i j && nat_lt j m.end)
   leads i j m n em en = (ends i m em).leads j m.path n.path (path_at i m em) (path_at j n en)
 
   pub ordered : (i j : ℕ) (m n : Node) → i < j → slice_get nodes i ≡ Some m → slice_get nodes j ≡ Some n → path_before m.path n.path ≡ true
   ordered i j m n l em en = pair_at (λ (p q : Path). path_before p q ≡ true) (paths_of nodes) i j m.path n.path laid.order.in_order l (path_at i m em) (path_at j n en)
 
   -- what stands within the extent of i is behind i, and nothing else
-  pub leads_within : (i j : ℕ) (m n : Node) → slice_get nodes i ≡ Some m → slice_get nodes j ≡ Some n → i < j → j < m.end → leads_to m.path n.path ≡ true
+  pub leads_within : (i j : ℕ) (m n : Node) → slice_get nodes i ≡ Some m → slice_get nodes j ≡ Some n → i < j → j < m.end → is_ancestor_of m.path n.path ≡ true
   leads_within i j m n em en l k = grind (arith, nat_tests, leads i j m n em en)
 
-  pub within_of_leads : (i j : ℕ) (m n : Node) → slice_get nodes i ≡ Some m → slice_get nodes j ≡ Some n → leads_to m.path n.path ≡ true → (i < j) × (j < m.end)
+  pub within_of_leads : (i j : ℕ) (m n : Node) → slice_get nodes i ≡ Some m → slice_get nodes j ≡ Some n → is_ancestor_of m.path n.path ≡ true → (i < j) × (j < m.end)
   within_of_leads i j m n em en a = grind (arith, nat_tests, leads i j m n em en)
 
   -- extents nest
@@ -64,7 +64,7 @@ module _ (nodes : List Node) (laid : IsLaidOut nodes) where
     behind = λ j n e. grind (arith, nat_tests, slice_get_within nodes j n e, leads_some n.path (path_of j n e).some);
   }
     where
-      leads_some : (p : Path) → 0 < length p → leads_to [] p ≡ true
+      leads_some : (p : Path) → 0 < length p → is_ancestor_of [] p ≡ true
       leads_some [] h = absurd (omega arith)
       leads_some (x ∷ xs) h = refl
 
@@ -76,10 +76,10 @@ module _ (nodes : List Node) (laid : IsLaidOut nodes) where
   }
 
   module _ (bus : Path) (from to : ℕ) (side : IsSide nodes bus from to) where
-    pub behind_bus : (j : ℕ) (n : Node) → slice_get nodes j ≡ Some n → from ≤ j → j < to → leads_to bus n.path ≡ true
+    pub behind_bus : (j : ℕ) (n : Node) → slice_get nodes j ≡ Some n → from ≤ j → j < to → is_ancestor_of bus n.path ≡ true
     behind_bus j n e l h = grind (arith, nat_tests, side.behind j n e)
 
-    pub in_side : (j : ℕ) (n : Node) → slice_get nodes j ≡ Some n → leads_to bus n.path ≡ true → (from ≤ j) × (j < to)
+    pub in_side : (j : ℕ) (n : Node) → slice_get nodes j ≡ Some n → is_ancestor_of bus n.path ≡ true → (from ≤ j) × (j < to)
     in_side j n e h = grind (arith, nat_tests, side.behind j n e)
 
     -- all that was met before index i ends before it
@@ -90,7 +90,7 @@ module _ (nodes : List Node) (laid : IsLaidOut nodes) where
     pub met_on_bus : (i : ℕ) (n : Node) → Ended i → slice_get nodes i ≡ Some n → from ≤ i → i < to → parent n.path ≡ bus
     met_on_bus i n ended e l h = by_place (on_or_behind bus n.path (path_of i n e).some (behind_bus i n e l h))
       where
-        by_place : (bus ≡ parent n.path) ⊎ (leads_to bus (parent n.path) ≡ true) → parent n.path ≡ bus
+        by_place : (bus ≡ parent n.path) ⊎ (is_ancestor_of bus (parent n.path) ≡ true) → parent n.path ≡ bus
         by_place (inl p) = sym p
         by_place (inr p) =
             let long = leads_longer bus (parent n.path) p in

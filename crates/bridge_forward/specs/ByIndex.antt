@@ -4,9 +4,9 @@
 use Rattle.std.specs.Prelude.{List, ℕ, Option, option_map, slice_get}
 use Rattle.model_board.specs.{State.BoardFunction, Routing.{Ranges, regions, windows, ranges_of}}
 use Rattle.bars.specs.Slots.{bases_from}
-use Rattle.bridge_forward.specs.{RoutingRows.window_of, declared.by_index.RangesNow.{RangesNow, TheVariants.{Regions, Windows}}}
+use Rattle.bridge_forward.specs.{RoutingRows.window_of, declared.by_index.LiveRanges.{LiveRanges, TheVariants.{Regions, Windows}}}
 
-abbrev pub ranges_told : RangesNow → Ranges
+abbrev pub ranges_told : LiveRanges → Ranges
 ranges_told (Regions slots) = regions (bases_from 0 slots)
 ranges_told (Windows wio wmem wpref) =
     windows (option_map window_of wio) (option_map window_of wmem) (option_map window_of wpref)

@@ -5,7 +5,7 @@
 --     IsLaidOut      nodes in order, each with the end of what stands behind it
 use Rattle.std.specs.{Prelude.{List, [], ◌≡◌, ◌⊎◌, ℕ, ◌<◌, ◌≤◌, ◌&&◌, nat_lt, Some, map, length, slice_get, IsTrue}, List.list_any}
 use Rattle.lists.specs.Elements.{Each, EachPair}
-use Rattle.model_board.specs.{Paths.{Path, path_eq, path_before, leads_to, parent, IsPath}, State.BoardFunction}
+use Rattle.model_board.specs.{Paths.{Path, path_eq, path_before, is_ancestor_of, parent, IsPath}, State.BoardFunction}
 use Rattle.bridge_forward.specs.{declared.bus.Node.Node, Functions.{decl_of, file_of}}
 
 abbrev pub function_of : Node → BoardFunction
@@ -31,7 +31,7 @@ pub record EndsAt (ps : List Path) (i end : ℕ) : Type 0 where
   pub after : i < end
   pub within : end ≤ length ps
   pub leads : (j : ℕ) (p q : Path) → slice_get ps i ≡ Some p → slice_get ps j ≡ Some q
-      → leads_to p q ≡ (nat_lt i j && nat_lt j end)
+      → is_ancestor_of p q ≡ (nat_lt i j && nat_lt j end)
 
 pub record AreLaid (ps : List Path) (ends : List ℕ) : Type 0 where
   pub order : AreInOrder ps

@@ -6,7 +6,7 @@ ghost use Rattle.bars.specs.Kinds.{named_space};
 ghost use Rattle.headers.specs.WindowPairs.{pair_of};
 ghost use Rattle.bridge_forward.specs.{ByIndex.ranges_told, Decoded.IsDecoded, RoutingRows.named_ranges};
 
-use crate::by_index::RangesNow;
+use crate::by_index::LiveRanges;
 use crate::routing::{Ranges, window_of};
 use bars::Space;
 use config_bytes::{Cells, enables_of, from_lanes};
@@ -152,13 +152,13 @@ impl BridgeFn {
     }
 
     /// Returns the windows programmed in the registers, without allocating.
-    pub(crate) fn windows_now(&self) -> RangesNow
+    pub(crate) fn windows_now(&self) -> LiveRanges
         ensures { let file = self.now.file in let d = self.now.decl in
             ranges_told result
             ≡ windows (io_window d.io file) (mem_window file) (pref_window d.pref file) }
     {
         let Decoded { io, mem, pref, .. } = self.decoded;
-        RangesNow::Windows {
+        LiveRanges::Windows {
             io: window_of(io),
             mem: window_of(mem),
             pref: window_of(pref),

@@ -25,7 +25,7 @@ fn shared_devices(alloc: Global, decls: &[Decl]) -> Result<BTreeSet<Path>, Alloc
 {
     decls
         .iter()
-        .filter(|decl| decl.is_further())
+        .filter(|decl| decl.is_extra_function())
         .map(|decl| decl.path.function_zero())
         .collect(alloc)
 }
@@ -90,7 +90,7 @@ fn end_of(nodes: &[Node], i: usize) -> usize
     ensures { EndsAt (paths_of nodes.now) i result }
 {
     let mut end = i + 1;
-    while end < nodes.len() && nodes[i].path.leads_to(&nodes[end].path) {
+    while end < nodes.len() && nodes[i].path.is_ancestor_of(&nodes[end].path) {
         end += 1;
     }
     end

@@ -13,7 +13,7 @@ use crate::function::Function;
 use crate::routes::Routes;
 use crate::routing::RoutingRow;
 use crate::walk::{locate, position, reach};
-use bars::{BasedRegion, Space};
+use bars::{BarWithBase, Space};
 use paths::Path;
 use std::alloc::{AllocError, Global};
 use std::marker::Model;
@@ -76,7 +76,7 @@ impl Model for Claim {
 /// The target of an address: the index of the endpoint in the list of functions, the index of the
 /// region's first BAR register (0 to 5), and the offset in the region.
 #[derive(Clone, Copy, Debug)]
-pub struct Located {
+pub struct BarOffset {
     pub index: usize,
     pub region: u8,
     pub offset: u64,
@@ -166,7 +166,7 @@ impl Bus {
     /// Returns the first claim of an address, by path order and then by BAR register. A claim is a
     /// region that decodes the address behind bridges that all forward it. The endpoint is
     /// identified by its index.
-    pub fn locate(&self, space: Space, addr: u64) -> Option<Located>
+    pub fn locate(&self, space: Space, addr: u64) -> Option<BarOffset>
         ensures claim { located_claim self.now result
             ≡ first_claim self.now (named_space space) addr }
         ensures there { IfSome result (λ l. IsSome (endpoint_nth self.now l.index)) }
@@ -178,7 +178,7 @@ impl Bus {
     pub fn claimant(&self, space: Space, addr: u64) -> Option<Claim>
         ensures { result ≡ first_claim self.now (named_space space) addr }
     {
-        let Located {
+        let BarOffset {
             index,
             region,
             offset,
@@ -237,7 +237,7 @@ impl Bus {
 
     /// Returns the regions of the endpoint at an index with their base addresses, each at the index
     /// of its first BAR register. All entries are `None` if there is no endpoint.
-    pub fn placed_nth(&self, index: usize) -> [Option<BasedRegion>; 6]
+    pub fn placed_nth(&self, index: usize) -> [Option<BarWithBase>; 6]
         ensures { bases_from 0 result ≡ bases_nth self.now index }
     {
         if index >= self.nodes.len() {

@@ -8,15 +8,15 @@ ghost use Rattle.bridge_forward.specs.{BridgeDecls.declared_bridge_nth, ByIndex.
 use crate::bus::Bus;
 use crate::endpoint::EndpointFn;
 use crate::routing::Window;
-use bars::BasedRegion;
+use bars::BarWithBase;
 use headers::BridgeDecl;
 use paths::Path;
 
 /// The programmed address ranges of a function: the regions of an endpoint, each at the index of
 /// its first BAR register, or the windows of a bridge.
 #[derive(Clone, Copy, Debug)]
-pub enum RangesNow {
-    Regions([Option<BasedRegion>; 6]),
+pub enum LiveRanges {
+    Regions([Option<BarWithBase>; 6]),
     Windows {
         io: Option<Window>,
         mem: Option<Window>,
@@ -76,7 +76,7 @@ impl Bus {
     }
 
     /// Returns the regions or windows of the function at an index.
-    pub fn ranges_nth(&self, index: usize) -> Option<RangesNow>
+    pub fn ranges_nth(&self, index: usize) -> Option<LiveRanges>
         ensures { option_map ranges_told result ≡ ranges_nth self.now index }
     {
         let node = self.nodes.get(index)?;

@@ -2,9 +2,9 @@
 ghost use Rattle.std.specs.{Prelude.{◌≡◌, ◌↔◌, IsTrue}, BTreeSet.contains, Ordering.is_lt};
 ghost use Rattle.model_board.specs.{Paths.{path_before, function_zero}, Board.IsBoard, Places.{board_of, standing}};
 ghost use Rattle.paths.specs.PathOrders.{path_cmp};
-ghost use Rattle.bridge_forward.specs.Devices.{is_further};
+ghost use Rattle.bridge_forward.specs.Devices.{is_extra_function};
 
-use crate::places::{Stands, are_lawful};
+use crate::places::{HasPath, are_lawful};
 use headers::{BridgeDecl, EndpointDecl};
 use paths::Path;
 use std::cmp::Ordering;
@@ -45,8 +45,8 @@ impl Decl {
     }
 
     /// Returns whether the function number is 1 to 7.
-    pub(crate) fn is_further(&self) -> bool
-        ensures { result ≡ is_further self.now.path }
+    pub(crate) fn is_extra_function(&self) -> bool
+        ensures { result ≡ is_extra_function self.now.path }
     {
         self.path.last().function() != 0
     }
@@ -60,7 +60,7 @@ impl Decl {
     }
 }
 
-impl Stands for Decl {
+impl HasPath for Decl {
     ghost standing = { standing };
 
     fn path(&self) -> &Path {

@@ -9,14 +9,14 @@ use crate::blocks::{bar_decls, block_files, reset_all};
 use crate::offsets;
 use crate::routing::regions_of;
 use crate::routing_region::RoutingRegion;
-use bars::{Bars, BasedRegion, Space};
+use bars::{BarWithBase, Bars, Space};
 use config_bytes::Cells;
 use headers::{Endpoint, EndpointDecl, Place, command};
 use std::alloc::{AllocError, Global};
 use std::marker::Model;
 
 /// Copies the six entries.
-fn six(regions: &[Option<BasedRegion>; 6]) -> [Option<BasedRegion>; 6]
+fn six(regions: &[Option<BarWithBase>; 6]) -> [Option<BarWithBase>; 6]
     ensures { result ≡ regions.now }
 {
     [
@@ -104,7 +104,7 @@ impl EndpointFn {
 
     /// Returns the regions at their programmed base addresses, each at the index of its first BAR
     /// register. Doesn't allocate.
-    pub(crate) fn placed(&self) -> [Option<BasedRegion>; 6]
+    pub(crate) fn placed(&self) -> [Option<BarWithBase>; 6]
         ensures { bases_from 0 result ≡ map (base_address self.now.file) self.now.decl.regions }
     {
         six(self.bars.regions())

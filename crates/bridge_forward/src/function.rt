@@ -6,11 +6,11 @@ ghost use Rattle.bars.specs.Slots.{bases_from};
 ghost use Rattle.bridge_forward.specs.{BasesNow.bases_of, BridgeDecls.declared_bridge, ByIndex.ranges_told, RoutingRows.{named_ranges, primary_of, secondary_of}};
 
 use crate::bridge::BridgeFn;
-use crate::by_index::RangesNow;
+use crate::by_index::LiveRanges;
 use crate::decl::Declared;
 use crate::endpoint::EndpointFn;
 use crate::routing::{Ranges, RoutingRow};
-use bars::BasedRegion;
+use bars::BarWithBase;
 use config_bytes::{Op, enables_of, lowered};
 use headers::BridgeDecl;
 use paths::Path;
@@ -156,7 +156,7 @@ impl Function {
 
     /// Returns the regions of an endpoint at their programmed base addresses, each at the index of
     /// its first BAR register. All entries are `None` for a bridge.
-    pub(crate) fn placed(&self) -> [Option<BasedRegion>; 6]
+    pub(crate) fn placed(&self) -> [Option<BarWithBase>; 6]
         ensures { bases_from 0 result ≡ bases_of (decl_of self.now) (file_of self.now) }
     {
         match self {
@@ -166,11 +166,11 @@ impl Function {
     }
 
     /// Returns the programmed regions of an endpoint or windows of a bridge, without allocating.
-    pub(crate) fn ranges_now(&self) -> RangesNow
+    pub(crate) fn ranges_now(&self) -> LiveRanges
         ensures { ranges_told result ≡ ranges_of (file_of self.now) (decl_of self.now) }
     {
         match self {
-            Function::Endpoint(endpoint) => RangesNow::Regions(endpoint.placed()),
+            Function::Endpoint(endpoint) => LiveRanges::Regions(endpoint.placed()),
             Function::Bridge(bridge) => bridge.windows_now(),
         }
     }
@@ -243,7 +243,7 @@ impl Function {
     }
 
     /// Returns whether the function is a bridge with this Secondary Bus Number.
-    pub(crate) fn leads_to(&self, bus: u8) -> bool
+    pub(crate) fn routes_to(&self, bus: u8) -> bool
         ensures { result
             ≡ (is_bridge (decl_of self.now) && (secondary_register (file_of self.now) == bus)) }
     {

@@ -19,12 +19,12 @@ mod routing;
 mod routing_region;
 mod walk;
 
-pub use bus::{Bus, Claim, Located};
-pub use by_index::RangesNow;
+pub use bus::{BarOffset, Bus, Claim};
+pub use by_index::LiveRanges;
 pub use cycle::{Cycle, CycleType};
 pub use decl::{Decl, Declared, lawful_places};
 pub use endpoint::EndpointFn;
 pub use paths::{Part, Path};
-pub use places::{Stands, are_lawful};
+pub use places::{HasPath, are_lawful};
 pub use routing::{Ranges, RoutingRow, Window};
 pub use routing_region::RoutingRegion;

@@ -7,7 +7,7 @@ use paths::{Part, Path};
 
 /// The properties of a function that placement rules depend on: its path, and whether it is a
 /// bridge.
-pub trait Stands {
+pub trait HasPath {
     ghost standing: { Self → Standing };
 
     fn path(&self) -> &Path
@@ -18,7 +18,7 @@ pub trait Stands {
 }
 
 /// Returns whether one of the functions has this path.
-fn has_path<S: Stands>(places: &[S], path: &Path) -> bool
+fn has_path<S: HasPath>(places: &[S], path: &Path) -> bool
     ensures { result ≡ has_path (map S.standing places.now) path.now }
 {
     for place in places {
@@ -30,7 +30,7 @@ fn has_path<S: Stands>(places: &[S], path: &Path) -> bool
 }
 
 /// Returns whether one of the functions is a bridge whose path has these parts.
-fn has_bridge<S: Stands>(places: &[S], parts: &[Part]) -> bool
+fn has_bridge<S: HasPath>(places: &[S], parts: &[Part]) -> bool
     ensures { result ≡ has_bridge (map S.standing places.now) parts.now }
 {
     for place in places {
@@ -43,7 +43,7 @@ fn has_bridge<S: Stands>(places: &[S], parts: &[Part]) -> bool
 
 /// Returns whether the parts lead to a bus: the list is empty, which stands for bus 0, or is the
 /// path of one of the bridges.
-fn is_bus<S: Stands>(places: &[S], parts: &[Part]) -> bool
+fn is_bus<S: HasPath>(places: &[S], parts: &[Part]) -> bool
     ensures { IsTrue result
         ↔ ((parts.now ≡ []) ⊎ IsTrue (has_bridge (map S.standing places.now) parts.now)) }
 {
@@ -55,7 +55,7 @@ fn is_bus<S: Stands>(places: &[S], parts: &[Part]) -> bool
 
 /// Returns whether the function at `place` is on bus 0 or behind a bridge, in a device with a
 /// function 0.
-fn is_founded<S: Stands>(places: &[S], place: &S) -> bool
+fn is_founded<S: HasPath>(places: &[S], place: &S) -> bool
     ensures { IsTrue result ↔ IsFounded (map S.standing places.now) (S.standing place.now) }
 {
     let path = place.path();
@@ -65,7 +65,7 @@ fn is_founded<S: Stands>(places: &[S], place: &S) -> bool
 }
 
 /// Returns whether every function is on bus 0 or behind a bridge, in a device with a function 0.
-fn are_founded<S: Stands>(places: &[S]) -> bool
+fn are_founded<S: HasPath>(places: &[S]) -> bool
     ensures { IsTrue result
         ↔ Each (IsFounded (map S.standing places.now)) (map S.standing places.now) }
 {
@@ -78,7 +78,7 @@ fn are_founded<S: Stands>(places: &[S]) -> bool
 }
 
 /// Returns whether all paths are different.
-fn are_apart<S: Stands>(places: &[S]) -> bool
+fn are_apart<S: HasPath>(places: &[S]) -> bool
     ensures { IsTrue result
         ↔ EachPair (λ s t. IsFalse (path_eq t.path s.path)) (map S.standing places.now) }
 {
@@ -93,7 +93,7 @@ fn are_apart<S: Stands>(places: &[S]) -> bool
 /// Returns whether the functions, in any order, form a valid board: their paths are unique, every
 /// path is on bus 0 or behind one of the bridges, and every device has a function 0. Doesn't
 /// allocate.
-pub fn are_lawful<S: Stands>(places: &[S]) -> bool
+pub fn are_lawful<S: HasPath>(places: &[S]) -> bool
     ensures { IsTrue result ↔ AreLawfulPlaces (map S.standing places.now) }
 {
     are_founded(places) && are_apart(places)

@@ -62,7 +62,7 @@ pub(crate) fn window_of(pair: Option<(u64, u64)>) -> Option<Window>
 /// Collects the regions from the six BAR registers, in register order.
 pub(crate) fn regions_of(
     alloc: Global,
-    slots: &[Option<bars::BasedRegion>; 6],
+    slots: &[Option<bars::BarWithBase>; 6],
 ) -> Result<Vec<RoutingRegion>, AllocError>
     requires { HasLawfulBases (bases_from 0 slots.now) }
     ensures { IfOk result (λ v. map base_of v.items ≡ bases_from 0 slots.now) }

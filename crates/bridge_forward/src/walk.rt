@@ -4,7 +4,7 @@ ghost use Rattle.model_board.specs.{Paths.{Path as PathValue, path_eq}, Cycles.t
 ghost use Rattle.bridge_forward.specs.{Layout.functions_of, Skips.IsTree, Search.{is_named, IsSide, IsAt}, Leading.{LeadsTo, LeadsNowhere, AreRoutes}, Cycled.reached_by, Lending.endpoint_nth, Locating.located_claim};
 ghost use Rattle.bars.specs.Kinds.{named_space};
 
-use crate::bus::{Located, Node};
+use crate::bus::{BarOffset, Node};
 use crate::cycle::{Cycle, CycleType};
 use crate::function::Function;
 use crate::routes::Routes;
@@ -87,7 +87,7 @@ fn search_bridge(nodes: &[Node], bus: u8) -> Option<usize>
         let bridge = &nodes[at];
         from = at + 1;
         to = bridge.end;
-        if bridge.function.leads_to(bus) {
+        if bridge.function.routes_to(bus) {
             return Some(at);
         }
     }
@@ -142,7 +142,7 @@ pub(crate) fn reach(nodes: &[Node], known: &mut Routes, cycle: &Cycle) -> Option
 
 /// Returns the first claim of an address, by path order and then by BAR register, with the index of
 /// its endpoint. Skips everything behind a bridge that doesn't forward the address.
-pub(crate) fn locate(nodes: &[Node], space: Space, addr: u64) -> Option<Located>
+pub(crate) fn locate(nodes: &[Node], space: Space, addr: u64) -> Option<BarOffset>
     requires { IsTree nodes.now }
     ensures claim { located_claim (functions_of nodes.now) result
         ≡ first_claim (functions_of nodes.now) (named_space space) addr }
@@ -154,7 +154,7 @@ pub(crate) fn locate(nodes: &[Node], space: Space, addr: u64) -> Option<Located>
         i = match &node.function {
             Function::Endpoint(endpoint) => {
                 if let Some((region, offset)) = endpoint.decode(space, addr) {
-                    return Some(Located {
+                    return Some(BarOffset {
                         index: i,
                         region,
                         offset,

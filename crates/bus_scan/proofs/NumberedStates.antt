@@ -1,7 +1,7 @@
 -- A numbered board: each function holds what its declaration says, and the bridges hold the board's numbers.
 use Rattle.std.{proofs.{Common.{◌≡◌, ◌+◌, ◌<◌, ◌≤◌, inl, inr, Bool, true, ◌&&◌, List, [], ◌∷◌, map, Some, refl, sym, ap, ◌∙◌, subst, arith}, lemmas.List.Sums.sum_by-cons}, specs.Prelude.{count_by, IsTrue}}
 use Rattle.lists.{specs.Elements.{Each, EachPair, IsIn}, proofs.{Members.{each_in, each_from}, FirstFound.each_found}}
-use Rattle.model_board.{specs.{Paths.{Path, path_eq, path_before, leads_to}, Board.{Board, Row, Decl, is_bridge, is_bridge_at, IsBoard}, BusNumbers.{secondary, subordinate, bus_of}, State.{BoardFunction, State, row_at}, Cycles.{BusAddress, reached, secondary_register, subordinate_register}, AtReset.board_at}, proofs.{PathOrder.{one, exclusive, path_same}, PathEnds.not_before_itself, BusNumbers.{bridges, bridges-cons, at, count_three, counted}}}
+use Rattle.model_board.{specs.{Paths.{Path, path_eq, path_before, is_ancestor_of}, Board.{Board, Row, Decl, is_bridge, is_bridge_at, IsBoard}, BusNumbers.{secondary, subordinate, bus_of}, State.{BoardFunction, State, row_at}, Cycles.{BusAddress, reached, secondary_register, subordinate_register}, AtReset.board_at}, proofs.{PathOrder.{one, exclusive, path_same}, PathEnds.not_before_itself, BusNumbers.{bridges, bridges-cons, at, count_three, counted}}}
 use Rattle.model_set_up.{specs.{Reach.HasNumbers, Scanning.{BusNumbers, board_numbers, numbers_in, numbered_file, IsNumbered}}, proofs.{Routes.bridge_of, Scanning.{numbers_read, bus_not_more}}}
 
 -- ---- numbers of a board fit
@@ -15,8 +15,8 @@ all_bridges (r ∷ b) = bridges-cons (λ x. true) r b ∙ (let here : one (is_br
 
 numbers_fit : (b : Board) (p : Path) → count_by (λ r. is_bridge r.decl) b ≤ 255 → is_bridge_at b p ≡ true → (bus_of b p < 256) × (secondary b p < 256) × (subordinate b p < 256)
 numbers_fit b p few h =
-    let all : bridges (λ x. path_before x p) b + bridges (at p) b + bridges (λ x. leads_to p x) b ≤ bridges (λ x. true) b =
-    count_three (λ x. path_before x p) (at p) (λ x. leads_to p x) (λ x. true) (λ x. exclusive x p) b in
+    let all : bridges (λ x. path_before x p) b + bridges (at p) b + bridges (λ x. is_ancestor_of p x) b ≤ bridges (λ x. true) b =
+    count_three (λ x. path_before x p) (at p) (λ x. is_ancestor_of p x) (λ x. true) (λ x. exclusive x p) b in
     grind (arith, all_bridges b, counted b p h, bus_not_more b p)
 
 -- ---- what the functions hold

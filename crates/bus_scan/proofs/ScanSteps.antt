@@ -4,7 +4,7 @@ use Rattle.std.{proofs.{Common.{◌≡◌, ℕ, ◌+◌, ◌%◌, ◌≤◌, ◌
 use Rattle.model_registers.specs.Declarations.{no_io, no_pref}
 use Rattle.model_set_up.{specs.{FunctionTable.{TableRow, met_decl, scanned_table, table_row}, Scanning.{BusNumbers, no_numbers, board_numbers, open_numbers, scan_numbers, scan_state, numbered_file, numbered_state}, ScanOrder.{nth_part, on, next_part, met, GivesNumbersInPathOrder}}, proofs.{Partings.bridge_at, Scanning.{goes_before, met_before, reached_while_scanning, numbers_of_scan_state}, ScanParts.{before_first, before_last, leads_place, row_path}, ScanOrder.{scan_meets, scan_gives_numbers, no_bridge_here, no_bridge_none}}}
 use Rattle.lists.proofs.Members.{any_in, from_filter, filter_same}
-use Rattle.bus_scan.{specs.{declared.seen.Seen.Seen, Rows.ended as ended_range, Scans.{met_row, given, IsAt, OnBus, StandsAt, IsFound}}, proofs.{States.{Numbers, numbered, map_same, same_state, bridge_there}, MetRows.{count_more, row_same, rows_same, rows_more, met_grows, row_filled}}}
+use Rattle.bus_scan.{specs.{declared.probed_header.ProbedHeader.ProbedHeader, Rows.ended as ended_range, Scans.{met_row, given, IsAt, OnBus, StandsAt, IsFound}}, proofs.{States.{Numbers, numbered, map_same, same_state, bridge_there}, MetRows.{count_more, row_same, rows_same, rows_more, met_grows, row_filled}}}
 
 -- ---- cycles
 
@@ -199,7 +199,7 @@ numbers_on : (b : Board) (bus : Path) (number n k last : ℕ) → OnBus b bus nu
 numbers_on b bus number n k last on_bus is = ap₂ (λ (i j : ℕ). let m : BusNumbers = record { primary = i; secondary = j; subordinate = last } in m) (on_bus.named ∙ ap (bus_behind b) (sym (parent_snoc bus (nth_part n)))) is
 
 -- the row of a bridge that was met
-abbrev bridge_row : Path → ℕ → ℕ → ℕ → Seen → TableRow
+abbrev bridge_row : Path → ℕ → ℕ → ℕ → ProbedHeader → TableRow
 bridge_row path number k last seen = record {
   path = path;
   bus = number;
@@ -207,7 +207,7 @@ bridge_row path number k last seen = record {
   decl = bridge (record { vendor = seen.vendor; device = seen.device; revision = 0; io = no_io; pref = no_pref });
 }
 
-bridge_row_is : (b : Board) (bus : Path) (number n : ℕ) (r : Row) (seen : Seen) → IsFound b bus number n r seen → is_bridge r.decl ≡ true → (path : Path) → path ≡ on bus n → (k last : ℕ) (numbers : Numbers)
+bridge_row_is : (b : Board) (bus : Path) (number n : ℕ) (r : Row) (seen : ProbedHeader) → IsFound b bus number n r seen → is_bridge r.decl ≡ true → (path : Path) → path ≡ on bus n → (k last : ℕ) (numbers : Numbers)
     → (numbers r.path).secondary ≡ k → (numbers r.path).subordinate ≡ last → bridge_row path number k last seen ≡ met_row b numbers r
 bridge_row_is b bus number n r seen found bridge_is path path_is k last numbers first_is last_is = grind (arith, parent_snoc)
 
@@ -216,7 +216,7 @@ abbrev pub WritesNumbers : State → State → BusAddress → BusNumbers → Typ
 WritesNumbers s new at m = (b : Board) (numbers : Path → BusNumbers) (p : Path) → IsBoard b → is_bridge_at b p ≡ true → s ≡ state_of b (numbered_file b numbers)
     → reached s.functions at ≡ find (λ f. path_eq f.path p) s.functions → new ≡ state_of b (numbered_file b (given p m numbers))
 
-pub bridge_opened : (b : Board) (bus : Path) (number n : ℕ) (r : Row) (seen : Seen) → IsFound b bus number n r seen → is_bridge r.decl ≡ true → (path : Path) → path ≡ on bus n → (s : State) (rows : List TableRow) (last : ℕ)
+pub bridge_opened : (b : Board) (bus : Path) (number n : ℕ) (r : Row) (seen : ProbedHeader) → IsFound b bus number n r seen → is_bridge r.decl ≡ true → (path : Path) → path ≡ on bus n → (s : State) (rows : List TableRow) (last : ℕ)
     → IsAt b (on bus n) s rows last → (last ≡ 255 → ⊥) → (at : BusAddress) → at ≡ record { bus = number; part = nth_part n } → (new : State) → WritesNumbers s new at (record { primary = number; secondary = last + 1; subordinate = 255 })
     → (items : List TableRow) → items ≡ rows ++ bridge_row path number (last + 1) 255 seen ∷ [] → (last + 1 ≡ secondary b (on bus n)) × IsAt b (on (on bus n) 0) new items (last + 1)
 bridge_opened b bus number n r seen found bridge_is path path_is s rows last here room at at_is new written items pushed =

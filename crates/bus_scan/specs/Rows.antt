@@ -8,7 +8,7 @@ use Rattle.model_board.specs.Board.{Decl, endpoint, bridge}
 use Rattle.model_set_up.specs.FunctionTable.{BusRange}
 use Rattle.bars.specs.Resets.{at_reset}
 use Rattle.headers.specs.Decodes.{io_decode_of, pref_decode_of}
-use Rattle.bus_scan.specs.declared.table.Found.{Found, TheVariants.{Endpoint as FoundEndpoint, Bridge as FoundBridge}}
+use Rattle.bus_scan.specs.declared.table.Enumerated.{Enumerated, TheVariants.{Endpoint as FoundEndpoint, Bridge as FoundBridge}}
 
 abbrev pub regions_of : List (Option Bar) → List Region
 regions_of bars = map opened (at_reset bars)
@@ -16,7 +16,7 @@ regions_of bars = map opened (at_reset bars)
 abbrev pub with_identity : ℕ → ℕ → ℕ → List Region → Endpoint
 with_identity vendor device pin regions = record (plain_endpoint vendor device 0) { pin = pin; regions = regions }
 
-abbrev pub decl_of : ℕ → ℕ → Found → Decl
+abbrev pub decl_of : ℕ → ℕ → Enumerated → Decl
 decl_of vendor device (FoundEndpoint pin bars) = endpoint (with_identity vendor device pin (regions_of bars))
 decl_of vendor device (FoundBridge secondary subordinate io pref) = bridge (record {
   vendor = vendor;
@@ -26,7 +26,7 @@ decl_of vendor device (FoundBridge secondary subordinate io pref) = bridge (reco
   pref = pref_decode_of pref;
 })
 
-abbrev pub range_of : Found → Option BusRange
+abbrev pub range_of : Enumerated → Option BusRange
 range_of (FoundEndpoint pin bars) = None
 range_of (FoundBridge secondary subordinate io pref) = Some (record { first = secondary; last = subordinate })
 

@@ -2,9 +2,9 @@
 --     seen_of      identity, header and pin of a function, of a multifunction device or not
 use Rattle.std.specs.Prelude.{Bool}
 use Rattle.model_board.specs.Board.{Decl, endpoint, bridge}
-use Rattle.bus_scan.specs.declared.seen.{Seen.Seen, Layout.TheVariants.{Endpoint as EndpointLayout, Bridge as BridgeLayout}}
+use Rattle.bus_scan.specs.declared.probed_header.{ProbedHeader.ProbedHeader, Layout.TheVariants.{Endpoint as EndpointLayout, Bridge as BridgeLayout}}
 
-abbrev pub seen_of : Bool → Decl → Seen
+abbrev pub seen_of : Bool → Decl → ProbedHeader
 seen_of multifunction (endpoint d) = record {
   vendor = d.vendor;
   device = d.device;

@@ -8,8 +8,8 @@ ghost use Rattle.bus_scan.specs.{declared.fault.Fault.TheVariants.{Buses, Memory
 
 use crate::bus_parts::{DEEPEST, PARTS, address, next_part, path_on};
 use crate::fault::Fault;
-use crate::seen::{Layout, Seen, look};
-use crate::table::{Found, FunctionRow, FunctionTable};
+use crate::probed_header::{Layout, ProbedHeader, probe_header};
+use crate::table::{Enumerated, EnumeratedFunction, FunctionTable};
 use bridge_forward::Part;
 use headers::{IoDecode, PrefDecode};
 use host_bridge::{Bdf, Host, Path};
@@ -20,7 +20,7 @@ use std::alloc::{AllocError, Global};
 /// as in its register.
 #[derive(Drop)]
 struct Enumeration {
-    rows: Vec<FunctionRow>,
+    rows: Vec<EnumeratedFunction>,
     last: u8,
 }
 
@@ -41,7 +41,13 @@ fn write_numbers(host: &mut Host, at: Bdf, primary: u8, secondary: u8, subordina
 
 impl Enumeration {
     /// Appends a function to the table.
-    fn push(&mut self, path: Path, bus: u8, seen: Seen, found: Found) -> Result<(), AllocError>
+    fn push(
+        &mut self,
+        path: Path,
+        bus: u8,
+        seen: ProbedHeader,
+        found: Enumerated,
+    ) -> Result<(), AllocError>
         ensures last { IfOk result (λ _. self.new.last ≡ self.old.last) }
         ensures rows { let row : TableRow = record {
           path = path;
@@ -51,7 +57,7 @@ impl Enumeration {
         } in
             IfOk result (λ _. self.new.rows.items ≡ self.old.rows.items ++ row ∷ []) }
     {
-        self.rows.push(FunctionRow {
+        self.rows.push(EnumeratedFunction {
             path,
             bus,
             vendor: seen.vendor,
@@ -70,7 +76,7 @@ impl Enumeration {
         at: Bdf,
         bus: u8,
         path: Path,
-        seen: Seen,
+        seen: ProbedHeader,
     ) -> Result<u8, Fault>
         ensures opened { (b : Board) (on_path : PathValue) (n : ℕ) (r : Row) →
             IsBridgeThere b on_path bus n r (bus_address_of at)
@@ -87,7 +93,7 @@ impl Enumeration {
             return Err(Fault::Buses);
         }
         let number = self.last + 1;
-        let found = Found::Bridge {
+        let found = Enumerated::Bridge {
             secondary: number,
             subordinate: 0xff,
             io: IoDecode::Unimplemented,
@@ -125,7 +131,7 @@ impl Enumeration {
         at: Bdf,
         bus: u8,
         path: Path,
-        seen: Seen,
+        seen: ProbedHeader,
     ) -> Result<(), Fault>
         ensures scanned { (b : Board) (on_path : PathValue) (n : ℕ) (r : Row) →
             IsBridgeThere b on_path bus n r (bus_address_of at)
@@ -165,14 +171,14 @@ impl Enumeration {
         ensures kept { host.new.apertures ≡ host.old.apertures }
     {
         let at = address(number, n);
-        let Some(seen) = look(host, at) else {
+        let Some(seen) = probe_header(host, at) else {
             return Ok(next_part(n, false));
         };
         let path = path_on(bus, n);
         match seen.layout {
             Layout::Endpoint { pin } => {
                 let bars = [None, None, None, None, None, None];
-                self.push(path, number, seen, Found::Endpoint { pin, bars })?;
+                self.push(path, number, seen, Enumerated::Endpoint { pin, bars })?;
             }
             Layout::Bridge => self.scan_bridge(host, at, number, path, seen)?,
         }

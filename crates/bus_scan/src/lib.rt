@@ -8,11 +8,11 @@
 mod bus_parts;
 mod enumeration;
 mod fault;
-mod seen;
+mod probed_header;
 mod sizing;
 mod table;
 
 pub use enumeration::scan;
 pub use fault::Fault;
 pub use sizing::size_all;
-pub use table::{Found, FunctionRow, FunctionTable};
+pub use table::{Enumerated, EnumeratedFunction, FunctionTable};

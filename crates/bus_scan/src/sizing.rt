@@ -8,7 +8,7 @@ ghost use Rattle.headers.specs.Decodes.{io_decode_of, pref_decode_of};
 ghost use Rattle.paths.specs.BusAddresses.{bus_address_of};
 ghost use Rattle.bus_scan.specs.{SizedTables.IsTableOf, Probes.{mask_shown, TakesBack, IsEndpointReached, IsBridgeReached, regions_reached, io_reached, pref_reached}, SizedRows.{bar_at, bars_of, is_upper_half, is_after_wide, IsScannedRow, SizesRow}};
 
-use crate::table::{Found, FunctionRow, FunctionTable};
+use crate::table::{Enumerated, EnumeratedFunction, FunctionTable};
 use bars::{BarDecl, size_of_mask};
 use headers::{IoDecode, PrefDecode};
 use host_bridge::{Bdf, Host};
@@ -143,7 +143,7 @@ fn size_pref_window(host: &mut Host, at: Bdf) -> PrefDecode
 }
 
 /// Fills in the regions or windows of one row.
-fn size_row(host: &mut Host, row: &mut FunctionRow)
+fn size_row(host: &mut Host, row: &mut EnumeratedFunction)
     requires registers { IsNumbered host.old.state }
     requires scanned { IsScannedRow (board_at host.old.state.functions) row.old }
     ensures sized { SizesRow (board_at host.old.state.functions) row.old row.new }
@@ -151,8 +151,8 @@ fn size_row(host: &mut Host, row: &mut FunctionRow)
 {
     let at = row.address();
     match &mut row.found {
-        Found::Endpoint { pin: _, bars } => *bars = size_bars(host, at),
-        Found::Bridge {
+        Enumerated::Endpoint { pin: _, bars } => *bars = size_bars(host, at),
+        Enumerated::Bridge {
             secondary: _,
             subordinate: _,
             io,

@@ -11,7 +11,7 @@ use std::marker::Model;
 /// numbers, both ends inclusive, and the decoding of its windows. Before sizing, there are no
 /// regions and no windows.
 #[derive(Debug, Drop)]
-pub enum Found {
+pub enum Enumerated {
     Endpoint {
         pin: u8,
         bars: [Option<BarDecl>; 6],
@@ -27,15 +27,15 @@ pub enum Found {
 /// A function: its path, the number of the bus it is on, its Vendor ID and Device ID, and its
 /// layout.
 #[derive(Debug, Drop)]
-pub struct FunctionRow {
+pub struct EnumeratedFunction {
     pub path: Path,
     pub bus: u8,
     pub vendor: u16,
     pub device: u16,
-    pub found: Found,
+    pub found: Enumerated,
 }
 
-impl Model for FunctionRow {
+impl Model for EnumeratedFunction {
     ghost use Rattle.model_set_up.specs.FunctionTable.{TableRow};
     ghost use Rattle.bus_scan.specs.Rows.{decl_of, range_of};
 
@@ -49,7 +49,7 @@ impl Model for FunctionRow {
     } };
 }
 
-impl FunctionRow {
+impl EnumeratedFunction {
     ghost use Rattle.std.specs.Prelude.{Option, Some, IsSome};
     ghost use Rattle.model_board.specs.Paths.{last_part};
     ghost use Rattle.model_set_up.specs.FunctionTable.{BusRange};
@@ -73,7 +73,7 @@ impl FunctionRow {
     pub(crate) fn end_numbers(&mut self, last: u8)
         ensures { self.new ≡ record self.old { behind = ended last self.old.behind } }
     {
-        if let Found::Bridge { subordinate, .. } = &mut self.found {
+        if let Enumerated::Bridge { subordinate, .. } = &mut self.found {
             *subordinate = last;
         }
     }
@@ -82,7 +82,7 @@ impl FunctionRow {
 /// The functions of a board in path order.
 #[derive(Debug, Drop)]
 pub struct FunctionTable {
-    pub(crate) rows: Vec<FunctionRow>,
+    pub(crate) rows: Vec<EnumeratedFunction>,
 }
 
 impl Model for FunctionTable {
@@ -96,14 +96,14 @@ impl Model for FunctionTable {
 
 impl FunctionTable {
     /// Creates a table from rows in path order.
-    pub(crate) fn of(rows: Vec<FunctionRow>) -> FunctionTable
+    pub(crate) fn of(rows: Vec<EnumeratedFunction>) -> FunctionTable
         ensures { result ≡ rows.items }
     {
         FunctionTable { rows }
     }
 
     /// Returns the functions in path order.
-    pub fn rows(&self) -> &[FunctionRow]
+    pub fn rows(&self) -> &[EnumeratedFunction]
         ensures { result.now ≡ self.now }
     {
         &self.rows

@@ -6,7 +6,7 @@ use crate::open_regions::open_by_address;
 use crate::region_entry::RegionEntry;
 use crate::search::{entry_at, of_space};
 use bridge_forward::RoutingRow;
-use host_bridge::{Claim, Host, Located, Path, Route, Space};
+use host_bridge::{BarOffset, Claim, Host, Path, Route, Space};
 use std::alloc::{AllocError, Global};
 use std::marker::Model;
 use window_packing::Ready;
@@ -91,9 +91,9 @@ impl Route for Table {
         })
     }
 
-    fn located(&self, _host: &Host, space: Space, addr: u64) -> Option<Located> {
+    fn located(&self, _host: &Host, space: Space, addr: u64) -> Option<BarOffset> {
         let entry = entry_at(of_space(space, &self.ports, &self.memory), addr)?;
-        Some(Located {
+        Some(BarOffset {
             index: entry.function,
             region: entry.region,
             offset: addr - entry.first,

@@ -2,7 +2,7 @@
 //! Local Bus 3.0, chapter 3.2.2). The offsets may be in configuration space, I/O or memory, because
 //! only their lowest two bits matter.
 ghost use Rattle.std.specs.Prelude.{◌≡◌, ◌/◌, ◌%◌, ◌^◌};
-ghost use Rattle.model_registers.specs.{Registers.all_ones, ByteEnables.{IsWidth, LiesInWord, enables_of, into_lanes, from_lanes}};
+ghost use Rattle.model_registers.specs.{Registers.all_ones, ByteEnables.{IsWidth, LiesInWord, enables_of, to_lanes, from_lanes}};
 
 /// Returns the byte enables for `width` bytes at `off`. Bit 0 enables the lowest byte of the word.
 pub fn enables_of(off: u64, width: u64) -> u8
@@ -13,8 +13,8 @@ pub fn enables_of(off: u64, width: u64) -> u8
 }
 
 /// Shifts a value into the byte lanes from `off` on. Bytes that don't fit into the word are lost.
-pub fn into_lanes(off: u64, value: u32) -> u32
-    ensures { result ≡ into_lanes off value }
+pub fn to_lanes(off: u64, value: u32) -> u32
+    ensures { result ≡ to_lanes off value }
 {
     value << (8 * (off % 4))
 }

@@ -13,7 +13,7 @@ mod op;
 
 pub use cell::{Cell, CellFault, are_cells};
 pub use cells::Cells;
-pub use lanes::{all_ones, enables_of, from_lanes, into_lanes, lowered};
+pub use lanes::{all_ones, enables_of, from_lanes, lowered, to_lanes};
 pub use op::Op;
 
 /// Proves which register file a list of offsets with cells describes, and when its offsets are

@@ -2,7 +2,7 @@
 
 use crate::entry_texts::EntryText;
 use crate::shown::Shown;
-use crate::style::Telling;
+use crate::style::RenderOptions;
 use crate::text_place::TextPlace;
 use board_file::Entry;
 use board_file::tables::{owner_name, value_at};
@@ -32,7 +32,7 @@ fn is_one_word(bytes: &[u8]) -> bool {
 /// of the entry. The value is shown as it is written in the file.
 #[derive(Clone, Copy)]
 pub struct Head<'a> {
-    pub telling: Telling<'a>,
+    pub telling: RenderOptions<'a>,
     pub label: &'a str,
     pub bytes: &'a [u8],
     pub document: &'a Table,

@@ -26,5 +26,5 @@ pub use heads::{Head, LineNumber};
 pub use line_numbers::line_of;
 pub use shown::{Shown, push_shown};
 pub use steps::Step;
-pub use style::{Style, Telling};
+pub use style::{RenderOptions, Style};
 pub use text_place::TextPlace;

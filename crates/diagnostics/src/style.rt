@@ -11,7 +11,7 @@ pub enum Style {
 
 /// The layout of messages, and the file name that they begin with.
 #[derive(Clone, Copy)]
-pub struct Telling<'a> {
+pub struct RenderOptions<'a> {
     pub style: Style,
     pub name: &'a str,
 }

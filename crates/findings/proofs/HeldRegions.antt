@@ -5,14 +5,14 @@ use Rattle.model_registers.specs.{EndpointTable.BaseAddress, Decoding.{Space, co
 use Rattle.model_board.specs.{Board.{Decl, endpoint, bridge}, Paths.Path, Claims.{Claim, first_claim}, State.BoardFunction, Routing.{ranges_of, row_of, routing}}
 use Rattle.model_set_up.specs.PlacedRegions.{PlacedRegion, holds}
 use Rattle.model_findings.specs.OpenRegions.{region_now, regions_of}
-use Rattle.model_lines.{specs.Why.{Hindrance, Cause, closed_by, stopped_at, stops, is_answer, causes_of, Told, told_of, is_closed, is_as_at_reset, apart, at_reset, Forwarder, forwarders, Why, told, why}, proofs.Why.from_reverse}
-use Rattle.findings.specs.{WhyByRows.{is_held, held_in, held_of, all_held, told_from, is_held_as_at_reset, held_apart}, declared.holding.Held.Held}
+use Rattle.model_lines.{specs.Why.{BlockReason, Cause, closed_by, stopped_at, stops, is_answer, causes_of, UnansweredRegion, told_of, is_closed, is_as_at_reset, apart, at_reset, Forwarder, forwarders, Why, told, why}, proofs.Why.from_reverse}
+use Rattle.findings.specs.{WhyByRows.{is_held, held_in, held_of, all_held, told_from, is_held_as_at_reset, held_apart}, declared.holding.RegionWithCommand.RegionWithCommand}
 
 filter_both : {A : Type 0} (s t : A → Bool) (xs : List A) → filter (λ x. s x && t x) xs ≡ filter t (filter s xs)
 filter_both s t [] = refl
 filter_both s t (x ∷ xs) = grind (arith, filter_both s t xs)
 
-not_stopped : (t : Bool) (p : Path) (w : ℕ) (h : Hindrance) → cond t (Some (stopped_at p h)) None ≡ Some (closed_by w) → ⊥
+not_stopped : (t : Bool) (p : Path) (w : ℕ) (h : BlockReason) → cond t (Some (stopped_at p h)) None ≡ Some (closed_by w) → ⊥
 not_stopped t p w h e = grind arith
 
 unless_true : (b : Bool) → (b ≡ true → ⊥) → b ≡ false
@@ -25,7 +25,7 @@ closed_in (closed_by w ∷ cs) e = (w, inl refl)
 closed_in (stopped_at p h ∷ cs) e = grind arith
 
 module _ (fs : List BoardFunction) (space : Space) (n : ℕ) where
-  abbrev tell : BoardFunction → PlacedRegion → Told
+  abbrev tell : BoardFunction → PlacedRegion → UnansweredRegion
   tell f q = record { region = q; causes = causes_of fs space n f }
 
   -- a region has its function's path
@@ -45,9 +45,9 @@ module _ (fs : List BoardFunction) (space : Space) (n : ℕ) where
           with_path f (is_held space n (first_claim fs space n)) (map (base_address f.file) d.regions)
           ∙ ap (map (tell f)) (filter_both (holds space n) (λ q. not (is_answer (first_claim fs space n) q)) (map (region_now f.path) (map (base_address f.file) d.regions)))
 
-  all_told : (gs : List BoardFunction) → map (told_from fs space n) (all_held space n (first_claim fs space n) (routing gs)) ≡ flat_map (told_of fs space n) gs
-  all_told [] = refl
-  all_told (f ∷ gs) = grind (arith, map-append, function_told, all_told gs)
+  all_unanswered : (gs : List BoardFunction) → map (told_from fs space n) (all_held space n (first_claim fs space n) (routing gs)) ≡ flat_map (told_of fs space n) gs
+  all_unanswered [] = refl
+  all_unanswered (f ∷ gs) = grind (arith, map-append, function_told, all_unanswered gs)
 
   -- ---- regions where reset leaves them
 
@@ -62,19 +62,19 @@ module _ (fs : List BoardFunction) (space : Space) (n : ℕ) where
       let c = closed_in (reverse (stops fs space n p ++ [])) e in
       none_closed p c.0 (subst (IsIn (closed_by c.0)) (append-nil (stops fs space n p)) (from_reverse (closed_by c.0) (stops fs space n p ++ []) c.1)))
 
-  as_at_reset : (h : Held) → is_as_at_reset (told_from fs space n h) ≡ is_held_as_at_reset space h
+  as_at_reset : (h : RegionWithCommand) → is_as_at_reset (told_from fs space n h) ≡ is_held_as_at_reset space h
   as_at_reset h = ap (λ t. h.region.first == 0 && t) (by_command h.region.path h.command (opens_space h.command space))
 
-  told_apart : (hs : List Held) → map (told_from fs space n) (held_apart space hs) ≡ apart (map (told_from fs space n) hs)
+  told_apart : (hs : List RegionWithCommand) → map (told_from fs space n) (held_apart space hs) ≡ apart (map (told_from fs space n) hs)
   told_apart [] = refl
   told_apart (h ∷ hs) = grind (arith, as_at_reset, told_apart hs)
 
-  count_at_reset : (hs : List Held) → count_by (is_held_as_at_reset space) hs ≡ at_reset (map (told_from fs space n) hs)
+  count_at_reset : (hs : List RegionWithCommand) → count_by (is_held_as_at_reset space) hs ≡ at_reset (map (told_from fs space n) hs)
   count_at_reset hs = grind (arith, as_at_reset, fold-map)
 
   -- what is told by rows is what is told of the address
-  pub why_by_rows : (answer : Option Claim) (hs : List Held) (gs : List Forwarder) (ts : List Told) (k : ℕ)
+  pub why_by_rows : (answer : Option Claim) (hs : List RegionWithCommand) (gs : List Forwarder) (ts : List UnansweredRegion) (k : ℕ)
       → answer ≡ first_claim fs space n → hs ≡ all_held space n answer (routing fs) → gs ≡ forwarders fs space n
       → ts ≡ map (told_from fs space n) (held_apart space hs) → k ≡ count_by (is_held_as_at_reset space) hs
       → record { answer = answer; forwarders = gs; told = ts; at_reset = k } ≡ why fs space n
-  why_by_rows answer hs gs ts k claimed held forwarded tells left = grind (arith, all_told, told_apart, count_at_reset)
+  why_by_rows answer hs gs ts k claimed held forwarded tells left = grind (arith, all_unanswered, told_apart, count_at_reset)

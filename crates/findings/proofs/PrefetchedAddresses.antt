@@ -2,7 +2,7 @@
 use Rattle.std.{proofs.Common.{◌≡◌, ℕ, Bool, ◌&&◌, List, [], ◌∷◌, ◌++◌, Option, sym, ap, ◌∙◌}, specs.{Prelude.{map, filter}, Option.option_to_list}}
 use Rattle.model_board.specs.Routing.{RoutingRow}
 use Rattle.model_set_up.specs.PlacedRegions.{PlacedRegion, holds}
-use Rattle.model_findings.specs.{Agents.Extent, Problems.least, Lacks.{prefetches, prefetch_edges, first_prefetched}}
+use Rattle.model_findings.specs.{Agents.Extent, Problems.least, ReadinessIssues.{prefetches, prefetch_edges, first_prefetched}}
 use Rattle.findings.{specs.Extents.least_of, proofs.Least.{least_piece, least_last}}
 
 abbrev held : RoutingRow → PlacedRegion → ℕ → Bool

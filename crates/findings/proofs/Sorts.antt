@@ -4,7 +4,7 @@ use Rattle.lists.{specs.Elements.IsIn, proofs.Members.{flat_map_same, from_map}}
 use Rattle.model_registers.specs.{EndpointTable.BaseAddress, Decoding.{opens_space, space_of}}
 use Rattle.model_board.specs.{Paths.Path, Routing.{Ranges, regions, windows, RoutingRow}}
 use Rattle.model_set_up.specs.PlacedRegions.{PlacedRegion}
-use Rattle.model_findings.specs.{OpenRegions.{region_now, open_of, closed_of, open_regions, closed_regions}, Agents.{region_agent, agents_of}, Lacks.{is_plain, plain_of, plain_regions}}
+use Rattle.model_findings.specs.{OpenRegions.{region_now, open_of, closed_of, open_regions, closed_regions}, Agents.{region_agent, agents_of}, ReadinessIssues.{is_plain, plain_of, plain_regions}}
 use Rattle.findings.specs.{Regions.{is_of_sort, regions_of, all_regions}, declared.regions.Sort.{Sort, TheVariants.{Open, Closed, Plain}}}
 
 abbrev row_of : Path → ℕ → Ranges → RoutingRow

@@ -3,7 +3,7 @@ pub mod Bridges
 pub mod Spans
 pub mod Regions
 pub mod Findings
-pub mod Blames
+pub mod BridgeViolations
 pub mod WhyTold
 pub mod WhyByRows
 pub mod WhyOnWay

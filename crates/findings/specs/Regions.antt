@@ -7,7 +7,7 @@ use Rattle.std.specs.Prelude.{List, [], ℕ, Bool, ◌&&◌, not, map, filter, f
 use Rattle.model_registers.specs.{EndpointTable.BaseAddress, Decoding.{space_of, opens_space}}
 use Rattle.model_board.specs.{Paths.Path, Routing.{RoutingRow, regions, windows}}
 use Rattle.model_set_up.specs.PlacedRegions.{PlacedRegion}
-use Rattle.model_findings.specs.{OpenRegions.region_now, Lacks.is_plain}
+use Rattle.model_findings.specs.{OpenRegions.region_now, ReadinessIssues.is_plain}
 use Rattle.findings.specs.declared.regions.Sort.{Sort, TheVariants.{Open, Closed, Plain}}
 
 abbrev pub is_of_sort : Sort → ℕ → BaseAddress → Bool

@@ -6,7 +6,7 @@
 use Rattle.std.specs.{Prelude.{List, [], ◌++◌, map, unwrap_or, Option, option_map}, Option.option_to_list}
 use Rattle.bridge_forward.specs.RoutingRows.{window_of}
 use Rattle.paths.specs.BusAddresses.{bus_address_of}
-use Rattle.findings.specs.declared.{causes.{WindowName.{WindowName, TheVariants.{Io, Memory, Prefetchable}}, NamedWindow.NamedWindow, Hindrance.{Hindrance, TheVariants.{Closes, Misses}}, Cause.{Cause, TheVariants.{ClosedBy, StoppedAt}}, Told.Told, Forwarder.Forwarder, Why.Why}, number_why.{Missing.{Missing, TheVariants.{NoBridge, NoFunction}}, WhyNumber.WhyNumber}, port_why.PortUse.{PortUse, TheVariants.{HoldsLatch, ShowsData, HidesData, LikeOthers}}}
+use Rattle.findings.specs.declared.{causes.{WindowName.{WindowName, TheVariants.{Io, Memory, Prefetchable}}, NamedWindow.NamedWindow, BlockReason.{BlockReason, TheVariants.{Closes, Misses}}, Cause.{Cause, TheVariants.{ClosedBy, StoppedAt}}, UnansweredRegion.UnansweredRegion, Forwarder.Forwarder, Why.Why}, number_why.{Missing.{Missing, TheVariants.{NoBridge, NoFunction}}, WhyNumber.WhyNumber}, port_why.PortUse.{PortUse, TheVariants.{HoldsLatch, ShowsData, HidesData, LikeOthers}}}
 use Rattle.model_lines.specs.Why as model
 use Rattle.model_lines.specs.Ways as ways
 use Rattle.model_lines.specs.WhyPorts as ports
@@ -22,7 +22,7 @@ window_told w = record { name = name_told w.name; window = option_map window_of 
 abbrev pub windows_told : Option NamedWindow → Option NamedWindow → List model.NamedWindow
 windows_told one other = map window_told (option_to_list one) ++ map window_told (option_to_list other)
 
-abbrev pub hindrance_told : Hindrance → model.Hindrance
+abbrev pub hindrance_told : BlockReason → model.BlockReason
 hindrance_told (Closes command) = model.closes command
 hindrance_told (Misses one other) = model.misses (windows_told one other)
 
@@ -30,7 +30,7 @@ abbrev pub cause_told : Cause → model.Cause
 cause_told (ClosedBy command) = model.closed_by command
 cause_told (StoppedAt bridge hindrance) = model.stopped_at bridge (hindrance_told hindrance)
 
-abbrev pub region_told : Told → model.Told
+abbrev pub region_told : UnansweredRegion → model.UnansweredRegion
 region_told t = record { region = t.region; causes = map cause_told t.causes.items }
 
 abbrev pub forwarder_told : Forwarder → model.Forwarder

@@ -5,8 +5,8 @@ ghost use Rattle.model_board.specs.Routing.{routing};
 ghost use Rattle.model_lines.specs.Why.{why};
 ghost use Rattle.findings.specs.{WhyByRows.{told_from, is_held_as_at_reset, held_apart}, WhyTold.{region_told, why_told}};
 
-use crate::causes::{Told, Why};
-use crate::holding::{Asked, Held, all_held};
+use crate::causes::{UnansweredRegion, Why};
+use crate::holding::{AddressQuery, RegionWithCommand, all_held};
 use crate::row::opens;
 use crate::stopping::causes_of;
 use crate::why_forwarding::forwarders;
@@ -16,20 +16,20 @@ use host_bridge::Host;
 use std::alloc::{AllocError, Global};
 
 /// Returns whether a BAR is still at address 0 with decoding disabled, as after reset.
-fn is_as_at_reset(asked: &Asked, held: &Held) -> bool
+fn is_as_at_reset(asked: &AddressQuery, held: &RegionWithCommand) -> bool
     ensures { result ≡ is_held_as_at_reset (named_space asked.now.space) held.now }
 {
     held.region.region.base == 0 && !opens(held.command, asked.space)
 }
 
 /// Returns the causes for each BAR in the list, except those in their reset state.
-fn all_told(
+fn all_unanswered(
     alloc: Global,
     host: &Host,
     rows: &[RoutingRow],
-    asked: &Asked,
-    held: &[Held],
-) -> Result<Vec<Told>, AllocError>
+    asked: &AddressQuery,
+    held: &[RegionWithCommand],
+) -> Result<Vec<UnansweredRegion>, AllocError>
     requires { rows.now ≡ routing host.now.state.functions }
     ensures { let space = named_space asked.now.space in let fs = host.now.state.functions in
         IfOk result (λ v.
@@ -39,7 +39,7 @@ fn all_told(
     let mut told = Vec::new(alloc);
     for one in held {
         if !is_as_at_reset(asked, one) {
-            told.push(Told {
+            told.push(UnansweredRegion {
                 region: one.region.copied(),
                 causes: causes_of(alloc, host, rows, asked, one)?,
             })?;
@@ -49,7 +49,7 @@ fn all_told(
 }
 
 /// Returns how many BARs in the list are in their reset state.
-fn count_at_reset(asked: &Asked, held: &[Held]) -> usize
+fn count_at_reset(asked: &AddressQuery, held: &[RegionWithCommand]) -> usize
     ensures { let left = is_held_as_at_reset (named_space asked.now.space) in
         result ≡ count_by left held.now }
 {
@@ -65,13 +65,13 @@ pub fn why_address(alloc: Global, host: &Host, space: Space, addr: u64) -> Resul
         IfOk result (λ w. why_told w ≡ why fs (named_space space) addr) }
 {
     let rows = host.routing(alloc)?;
-    let asked = Asked {
+    let asked = AddressQuery {
         space,
         addr,
         answer: host.claimant(space, addr),
     };
     let held = all_held(alloc, &asked, &rows)?;
-    let told = all_told(alloc, host, &rows, &asked, &held)?;
+    let told = all_unanswered(alloc, host, &rows, &asked, &held)?;
     let at_reset = count_at_reset(&asked, &held);
     Ok(Why {
         forwarders: forwarders(alloc, host, &rows, &asked)?,

@@ -4,7 +4,7 @@ ghost use Rattle.bars.specs.Kinds.{named_space};
 ghost use Rattle.model_board.specs.Paths.{path_eq};
 ghost use Rattle.model_findings.specs.Agents.{extent_holds, region_agent, bridge_agent, on_one_bus};
 
-use crate::region::{RegionNow, extent};
+use crate::region::{LiveBar, extent};
 use crate::row::{forwarded, holds_any};
 use bars::Space;
 use bridge_forward::{Part, Path, RoutingRow, Window};
@@ -38,7 +38,7 @@ impl Model for Agent {
 
 impl Agent {
     /// Returns the responder for an enabled BAR.
-    pub(crate) fn of_region(region: &RegionNow) -> Agent
+    pub(crate) fn of_region(region: &LiveBar) -> Agent
         ensures { result ≡ region_agent region.now }
     {
         Agent {

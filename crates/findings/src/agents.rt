@@ -3,14 +3,14 @@ ghost use Rattle.std.specs.Prelude.{◌≡◌, ◌++◌, map, IfOk, OnOk};
 ghost use Rattle.model_findings.specs.Agents.{region_agent, agents_of, agents};
 
 use crate::agent::Agent;
-use crate::region::RegionNow;
+use crate::region::LiveBar;
 use crate::regions::{Sort, add_regions};
 use bars::Space;
 use bridge_forward::{Ranges, RoutingRow};
 use std::alloc::{AllocError, Global};
 
 /// Appends the responders for enabled BARs.
-fn add_region_agents(told: &mut Vec<Agent>, regions: &[RegionNow]) -> Result<(), AllocError>
+fn add_region_agents(told: &mut Vec<Agent>, regions: &[LiveBar]) -> Result<(), AllocError>
     ensures { OnOk result (told.new.items ≡ told.old.items ++ map region_agent regions.now) }
 {
     for region in regions {

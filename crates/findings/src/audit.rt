@@ -4,7 +4,7 @@ ghost use Rattle.model_findings.specs.Problems.{problems, routing_problems};
 ghost use Rattle.findings.specs.Findings.{problem_of};
 
 use crate::agents::agents;
-use crate::blame::{Charge, all_blames};
+use crate::bridge_violation::{ViolationKind, all_blames};
 use crate::contention::add_all_contentions;
 use crate::forwarding::add_forwarding;
 use crate::numbering::add_numbering;
@@ -20,7 +20,7 @@ use std::alloc::{AllocError, Global};
 fn routing_problems(alloc: Global, rows: &[RoutingRow]) -> Result<Vec<Problem>, AllocError>
     ensures { IfOk result (λ v. map problem_of v.items ≡ routing_problems rows.now) }
 {
-    let unforwarded = all_blames(alloc, Charge::NotForwarded, rows)?;
+    let unforwarded = all_blames(alloc, ViolationKind::NotForwarded, rows)?;
     let mut told = Vec::new(alloc);
     add_forwarding(&mut told, &unforwarded)?;
     let agents = agents(alloc, rows)?;

@@ -1,6 +1,6 @@
 //! Explanations of an address: the BAR that answers, the bridges that forward the address, and the
 //! causes that keep other BARs from answering.
-use crate::region::RegionNow;
+use crate::region::LiveBar;
 use bridge_forward::{Claim, Path, Window};
 
 /// The kind of a bridge window.
@@ -21,7 +21,7 @@ pub struct NamedWindow {
 
 /// The reason that a bridge doesn't forward an address.
 #[derive(Clone, Copy, Debug)]
-pub enum Hindrance {
+pub enum BlockReason {
     /// The bridge's Command register disables the space.
     Closes {
         command: u16,
@@ -37,16 +37,21 @@ pub enum Hindrance {
 #[derive(Debug, Drop)]
 pub enum Cause {
     /// The function's Command register disables the space.
-    ClosedBy { command: u16 },
+    ClosedBy {
+        command: u16,
+    },
     /// A bridge above the function doesn't forward the address.
-    StoppedAt { bridge: Path, hindrance: Hindrance },
+    StoppedAt {
+        bridge: Path,
+        hindrance: BlockReason,
+    },
 }
 
 /// A BAR that contains an address and doesn't answer, with the causes in order from the function up
 /// to bus 0. Without a cause, the BAR would answer if no other BAR did.
 #[derive(Debug, Drop)]
-pub struct Told {
-    pub region: RegionNow,
+pub struct UnansweredRegion {
+    pub region: LiveBar,
     pub causes: Vec<Cause>,
 }
 
@@ -64,6 +69,6 @@ pub struct Forwarder {
 pub struct Why {
     pub answer: Option<Claim>,
     pub forwarders: Vec<Forwarder>,
-    pub told: Vec<Told>,
+    pub told: Vec<UnansweredRegion>,
     pub at_reset: usize,
 }

@@ -1,18 +1,18 @@
 //! Finds enabled BARs that a bridge above them doesn't forward.
 ghost use Rattle.std.specs.Prelude.{◌≡◌, ◌++◌, map, OnOk};
 ghost use Rattle.model_findings.specs.Problems.{unforwarded};
-ghost use Rattle.findings.specs.{Blames.unforwarded_problem, Findings.problem_of};
+ghost use Rattle.findings.specs.{BridgeViolations.unforwarded_problem, Findings.problem_of};
 
-use crate::blame::Blame;
+use crate::bridge_violation::BridgeViolation;
 use crate::missed_address::first_missed;
 use crate::problem::Problem;
-use crate::region::RegionNow;
+use crate::region::LiveBar;
 use crate::row::forwarded;
 use bridge_forward::RoutingRow;
 use std::alloc::AllocError;
 
 /// Returns the lowest address of a BAR that a bridge doesn't forward, if there is one.
-pub(crate) fn unforwarded(row: &RoutingRow, region: &RegionNow) -> Option<u64>
+pub(crate) fn unforwarded(row: &RoutingRow, region: &LiveBar) -> Option<u64>
     ensures { result ≡ unforwarded row.now region.now }
 {
     let (one, other) = forwarded(row, region.region.kind.space());
@@ -20,7 +20,10 @@ pub(crate) fn unforwarded(row: &RoutingRow, region: &RegionNow) -> Option<u64>
 }
 
 /// Appends a problem for each BAR that a bridge doesn't forward.
-pub(crate) fn add_forwarding(told: &mut Vec<Problem>, blames: &[Blame]) -> Result<(), AllocError>
+pub(crate) fn add_forwarding(
+    told: &mut Vec<Problem>,
+    blames: &[BridgeViolation],
+) -> Result<(), AllocError>
     ensures { OnOk result (map problem_of told.new.items
         ≡ map problem_of told.old.items ++ map unforwarded_problem blames.now) }
 {

@@ -7,7 +7,7 @@ ghost use Rattle.model_lines.specs.Why.{io_windows, pref_windows};
 ghost use Rattle.bridge_forward.specs.RoutingRows.{named_ranges, window_of};
 ghost use Rattle.findings.specs.{WhyByRows.{row_windows, row_hindrance}, WhyTold.{window_told, windows_told, hindrance_told}};
 
-use crate::causes::{Hindrance, NamedWindow, WindowName};
+use crate::causes::{BlockReason, NamedWindow, WindowName};
 use crate::row::{is_in, opens};
 use bars::Space;
 use bridge_forward::{Ranges, RoutingRow, Window};
@@ -83,20 +83,20 @@ fn windows(
 
 /// Returns the reason that a bridge doesn't forward an address. The caller has checked that it
 /// doesn't.
-pub(crate) fn hindrance_of(row: &RoutingRow, decl: Option<BridgeDecl>, space: Space) -> Hindrance
+pub(crate) fn hindrance_of(row: &RoutingRow, decl: Option<BridgeDecl>, space: Space) -> BlockReason
     ensures { hindrance_told result ≡ row_hindrance (named_space space) decl row.now }
 {
     let Some(decl) = decl else {
-        return Hindrance::Misses {
+        return BlockReason::Misses {
             one: None,
             other: None,
         };
     };
     if !opens(row.command, space) {
-        return Hindrance::Closes {
+        return BlockReason::Closes {
             command: row.command,
         };
     }
     let (one, other) = windows(&decl, &row.ranges, space);
-    Hindrance::Misses { one, other }
+    BlockReason::Misses { one, other }
 }

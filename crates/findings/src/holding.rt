@@ -6,14 +6,14 @@ ghost use Rattle.model_lines.specs.Why.{is_answer};
 ghost use Rattle.bridge_forward.specs.RoutingRows.{base_of};
 ghost use Rattle.findings.specs.WhyByRows.{is_held, held_in, held_of, all_held};
 
-use crate::region::RegionNow;
+use crate::region::LiveBar;
 use bars::Space;
 use bridge_forward::{Claim, Path, Ranges, RoutingRegion, RoutingRow};
 use std::alloc::{AllocError, Global};
 
 /// The queried address, and the BAR that answers it.
 #[derive(Drop)]
-pub(crate) struct Asked {
+pub(crate) struct AddressQuery {
     pub(crate) space: Space,
     pub(crate) addr: u64,
     pub(crate) answer: Option<Claim>,
@@ -21,13 +21,13 @@ pub(crate) struct Asked {
 
 /// A BAR, and the Command value of its function.
 #[derive(Drop)]
-pub(crate) struct Held {
-    pub(crate) region: RegionNow,
+pub(crate) struct RegionWithCommand {
+    pub(crate) region: LiveBar,
     pub(crate) command: u16,
 }
 
 /// Returns whether this BAR is the one that answers.
-fn is_answer(answer: &Option<Claim>, region: &RegionNow) -> bool
+fn is_answer(answer: &Option<Claim>, region: &LiveBar) -> bool
     ensures { result ≡ is_answer answer.now region.now }
 {
     match answer {
@@ -37,7 +37,7 @@ fn is_answer(answer: &Option<Claim>, region: &RegionNow) -> bool
 }
 
 /// Returns whether the BAR contains the address without answering it.
-fn is_held(asked: &Asked, region: &RegionNow) -> bool
+fn is_held(asked: &AddressQuery, region: &LiveBar) -> bool
     ensures { let space = named_space asked.now.space in
         result ≡ is_held space asked.now.addr asked.now.answer region.now }
 {
@@ -48,8 +48,8 @@ fn is_held(asked: &Asked, region: &RegionNow) -> bool
 
 /// Appends each of these BARs that contains the address without answering it.
 fn add_regions(
-    held: &mut Vec<Held>,
-    asked: &Asked,
+    held: &mut Vec<RegionWithCommand>,
+    asked: &AddressQuery,
     path: &Path,
     command: u16,
     regions: &[RoutingRegion],
@@ -60,12 +60,12 @@ fn add_regions(
         ≡ held.old.items ++ held_in space asked.now.addr asked.now.answer command qs) }
 {
     for region in regions {
-        let here = RegionNow {
+        let here = LiveBar {
             path: path.copied(),
             region: *region,
         };
         if is_held(asked, &here) {
-            held.push(Held {
+            held.push(RegionWithCommand {
                 region: here,
                 command,
             })?;
@@ -75,7 +75,11 @@ fn add_regions(
 }
 
 /// Appends the BARs of a function that contain the address without answering it.
-fn add_function(held: &mut Vec<Held>, asked: &Asked, row: &RoutingRow) -> Result<(), AllocError>
+fn add_function(
+    held: &mut Vec<RegionWithCommand>,
+    asked: &AddressQuery,
+    row: &RoutingRow,
+) -> Result<(), AllocError>
     ensures { let space = named_space asked.now.space in OnOk result (held.new.items
         ≡ held.old.items ++ held_of space asked.now.addr asked.now.answer row.now) }
 {
@@ -89,9 +93,9 @@ fn add_function(held: &mut Vec<Held>, asked: &Asked, row: &RoutingRow) -> Result
 /// index.
 pub(crate) fn all_held(
     alloc: Global,
-    asked: &Asked,
+    asked: &AddressQuery,
     rows: &[RoutingRow],
-) -> Result<Vec<Held>, AllocError>
+) -> Result<Vec<RegionWithCommand>, AllocError>
     ensures { let space = named_space asked.now.space in
         IfOk result (λ v. v.items ≡ all_held space asked.now.addr asked.now.answer rows.now) }
 {

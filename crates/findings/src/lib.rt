@@ -1,4 +1,4 @@
-//! Layer: findings. Below: model_lines, host_bridge. Above: findings_told, monitor, json_texts.
+//! Layer: findings. Below: model_lines, host_bridge. Above: findings_render, monitor, json_texts.
 //!
 //! Diagnoses the current registers of a board. An audit finds the problems: enabled BARs that
 //! aren't forwarded, address conflicts on a bus, and functions that no configuration cycle reaches.
@@ -16,7 +16,7 @@ mod address_why;
 mod agent;
 mod agents;
 mod audit;
-mod blame;
+mod bridge_violation;
 mod bus_addresses;
 mod causes;
 mod contention;
@@ -25,7 +25,6 @@ mod forwarding;
 mod hindering;
 mod holding;
 mod identities;
-mod lack;
 mod missed_address;
 mod number_why;
 mod numbering;
@@ -36,6 +35,7 @@ mod prefetching;
 mod primaries;
 mod problem;
 mod readiness;
+mod readiness_issue;
 mod region;
 mod regions;
 mod row;
@@ -47,14 +47,14 @@ pub use address_why::why_address;
 pub use agent::Agent;
 pub use audit::problems;
 pub use bus_addresses::address_of;
-pub use causes::{Cause, Forwarder, Hindrance, NamedWindow, Told, Why, WindowName};
+pub use causes::{BlockReason, Cause, Forwarder, NamedWindow, UnansweredRegion, Why, WindowName};
 pub use host_bridge::{Bdf, Host, Space};
 pub use identities::{Identity, identity_nth};
-pub use lack::Lack;
 pub use number_why::{Missing, WhyNumber, why_number};
 pub use path_texts::{PathBytes, path_text};
 pub use port_why::{PortUse, port_use};
 pub use problem::Problem;
-pub use readiness::{is_ready, lacks};
-pub use region::RegionNow;
+pub use readiness::{is_ready, readiness_issues};
+pub use readiness_issue::ReadinessIssue;
+pub use region::LiveBar;
 pub use row::{is_in, opens};

@@ -4,7 +4,7 @@ ghost use Rattle.model_set_up.specs.PlacedRegions.{holds};
 ghost use Rattle.model_findings.specs.Agents.{extent_holds};
 ghost use Rattle.findings.specs.Extents.{extent_of, extents_of, least_of, first_missed};
 
-use crate::region::RegionNow;
+use crate::region::LiveBar;
 use crate::row::holds_any;
 use bridge_forward::Window;
 
@@ -21,7 +21,7 @@ pub(crate) fn lesser(one: Option<u64>, other: Option<u64>) -> Option<u64>
 
 /// Returns the address if it is in the BAR and in neither window.
 fn if_lost(
-    region: &RegionNow,
+    region: &LiveBar,
     one: Option<Window>,
     other: Option<Window>,
     addr: Option<u64>,
@@ -40,7 +40,7 @@ fn if_lost(
 
 /// Returns the address after a window if it is in the BAR and in neither of the two windows.
 fn if_end_lost(
-    region: &RegionNow,
+    region: &LiveBar,
     one: Option<Window>,
     other: Option<Window>,
     window: Option<Window>,
@@ -60,7 +60,7 @@ fn if_end_lost(
 
 /// Returns the lowest address of a BAR that is in neither window, if there is one.
 pub(crate) fn first_missed(
-    region: &RegionNow,
+    region: &LiveBar,
     one: Option<Window>,
     other: Option<Window>,
 ) -> Option<u64>

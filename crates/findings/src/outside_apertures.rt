@@ -1,12 +1,12 @@
 //! Finds enabled BARs that are partly outside the apertures of their space.
 ghost use Rattle.std.specs.{Prelude.{◌≡◌, ◌++◌, flat_map, OnOk, map}, Option.{option_map, option_to_list}};
 ghost use Rattle.bars.specs.Kinds.{named_space};
-ghost use Rattle.model_findings.specs.Lacks.{aperture_extent, aperture_extents, outside_lack};
-ghost use Rattle.findings.specs.{Extents.{extent_of, extents_of}, Findings.lack_of};
+ghost use Rattle.model_findings.specs.ReadinessIssues.{aperture_extent, aperture_extents, outside_issue};
+ghost use Rattle.findings.specs.{Extents.{extent_of, extents_of}, Findings.issue_of};
 
-use crate::lack::Lack;
 use crate::missed_address::first_missed;
-use crate::region::RegionNow;
+use crate::readiness_issue::ReadinessIssue;
+use crate::region::LiveBar;
 use bars::Space;
 use bridge_forward::Window;
 use headers::{Aperture, Apertures};
@@ -36,12 +36,13 @@ fn apertures_for(apertures: &Apertures, space: Space) -> (Option<Window>, Option
 }
 
 /// Returns an unmet requirement if part of the BAR is outside the apertures.
-fn outside_lack(apertures: &Apertures, region: &RegionNow) -> Option<Lack>
-    ensures { option_to_list (option_map lack_of result) ≡ outside_lack apertures.now region.now }
+fn outside_issue(apertures: &Apertures, region: &LiveBar) -> Option<ReadinessIssue>
+    ensures { option_to_list (option_map issue_of result)
+        ≡ outside_issue apertures.now region.now }
 {
     let (one, other) = apertures_for(apertures, region.region.kind.space());
     let address = first_missed(region, one, other)?;
-    Some(Lack::OutsideApertures {
+    Some(ReadinessIssue::OutsideApertures {
         region: region.copied(),
         address,
     })
@@ -49,16 +50,16 @@ fn outside_lack(apertures: &Apertures, region: &RegionNow) -> Option<Lack>
 
 /// Appends an unmet requirement for each BAR that is partly outside the apertures.
 pub(crate) fn add_outside(
-    told: &mut Vec<Lack>,
+    told: &mut Vec<ReadinessIssue>,
     apertures: &Apertures,
-    regions: &[RegionNow],
+    regions: &[LiveBar],
 ) -> Result<(), AllocError>
-    ensures { OnOk result (map lack_of told.new.items
-        ≡ map lack_of told.old.items ++ flat_map (outside_lack apertures.now) regions.now) }
+    ensures { OnOk result (map issue_of told.new.items
+        ≡ map issue_of told.old.items ++ flat_map (outside_issue apertures.now) regions.now) }
 {
     for region in regions {
-        if let Some(lack) = outside_lack(apertures, region) {
-            told.push(lack)?;
+        if let Some(issue) = outside_issue(apertures, region) {
+            told.push(issue)?;
         }
     }
     Ok(())

@@ -2,13 +2,13 @@
 //! Bridge Architecture 1.2, chapter 4).
 ghost use Rattle.std.specs.{Prelude.{◌≡◌, [], ◌∷◌, ◌++◌, ◌&&◌, map, filter, OnOk}, Option.{option_map, option_to_list}};
 ghost use Rattle.model_set_up.specs.PlacedRegions.{holds};
-ghost use Rattle.model_findings.specs.Lacks.{prefetches, prefetch_edges, first_prefetched};
-ghost use Rattle.findings.specs.{Extents.extent_of, Blames.prefetched_lack, Findings.lack_of};
+ghost use Rattle.model_findings.specs.ReadinessIssues.{prefetches, prefetch_edges, first_prefetched};
+ghost use Rattle.findings.specs.{Extents.extent_of, BridgeViolations.prefetched_issue, Findings.issue_of};
 
-use crate::blame::Blame;
-use crate::lack::Lack;
+use crate::bridge_violation::BridgeViolation;
 use crate::missed_address::lesser;
-use crate::region::RegionNow;
+use crate::readiness_issue::ReadinessIssue;
+use crate::region::LiveBar;
 use crate::row::{is_in, opens};
 use bars::Space;
 use bridge_forward::{Ranges, RoutingRow, Window};
@@ -40,7 +40,7 @@ fn memory_windows(row: &RoutingRow) -> (Option<Window>, Option<Window>)
 }
 
 /// Returns the address if it is in the BAR and the bridge prefetches it.
-fn if_prefetched(row: &RoutingRow, region: &RegionNow, addr: u64) -> Option<u64>
+fn if_prefetched(row: &RoutingRow, region: &LiveBar, addr: u64) -> Option<u64>
     ensures { let q = region.now in option_to_list result
         ≡ filter (λ n. holds q.space n q && prefetches n row.now) (addr ∷ []) }
 {
@@ -52,7 +52,7 @@ fn if_prefetched(row: &RoutingRow, region: &RegionNow, addr: u64) -> Option<u64>
 }
 
 /// Returns the first address of a window if it is in the BAR and the bridge prefetches it.
-fn if_first_prefetched(row: &RoutingRow, region: &RegionNow, window: Option<Window>) -> Option<u64>
+fn if_first_prefetched(row: &RoutingRow, region: &LiveBar, window: Option<Window>) -> Option<u64>
     ensures { let q = region.now in option_to_list result
         ≡ filter (λ n. holds q.space n q && prefetches n row.now)
         (map (λ e. e.first) (option_to_list (option_map extent_of window))) }
@@ -61,7 +61,7 @@ fn if_first_prefetched(row: &RoutingRow, region: &RegionNow, window: Option<Wind
 }
 
 /// Returns the address after a window if it is in the BAR and the bridge prefetches it.
-fn if_end_prefetched(row: &RoutingRow, region: &RegionNow, window: Option<Window>) -> Option<u64>
+fn if_end_prefetched(row: &RoutingRow, region: &LiveBar, window: Option<Window>) -> Option<u64>
     ensures { let q = region.now in option_to_list result
         ≡ filter (λ n. holds q.space n q && prefetches n row.now)
         (map (λ e. e.end) (option_to_list (option_map extent_of window))) }
@@ -75,7 +75,7 @@ fn if_end_prefetched(row: &RoutingRow, region: &RegionNow, window: Option<Window
 }
 
 /// Returns the lowest address of a BAR that a bridge prefetches, if there is one.
-pub(crate) fn first_prefetched(row: &RoutingRow, region: &RegionNow) -> Option<u64>
+pub(crate) fn first_prefetched(row: &RoutingRow, region: &LiveBar) -> Option<u64>
     ensures { result ≡ first_prefetched row.now region.now }
 {
     let (mem, pref) = memory_windows(row);
@@ -86,12 +86,15 @@ pub(crate) fn first_prefetched(row: &RoutingRow, region: &RegionNow) -> Option<u
 }
 
 /// Appends an unmet requirement for each BAR that a bridge prefetches.
-pub(crate) fn add_prefetched(told: &mut Vec<Lack>, blames: &[Blame]) -> Result<(), AllocError>
-    ensures { OnOk result (map lack_of told.new.items
-        ≡ map lack_of told.old.items ++ map prefetched_lack blames.now) }
+pub(crate) fn add_prefetched(
+    told: &mut Vec<ReadinessIssue>,
+    blames: &[BridgeViolation],
+) -> Result<(), AllocError>
+    ensures { OnOk result (map issue_of told.new.items
+        ≡ map issue_of told.old.items ++ map prefetched_issue blames.now) }
 {
     for blame in blames {
-        told.push(Lack::Prefetched {
+        told.push(ReadinessIssue::Prefetched {
             region: blame.region.copied(),
             bridge: blame.bridge.copied(),
             address: blame.address,

@@ -2,21 +2,21 @@
 //! 3.2.5.2).
 ghost use Rattle.std.specs.{Prelude.{◌≡◌, ◌++◌, map, flat_map, slice_get, OnOk, option_map}, Option.option_to_list};
 ghost use Rattle.model_board.specs.Routing.{routing};
-ghost use Rattle.model_findings.specs.Lacks.{primary_lack};
-ghost use Rattle.findings.specs.Findings.{lack_of};
+ghost use Rattle.model_findings.specs.ReadinessIssues.{primary_issue};
+ghost use Rattle.findings.specs.Findings.{issue_of};
 
-use crate::lack::Lack;
 use crate::numbering::address_now;
+use crate::readiness_issue::ReadinessIssue;
 use bridge_forward::RoutingRow;
 use host_bridge::Host;
 use std::alloc::AllocError;
 
 /// Returns an unmet requirement if the function at an index is a bridge with a wrong Primary Bus
 /// Number.
-fn primary_lack(host: &Host, rows: &[RoutingRow], index: usize) -> Option<Lack>
+fn primary_issue(host: &Host, rows: &[RoutingRow], index: usize) -> Option<ReadinessIssue>
     requires { rows.now ≡ routing host.now.state.functions }
-    ensures { let fs = host.now.state.functions in option_to_list (option_map lack_of result)
-        ≡ flat_map (primary_lack fs) (option_to_list (slice_get fs index)) }
+    ensures { let fs = host.now.state.functions in option_to_list (option_map issue_of result)
+        ≡ flat_map (primary_issue fs) (option_to_list (slice_get fs index)) }
 {
     let held = host.primary_nth(index)?;
     if index >= rows.len() {
@@ -27,7 +27,7 @@ fn primary_lack(host: &Host, rows: &[RoutingRow], index: usize) -> Option<Lack>
     if held == number {
         return None;
     }
-    Some(Lack::OtherPrimary {
+    Some(ReadinessIssue::OtherPrimary {
         path: row.path.copied(),
         held,
         number,
@@ -36,17 +36,17 @@ fn primary_lack(host: &Host, rows: &[RoutingRow], index: usize) -> Option<Lack>
 
 /// Appends an unmet requirement for each bridge with a wrong Primary Bus Number.
 pub(crate) fn add_primaries(
-    told: &mut Vec<Lack>,
+    told: &mut Vec<ReadinessIssue>,
     host: &Host,
     rows: &[RoutingRow],
 ) -> Result<(), AllocError>
     requires { rows.now ≡ routing host.now.state.functions }
-    ensures { let fs = host.now.state.functions in OnOk result (map lack_of told.new.items
-        ≡ map lack_of told.old.items ++ flat_map (primary_lack fs) fs) }
+    ensures { let fs = host.now.state.functions in OnOk result (map issue_of told.new.items
+        ≡ map issue_of told.old.items ++ flat_map (primary_issue fs) fs) }
 {
     for index in 0..rows.len() {
-        if let Some(lack) = primary_lack(host, rows, index) {
-            told.push(lack)?;
+        if let Some(issue) = primary_issue(host, rows, index) {
+            told.push(issue)?;
         }
     }
     Ok(())

@@ -1,6 +1,6 @@
 //! Problems in the registers of a board.
 use crate::agent::Agent;
-use crate::region::RegionNow;
+use crate::region::LiveBar;
 use host_bridge::Bdf;
 use paths::Path;
 
@@ -10,7 +10,7 @@ pub enum Problem {
     /// An enabled BAR, the first bridge above it that doesn't forward all of it, and the lowest
     /// address that isn't forwarded.
     NotForwarded {
-        region: RegionNow,
+        region: LiveBar,
         bridge: Path,
         address: u64,
     },

@@ -1,27 +1,27 @@
 //! Finds the requirements that a board doesn't meet yet.
 ghost use Rattle.std.specs.Prelude.{◌≡◌, ◌++◌, map, IfOk, OnOk};
-ghost use Rattle.model_findings.specs.Lacks.{not_open, lacks, is_ready};
-ghost use Rattle.findings.specs.Findings.{lack_of};
+ghost use Rattle.model_findings.specs.ReadinessIssues.{not_open, readiness_issues, is_ready};
+ghost use Rattle.findings.specs.Findings.{issue_of};
 
 use crate::audit::problems;
-use crate::blame::{Charge, all_blames};
-use crate::lack::Lack;
+use crate::bridge_violation::{ViolationKind, all_blames};
 use crate::outside_apertures::add_outside;
 use crate::prefetching::add_prefetched;
 use crate::primaries::add_primaries;
-use crate::region::RegionNow;
+use crate::readiness_issue::ReadinessIssue;
+use crate::region::LiveBar;
 use crate::regions::{Sort, all_regions};
 use headers::Apertures;
 use host_bridge::Host;
 use std::alloc::{AllocError, Global};
 
 /// Appends an unmet requirement for each disabled BAR.
-fn add_closed(told: &mut Vec<Lack>, closed: &[RegionNow]) -> Result<(), AllocError>
-    ensures { OnOk result (map lack_of told.new.items
-        ≡ map lack_of told.old.items ++ map not_open closed.now) }
+fn add_closed(told: &mut Vec<ReadinessIssue>, closed: &[LiveBar]) -> Result<(), AllocError>
+    ensures { OnOk result (map issue_of told.new.items
+        ≡ map issue_of told.old.items ++ map not_open closed.now) }
 {
     for region in closed {
-        told.push(Lack::NotOpen {
+        told.push(ReadinessIssue::NotOpen {
             region: region.copied(),
         })?;
     }
@@ -31,14 +31,18 @@ fn add_closed(told: &mut Vec<Lack>, closed: &[RegionNow]) -> Result<(), AllocErr
 /// Returns everything that an operating system would still have to set up on a board, apart from
 /// the problems of an audit: disabled BARs, enabled BARs outside the apertures, BARs that are
 /// prefetched but mustn't be, and wrong Primary Bus Numbers.
-pub fn lacks(alloc: Global, host: &Host, apertures: &Apertures) -> Result<Vec<Lack>, AllocError>
+pub fn readiness_issues(
+    alloc: Global,
+    host: &Host,
+    apertures: &Apertures,
+) -> Result<Vec<ReadinessIssue>, AllocError>
     ensures { let fs = host.now.state.functions in
-        IfOk result (λ v. map lack_of v.items ≡ lacks apertures.now fs) }
+        IfOk result (λ v. map issue_of v.items ≡ readiness_issues apertures.now fs) }
 {
     let rows = host.routing(alloc)?;
     let closed = all_regions(alloc, Sort::Closed, &rows)?;
     let open = all_regions(alloc, Sort::Open, &rows)?;
-    let prefetched = all_blames(alloc, Charge::Prefetched, &rows)?;
+    let prefetched = all_blames(alloc, ViolationKind::Prefetched, &rows)?;
     let mut told = Vec::new(alloc);
     add_closed(&mut told, &closed)?;
     add_outside(&mut told, apertures, &open)?;
@@ -54,6 +58,6 @@ pub fn is_ready(alloc: Global, host: &mut Host, apertures: &Apertures) -> Result
     ensures after { host.new ≡ host.old }
 {
     let wrong = problems(alloc, host)?;
-    let lacking = lacks(alloc, host, apertures)?;
+    let lacking = readiness_issues(alloc, host, apertures)?;
     Ok(wrong.is_empty() && lacking.is_empty())
 }

@@ -9,12 +9,12 @@ use std::marker::Model;
 
 /// A BAR at its current address, and the path of its endpoint.
 #[derive(Debug, Drop)]
-pub struct RegionNow {
+pub struct LiveBar {
     pub path: Path,
     pub region: RoutingRegion,
 }
 
-impl Model for RegionNow {
+impl Model for LiveBar {
     ghost use Rattle.model_set_up.specs.PlacedRegions.{PlacedRegion};
     ghost use Rattle.model_findings.specs.OpenRegions.{region_now};
     ghost use Rattle.bridge_forward.specs.RoutingRows.{base_of};
@@ -34,7 +34,7 @@ pub(crate) fn extent(region: RoutingRegion) -> Window
     }
 }
 
-impl RegionNow {
+impl LiveBar {
     /// Returns whether the BAR contains an address of its space.
     pub fn holds(&self, addr: u64) -> bool
         ensures { result ≡ holds self.now.space addr self.now }
@@ -53,10 +53,10 @@ impl RegionNow {
     }
 
     /// Returns a copy.
-    pub fn copied(&self) -> RegionNow
+    pub fn copied(&self) -> LiveBar
         ensures { result ≡ self.now }
     {
-        RegionNow {
+        LiveBar {
             path: self.path.copied(),
             region: self.region,
         }

@@ -2,11 +2,11 @@
 //! 6.2.5).
 ghost use Rattle.std.specs.Prelude.{◌≡◌, ◌++◌, map, IfOk, OnOk};
 ghost use Rattle.bars.specs.Kinds.{kind_of};
-ghost use Rattle.model_findings.specs.Lacks.{is_plain};
+ghost use Rattle.model_findings.specs.ReadinessIssues.{is_plain};
 ghost use Rattle.bridge_forward.specs.RoutingRows.{base_of};
 ghost use Rattle.findings.specs.Regions.{is_of_sort, regions_among, regions_of, all_regions};
 
-use crate::region::RegionNow;
+use crate::region::LiveBar;
 use crate::row::opens;
 use bars::Kind;
 use bridge_forward::{Path, Ranges, RoutingRegion, RoutingRow};
@@ -46,7 +46,7 @@ fn is_of_sort(sort: Sort, command: u16, region: RoutingRegion) -> bool
 
 /// Appends those of these BARs that are to be selected.
 fn add_among(
-    told: &mut Vec<RegionNow>,
+    told: &mut Vec<LiveBar>,
     sort: Sort,
     path: &Path,
     command: u16,
@@ -57,7 +57,7 @@ fn add_among(
 {
     for region in regions {
         if is_of_sort(sort, command, *region) {
-            let one = RegionNow {
+            let one = LiveBar {
                 path: path.copied(),
                 region: *region,
             };
@@ -69,7 +69,7 @@ fn add_among(
 
 /// Appends the selected BARs of a function.
 pub(crate) fn add_regions(
-    told: &mut Vec<RegionNow>,
+    told: &mut Vec<LiveBar>,
     sort: Sort,
     row: &RoutingRow,
 ) -> Result<(), AllocError>
@@ -86,7 +86,7 @@ pub(crate) fn all_regions(
     alloc: Global,
     sort: Sort,
     rows: &[RoutingRow],
-) -> Result<Vec<RegionNow>, AllocError>
+) -> Result<Vec<LiveBar>, AllocError>
     ensures { IfOk result (λ v. v.items ≡ all_regions sort rows.now) }
 {
     let mut told = Vec::new(alloc);

@@ -8,7 +8,7 @@ ghost use Rattle.findings.specs.{WhyByRows.{row_stop, causes_at}, WhyTold.cause_
 
 use crate::causes::Cause;
 use crate::hindering::{forwards, hindrance_of};
-use crate::holding::{Asked, Held};
+use crate::holding::{AddressQuery, RegionWithCommand};
 use crate::row::opens;
 use bridge_forward::{Path, RoutingRow};
 use host_bridge::Host;
@@ -17,12 +17,18 @@ use std::alloc::{AllocError, Global};
 /// Returns the cause if the function at an index is a bridge above the path that doesn't forward
 /// the address. `row` must be the row of that function. Its declaration is read only if the bridge
 /// is above the path, which is rare.
-fn stop(host: &Host, index: usize, row: &RoutingRow, asked: &Asked, path: &Path) -> Option<Cause>
+fn stop(
+    host: &Host,
+    index: usize,
+    row: &RoutingRow,
+    asked: &AddressQuery,
+    path: &Path,
+) -> Option<Cause>
     ensures { let space = named_space asked.now.space in
         let decl = declared_bridge_nth host.now.state.functions index in
         option_map cause_told result ≡ row_stop space asked.now.addr path.now decl row.now }
 {
-    if !row.path.leads_to(path) || forwards(row, asked.space, asked.addr) {
+    if !row.path.is_ancestor_of(path) || forwards(row, asked.space, asked.addr) {
         return None;
     }
     let decl = host.bridge_decl_nth(index);
@@ -36,7 +42,7 @@ fn stop(host: &Host, index: usize, row: &RoutingRow, asked: &Asked, path: &Path)
 fn stop_nth(
     host: &Host,
     rows: &[RoutingRow],
-    asked: &Asked,
+    asked: &AddressQuery,
     path: &Path,
     index: usize,
 ) -> Option<Cause>
@@ -56,7 +62,7 @@ fn stops(
     alloc: Global,
     host: &Host,
     rows: &[RoutingRow],
-    asked: &Asked,
+    asked: &AddressQuery,
     path: &Path,
 ) -> Result<Vec<Cause>, AllocError>
     requires { rows.now ≡ routing host.now.state.functions }
@@ -79,8 +85,8 @@ pub(crate) fn causes_of(
     alloc: Global,
     host: &Host,
     rows: &[RoutingRow],
-    asked: &Asked,
-    held: &Held,
+    asked: &AddressQuery,
+    held: &RegionWithCommand,
 ) -> Result<Vec<Cause>, AllocError>
     requires { rows.now ≡ routing host.now.state.functions }
     ensures { let space = named_space asked.now.space in let fs = host.now.state.functions in

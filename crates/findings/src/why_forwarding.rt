@@ -9,22 +9,22 @@ ghost use Rattle.bridge_forward.specs.RoutingRows.{secondary_nth};
 
 use crate::causes::Forwarder;
 use crate::hindering::forwards;
-use crate::holding::Asked;
+use crate::holding::AddressQuery;
 use bridge_forward::{Path, RoutingRow};
 use host_bridge::Host;
 use std::alloc::{AllocError, Global};
 
 /// Returns whether every bridge above a path forwards the address.
-fn is_routed(rows: &[RoutingRow], asked: &Asked, path: &Path) -> bool
+fn is_routed(rows: &[RoutingRow], asked: &AddressQuery, path: &Path) -> bool
     ensures { let space = named_space asked.now.space in
         result ≡ is_routed rows.now path.now space asked.now.addr }
 {
-    rows.iter().all(|row| !row.path.leads_to(path) || forwards(row, asked.space, asked.addr))
+    rows.iter().all(|row| !row.path.is_ancestor_of(path) || forwards(row, asked.space, asked.addr))
 }
 
 /// Returns whether the function is a bridge that forwards the address and that the address reaches
 /// from bus 0.
-fn passes_on(rows: &[RoutingRow], asked: &Asked, row: &RoutingRow) -> bool
+fn passes_on(rows: &[RoutingRow], asked: &AddressQuery, row: &RoutingRow) -> bool
     ensures { let space = named_space asked.now.space in let addr = asked.now.addr in result
         ≡ (row_forwards space addr row.now && is_routed rows.now row.now.path space addr) }
 {
@@ -36,7 +36,7 @@ fn passes_on(rows: &[RoutingRow], asked: &Asked, row: &RoutingRow) -> bool
 fn forwarder(
     host: &Host,
     rows: &[RoutingRow],
-    asked: &Asked,
+    asked: &AddressQuery,
     index: usize,
     row: &RoutingRow,
 ) -> Option<Forwarder>
@@ -55,7 +55,12 @@ fn forwarder(
 }
 
 /// Looks up the row of the function at an index and returns it as a forwarder, as `forwarder` does.
-fn forwarder_nth(host: &Host, rows: &[RoutingRow], asked: &Asked, index: usize) -> Option<Forwarder>
+fn forwarder_nth(
+    host: &Host,
+    rows: &[RoutingRow],
+    asked: &AddressQuery,
+    index: usize,
+) -> Option<Forwarder>
     requires { rows.now ≡ routing host.now.state.functions }
     ensures { let space = named_space asked.now.space in let fs = host.now.state.functions in
         let one = option_to_list (slice_get fs index) in
@@ -73,7 +78,7 @@ pub(crate) fn forwarders(
     alloc: Global,
     host: &Host,
     rows: &[RoutingRow],
-    asked: &Asked,
+    asked: &AddressQuery,
 ) -> Result<Vec<Forwarder>, AllocError>
     requires { rows.now ≡ routing host.now.state.functions }
     ensures { let space = named_space asked.now.space in let fs = host.now.state.functions in

@@ -32,7 +32,8 @@ impl Model for VirtualFunction {
 /// Returns Command after a write of the enabled bytes of its word (PCI Local Bus Specification 3.0,
 /// section 6.2.2).
 fn command_written(command: u16, enables: u8, value: u32) -> u16
-    ensures { result ≡ merged 2 command value (bit_and command_mask (enabled_bits (lanes enables))) }
+    ensures { result
+        ≡ merged 2 command value (bit_and command_mask (enabled_bits (lanes enables))) }
 {
     let writable = u32::from(Command::of_endpoint().0);
     let mask = writable & enabled_bits(enables);

@@ -5,9 +5,9 @@ ghost use Rattle.model_registers.specs.BridgeTable.{bridge_header, bridge_reset,
 ghost use Rattle.headers.specs.{Decodes.{io_decode_of, pref_decode_of}, Rows.{IsRow, row_cells}};
 
 use crate::bridge_decl::BridgeDecl;
+use crate::config_register::ConfigRegister;
 use crate::decodes::{IoDecode, PrefDecode};
 use crate::registers::Command;
-use crate::row::Row;
 use crate::table::{header_type, push_rows};
 use config_bytes::Cells;
 use std::alloc::{AllocError, Global};
@@ -16,34 +16,34 @@ use std::alloc::{AllocError, Global};
 pub struct Bridge;
 
 /// Returns the header registers of a bridge, followed by those of its memory window.
-pub fn bridge_rows(decl: &BridgeDecl, multifunction: bool) -> [Row; 16]
+pub fn bridge_rows(decl: &BridgeDecl, multifunction: bool) -> [ConfigRegister; 16]
     ensures cells { flat_map row_cells result
         ≡ bridge_header decl.now multifunction no_bridge_values ++ mem_cells no_window }
     ensures rows { Each IsRow result }
 {
     [
-        Row::new(0x00, 2, u64::from(decl.vendor()), 0, 0),
-        Row::new(0x02, 2, u64::from(decl.device()), 0, 0),
-        Row::new(0x04, 2, 0, u64::from(Command::of_bridge().0), 0),
-        Row::new(0x06, 2, 0, 0, 0xf900),
-        Row::new(0x08, 1, u64::from(decl.revision()), 0, 0),
-        Row::new(0x09, 3, 0x06_0400, 0, 0),
-        Row::new(0x0c, 2, 0, 0xffff, 0),
-        Row::new(0x0e, 1, header_type(1, multifunction), 0, 0),
-        Row::new(0x18, 1, 0, 0xff, 0),
-        Row::new(0x19, 1, 0, 0xff, 0),
-        Row::new(0x1a, 1, 0, 0xff, 0),
-        Row::new(0x1b, 1, 0, 0xff, 0),
-        Row::new(0x1e, 2, 0, 0, 0xf900),
-        Row::new(0x3c, 1, 0, 0xff, 0),
-        Row::new(0x20, 2, 0, 0xfff0, 0),
-        Row::new(0x22, 2, 0, 0xfff0, 0),
+        ConfigRegister::new(0x00, 2, u64::from(decl.vendor()), 0, 0),
+        ConfigRegister::new(0x02, 2, u64::from(decl.device()), 0, 0),
+        ConfigRegister::new(0x04, 2, 0, u64::from(Command::of_bridge().0), 0),
+        ConfigRegister::new(0x06, 2, 0, 0, 0xf900),
+        ConfigRegister::new(0x08, 1, u64::from(decl.revision()), 0, 0),
+        ConfigRegister::new(0x09, 3, 0x06_0400, 0, 0),
+        ConfigRegister::new(0x0c, 2, 0, 0xffff, 0),
+        ConfigRegister::new(0x0e, 1, header_type(1, multifunction), 0, 0),
+        ConfigRegister::new(0x18, 1, 0, 0xff, 0),
+        ConfigRegister::new(0x19, 1, 0, 0xff, 0),
+        ConfigRegister::new(0x1a, 1, 0, 0xff, 0),
+        ConfigRegister::new(0x1b, 1, 0, 0xff, 0),
+        ConfigRegister::new(0x1e, 2, 0, 0, 0xf900),
+        ConfigRegister::new(0x3c, 1, 0, 0xff, 0),
+        ConfigRegister::new(0x20, 2, 0, 0xfff0, 0),
+        ConfigRegister::new(0x22, 2, 0, 0xfff0, 0),
     ]
 }
 
 /// Returns the registers of the I/O window. An unimplemented register has width 0. The low bits of
 /// an implemented register encode the decode width.
-pub fn io_rows(decode: IoDecode) -> [Row; 4]
+pub fn io_rows(decode: IoDecode) -> [ConfigRegister; 4]
     ensures cells { flat_map row_cells result ≡ io_cells (io_decode_of decode) no_window }
     ensures rows { Each IsRow result }
 {
@@ -53,16 +53,16 @@ pub fn io_rows(decode: IoDecode) -> [Row; 4]
         IoDecode::Bits32 => (1, 2, 1),
     };
     [
-        Row::new(0x1c, low, bits, 0xf0, 0),
-        Row::new(0x1d, low, bits, 0xf0, 0),
-        Row::new(0x30, high, 0, 0xffff, 0),
-        Row::new(0x32, high, 0, 0xffff, 0),
+        ConfigRegister::new(0x1c, low, bits, 0xf0, 0),
+        ConfigRegister::new(0x1d, low, bits, 0xf0, 0),
+        ConfigRegister::new(0x30, high, 0, 0xffff, 0),
+        ConfigRegister::new(0x32, high, 0, 0xffff, 0),
     ]
 }
 
 /// Returns the registers of the prefetchable memory window. An unimplemented register has width 0.
 /// The low bits of an implemented register encode the decode width.
-pub fn pref_rows(decode: PrefDecode) -> [Row; 4]
+pub fn pref_rows(decode: PrefDecode) -> [ConfigRegister; 4]
     ensures cells { flat_map row_cells result ≡ pref_cells (pref_decode_of decode) no_window }
     ensures rows { Each IsRow result }
 {
@@ -72,10 +72,10 @@ pub fn pref_rows(decode: PrefDecode) -> [Row; 4]
         PrefDecode::Bits64 => (2, 4, 1),
     };
     [
-        Row::new(0x24, low, bits, 0xfff0, 0),
-        Row::new(0x26, low, bits, 0xfff0, 0),
-        Row::new(0x28, high, 0, 0xffff_ffff, 0),
-        Row::new(0x2c, high, 0, 0xffff_ffff, 0),
+        ConfigRegister::new(0x24, low, bits, 0xfff0, 0),
+        ConfigRegister::new(0x26, low, bits, 0xfff0, 0),
+        ConfigRegister::new(0x28, high, 0, 0xffff_ffff, 0),
+        ConfigRegister::new(0x2c, high, 0, 0xffff_ffff, 0),
     ]
 }
 

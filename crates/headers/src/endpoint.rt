@@ -6,9 +6,9 @@ ghost use Rattle.config_bytes.specs.CellFile.{file_of};
 ghost use Rattle.headers.specs.Rows.{IsRow, row_cells};
 
 use crate::config_block::ConfigBlock;
+use crate::config_register::ConfigRegister;
 use crate::endpoint_decl::EndpointDecl;
 use crate::registers::Command;
-use crate::row::Row;
 use crate::table::{header_type, push_block, push_rows};
 use config_bytes::{Cell, Cells};
 use std::alloc::{AllocError, Global};
@@ -31,26 +31,26 @@ fn push_blocks(cells: &mut Vec<(u16, Cell)>, blocks: &[ConfigBlock]) -> Result<(
 }
 
 /// Returns the header registers of an endpoint, without its BARs.
-pub fn endpoint_rows(decl: &EndpointDecl, multifunction: bool) -> [Row; 14]
+pub fn endpoint_rows(decl: &EndpointDecl, multifunction: bool) -> [ConfigRegister; 14]
     ensures cells { flat_map row_cells result ≡ header_cells decl.now multifunction 0 }
     ensures rows { Each IsRow result }
 {
     let values = decl.values();
     [
-        Row::new(0x00, 2, u64::from(values.vendor), 0, 0),
-        Row::new(0x02, 2, u64::from(values.device), 0, 0),
-        Row::new(0x04, 2, 0, u64::from(Command::of_endpoint().0), 0),
-        Row::new(0x06, 2, u64::from(values.status), 0, 0xf900),
-        Row::new(0x08, 1, u64::from(values.revision), 0, 0),
-        Row::new(0x09, 3, u64::from(values.class), 0, 0),
-        Row::new(0x0c, 2, 0, 0xffff, 0),
-        Row::new(0x0e, 1, header_type(0, multifunction), 0, 0),
-        Row::new(0x2c, 2, u64::from(values.subvendor), 0, 0),
-        Row::new(0x2e, 2, u64::from(values.subsystem), 0, 0),
-        Row::new(0x3c, 1, 0, 0xff, 0),
-        Row::new(0x3d, 1, u64::from(values.pin), 0, 0),
-        Row::new(0x3e, 1, u64::from(values.min_gnt), 0, 0),
-        Row::new(0x3f, 1, u64::from(values.max_lat), 0, 0),
+        ConfigRegister::new(0x00, 2, u64::from(values.vendor), 0, 0),
+        ConfigRegister::new(0x02, 2, u64::from(values.device), 0, 0),
+        ConfigRegister::new(0x04, 2, 0, u64::from(Command::of_endpoint().0), 0),
+        ConfigRegister::new(0x06, 2, u64::from(values.status), 0, 0xf900),
+        ConfigRegister::new(0x08, 1, u64::from(values.revision), 0, 0),
+        ConfigRegister::new(0x09, 3, u64::from(values.class), 0, 0),
+        ConfigRegister::new(0x0c, 2, 0, 0xffff, 0),
+        ConfigRegister::new(0x0e, 1, header_type(0, multifunction), 0, 0),
+        ConfigRegister::new(0x2c, 2, u64::from(values.subvendor), 0, 0),
+        ConfigRegister::new(0x2e, 2, u64::from(values.subsystem), 0, 0),
+        ConfigRegister::new(0x3c, 1, 0, 0xff, 0),
+        ConfigRegister::new(0x3d, 1, u64::from(values.pin), 0, 0),
+        ConfigRegister::new(0x3e, 1, u64::from(values.min_gnt), 0, 0),
+        ConfigRegister::new(0x3f, 1, u64::from(values.max_lat), 0, 0),
     ]
 }
 

@@ -6,7 +6,7 @@ ghost use Rattle.bars.specs.Kinds.{kind_of};
 use bars::Kind;
 
 /// A type that uses base address registers: a region or its declaration.
-pub trait TakesRegisters {
+pub trait UsesBars {
     ghost region: { Self → Region };
 
     /// Returns the index of its first base address register.
@@ -27,7 +27,7 @@ fn registers(kind: Kind) -> u64
     if kind.is_wide() { 2 } else { 1 }
 }
 
-fn is_in_header<T: TakesRegisters>(region: &T) -> bool
+fn is_in_header<T: UsesBars>(region: &T) -> bool
     ensures { result
         ≡ nat_le ((T.region region.now).index + registers_of (T.region region.now).kind) 6 }
 {
@@ -35,7 +35,7 @@ fn is_in_header<T: TakesRegisters>(region: &T) -> bool
     index <= 5 && index + registers(region.kind()) <= 6
 }
 
-fn uses<T: TakesRegisters>(region: &T, register: u64) -> bool
+fn uses<T: UsesBars>(region: &T, register: u64) -> bool
     requires { register ≤ 5 }
     ensures { result ≡ uses register (T.region region.now) }
 {
@@ -44,14 +44,14 @@ fn uses<T: TakesRegisters>(region: &T, register: u64) -> bool
 }
 
 /// Returns whether each region's registers are among the six.
-fn are_in_header<T: TakesRegisters>(regions: &[T]) -> bool
+fn are_in_header<T: UsesBars>(regions: &[T]) -> bool
     ensures { result ≡ list_all (λ r.
         nat_le ((T.region r).index + registers_of (T.region r).kind) 6) regions.now }
 {
     regions.iter().all(|region| is_in_header(region))
 }
 
-fn is_used_once<T: TakesRegisters>(regions: &[T], register: u64) -> bool
+fn is_used_once<T: UsesBars>(regions: &[T], register: u64) -> bool
     requires { register ≤ 5 }
     ensures { result ≡ nat_le (count_by (λ r. uses register (T.region r)) regions.now) 1 }
 {
@@ -63,7 +63,7 @@ fn is_used_once<T: TakesRegisters>(regions: &[T], register: u64) -> bool
 }
 
 /// Returns whether no register is used twice.
-fn use_registers_once<T: TakesRegisters>(regions: &[T]) -> bool
+fn use_registers_once<T: UsesBars>(regions: &[T]) -> bool
     ensures { result
         ≡ list_all (λ n. nat_le (count_by (λ r. uses n (T.region r)) regions.now) 1) (0 ∷ 1
         ∷ 2 ∷ 3 ∷ 4 ∷ 5 ∷ []) }
@@ -77,7 +77,7 @@ fn use_registers_once<T: TakesRegisters>(regions: &[T]) -> bool
 }
 
 /// Returns whether each region's registers are among the six, and no register is used twice.
-pub fn have_own_registers<T: TakesRegisters>(regions: &[T]) -> bool
+pub fn have_own_registers<T: UsesBars>(regions: &[T]) -> bool
     ensures { result ≡ has_own_registers (map T.region regions.now) }
 {
     are_in_header(regions) && use_registers_once(regions)

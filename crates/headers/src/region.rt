@@ -5,8 +5,8 @@ ghost use Rattle.lists.specs.Elements.{Each};
 ghost use Rattle.bars.specs.{Kinds.kind_of, Resets.at_reset};
 ghost use Rattle.headers.specs.Rows.{IsRow, row_cells};
 
-use crate::own_registers::TakesRegisters;
-use crate::row::Row;
+use crate::config_register::ConfigRegister;
+use crate::own_registers::UsesBars;
 use bars::{BarDecl, Kind};
 use config_bytes::Cell;
 use std::marker::Model;
@@ -29,7 +29,7 @@ impl Model for Region {
         record { index = r.index; kind = r.bar.kind; size = r.bar.size; cells = r.block.items } };
 }
 
-impl TakesRegisters for Region {
+impl UsesBars for Region {
     ghost region = { λ r. r };
 
     fn index(&self) -> u64 {
@@ -53,7 +53,7 @@ pub fn register_width(kind: Kind) -> u8
 
 impl Region {
     /// Returns the BAR of the region as a register row.
-    pub fn base_row(&self) -> Row
+    pub fn base_row(&self) -> ConfigRegister
         requires { IsLawfulRegion self.now }
         ensures cells { row_cells result
             ≡ base_cells self.now.index self.now.kind self.now.size 0 }
@@ -62,7 +62,7 @@ impl Region {
         let kind = self.bar.kind();
         let off = 0x10 + 4 * u16::from(self.index);
         let writable = kind.base_bits() - (self.bar.size() - 1);
-        Row::new(
+        ConfigRegister::new(
             off,
             register_width(kind),
             u64::from(kind.type_bits()),

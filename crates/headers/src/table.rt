@@ -5,7 +5,7 @@ ghost use Rattle.model_registers.specs.{Registers.{config, cells_from}, Endpoint
 ghost use Rattle.config_bytes.specs.CellFile.{file_of};
 ghost use Rattle.headers.specs.Rows.{IsRow, row_cells};
 
-use crate::row::Row;
+use crate::config_register::ConfigRegister;
 use config_bytes::Cell;
 use std::alloc::AllocError;
 
@@ -18,7 +18,7 @@ pub(crate) fn header_type(layout: u8, multifunction: bool) -> u64
 }
 
 /// Appends the cells of a register, lowest byte first.
-fn push_row(cells: &mut Vec<(u16, Cell)>, row: Row) -> Result<(), AllocError>
+fn push_row(cells: &mut Vec<(u16, Cell)>, row: ConfigRegister) -> Result<(), AllocError>
     requires { IsRow row }
     ensures { OnOk result (file_of cells.new.items ≡ file_of cells.old.items ++ row_cells row) }
 {
@@ -31,7 +31,10 @@ fn push_row(cells: &mut Vec<(u16, Cell)>, row: Row) -> Result<(), AllocError>
 }
 
 /// Appends the cells of all registers.
-pub(crate) fn push_rows(cells: &mut Vec<(u16, Cell)>, rows: &[Row]) -> Result<(), AllocError>
+pub(crate) fn push_rows(
+    cells: &mut Vec<(u16, Cell)>,
+    rows: &[ConfigRegister],
+) -> Result<(), AllocError>
     requires { Each IsRow rows.now }
     ensures { OnOk result (file_of cells.new.items
         ≡ file_of cells.old.items ++ flat_map row_cells rows.now) }

@@ -5,7 +5,7 @@ use Rattle.std.{proofs.Common.{◌≡◌, ℕ, ◌<◌, zero, suc, cond, List, [
 use Rattle.lists.{specs.Elements.{Each, first_some}, proofs.{FirstFound.found_passes, Indices.{at_below, each_at, find_at, pair_at}}}
 use Rattle.model_registers.specs.{Registers.File, Decoding.{Space, Function}, CopiedFiles.after_reset}
 use Rattle.model_board.{specs.{Paths.{Path, path_eq}, State.{BoardFunction, with_file}, Claims.{Claim, claim_at, claim_of, first_claim}}, proofs.{PathEnds.{path_self, path_eq-sym}, PathOrder.path_same}}
-use Rattle.bridge_forward.specs.{declared.bus.Located.Located, Lending.{as_endpoint, endpoint_at, with_endpoint, endpoint_nth, with_endpoint_nth}, Locating.located_claim}
+use Rattle.bridge_forward.specs.{declared.bus.BarOffset.BarOffset, Lending.{as_endpoint, endpoint_at, with_endpoint, endpoint_nth, with_endpoint_nth}, Locating.located_claim}
 use Rattle.host_bridge.{specs.{ByIndex.{file_nth, with_file_nth, with_reset_nth}, HostState.HostState}, proofs.{Lent.{HasDistinctPaths, changed_endpoint, kept_endpoint, claimed_by, claimed_endpoint}, ClaimedAccesses.IsClaimed}}
 
 -- ---- the function at an index is the one at its path
@@ -68,13 +68,13 @@ none_reset fs i none = sym (ap (λ (o : Option Function). option_map_or (λ (e :
 
 -- ---- a claim, told by an index
 
-pub record IsLocated (fs : List BoardFunction) (space : Space) (a : ℕ) (l : Located) : Type 0 where
+pub record IsLocated (fs : List BoardFunction) (space : Space) (a : ℕ) (l : BarOffset) : Type 0 where
   pub function : BoardFunction
   pub there : slice_get fs l.index ≡ Some function
   pub claimed : IsClaimed fs space a (claim_at function.path (record { index = l.region; offset = l.offset }))
 
 -- the board as code holds it, and as a clause names it
-pub located : (h now : HostState) (space : Space) (a : ℕ) (l : Located) → h ≡ now → located_claim now.state.functions (Some l) ≡ first_claim now.state.functions space a → l.index < length now.state.functions
+pub located : (h now : HostState) (space : Space) (a : ℕ) (l : BarOffset) → h ≡ now → located_claim now.state.functions (Some l) ≡ first_claim now.state.functions space a → l.index < length now.state.functions
     → IsLocated h.state.functions space a l
 located h now space a l is claim within = subst (λ (k : HostState). IsLocated k.state.functions space a l) (sym is) (by_nth (at_below now.state.functions l.index within))
   where
@@ -82,12 +82,12 @@ located h now space a l is claim within = subst (λ (k : HostState). IsLocated k
     by_nth w = grind arith
 
 -- an endpoint stands there
-pub some_nth : (fs : List BoardFunction) (space : Space) (a : ℕ) (l : Located) → IsLocated fs space a l → HasDistinctPaths fs → endpoint_nth fs l.index ≡ None → ⊥
+pub some_nth : (fs : List BoardFunction) (space : Space) (a : ℕ) (l : BarOffset) → IsLocated fs space a l → HasDistinctPaths fs → endpoint_nth fs l.index ≡ None → ⊥
 some_nth fs space a l h distinct none =
     let some : IsSome (endpoint_at fs h.function.path) = claimed_endpoint fs space a (claim_at h.function.path (record { index = l.region; offset = l.offset })) distinct h.claimed.first in
     let same : endpoint_nth fs l.index ≡ endpoint_at fs h.function.path = nth_at h.function fs l.index distinct h.there in cc
 
-pub endpoint_there_nth : (fs : List BoardFunction) (space : Space) (a : ℕ) (l : Located) (e : Function) → (h : IsLocated fs space a l) → HasDistinctPaths fs → endpoint_nth fs l.index ≡ Some e → endpoint_at fs h.function.path ≡ Some e
+pub endpoint_there_nth : (fs : List BoardFunction) (space : Space) (a : ℕ) (l : BarOffset) (e : Function) → (h : IsLocated fs space a l) → HasDistinctPaths fs → endpoint_nth fs l.index ≡ Some e → endpoint_at fs h.function.path ≡ Some e
 endpoint_there_nth fs space a l e h distinct is = sym (nth_at h.function fs l.index distinct h.there) ∙ is
 
 -- ---- a claim, told by a path
@@ -97,7 +97,7 @@ none_found all space a p [] none c h is = cc
 none_found all space a p (f ∷ fs) none c h is = grind (arith, none_found all space a p fs, claimed_by all space a f c, path_self f.path)
 
 -- the function that is found by the path of the first claim tells it by its index
-pub claim_by_path : (fs : List BoardFunction) (space : Space) (a : ℕ) (c : Claim) (l : Located) → first_claim fs space a ≡ Some c → slice_get fs l.index ≡ find (λ f. path_eq f.path c.path) fs → c.index ≡ l.region → c.offset ≡ l.offset
+pub claim_by_path : (fs : List BoardFunction) (space : Space) (a : ℕ) (c : Claim) (l : BarOffset) → first_claim fs space a ≡ Some c → slice_get fs l.index ≡ find (λ f. path_eq f.path c.path) fs → c.index ≡ l.region → c.offset ≡ l.offset
     → located_claim fs (Some l) ≡ first_claim fs space a
 claim_by_path fs space a c l first found region offset =
     grind (arith, none_found fs space a c.path fs, found_passes (λ (g : BoardFunction). path_eq g.path c.path) fs, path_same)

@@ -1,6 +1,6 @@
 -- An access at the claim of an address: the claimed region takes it in the word and the byte lanes in which its offset lies.
 use Rattle.std.proofs.Common.{◌≡◌, ℕ, ◌+◌, ◌*◌, ◌/◌, ◌%◌, ◌^◌, ◌≤◌, List, Some, sym, ap, ap₂, subst, ◌∙◌}
-use Rattle.model_registers.{specs.{Registers.{block, read, write, number, all_bytes}, ByteEnables.{lanes, IsWidth, LiesInWord, enables_of, into_lanes}, Decoding.{Space, Function}}, proofs.ByteAccesses.{aligned_lies_in_word, number_by_lanes, write_by_lanes}}
+use Rattle.model_registers.{specs.{Registers.{block, read, write, number, all_bytes}, ByteEnables.{lanes, IsWidth, LiesInWord, enables_of, to_lanes}, Decoding.{Space, Function}}, proofs.ByteAccesses.{aligned_lies_in_word, number_by_lanes, write_by_lanes}}
 use Rattle.model_board.{specs.{State.BoardFunction, Claims.{Claim, first_claim}, Ports.{claim_reply, after_claim_write}}, proofs.ClaimLanes.claims_keep_lanes}
 use Rattle.bridge_forward.specs.Lending.{endpoint_at, with_endpoint}
 use Rattle.host_bridge.proofs.Lent.{HasDistinctPaths, file_at-endpoint, changed_endpoint}
@@ -23,7 +23,7 @@ module _ (fs : List BoardFunction) (space : Space) (a w : ℕ) (c : Claim) (is :
       ∙ ap (claim_reply fs w) (sym is.first)
 
   pub number_written : (e left : Function) (enables v word : ℕ) → HasDistinctPaths fs → LiesInWord c.offset w → endpoint_at fs c.path ≡ Some e → enables ≡ enables_of c.offset w
-      → word ≡ into_lanes c.offset v → left ≡ record e { file = write (lanes enables) word (block c.index (c.offset / 4 * 4)) e.file } → with_endpoint c.path left fs ≡ after_claim_write fs w v (first_claim fs space a)
+      → word ≡ to_lanes c.offset v → left ≡ record e { file = write (lanes enables) word (block c.index (c.offset / 4 * 4)) e.file } → with_endpoint c.path left fs ≡ after_claim_write fs w v (first_claim fs space a)
   number_written e left enables v word distinct within there on moved writes =
       let p = block c.index c.offset in
       let bytes : write (lanes enables) word (block c.index (c.offset / 4 * 4)) e.file ≡ write (all_bytes w) v p e.file =

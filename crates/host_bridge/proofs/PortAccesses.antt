@@ -1,7 +1,7 @@
 -- An access at CONFIG_DATA: the selected word takes it in the byte lanes in which the port lies.
 use Rattle.std.proofs.{Common.{◌≡◌, ℕ, ◌+◌, ◌-◌, ◌*◌, ◌/◌, ◌%◌, ◌^◌, ◌≤◌, sym, ap, ap₂, subst, ◌∙◌, arith}, lemmas.Bool.Decides.nat_tests}
 use Rattle.lists.proofs.Tests.{left_true, right_true}
-use Rattle.model_registers.specs.ByteEnables.{IsWidth, lanes, enables_of, into_lanes}
+use Rattle.model_registers.specs.ByteEnables.{IsWidth, lanes, enables_of, to_lanes}
 use Rattle.model_board.{specs.{State.State, Ports.{selected, selected_register, config_reply, after_config_write, config_data, port_target, target_reply, port_reply, after_target_write, after_port_write}}, proofs.ConfigAccesses.{config_read_by_lanes, config_write_by_lanes}}
 
 -- the latch selects a function and a word, and the port a byte of it
@@ -51,11 +51,11 @@ module _ (s : State) (latch port a w : ℕ) (width : IsWidth w) (aligned : port 
       ∙ sym (config_read_by_lanes s.functions at (selected_register s.latch + (port - 0xcfc)) w width aligned_offset)
       ∙ ap (target_reply s port w) here
 
-  pub port_written : (enables v moved : ℕ) → enables ≡ enables_of a w → moved ≡ into_lanes a v
+  pub port_written : (enables v moved : ℕ) → enables ≡ enables_of a w → moved ≡ to_lanes a v
       → record s { functions = after_config_write s.functions (selected s.latch) (selected_register s.latch) (lanes enables) moved } ≡ after_port_write s port w v
   port_written enables v moved on is =
       let at = selected s.latch in
-      let bytes : moved ≡ into_lanes (selected_register s.latch + (port - 0xcfc)) v = is ∙ ap (λ n. into_lanes n v) a_is ∙ ap (λ l. v * 256 ^ l % 2 ^ 32) (sym byte.lane) in
+      let bytes : moved ≡ to_lanes (selected_register s.latch + (port - 0xcfc)) v = is ∙ ap (λ n. to_lanes n v) a_is ∙ ap (λ l. v * 256 ^ l % 2 ^ 32) (sym byte.lane) in
       ap (λ fs. let t : State = record s { functions = fs } in t)
       (ap (λ p. after_config_write s.functions at p (lanes enables) moved) (sym byte.word)
       ∙ ap₂ (λ enables x. after_config_write s.functions at ((selected_register s.latch + (port - 0xcfc)) / 4 * 4) (lanes enables) x) (in_lanes enables on) bytes

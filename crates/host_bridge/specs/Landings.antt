@@ -4,9 +4,9 @@
 use Rattle.std.specs.Prelude.{ℕ, List, Some, ◌≡◌, ◌<◌, ◌%◌, length, slice_get}
 use Rattle.model_registers.specs.Decoding.{Space}
 use Rattle.model_board.specs.{State.BoardFunction, Cycles.{BusAddress, reached}, Claims.first_claim}
-use Rattle.bridge_forward.specs.{declared.bus.Located.Located, Locating.located_claim}
+use Rattle.bridge_forward.specs.{declared.bus.BarOffset.BarOffset, Locating.located_claim}
 
-pub record IsLanding (fs : List BoardFunction) (l : Located) (width : ℕ) : Type 0 where
+pub record IsLanding (fs : List BoardFunction) (l : BarOffset) (width : ℕ) : Type 0 where
   pub space : Space
   pub address : ℕ
   pub aligned : address % width ≡ 0

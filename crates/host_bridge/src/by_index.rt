@@ -8,7 +8,7 @@ ghost use Rattle.bridge_forward.specs.{BridgeDecls.declared_bridge_nth, ByIndex.
 ghost use Rattle.host_bridge.specs.{ByIndex.{file_nth, with_file_nth, with_reset_nth}, HostState.with_functions, Landings.IsReached};
 
 use crate::host::Host;
-use bridge_forward::{EndpointFn, Path, RangesNow};
+use bridge_forward::{EndpointFn, LiveRanges, Path};
 use headers::{BridgeDecl, Place};
 
 impl Host {
@@ -54,7 +54,7 @@ impl Host {
     }
 
     /// Returns the regions or windows of the function at an index.
-    pub fn ranges_nth(&self, index: usize) -> Option<RangesNow>
+    pub fn ranges_nth(&self, index: usize) -> Option<LiveRanges>
         ensures { option_map ranges_told result ≡ ranges_nth self.now.state.functions index }
     {
         self.root.ranges_nth(index)

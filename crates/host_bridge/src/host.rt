@@ -10,9 +10,9 @@ ghost use Rattle.host_bridge.specs.{HostState.{with_functions, with_latch}, Land
 
 use crate::latch::{Target, cycle_of, target_of};
 use crate::route::Route;
-use bars::{BasedRegion, Space, enabled_bits};
-use bridge_forward::{Bus, Claim, Located, Path, RoutingRow};
-use config_bytes::{Op, all_ones, enables_of, into_lanes, lowered};
+use bars::{BarWithBase, Space, enabled_bits};
+use bridge_forward::{BarOffset, Bus, Claim, Path, RoutingRow};
+use config_bytes::{Op, all_ones, enables_of, lowered, to_lanes};
 use headers::Apertures;
 use paths::{Bdf, Latch};
 use std::alloc::{AllocError, Global};
@@ -148,7 +148,7 @@ impl Host {
     }
 
     /// Returns the first claim of an address, with the index of its endpoint.
-    pub(crate) fn locate(&self, space: Space, addr: u64) -> Option<Located>
+    pub(crate) fn locate(&self, space: Space, addr: u64) -> Option<BarOffset>
         ensures claim { let fs = self.now.state.functions in
             located_claim fs result ≡ first_claim fs (named_space space) addr }
         ensures within { IfSome result (λ l. l.index < length self.now.state.functions) }
@@ -192,7 +192,7 @@ impl Host {
 
     /// Returns the regions of the endpoint at an index with their base addresses, each at the index
     /// of its first BAR register. All entries are `None` if there is no endpoint.
-    pub fn placed_nth(&self, index: usize) -> [Option<BasedRegion>; 6]
+    pub fn placed_nth(&self, index: usize) -> [Option<BarWithBase>; 6]
         ensures { bases_from 0 result ≡ bases_nth self.now.state.functions index }
     {
         self.root.placed_nth(index)
@@ -212,14 +212,14 @@ impl Host {
 
     /// Reads 1, 2 or 4 bytes at a known claim. Skips the address lookup.
     #[inline(always)]
-    pub fn region_read(&mut self, from: Located, width: u64) -> u32
+    pub fn region_read(&mut self, from: BarOffset, width: u64) -> u32
         requires landing { IsLanding self.old.state.functions from width }
         requires width { IsWidth width }
         ensures value { let fs = self.old.state.functions in
             result ≡ claim_reply fs width (located_claim fs (Some from)) }
         ensures after { self.new ≡ self.old }
     {
-        let Located {
+        let BarOffset {
             index,
             region,
             offset,
@@ -233,20 +233,20 @@ impl Host {
 
     /// Writes the low 1, 2 or 4 bytes of a value at a known claim. Skips the address lookup.
     #[inline(always)]
-    pub fn region_write(&mut self, to: Located, width: u64, value: u32)
+    pub fn region_write(&mut self, to: BarOffset, width: u64, value: u32)
         requires landing { IsLanding self.old.state.functions to width }
         requires width { IsWidth width }
         ensures { let fs = self.old.state.functions in
             let claim = located_claim fs (Some to) in
             self.new ≡ with_functions (after_claim_write fs width value claim) self.old }
     {
-        let Located {
+        let BarOffset {
             index,
             region,
             offset,
         } = to;
         let enables = enables_of(offset, width);
-        let data = into_lanes(offset, value);
+        let data = to_lanes(offset, value);
         match self.root.endpoint_nth(index) {
             Some(endpoint) => endpoint.write(region, offset / 4 * 4, enables, data),
             None => unreachable!(),
@@ -324,7 +324,7 @@ impl Host {
         match target_of(self.latch, port, width) {
             Target::ConfigAddress => self.latch.write(value),
             Target::ConfigData => {
-                self.write_data(enables_of(addr, width), into_lanes(addr, value));
+                self.write_data(enables_of(addr, width), to_lanes(addr, value));
             }
             Target::Ordinary => self.write_claimed(route, Space::Io, addr, width, value),
         }

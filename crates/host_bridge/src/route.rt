@@ -7,7 +7,7 @@ ghost use Rattle.host_bridge.specs.HostState.{HostState};
 
 use crate::host::Host;
 use bars::Space;
-use bridge_forward::{Claim, Located};
+use bridge_forward::{BarOffset, Claim};
 
 /// A strategy for finding the first claim of an address.
 pub trait Route {
@@ -21,7 +21,7 @@ pub trait Route {
 
     /// Returns the first claim of the address, with the index of its endpoint in the host's list of
     /// functions.
-    fn located(&self, host: &Host, space: Space, addr: u64) -> Option<Located>
+    fn located(&self, host: &Host, space: Space, addr: u64) -> Option<BarOffset>
         requires { fits self.now host.now }
         ensures claim { let fs = host.now.state.functions in
             located_claim fs result ≡ first_claim fs (named_space space) addr }
@@ -33,7 +33,7 @@ pub trait Route {
             offset,
         } = self.claimant(host, space, addr)?;
         let index = host.index_of(&path)?;
-        Some(Located {
+        Some(BarOffset {
             index,
             region,
             offset,
@@ -60,7 +60,7 @@ impl Route for TreeWalk {
         host.claimant(space, addr)
     }
 
-    fn located(&self, host: &Host, space: Space, addr: u64) -> Option<Located> {
+    fn located(&self, host: &Host, space: Space, addr: u64) -> Option<BarOffset> {
         host.locate(space, addr)
     }
 }

@@ -7,11 +7,11 @@ ghost use Rattle.headers.specs.Rows.{IsRow, row_cells};
 ghost use Rattle.images.specs.Faults.{number_of};
 
 use crate::fault::ImageFault;
-use headers::{ConfigBlock, EndpointDecl, Region, Row, endpoint_rows};
+use headers::{ConfigBlock, ConfigRegister, EndpointDecl, Region, endpoint_rows};
 
 /// Returns whether the lowest byte of a register can hold a value. Status and device-specific
 /// registers can hold any; elsewhere bits outside the masks must be as declared.
-fn can_hold(row: &Row, byte: u8) -> bool
+fn can_hold(row: &ConfigRegister, byte: u8) -> bool
     ensures { result ≡ can_hold (record {
       place = config row.now.off;
       cell = record {
@@ -30,7 +30,7 @@ fn can_hold(row: &Row, byte: u8) -> bool
 }
 
 /// Strips the saved values of one register.
-fn after_row(row: Row, bytes: &[u8]) -> Result<&[u8], ImageFault>
+fn after_row(row: ConfigRegister, bytes: &[u8]) -> Result<&[u8], ImageFault>
     requires { IsRow row }
     ensures left { IfOk result (λ rest. after_values (row_cells row) bytes.now ≡ Ok rest.now) }
     ensures refused { IfErr result (λ why.
@@ -64,7 +64,7 @@ fn after_any(count: usize, bytes: &[u8]) -> Result<&[u8], ImageFault>
 }
 
 /// Strips the saved values of a list of registers.
-fn after_rows<'a>(rows: &[Row], bytes: &'a [u8]) -> Result<&'a [u8], ImageFault>
+fn after_rows<'a>(rows: &[ConfigRegister], bytes: &'a [u8]) -> Result<&'a [u8], ImageFault>
     requires { Each IsRow rows.now }
     ensures left { IfOk result (λ rest.
         after_values (flat_map row_cells rows.now) bytes.now ≡ Ok rest.now) }

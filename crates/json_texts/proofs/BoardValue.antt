@@ -4,12 +4,12 @@ use Rattle.lists.specs.Elements.{Each}
 use Rattle.serde_json.specs.Data.{Data}
 use Rattle.model_registers.specs.{Declarations.{Endpoint, Region}, DeclarationRules.IsLawfulEndpoint, Apertures.Apertures}
 use Rattle.model_board.specs.{Paths.Path, Board.{Decl, endpoint, bridge, is_bridge, Board}, BusNumbers.{bus_of, secondary, subordinate}, Lawful.{IsLawfulDecl, HasLawfulDecls}}
-use Rattle.model_set_up.{specs.{Reach.address_of, Pools.{Pool, io_pool, mem_pool, pref_pool, unit_of}, Placement.{Item, items_on, bus_first}, SetUp.{windows_of, window_of, set_up_window}, SetUpWrites.{to_bridge, placed_base, writes_of, settings}, FunctionTable.{found_decl, range_behind, table_row, sized_table}}, proofs.FoundBoards.found_is_bridge}
+use Rattle.model_set_up.{specs.{Reach.address_of, Pools.{Pool, io_pool, mem_pool, pref_pool, unit_of}, Placement.{PlacementItem, items_on, bus_first}, SetUp.{windows_of, window_of, set_up_window}, SetUpWrites.{to_bridge, placed_base, writes_of, settings}, FunctionTable.{found_decl, range_behind, table_row, sized_table}}, proofs.FoundBoards.found_is_bridge}
 use Rattle.model_guests.specs.World.{World}
 use Rattle.model_handoff.{specs.{FoundReport.{SetUpBoard, set_up_board, IsSetUpOf}, ReportLaws.{is_closed, is_empty, AreClosedWithoutItems}}, proofs.ReportLaws.closed_without_items}
 use Rattle.json_texts.specs.{ReportValue.{region_value, interrupt_value, windows_value, items_window, pool_window, bridge_windows, buses_value, endpoint_value, bridge_value, row_value, board_value, report_value, value_line, report_json_text}, FoundValue.{known_interrupt, named_window, written_windows, decl_value, function_values, found_value}}
 
-window_is : (unit closed first : ℕ) (is : List Item) → is_closed (window_of unit closed first is) ≡ is_empty is
+window_is : (unit closed first : ℕ) (is : List PlacementItem) → is_closed (window_of unit closed first is) ≡ is_empty is
     → named_window (window_of unit closed first is) ≡ items_window unit first is
 window_is unit closed first [] e = rw e refl
 window_is unit closed first (i ∷ is) e = rw e refl

@@ -3,7 +3,7 @@ use Rattle.std.{proofs.Common.{◌≡◌, ℕ, ◌+◌, List, [], ◌∷◌, Boo
 use Rattle.serde_json.specs.{Data.{Data, null}, View.items_of, Written.{has_float, items_have_float}}
 use Rattle.model_registers.specs.BridgeTable.{Window}
 use Rattle.model_board.specs.{Paths.Path, Board.{Decl, endpoint, bridge}}
-use Rattle.model_set_up.specs.{FunctionTable.{BusRange, TableRow}, SetUpWrites.{Writes, to_endpoint, to_bridge, Setting}}
+use Rattle.model_set_up.specs.{FunctionTable.{BusRange, TableRow}, SetUpWrites.{RegisterValues, to_endpoint, to_bridge, FunctionProgram}}
 use Rattle.model_guests.specs.World.{Guest}
 use Rattle.model_handoff.specs.FoundReport.{SetUpBoard}
 use Rattle.json_texts.specs.{ReportValue.{region_value, slot_values, guest_value}, FoundValue.{known_interrupt, named_window, written_regions, written_windows, found_buses, decl_value, function_values, found_value}}
@@ -35,11 +35,11 @@ none_in_interrupt p pin = either (pin == 0 || nat_lt 4 pin) _ _ refl refl
 none_in_window : (w : Window) → has_float (named_window w) ≡ false
 none_in_window w = either (nat_lt w.last w.first) _ _ refl refl
 
-none_in_regions : (w : Writes) → items_have_float (items_of (written_regions w)) ≡ false
+none_in_regions : (w : RegisterValues) → items_have_float (items_of (written_regions w)) ≡ false
 none_in_regions (to_endpoint command bases) = none_mapped region_value (λ r. refl) bases
 none_in_regions (to_bridge w) = refl
 
-none_in_windows : (w : Writes) → has_float (written_windows w) ≡ false
+none_in_windows : (w : RegisterValues) → has_float (written_windows w) ≡ false
 none_in_windows (to_endpoint command bases) = refl
 none_in_windows (to_bridge w) = rw (none_in_window w.io, none_in_window w.mem, none_in_window w.pref) refl
 
@@ -49,11 +49,11 @@ none_in_buses bus (Some behind) = refl
 
 -- ---- functions, guests, and the whole
 
-none_in_function : (bus : ℕ) (behind : Option BusRange) (p : Path) (d : Decl) (w : Writes) → has_float (decl_value bus behind p d w) ≡ false
+none_in_function : (bus : ℕ) (behind : Option BusRange) (p : Path) (d : Decl) (w : RegisterValues) → has_float (decl_value bus behind p d w) ≡ false
 none_in_function bus behind p (endpoint d) w = rw (none_in_interrupt p d.pin, none_in_regions w) refl
 none_in_function bus behind p (bridge d) w = rw (none_in_buses bus behind, none_in_windows w) refl
 
-none_in_functions : (rs : List TableRow) (ss : List Setting) → items_have_float (items_of (function_values rs ss)) ≡ false
+none_in_functions : (rs : List TableRow) (ss : List FunctionProgram) → items_have_float (items_of (function_values rs ss)) ≡ false
 none_in_functions [] ss = refl
 none_in_functions (r ∷ rs) [] = refl
 none_in_functions (r ∷ rs) (s ∷ ss) = ap₂ (λ a b. a || b) (none_in_function r.bus r.behind r.path r.decl s.writes) (none_in_functions rs ss)

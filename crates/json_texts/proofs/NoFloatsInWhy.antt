@@ -2,7 +2,7 @@
 use Rattle.std.proofs.Common.{◌≡◌, [], ◌∷◌, false, refl}
 use Rattle.serde_json.specs.{Data.Data, Written.has_float}
 use Rattle.model_board.specs.Windows.{Window}
-use Rattle.model_lines.specs.{Why.{NamedWindow, closes, misses, Cause, closed_by, stopped_at, Told, Why}, Ways.{Missing, no_bridge, no_function, WhyNumber}, WhyPorts.{PortUse, holds_latch, shows_data, hides_data, like_others}}
+use Rattle.model_lines.specs.{Why.{NamedWindow, closes, misses, Cause, closed_by, stopped_at, UnansweredRegion, Why}, Ways.{Missing, no_bridge, no_function, WhyNumber}, WhyPorts.{PortUse, holds_latch, shows_data, hides_data, like_others}}
 use Rattle.json_texts.{specs.{ReportValue.range_value, AuditValue.path_value, WhyValue.{window_value, cause_value, told_value, forwarder_value, claim_value, address_value, missing_value, way_value, why_value}}, proofs.NoFloatsInReports.{none_mapped, none_in_option}}
 
 none_in_window : (w : NamedWindow) → has_float (window_value w) ≡ false
@@ -13,7 +13,7 @@ none_in_cause (closed_by command) = refl
 none_in_cause (stopped_at p (closes command)) = refl
 none_in_cause (stopped_at p (misses ws)) = rw (none_mapped window_value none_in_window ws) refl
 
-none_in_told : (t : Told) → has_float (told_value t) ≡ false
+none_in_told : (t : UnansweredRegion) → has_float (told_value t) ≡ false
 none_in_told t = rw (none_mapped cause_value none_in_cause t.causes) refl
 
 pub none_in_address : (w : Why) → has_float (address_value w) ≡ false

@@ -7,15 +7,15 @@
 --     number_value      a bus, device and function number
 --     problem_value      a problem
 --     problems_value, problems_json      the whole value; its text, and a line feed
---     lack_value      what is lacking
---     lacks_value, lacks_json      problems and lacks; their text, and a line feed
+--     issue_value      what is lacking
+--     issues_value, lacks_json      problems and lacks; their text, and a line feed
 use Rattle.std.specs.{Prelude.{List, [], ◌∷◌, ◌++◌, ℕ, Option, map, codes}, Option.option_map_or}
 use Rattle.serde_json.specs.{Data.{Data, null, number, unsigned, string, array, object, member, no_members}, View.items_of, Written.compact_text}
 use Rattle.model_registers.specs.Decoding.{Space, io, memory}
 use Rattle.model_board.specs.{Paths.Path, Cycles.BusAddress}
 use Rattle.model_set_up.specs.PlacedRegions.{PlacedRegion}
 use Rattle.model_guests.specs.{Text.Text, PathTexts.path_text}
-use Rattle.model_findings.specs.{Agents.Agent, Problems.{Problem, not_forwarded, contended, not_found}, Lacks.{Lack, not_open, outside_apertures, prefetched_by, other_primary}}
+use Rattle.model_findings.specs.{Agents.Agent, Problems.{Problem, not_forwarded, contended, not_found}, ReadinessIssues.{ReadinessIssue, not_open, outside_apertures, prefetched_by, other_primary}}
 
 abbrev pub natural : ℕ → Data
 natural n = number (unsigned n)
@@ -75,29 +75,29 @@ problems_value ps = object (member (codes "problems") (array (items_of (map prob
 abbrev pub problems_json : List Problem → Text
 problems_json ps = compact_text (problems_value ps) ++ 10 ∷ []
 
-abbrev pub lack_value : Lack → Data
-lack_value (not_open q) = object (
+abbrev pub issue_value : ReadinessIssue → Data
+issue_value (not_open q) = object (
     member (codes "region") (region_value q) (
     member (codes "type") (string (codes "closed")) no_members))
-lack_value (outside_apertures q n) = object (
+issue_value (outside_apertures q n) = object (
     member (codes "address") (natural n) (
     member (codes "region") (region_value q) (
     member (codes "type") (string (codes "outside apertures")) no_members)))
-lack_value (prefetched_by q bridge n) = object (
+issue_value (prefetched_by q bridge n) = object (
     member (codes "address") (natural n) (
     member (codes "bridge") (path_value bridge) (
     member (codes "region") (region_value q) (
     member (codes "type") (string (codes "prefetched")) no_members))))
-lack_value (other_primary p held n) = object (
+issue_value (other_primary p held n) = object (
     member (codes "bus") (natural n) (
     member (codes "path") (path_value p) (
     member (codes "primary") (natural held) (
     member (codes "type") (string (codes "other primary")) no_members))))
 
-abbrev pub lacks_value : List Problem → List Lack → Data
-lacks_value ps ls = object (
-    member (codes "lacks") (array (items_of (map lack_value ls))) (
+abbrev pub issues_value : List Problem → List ReadinessIssue → Data
+issues_value ps ls = object (
+    member (codes "lacks") (array (items_of (map issue_value ls))) (
     member (codes "problems") (array (items_of (map problem_value ps))) no_members))
 
-abbrev pub lacks_json : List Problem → List Lack → Text
-lacks_json ps ls = compact_text (lacks_value ps ls) ++ 10 ∷ []
+abbrev pub lacks_json : List Problem → List ReadinessIssue → Text
+lacks_json ps ls = compact_text (issues_value ps ls) ++ 10 ∷ []

@@ -9,7 +9,7 @@ use Rattle.std.specs.Prelude.{List, [], ◌∷◌, ℕ, if◌then◌else◌, nat
 use Rattle.serde_json.specs.Data.{Data, null}
 use Rattle.model_registers.specs.BridgeTable.{Window}
 use Rattle.model_board.specs.{Paths.Path, Board.{Decl, endpoint, bridge, is_bridge}}
-use Rattle.model_set_up.specs.{FunctionTable.{BusRange, TableRow}, SetUpWrites.{Writes, to_endpoint, to_bridge, Setting}}
+use Rattle.model_set_up.specs.{FunctionTable.{BusRange, TableRow}, SetUpWrites.{RegisterValues, to_endpoint, to_bridge, FunctionProgram}}
 use Rattle.model_handoff.specs.FoundReport.{SetUpBoard}
 use Rattle.json_texts.specs.ReportValue.{region_value, pin_value, range_value, windows_value, buses_value, endpoint_value, bridge_value, board_value}
 
@@ -22,11 +22,11 @@ known_interrupt p pin = if pin == 0 || nat_lt 4 pin then null else pin_value p p
 abbrev pub named_window : Window → Data
 named_window w = if nat_lt w.last w.first then null else range_value w.first w.last
 
-abbrev pub written_regions : Writes → List Data
+abbrev pub written_regions : RegisterValues → List Data
 written_regions (to_endpoint command bases) = map region_value bases
 written_regions (to_bridge w) = []
 
-abbrev pub written_windows : Writes → Data
+abbrev pub written_windows : RegisterValues → Data
 written_windows (to_endpoint command bases) = null
 written_windows (to_bridge w) = windows_value (named_window w.io) (named_window w.mem) (named_window w.pref)
 
@@ -36,16 +36,16 @@ found_buses bus (Some behind) = buses_value bus behind.first behind.last
 
 -- ---- functions, and the whole
 
-abbrev pub decl_value : ℕ → Option BusRange → Path → Decl → Writes → Data
+abbrev pub decl_value : ℕ → Option BusRange → Path → Decl → RegisterValues → Data
 decl_value bus behind p (endpoint d) w =
     endpoint_value bus p d.vendor d.device (known_interrupt p d.pin) (written_regions w)
 decl_value bus behind p (bridge d) w =
     bridge_value bus p d.vendor d.device (found_buses bus behind) (written_windows w)
 
-abbrev pub function_value : TableRow → Writes → Data
+abbrev pub function_value : TableRow → RegisterValues → Data
 function_value r w = decl_value r.bus r.behind r.path r.decl w
 
-abbrev pub function_values : List TableRow → List Setting → List Data
+abbrev pub function_values : List TableRow → List FunctionProgram → List Data
 function_values [] ss = []
 function_values (r ∷ rs) [] = []
 function_values (r ∷ rs) (s ∷ ss) = function_value r s.writes ∷ function_values rs ss

@@ -14,7 +14,7 @@ use Rattle.std.specs.Prelude.{List, [], ◌∷◌, ℕ, ◌+◌, ◌-◌, ◌++�
 use Rattle.serde_json.specs.{Data.{Data, null, number, unsigned, string, array, object, member, no_members}, View.items_of, Written.compact_text}
 use Rattle.model_registers.specs.{EndpointTable.BaseAddress, Apertures.Apertures}
 use Rattle.model_board.specs.{Paths.{Path, last_part}, Board.{endpoint, bridge, is_bridge, Row, Board}, BusNumbers.{bus_of, secondary, subordinate}, Interrupts.{root_device, root_pin}}
-use Rattle.model_set_up.specs.{Pools.{Pool, io_pool, mem_pool, pref_pool, unit_of}, Placement.{Item, need, items_on, bus_first}, SetUpWrites.placed_base}
+use Rattle.model_set_up.specs.{Pools.{Pool, io_pool, mem_pool, pref_pool, unit_of}, Placement.{PlacementItem, need, items_on, bus_first}, SetUpWrites.placed_base}
 use Rattle.model_guests.specs.{Text.Text, World.{Guest, World}, PathTexts.path_text}
 use Rattle.model_handoff.specs.Report.{kind_text, pin_text}
 
@@ -57,7 +57,7 @@ windows_value io mem pref = object (
     member (codes "pref") pref no_members)))
 
 -- the window of a bus that begins at an address: it extends over what its items need
-abbrev pub items_window : (unit first : ℕ) → List Item → Data
+abbrev pub items_window : (unit first : ℕ) → List PlacementItem → Data
 items_window unit first [] = null
 items_window unit first (i ∷ is) = range_value first (first + need unit (i ∷ is) - 1)
 

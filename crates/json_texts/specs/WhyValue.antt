@@ -12,7 +12,7 @@ use Rattle.serde_json.specs.Data.{Data, null, string, object, member, no_members
 use Rattle.model_registers.specs.Decoding.{io, memory}
 use Rattle.model_board.specs.{Paths.Path, State.State, Windows.Window, Claims.Claim}
 use Rattle.model_guests.specs.{Text.Text, Grammar.{HostTarget, host_configuration, host_port, host_address}}
-use Rattle.model_lines.specs.{Why.{WindowName, for_io, for_memory, for_prefetchable, NamedWindow, closes, misses, Cause, closed_by, stopped_at, Told, Forwarder, Why, why}, Ways.{Missing, no_bridge, no_function, WhyNumber, why_number}, WhyPorts.{PortUse, holds_latch, shows_data, hides_data, like_others, port_use}}
+use Rattle.model_lines.specs.{Why.{WindowName, for_io, for_memory, for_prefetchable, NamedWindow, closes, misses, Cause, closed_by, stopped_at, UnansweredRegion, Forwarder, Why, why}, Ways.{Missing, no_bridge, no_function, WhyNumber, why_number}, WhyPorts.{PortUse, holds_latch, shows_data, hides_data, like_others, port_use}}
 use Rattle.json_texts.specs.{ReportValue.{array_of, range_value, value_line}, AuditValue.{natural, path_value, reached_value, region_value, number_value}}
 
 -- ---- an address
@@ -40,7 +40,7 @@ cause_value (stopped_at p (misses ws)) = object (
     member (codes "type") (string (codes "outside windows")) (
     member (codes "windows") (array_of (map window_value ws)) no_members)))
 
-abbrev pub told_value : Told → Data
+abbrev pub told_value : UnansweredRegion → Data
 told_value t = object (
     member (codes "causes") (array_of (map cause_value t.causes)) (
     member (codes "region") (region_value t.region) no_members))

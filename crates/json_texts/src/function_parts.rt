@@ -5,16 +5,16 @@ ghost use Rattle.bars.specs.Slots.{placed, bases_from};
 ghost use Rattle.window_packing.specs.Plans.{writes_of};
 ghost use Rattle.json_texts.specs.{ReportValue.{region_value, pin_value, windows_value}, FoundValue.{known_interrupt, named_window, written_regions, written_windows}};
 
-use bars::BasedRegion;
+use bars::BarWithBase;
 use intx_swizzle::at_root;
 use paths::Path;
 use report::{kind_text, pin_text};
 use serde_json::{Value, json};
 use std::alloc::{AllocError, Global};
-use window_packing::{WindowSetting, Writes};
+use window_packing::{RegisterValues, WindowSetting};
 
 /// Returns the value of a BAR. `index` is that of its first register.
-fn region_value(alloc: Global, index: usize, region: &BasedRegion) -> Result<Value, AllocError>
+fn region_value(alloc: Global, index: usize, region: &BarWithBase) -> Result<Value, AllocError>
     ensures { IfOk result (λ v. view v ≡ region_value (placed index region.now)) }
 {
     let kind = kind_text(region.decl.kind());
@@ -24,7 +24,7 @@ fn region_value(alloc: Global, index: usize, region: &BasedRegion) -> Result<Val
 }
 
 /// Returns the values of a function's BARs, each with the index of its first register.
-fn region_values(alloc: Global, bases: &[Option<BasedRegion>]) -> Result<Vec<Value>, AllocError>
+fn region_values(alloc: Global, bases: &[Option<BarWithBase>]) -> Result<Vec<Value>, AllocError>
     ensures { IfOk result (λ v. map view v.items ≡ map region_value (bases_from 0 bases.now)) }
 {
     let mut values = Vec::new(alloc);
@@ -37,12 +37,15 @@ fn region_values(alloc: Global, bases: &[Option<BasedRegion>]) -> Result<Vec<Val
 }
 
 /// Returns the values of the BARs written into an endpoint. Returns none for a bridge.
-pub(crate) fn written_regions(alloc: Global, writes: &Writes) -> Result<Vec<Value>, AllocError>
+pub(crate) fn written_regions(
+    alloc: Global,
+    writes: &RegisterValues,
+) -> Result<Vec<Value>, AllocError>
     ensures { IfOk result (λ v. map view v.items ≡ written_regions (writes_of writes.now)) }
 {
     match writes {
-        Writes::Endpoint { bases, .. } => region_values(alloc, bases),
-        Writes::Bridge { .. } => Ok(Vec::new(alloc)),
+        RegisterValues::Endpoint { bases, .. } => region_values(alloc, bases),
+        RegisterValues::Bridge { .. } => Ok(Vec::new(alloc)),
     }
 }
 
@@ -98,11 +101,11 @@ fn windows_value(
 }
 
 /// Returns the value of the windows written into a bridge, or `null` for an endpoint.
-pub(crate) fn written_windows(alloc: Global, writes: &Writes) -> Result<Value, AllocError>
+pub(crate) fn written_windows(alloc: Global, writes: &RegisterValues) -> Result<Value, AllocError>
     ensures { IfOk result (λ v. view v ≡ written_windows (writes_of writes.now)) }
 {
     match writes {
-        Writes::Endpoint { .. } => Ok(Value::Null),
-        Writes::Bridge { io, mem, pref } => windows_value(alloc, io, mem, pref),
+        RegisterValues::Endpoint { .. } => Ok(Value::Null),
+        RegisterValues::Bridge { io, mem, pref } => windows_value(alloc, io, mem, pref),
     }
 }

@@ -7,13 +7,13 @@ ghost use Rattle.json_texts.specs.{ReportValue.{buses_value, endpoint_value, bri
 
 use crate::function_parts::{known_interrupt, written_regions, written_windows};
 use crate::problem_parts::path_value;
-use bus_scan::{Found, FunctionRow};
+use bus_scan::{Enumerated, EnumeratedFunction};
 use serde_json::{Map, Value, json, put};
 use std::alloc::{AllocError, Global};
-use window_packing::{Setting, Writes};
+use window_packing::{FunctionProgram, RegisterValues};
 
 /// Returns the members for a function's BDF and path.
-fn place_members(alloc: Global, row: &FunctionRow) -> Result<Map<String, Value>, AllocError>
+fn place_members(alloc: Global, row: &EnumeratedFunction) -> Result<Map<String, Value>, AllocError>
     ensures { IfOk result
         (λ m. members_view m.entries ≡ place_members row.now.bus row.now.path) }
 {
@@ -33,7 +33,7 @@ fn place_members(alloc: Global, row: &FunctionRow) -> Result<Map<String, Value>,
 fn put_identity(
     members: &mut Map<String, Value>,
     alloc: Global,
-    row: &FunctionRow,
+    row: &EnumeratedFunction,
     kind: &str,
 ) -> Result<(), AllocError>
     ensures { OnOk result (members_view members.new.entries
@@ -48,9 +48,9 @@ fn put_identity(
 /// Returns the value of an endpoint with this interrupt pin.
 fn endpoint_value(
     alloc: Global,
-    row: &FunctionRow,
+    row: &EnumeratedFunction,
     pin: u8,
-    writes: &Writes,
+    writes: &RegisterValues,
 ) -> Result<Value, AllocError>
     ensures { IfOk result (λ v. view v
         ≡ endpoint_value row.now.bus row.now.path (vendor_of row.now.decl)
@@ -81,10 +81,10 @@ fn buses_value(
 /// Returns the value of a bridge with these bus numbers.
 fn bridge_value(
     alloc: Global,
-    row: &FunctionRow,
+    row: &EnumeratedFunction,
     secondary: u8,
     subordinate: u8,
-    writes: &Writes,
+    writes: &RegisterValues,
 ) -> Result<Value, AllocError>
     ensures { IfOk result (λ v. view v
         ≡ bridge_value row.now.bus row.now.path (vendor_of row.now.decl)
@@ -101,12 +101,16 @@ fn bridge_value(
 }
 
 /// Returns the value of a function with the registers written into it.
-fn function_value(alloc: Global, row: &FunctionRow, writes: &Writes) -> Result<Value, AllocError>
+fn function_value(
+    alloc: Global,
+    row: &EnumeratedFunction,
+    writes: &RegisterValues,
+) -> Result<Value, AllocError>
     ensures { IfOk result (λ v. view v ≡ function_value row.now (writes_of writes.now)) }
 {
     match &row.found {
-        Found::Endpoint { pin, .. } => endpoint_value(alloc, row, *pin, writes),
-        Found::Bridge {
+        Enumerated::Endpoint { pin, .. } => endpoint_value(alloc, row, *pin, writes),
+        Enumerated::Bridge {
             secondary,
             subordinate,
             ..
@@ -117,8 +121,8 @@ fn function_value(alloc: Global, row: &FunctionRow, writes: &Writes) -> Result<V
 /// Returns the values of all functions, each with the registers written into it.
 pub(crate) fn function_values(
     alloc: Global,
-    rows: &[FunctionRow],
-    settings: &[Setting],
+    rows: &[EnumeratedFunction],
+    settings: &[FunctionProgram],
 ) -> Result<Vec<Value>, AllocError>
     ensures { IfOk result (λ v. map view v.items ≡ function_values rows.now settings.now) }
 {

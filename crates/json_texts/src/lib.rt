@@ -9,14 +9,14 @@ mod function_parts;
 mod functions;
 mod guests;
 mod has_value;
-mod lacks;
 mod problem_parts;
 mod problems;
 mod problems_object;
+mod readiness_issues;
 mod report_object;
 mod why;
 
-pub use findings::{Lack, Problem};
+pub use findings::{Problem, ReadinessIssue};
 pub use has_value::{HasValue, values};
 pub use problem_parts::number_value;
 pub use problems_object::{lacks_json, problems_json};

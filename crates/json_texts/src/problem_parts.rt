@@ -6,7 +6,7 @@ ghost use Rattle.paths.specs.BusAddresses.{bus_address_of};
 ghost use Rattle.json_texts.specs.AuditValue.{path_value, space_text, register_value, reached_value, region_value, agent_value, number_value};
 
 use bars::Space;
-use findings::{Agent, RegionNow};
+use findings::{Agent, LiveBar};
 use paths::{Bdf, Path};
 use report::ShownPath;
 use serde_json::{Value, json};
@@ -51,7 +51,7 @@ fn register_value(register: Option<u8>) -> Value
 }
 
 /// Returns the value of a BAR with the path of its endpoint.
-pub(crate) fn region_value(alloc: Global, region: &RegionNow) -> Result<Value, AllocError>
+pub(crate) fn region_value(alloc: Global, region: &LiveBar) -> Result<Value, AllocError>
     ensures { IfOk result (λ v. view v ≡ region_value region.now) }
 {
     let path = path_value(alloc, &region.path)?;

@@ -11,7 +11,7 @@ use crate::has_value::HasValue;
 use crate::problem_parts::{
     agent_value, number_value, path_value, reached_value, region_value, space_text,
 };
-use findings::{Agent, Problem, RegionNow};
+use findings::{Agent, LiveBar, Problem};
 use paths::{Bdf, Path};
 use serde_json::{Value, json};
 use std::alloc::{AllocError, Global};
@@ -19,7 +19,7 @@ use std::alloc::{AllocError, Global};
 /// Returns the value of a BAR that a bridge doesn't forward.
 fn not_forwarded(
     alloc: Global,
-    region: &RegionNow,
+    region: &LiveBar,
     bridge: &Path,
     address: u64,
 ) -> Result<Value, AllocError>

@@ -1,11 +1,11 @@
 //! Renders problems and unmet requirements as JSON.
 ghost use Rattle.std.specs.Prelude.{◌≡◌, ◌++◌, ◌∷◌, [], false, IfOk, map, string_bytes};
 ghost use Rattle.serde_json.specs.{View.view, Written.{compact_text, has_float}};
-ghost use Rattle.findings.specs.Findings.{problem_of, lack_of};
-ghost use Rattle.json_texts.specs.AuditValue.{problem_value, problems_value, problems_json, lack_value, lacks_value, lacks_json};
+ghost use Rattle.findings.specs.Findings.{problem_of, issue_of};
+ghost use Rattle.json_texts.specs.AuditValue.{problem_value, problems_value, problems_json, issue_value, issues_value, lacks_json};
 
 use crate::has_value::values;
-use findings::{Lack, Problem};
+use findings::{Problem, ReadinessIssue};
 use serde_json::{Value, json};
 use std::alloc::{AllocError, Global};
 
@@ -18,13 +18,17 @@ fn problems_value(alloc: Global, problems: &[Problem]) -> Result<Value, AllocErr
 }
 
 /// Returns the JSON object for the problems and the unmet requirements.
-fn lacks_value(alloc: Global, problems: &[Problem], lacks: &[Lack]) -> Result<Value, AllocError>
+fn issues_value(
+    alloc: Global,
+    problems: &[Problem],
+    readiness_issues: &[ReadinessIssue],
+) -> Result<Value, AllocError>
     ensures { IfOk result (λ v. view v
-        ≡ lacks_value (map problem_of problems.now) (map lack_of lacks.now)) }
+        ≡ issues_value (map problem_of problems.now) (map issue_of readiness_issues.now)) }
 {
-    let lacks = values(alloc, lacks)?;
+    let readiness_issues = values(alloc, readiness_issues)?;
     let wrong = values(alloc, problems)?;
-    json!(in alloc; {"lacks": lacks, "problems": wrong})
+    json!(in alloc; {"lacks": readiness_issues, "problems": wrong})
 }
 
 /// Renders a JSON value on one line. The value must not contain floating-point numbers.
@@ -49,11 +53,15 @@ pub fn problems_json(alloc: Global, problems: &[Problem]) -> Result<String, Allo
 
 /// Renders the problems and the unmet requirements as a JSON object on one line, each in their
 /// order. Fails only if memory is exhausted.
-#[tactic(auto, using(crate::proofs::NoFloatsInAudits::none_in_lacks))]
-pub fn lacks_json(alloc: Global, problems: &[Problem], lacks: &[Lack]) -> Result<String, AllocError>
+#[tactic(auto, using(crate::proofs::NoFloatsInAudits::none_in_issues))]
+pub fn lacks_json(
+    alloc: Global,
+    problems: &[Problem],
+    readiness_issues: &[ReadinessIssue],
+) -> Result<String, AllocError>
     ensures { IfOk result (λ t. string_bytes t
-        ≡ lacks_json (map problem_of problems.now) (map lack_of lacks.now)) }
+        ≡ lacks_json (map problem_of problems.now) (map issue_of readiness_issues.now)) }
 {
-    let value = lacks_value(alloc, problems, lacks)?;
+    let value = issues_value(alloc, problems, readiness_issues)?;
     line_of(alloc, &value)
 }

@@ -17,8 +17,8 @@ use accesses::HostAt;
 use bars::Space;
 use bridge_forward::{Claim, Window};
 use findings::{
-    Cause, Forwarder, Hindrance, Missing, NamedWindow, PortUse, Told, WindowName, port_use,
-    why_address, why_number,
+    BlockReason, Cause, Forwarder, Missing, NamedWindow, PortUse, UnansweredRegion, WindowName,
+    port_use, why_address, why_number,
 };
 use host_bridge::{Bdf, Host};
 use paths::Path;
@@ -93,12 +93,12 @@ impl HasValue for Cause {
             Cause::StoppedAt { bridge, hindrance } => {
                 let bridge = path_value(alloc, bridge)?;
                 match hindrance {
-                    Hindrance::Closes { command } => json!(in alloc; {
+                    BlockReason::Closes { command } => json!(in alloc; {
                         "bridge": bridge,
                         "command": *command,
                         "type": "bridge closed"
                     }),
-                    Hindrance::Misses { one, other } => json!(in alloc; {
+                    BlockReason::Misses { one, other } => json!(in alloc; {
                         "bridge": bridge,
                         "type": "outside windows",
                         "windows": window_values(alloc, one, other)?
@@ -109,8 +109,8 @@ impl HasValue for Cause {
     }
 }
 
-impl HasValue for Told {
-    ghost Told = { model.Told };
+impl HasValue for UnansweredRegion {
+    ghost Told = { model.UnansweredRegion };
 
     ghost told = { region_told };
 

@@ -6,14 +6,14 @@ use Rattle.model_guests.specs.{Accesses.{Op, reads, writes}, Grammar.{host, nobo
 use Rattle.model_lines.specs.{FirmwareLines.{Meaning, nothing, asked, bad}, Requests.HostRequest}
 use Rattle.accesses.specs.{Accesses.host_target_of, Refusals.number_of, declared.access.HostAccess.HostAccess}
 use Rattle.std.specs.Prelude.{Option, None, Some}
-use Rattle.lines.specs.{Requests.request_of, declared.firmware_line.FirmwareWhat.FirmwareWhat}
+use Rattle.lines.specs.{Requests.request_of, declared.firmware_line.FirmwareCommand.FirmwareCommand}
 use Rattle.model_lines.specs.HostAccesses as firmware
-use Rattle.lines.specs.declared.firmware_line.FirmwareWhat.TheVariants as what
+use Rattle.lines.specs.declared.firmware_line.FirmwareCommand.TheVariants as what
 
 abbrev pub host_asked : HostAccess → Op → firmware.HostAccess
 host_asked place op = record { target = host_target_of place.at; width = place.width; op = op }
 
-abbrev pub firmware_meaning_of : FirmwareWhat → Meaning
+abbrev pub firmware_meaning_of : FirmwareCommand → Meaning
 firmware_meaning_of what.Nothing = nothing
 firmware_meaning_of (what.Read place) = asked (host_asked place reads)
 firmware_meaning_of (what.Write place v) = asked (host_asked place (writes v))
@@ -21,6 +21,6 @@ firmware_meaning_of (what.Asks request) = bad host 401
 firmware_meaning_of what.NoForm = bad host 401
 firmware_meaning_of (what.NotOfHost why) = bad nobody (number_of why)
 
-abbrev pub requested : FirmwareWhat → Option HostRequest
+abbrev pub requested : FirmwareCommand → Option HostRequest
 requested (what.Asks request) = Some (request_of request)
 requested other = None

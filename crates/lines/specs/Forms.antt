@@ -5,11 +5,11 @@
 --     accessed space kind ws      an access
 use Rattle.std.specs.Prelude.{ℕ, ◌^◌, ◌==◌, if◌then◌else◌, List, [], ◌∷◌, Option, None, Some, option_map, option_and_then}
 use Rattle.model_guests.specs.{Accesses.{Event, access, raises, Target, configuration, port, address, Op, reads, writes}, Text.Text, Numbers.below}
-use Rattle.lines.specs.{Cursors.{Numbered, numbered}, declared.forms.Asked.Asked}
+use Rattle.lines.specs.{Cursors.{Numbered, numbered}, declared.forms.GuestRequest.GuestRequest}
 use Rattle.accesses.specs.Accesses.{access_of, part_of}
-use Rattle.lines.specs.declared.forms.Asked.TheVariants as asked
+use Rattle.lines.specs.declared.forms.GuestRequest.TheVariants as asked
 
-abbrev pub event_asked : Asked → Event
+abbrev pub event_asked : GuestRequest → Event
 event_asked (asked.Access a) = access (access_of a)
 event_asked (asked.Raise slot place off mask) =
     raises (record { slot = slot; part = part_of place; offset = off; mask = mask })

@@ -15,7 +15,7 @@ use accesses::{HostAccess, HostAt, Refusal};
 
 /// The meaning of a firmware line.
 #[derive(Clone, Copy, Debug, PartialEq, Eq)]
-pub enum FirmwareWhat {
+pub enum FirmwareCommand {
     /// A blank line or a comment, which has no output.
     Nothing,
     Read(HostAccess),
@@ -30,13 +30,13 @@ pub enum FirmwareWhat {
     NotOfHost(Refusal),
 }
 
-impl FirmwareWhat {
+impl FirmwareCommand {
     /// Returns the request to the session, if the line is one.
     pub fn request(self) -> Option<HostRequest>
         ensures { option_map request_told result ≡ requested self }
     {
         match self {
-            FirmwareWhat::Asks(request) => Some(request),
+            FirmwareCommand::Asks(request) => Some(request),
             _ => None,
         }
     }
@@ -81,17 +81,17 @@ fn config_place(bdf: &[u8], off: &[u8], width: &[u8]) -> Option<HostAccess>
 }
 
 /// Parses the value to write at `place`, and returns the write.
-fn written_at(place: Option<HostAccess>, bits: &[u8]) -> Option<FirmwareWhat>
+fn written_at(place: Option<HostAccess>, bits: &[u8]) -> Option<FirmwareCommand>
     ensures { option_map firmware_meaning_of result
         ≡ option_map asked (written_at bits.now (option_map host_access_of place)) }
 {
     let place = place?;
     let value = value(bits)?;
-    Some(FirmwareWhat::Write(place, value))
+    Some(FirmwareCommand::Write(place, value))
 }
 
 /// Parses an I/O or memory write from the four words after `host`.
-fn write_of_four(op: &[u8], at: &[u8], width: &[u8], bits: &[u8]) -> Option<FirmwareWhat>
+fn write_of_four(op: &[u8], at: &[u8], width: &[u8], bits: &[u8]) -> Option<FirmwareCommand>
     ensures { option_map firmware_meaning_of result
         ≡ option_map asked (host_write_of (op.now ∷ at.now ∷ width.now ∷ bits.now ∷ [])) }
 {
@@ -111,7 +111,7 @@ fn write_of_five(
     off: &[u8],
     width: &[u8],
     bits: &[u8],
-) -> Option<FirmwareWhat>
+) -> Option<FirmwareCommand>
     ensures { option_map firmware_meaning_of result
         ≡ option_map asked (host_write_of (op.now ∷ bdf.now ∷ off.now ∷ width.now
         ∷ bits.now ∷ [])) }
@@ -124,7 +124,7 @@ fn write_of_five(
 
 /// Parses the words after `host` as a write.
 #[tactic(auto, using(crate::proofs::WriteCounts::host_write_of_few, crate::proofs::WriteCounts::host_write_of_many))]
-fn host_write_form(words: &[&[u8]]) -> Option<FirmwareWhat>
+fn host_write_form(words: &[&[u8]]) -> Option<FirmwareCommand>
     ensures { option_map firmware_meaning_of result
         ≡ option_map asked (host_write_of (map (λ w. w.now) words.now)) }
 {
@@ -137,34 +137,34 @@ fn host_write_form(words: &[&[u8]]) -> Option<FirmwareWhat>
 
 /// Parses the words after `host` as a read or a write.
 #[tactic(auto, using(crate::proofs::RequestCounts::writes_ask_nothing))]
-fn access_of_words(words: &[&[u8]]) -> FirmwareWhat
+fn access_of_words(words: &[&[u8]]) -> FirmwareCommand
     ensures means { firmware_meaning_of result
         ≡ access_or_bad (access_of_words (map (λ w. w.now) words.now)) }
     ensures asks { requested result ≡ None }
 {
     if let Some(read) = host_form(words) {
-        return FirmwareWhat::Read(read);
+        return FirmwareCommand::Read(read);
     }
     match host_write_form(words) {
         Some(write) => write,
-        None => FirmwareWhat::NoForm,
+        None => FirmwareCommand::NoForm,
     }
 }
 
 /// Parses the words after `host` as a request or an access.
-fn of_host_words(words: &[&[u8]]) -> FirmwareWhat
+fn of_host_words(words: &[&[u8]]) -> FirmwareCommand
     ensures means { firmware_meaning_of result
         ≡ access_or_bad (access_of_words (map (λ w. w.now) words.now)) }
     ensures asks { requested result ≡ request_of (map (λ w. w.now) words.now) }
 {
     match request_form(words) {
-        Some(request) => FirmwareWhat::Asks(request),
+        Some(request) => FirmwareCommand::Asks(request),
         None => access_of_words(words),
     }
 }
 
 /// Parses the text after `host`.
-fn host_line(text: &[u8]) -> FirmwareWhat
+fn host_line(text: &[u8]) -> FirmwareCommand
     ensures means { firmware_meaning_of result
         ≡ access_or_bad (access_of_words (words text.now)) }
     ensures asks { requested result ≡ request_of (words text.now) }
@@ -173,31 +173,31 @@ fn host_line(text: &[u8]) -> FirmwareWhat
 }
 
 /// Returns the meaning of a line, given its first word and the text after the word.
-fn named_line(first: &[u8], text: &[u8]) -> FirmwareWhat
+fn named_line(first: &[u8], text: &[u8]) -> FirmwareCommand
     ensures means { firmware_meaning_of result ≡ meaning_of_words (first.now ∷ words text.now) }
     ensures asks { requested result ≡ request_in (first.now ∷ words text.now) }
 {
     if is_comment(first) {
-        return FirmwareWhat::Nothing;
+        return FirmwareCommand::Nothing;
     }
     if first == b"host".as_slice() {
         return host_line(text);
     }
-    FirmwareWhat::NotOfHost(Refusal::UnknownGuest)
+    FirmwareCommand::NotOfHost(Refusal::UnknownGuest)
 }
 
 /// Parses a firmware line, given without its line feed. There are no guests yet, so any first word
 /// other than `host` is an unknown guest.
 #[tactic(auto, using(std::proofs::lemmas::Bool::Decides::nat_tests))]
-pub fn firmware_meaning(line: &[u8]) -> FirmwareWhat
+pub fn firmware_meaning(line: &[u8]) -> FirmwareCommand
     ensures means { firmware_meaning_of result ≡ meaning line.now }
     ensures asks { requested result ≡ request line.now }
 {
     if line.len() > LONGEST_LINE {
-        return FirmwareWhat::NotOfHost(Refusal::LongLine);
+        return FirmwareCommand::NotOfHost(Refusal::LongLine);
     }
     match name_word(line) {
         Some((first, text)) => named_line(first, text),
-        None => FirmwareWhat::Nothing,
+        None => FirmwareCommand::Nothing,
     }
 }

@@ -12,7 +12,7 @@ use accesses::{Access, At, Bdf, HostAccess, HostAt, Op, Place};
 
 /// A guest's request.
 #[derive(Clone, Copy, PartialEq, Eq)]
-pub(crate) enum Asked {
+pub(crate) enum GuestRequest {
     Access(Access),
     /// A slot, a place in the slot's function, a byte offset there, and the bits to set.
     Raise(u64, Place, u64, u8),
@@ -42,19 +42,19 @@ pub(crate) fn place(word: &[u8]) -> Option<Place>
 }
 
 /// Parses the arguments of `raise SLOT P OFF MASK`.
-fn to_raise(slot: &[u8], part: &[u8], off: &[u8], bits: &[u8]) -> Option<Asked>
+fn to_raise(slot: &[u8], part: &[u8], off: &[u8], bits: &[u8]) -> Option<GuestRequest>
     ensures { option_map event_asked result ≡ to_raise slot.now part.now off.now bits.now }
 {
     let slot = number_of(slot)?;
     let place = place(part)?;
     let off = number_of(off)?;
     let mask = mask(bits)?;
-    Some(Asked::Raise(slot, place, off, mask))
+    Some(GuestRequest::Raise(slot, place, off, mask))
 }
 
 /// Parses the words after `raise`, which are `SLOT P OFF MASK`.
 #[tactic(auto, using(crate::proofs::Counts::raise_of_few, crate::proofs::Counts::raise_of_many))]
-fn raise_form(words: &[&[u8]]) -> Option<Asked>
+fn raise_form(words: &[&[u8]]) -> Option<GuestRequest>
     ensures { option_map event_asked result
         ≡ event_of (codes "raise" ∷ map (λ w. w.now) words.now) }
 {
@@ -122,7 +122,7 @@ fn access_form(space: u8, kind: u8, text: &[u8]) -> Option<Access>
 /// Parses a guest's request, given its first word, which doesn't have two letters, and the words
 /// after it.
 #[tactic(auto, using(crate::proofs::GuestForms::other_length, crate::proofs::GuestForms::no_form))]
-fn longer_form(op: &[u8], words: &[&[u8]]) -> Option<Asked>
+fn longer_form(op: &[u8], words: &[&[u8]]) -> Option<GuestRequest>
     requires { length op.now ≡ 2 → ⊥ }
     ensures { option_map event_asked result ≡ event_of (op.now ∷ map (λ w. w.now) words.now) }
 {
@@ -145,12 +145,12 @@ pub(crate) fn guest_access_form(text: &[u8]) -> Option<Access>
 }
 
 /// Parses the text after a guest's name as an access or a raise.
-pub(crate) fn guest_form(text: &[u8]) -> Option<Asked>
+pub(crate) fn guest_form(text: &[u8]) -> Option<GuestRequest>
     ensures { option_map event_asked result ≡ event_of (words text.now) }
 {
     let (op, rest) = form_word(text)?;
     match op {
-        [space, kind] => access_form(*space, *kind, rest).map(Asked::Access),
+        [space, kind] => access_form(*space, *kind, rest).map(GuestRequest::Access),
         _ => longer_form(op, first_words(rest).as_slice()),
     }
 }

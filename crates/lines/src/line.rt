@@ -4,7 +4,7 @@ ghost use Rattle.model_guests.specs.{Text.{Text, words}, Grammar.{has_name, is_c
 ghost use Rattle.lines.specs.Lines.{texts, name_of, meaning_of, GuestsAre, IsFirst};
 
 use crate::cursor::name_word;
-use crate::forms::{Asked, guest_access_form, guest_form, host_form};
+use crate::forms::{GuestRequest, guest_access_form, guest_form, host_form};
 use crate::numbers::number_of;
 use crate::words::first_words;
 use accesses::{Access, HostAccess, Names, Place, Refusal};
@@ -78,8 +78,10 @@ fn guest_line(guest: usize, text: &[u8]) -> What
     ensures guest { GuestsAre (λ g. g ≡ guest) result }
 {
     match guest_form(text) {
-        Some(Asked::Access(access)) => What::Guest(guest, access),
-        Some(Asked::Raise(slot, place, off, mask)) => What::Raise(guest, slot, place, off, mask),
+        Some(GuestRequest::Access(access)) => What::Guest(guest, access),
+        Some(GuestRequest::Raise(slot, place, off, mask)) => What::Raise(
+            guest, slot, place, off, mask,
+        ),
         None => What::Bad(Who::Guest(guest), Refusal::BadLine),
     }
 }

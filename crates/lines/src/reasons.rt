@@ -14,7 +14,7 @@ use arrayvec::ArrayVec;
 
 /// The author of a line, which determines the valid forms.
 #[derive(Clone, Copy, Debug, PartialEq, Eq)]
-pub enum Speaker {
+pub enum Dialect {
     /// A guest.
     Guest,
     /// The host, in a script.
@@ -25,9 +25,9 @@ pub enum Speaker {
 
 /// The kind of a word in a form.
 #[derive(Clone, Copy, Debug, PartialEq, Eq)]
-pub enum Role {
+pub enum ArgKind {
     /// The word after the name, which selects the form.
-    Verb(Speaker),
+    Verb(Dialect),
     Function,
     Slot,
     Offset,
@@ -49,9 +49,9 @@ pub enum Role {
 
 /// The error in a word.
 #[derive(Clone, Copy, Debug, PartialEq, Eq)]
-pub enum Wrong {
-    Missing(Role),
-    Unfit(Role),
+pub enum ArgError {
+    Missing(ArgKind),
+    Unfit(ArgKind),
     /// The form has no word at this position.
     TooMany,
     /// The line begins with a byte order mark.
@@ -63,13 +63,13 @@ pub enum Wrong {
 pub struct Reason {
     /// The position of the word: 0 is the name, and 1 the first word after it.
     pub at: usize,
-    pub wrong: Wrong,
+    pub wrong: ArgError,
     /// The beginning of the word, at most 32 bytes. Empty if there is no word to show.
     pub word: ArrayVec<u8, 32>,
 }
 
 impl Reason {
-    fn new(at: usize, wrong: Wrong, word: &[u8]) -> Reason {
+    fn new(at: usize, wrong: ArgError, word: &[u8]) -> Reason {
         let mut beginning = ArrayVec::new();
         let _ = beginning.try_extend_from_slice(&word[..word.len().min(32)]);
         Reason {
@@ -81,9 +81,9 @@ impl Reason {
 }
 
 /// Returns the kinds of the words after `verb`, or `None` if the speaker has no such verb.
-fn roles_after(speaker: Speaker, verb: &[u8]) -> Option<&'static [Role]> {
-    use Role::{Address, Function, Mask, Offset, Part, Place, Port, Slot, Space, Value, Width};
-    use Speaker::{Firmware, Guest, Host};
+fn roles_after(speaker: Dialect, verb: &[u8]) -> Option<&'static [ArgKind]> {
+    use ArgKind::{Address, Function, Mask, Offset, Part, Place, Port, Slot, Space, Value, Width};
+    use Dialect::{Firmware, Guest, Host};
     match (speaker, verb) {
         (Guest, b"cr") => Some(&[Slot, Offset, Width]),
         (Guest, b"cw") => Some(&[Slot, Offset, Width, Value]),
@@ -94,7 +94,7 @@ fn roles_after(speaker: Speaker, verb: &[u8]) -> Option<&'static [Role]> {
         (_, b"mr") => Some(&[Address, Width]),
         (Guest | Firmware, b"iw") => Some(&[Port, Width, Value]),
         (Guest | Firmware, b"mw") => Some(&[Address, Width, Value]),
-        (Host, b"move") => Some(&[Role::Guest, Slot, Role::Guest, Slot]),
+        (Host, b"move") => Some(&[ArgKind::Guest, Slot, ArgKind::Guest, Slot]),
         (Firmware, b"why") => Some(&[Space, Place]),
         (Firmware, b"audit" | b"ready" | b"guests") => Some(&[]),
         _ => None,
@@ -102,42 +102,42 @@ fn roles_after(speaker: Speaker, verb: &[u8]) -> Option<&'static [Role]> {
 }
 
 /// Returns whether a word is of the given kind. `before` is the word before it.
-fn fits(role: Role, names: &Names, before: &[u8], word: &[u8]) -> bool {
+fn fits(role: ArgKind, names: &Names, before: &[u8], word: &[u8]) -> bool {
     match role {
-        Role::Verb(_) => false,
-        Role::Function => bus_address(word).is_some(),
-        Role::Slot | Role::Offset | Role::Width | Role::Port | Role::Address => {
+        ArgKind::Verb(_) => false,
+        ArgKind::Function => bus_address(word).is_some(),
+        ArgKind::Slot | ArgKind::Offset | ArgKind::Width | ArgKind::Port | ArgKind::Address => {
             number_of(word).is_some()
         }
-        Role::Value => value(word).is_some(),
-        Role::Mask => mask(word).is_some(),
-        Role::Part => place(word).is_some(),
-        Role::Space => matches!(word, b"mem" | b"io" | b"cfg"),
-        Role::Place => why_place(before, word).is_some(),
-        Role::Guest => is_guest(word, names),
+        ArgKind::Value => value(word).is_some(),
+        ArgKind::Mask => mask(word).is_some(),
+        ArgKind::Part => place(word).is_some(),
+        ArgKind::Space => matches!(word, b"mem" | b"io" | b"cfg"),
+        ArgKind::Place => why_place(before, word).is_some(),
+        ArgKind::Guest => is_guest(word, names),
     }
 }
 
 /// Returns the first error in the words after a name.
-fn wrong_in(speaker: Speaker, names: &Names, words: &[&[u8]]) -> Reason {
+fn wrong_in(speaker: Dialect, names: &Names, words: &[&[u8]]) -> Reason {
     let [verb, words @ ..] = words else {
-        return Reason::new(1, Wrong::Missing(Role::Verb(speaker)), &[]);
+        return Reason::new(1, ArgError::Missing(ArgKind::Verb(speaker)), &[]);
     };
     let Some(roles) = roles_after(speaker, verb) else {
-        return Reason::new(1, Wrong::Unfit(Role::Verb(speaker)), verb);
+        return Reason::new(1, ArgError::Unfit(ArgKind::Verb(speaker)), verb);
     };
     let mut before = *verb;
     for (i, role) in roles.iter().enumerate() {
         let Some(word) = words.get(i) else {
-            return Reason::new(i + 2, Wrong::Missing(*role), &[]);
+            return Reason::new(i + 2, ArgError::Missing(*role), &[]);
         };
         if !fits(*role, names, before, word) {
-            return Reason::new(i + 2, Wrong::Unfit(*role), word);
+            return Reason::new(i + 2, ArgError::Unfit(*role), word);
         }
         before = *word;
     }
     let word = words.get(roles.len()).copied().unwrap_or(&[]);
-    Reason::new(roles.len() + 2, Wrong::TooMany, word)
+    Reason::new(roles.len() + 2, ArgError::TooMany, word)
 }
 
 /// Returns whether a line begins with the UTF-8 byte order mark.
@@ -155,15 +155,15 @@ pub(crate) fn is_marked(line: &[u8]) -> bool
 /// form has more than five words after the name, so the first seven are enough.
 pub(crate) fn reason_of(guests: Option<&Names>, line: &[u8]) -> Reason {
     if is_marked(line) {
-        return Reason::new(0, Wrong::Marked, &[]);
+        return Reason::new(0, ArgError::Marked, &[]);
     }
     let (name, rest) = name_word(line).unwrap_or((&[], &[]));
     let words = first_words(rest);
     match guests {
-        None => wrong_in(Speaker::Firmware, &Names::new(), words.as_slice()),
+        None => wrong_in(Dialect::Firmware, &Names::new(), words.as_slice()),
         Some(names) if name == b"host".as_slice() => {
-            wrong_in(Speaker::Host, names, words.as_slice())
+            wrong_in(Dialect::Host, names, words.as_slice())
         }
-        Some(names) => wrong_in(Speaker::Guest, names, words.as_slice()),
+        Some(names) => wrong_in(Dialect::Guest, names, words.as_slice()),
     }
 }

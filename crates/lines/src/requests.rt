@@ -10,7 +10,7 @@ use accesses::Bdf;
 
 /// The address that a `why` request asks about.
 #[derive(Clone, Copy, Debug, PartialEq, Eq)]
-pub enum WhyAsked {
+pub enum ExplainTarget {
     /// A memory address.
     Mem { addr: u64 },
     /// An I/O port.
@@ -29,24 +29,24 @@ pub enum HostRequest {
     /// The handover of the board to its guests.
     Guests,
     /// An explanation of what an access to this address reaches.
-    Why(WhyAsked),
+    Why(ExplainTarget),
 }
 
 /// Parses the arguments of `why`: a space, and an address, a port or a BDF in it.
-pub(crate) fn why_place(space: &[u8], at: &[u8]) -> Option<WhyAsked>
+pub(crate) fn why_place(space: &[u8], at: &[u8]) -> Option<ExplainTarget>
     ensures { option_map why_asked_of result ≡ why_place space.now at.now }
 {
     if space == b"mem".as_slice() {
         let addr = number_of(at)?;
-        return Some(WhyAsked::Mem { addr });
+        return Some(ExplainTarget::Mem { addr });
     }
     if space == b"io".as_slice() {
         let port = value(at)?;
-        return Some(WhyAsked::Io { port });
+        return Some(ExplainTarget::Io { port });
     }
     if space == b"cfg".as_slice() {
         let bdf = bus_address(at)?;
-        return Some(WhyAsked::Config { bdf });
+        return Some(ExplainTarget::Config { bdf });
     }
     None
 }

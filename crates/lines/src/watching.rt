@@ -5,7 +5,7 @@ ghost use Rattle.lines.specs.{Faults.{read_failures_of, write_failures_of}, Piec
 
 use crate::answers::{Answer, Answers};
 use crate::line::LONGEST_LINE;
-use crate::reasons::{Reason, Wrong, is_marked, reason_of};
+use crate::reasons::{ArgError, Reason, is_marked, reason_of};
 use crate::replies::LineText;
 use crate::runs::{RunFault, run};
 use accesses::Names;
@@ -36,7 +36,7 @@ impl Default for BadLine {
             line: 0,
             reason: Reason {
                 at: 0,
-                wrong: Wrong::TooMany,
+                wrong: ArgError::TooMany,
                 word: ArrayVec::new(),
             },
         }
@@ -45,7 +45,7 @@ impl Default for BadLine {
 
 /// Statistics about the lines of a run. The counters wrap around after 2^64 - 1.
 #[derive(Drop)]
-pub struct Seen {
+pub struct RunStats {
     /// Whether a line was refused.
     pub refused: bool,
     /// The number of lines.
@@ -56,12 +56,12 @@ pub struct Seen {
     pub first: ArrayVec<BadLine, 20>,
 }
 
-impl Seen {
+impl RunStats {
     /// Returns the statistics before the first line.
-    pub fn none() -> Seen
+    pub fn none() -> RunStats
         ensures { result ≡ none_seen }
     {
-        Seen {
+        RunStats {
             refused: false,
             lines: 0,
             bad: 0,
@@ -113,12 +113,12 @@ impl Seen {
 
 /// A server, and the statistics about the lines that it answered.
 #[derive(Drop)]
-pub(crate) struct Watched<S> {
+pub(crate) struct Counted<S> {
     server: S,
-    seen: Seen,
+    seen: RunStats,
 }
 
-impl<L, S: Answers<L>> Answers<L> for Watched<S> {
+impl<L, S: Answers<L>> Answers<L> for Counted<S> {
     ghost protocol = { watched S.protocol S.refusal };
 
     ghost refusal = { λ w line. S.refusal w.server line };
@@ -150,7 +150,7 @@ pub fn run_watched<L, S: Answers<L> + Drop, R: Reader, W: Writer>(
     server: S,
     reader: &mut R,
     writer: &mut W,
-) -> Result<(S, Seen), RunFault>
+) -> Result<(S, RunStats), RunFault>
     requires reader_has_room { R.failures reader.old < 2 ^ 64 - 1 }
     requires writer_has_room { W.failures writer.old < 2 ^ 64 - 1 }
     ensures reads { R.failures reader.new ≡ R.failures reader.old + read_failures_of result }
@@ -162,11 +162,11 @@ pub fn run_watched<L, S: Answers<L> + Drop, R: Reader, W: Writer>(
         (W.flushed writer.new ≡ W.written writer.new) ⊎ (writer.new ≡ writer.old) }
     ensures memory { IsErrOf result RunFault.Memory → S.TakesMemory }
 {
-    let mut watched = Watched {
+    let mut watched = Counted {
         server,
-        seen: Seen::none(),
+        seen: RunStats::none(),
     };
-    run::<L, Watched<S>, R, W>(&mut watched, reader, writer)?;
-    let Watched { server, seen } = watched;
+    run::<L, Counted<S>, R, W>(&mut watched, reader, writer)?;
+    let Counted { server, seen } = watched;
     Ok((server, seen))
 }

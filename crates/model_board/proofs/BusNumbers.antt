@@ -1,7 +1,7 @@
 -- Bus numbers as counts say where a bridge stands.
 use Rattle.std.{proofs.{lemmas.{Grind.common_steps, List.Sums.sum_by-cons}, Common.{◌≡◌, ℕ, ◌+◌, ◌≤◌, Bool, true, false, ◌&&◌, [], ◌∷◌, refl, arith}}, specs.Prelude.{count_by, IsTrue}}
 use Rattle.lists.specs.Elements.{Each, EachPair}
-use Rattle.model_board.{specs.{Board.{Board, Row, is_bridge, is_bridge_at}, Paths.{Path, path_eq, path_before, leads_to}, Numbering.Numbering}, proofs.PathOrder.{one, before_trans, behind_trans, behind_bound, leads_before, path_same}}
+use Rattle.model_board.{specs.{Board.{Board, Row, is_bridge, is_bridge_at}, Paths.{Path, path_eq, path_before, is_ancestor_of}, Numbering.Numbering}, proofs.PathOrder.{one, before_trans, behind_trans, behind_bound, leads_before, path_same}}
 
 -- how many bridges of the board pass a test of their paths
 abbrev pub bridges : (Path → Bool) → Board → ℕ
@@ -60,8 +60,8 @@ numbering b lawful r q hr hq =
     record {
       inside = λ h. (
         omega (arith, count_two (λ x. path_before x r) (at r) (λ x. path_before x q) (λ x. before_trans x r q (leads_before r q h)) b),
-        omega (arith, count_under (λ x. path_before x q) (at q) (λ x. path_before x r) (at r) (λ x. leads_to r x) (λ x. behind_bound x r q h) b),
+        omega (arith, count_under (λ x. path_before x q) (at q) (λ x. path_before x r) (at r) (λ x. is_ancestor_of r x) (λ x. behind_bound x r q h) b),
       );
       earlier = λ h. omega (arith, count_two (λ x. path_before x q) (at q) (λ x. path_before x r) (λ x. before_trans x q r h) b);
-      later = λ h l. omega (arith, count_three (λ x. path_before x r) (at r) (λ x. leads_to r x) (λ x. path_before x q) (λ x. behind_trans x r q h l) b);
+      later = λ h l. omega (arith, count_three (λ x. path_before x r) (at r) (λ x. is_ancestor_of r x) (λ x. path_before x q) (λ x. behind_trans x r q h l) b);
     }

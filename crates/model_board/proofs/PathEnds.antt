@@ -1,6 +1,6 @@
 -- The last part of a path, and what leads to a path.
 use Rattle.std.proofs.{lemmas.{Grind.common_steps, Bool.Decides.nat_tests}, Common.{◌≡◌, ◌+◌, ◌<◌, ◌⊎◌, true, [], ◌∷◌, ◌++◌, length, refl, ap, arith}}
-use Rattle.model_board.{specs.Paths.{Part, Path, part_eq, path_eq, path_before, leads_to, parent, last_part}, proofs.PathOrder.{one, before_trans, path_same, part_self}}
+use Rattle.model_board.{specs.Paths.{Part, Path, part_eq, path_eq, path_before, is_ancestor_of, parent, last_part}, proofs.PathOrder.{one, before_trans, path_same, part_self}}
 use Rattle.lists.proofs.Tests.{left_true, right_true}
 
 pub path_self : (p : Path) → path_eq p p ≡ true
@@ -28,13 +28,13 @@ length_snoc [] p = refl
 length_snoc (a ∷ bus) p = omega (arith, length_snoc bus p)
 
 -- what leads to a path on a bus leads to the bus, or is it
-pub leads_up : (q bus : Path) (p : Part) → leads_to q (bus ++ p ∷ []) ≡ true → (q ≡ bus) ⊎ (leads_to q bus ≡ true)
+pub leads_up : (q bus : Path) (p : Part) → is_ancestor_of q (bus ++ p ∷ []) ≡ true → (q ≡ bus) ⊎ (is_ancestor_of q bus ≡ true)
 leads_up [] b p h = grind arith
-leads_up (a ∷ []) [] p h = let e : leads_to [] [] ≡ true = right_true (part_eq a p) (leads_to [] []) h in cc
-leads_up (a ∷ c ∷ q) [] p h = let e : leads_to (c ∷ q) [] ≡ true = right_true (part_eq a p) (leads_to (c ∷ q) []) h in cc
+leads_up (a ∷ []) [] p h = let e : is_ancestor_of [] [] ≡ true = right_true (part_eq a p) (is_ancestor_of [] []) h in cc
+leads_up (a ∷ c ∷ q) [] p h = let e : is_ancestor_of (c ∷ q) [] ≡ true = right_true (part_eq a p) (is_ancestor_of (c ∷ q) []) h in cc
 leads_up (a ∷ q) (b ∷ bus) p h = grind (arith, left_true, leads_up q bus p, right_true, path_self, path_same)
 
-pub leads_self : (q : Path) (p : Part) → leads_to q (q ++ p ∷ []) ≡ true
+pub leads_self : (q : Path) (p : Part) → is_ancestor_of q (q ++ p ∷ []) ≡ true
 leads_self [] p = refl
 leads_self (a ∷ q) p = rw (part_self a) (leads_self q p)
 
@@ -53,7 +53,7 @@ path_eq-sym (a ∷ p) [] = refl
 path_eq-sym (a ∷ p) (b ∷ q) = grind (arith, path_eq-sym p q, nat_tests)
 
 -- what leads to a path that leads on leads on too
-pub leads_trans : (p q r : Path) → leads_to p q ≡ true → leads_to q r ≡ true → leads_to p r ≡ true
+pub leads_trans : (p q r : Path) → is_ancestor_of p q ≡ true → is_ancestor_of q r ≡ true → is_ancestor_of p r ≡ true
 leads_trans [] [] r h k = k
 leads_trans [] (b ∷ q) c h k = grind arith
 leads_trans (a ∷ p) [] r h k = cc
@@ -64,10 +64,10 @@ pub snoc_some : (p : Path) (u : Part) → 0 < length (p ++ u ∷ [])
 snoc_some p u = grind (arith, common_steps)
 
 -- a path that leads to another is shorter
-pub leads_longer : (q p : Path) → leads_to q p ≡ true → length q < length p
+pub leads_longer : (q p : Path) → is_ancestor_of q p ≡ true → length q < length p
 leads_longer [] y h = grind arith
 leads_longer (x ∷ q) [] h = cc
-leads_longer (x ∷ q) (y ∷ p) h = omega (arith, leads_longer q p (right_true (part_eq x y) (leads_to q p) h))
+leads_longer (x ∷ q) (y ∷ p) h = omega (arith, leads_longer q p (right_true (part_eq x y) (is_ancestor_of q p) h))
 
 -- of two paths one alone is before the other
 pub no_turn : (p q : Path) → path_before p q ≡ true → path_before q p ≡ true → ⊥

@@ -1,6 +1,6 @@
 -- Path order, seen from a third path.
 use Rattle.std.proofs.{lemmas.{Grind.common_steps, Bool.{Decides.nat_tests, eqb-true}}, Common.{◌≡◌, ℕ, ◌+◌, ◌≤◌, Bool, true, false, ◌&&◌, ◌||◌, cond, [], ◌∷◌, refl, ap₂, arith, rules}}
-use Rattle.model_board.specs.Paths.{Part, Path, part_eq, part_before, path_eq, path_before, leads_to}
+use Rattle.model_board.specs.Paths.{Part, Path, part_eq, part_before, path_eq, path_before, is_ancestor_of}
 use Rattle.lists.proofs.Tests.{left_true, right_true}
 
 abbrev pub one : Bool → ℕ
@@ -29,7 +29,7 @@ head_three u v v' B E L C h e i = grind arith
 -- ---- paths
 
 -- a path is before another, equal to it or behind it: one of these at most
-pub exclusive : (x r : Path) → one (path_before x r) + one (path_eq x r) + one (leads_to r x) ≤ 1
+pub exclusive : (x r : Path) → one (path_before x r) + one (path_eq x r) + one (is_ancestor_of r x) ≤ 1
 exclusive [] c = grind arith
 exclusive (a ∷ x) [] = omega arith
 exclusive (a ∷ x) (c ∷ r) = grind (arith, exclusive x r, part_eq-sym)
@@ -55,33 +55,33 @@ before_trans (a ∷ x) (b ∷ q) (c ∷ r) h = by_head (part_before b c) refl h 
         → (path_before q r ≡ true → one (path_before x q) + one (path_eq x q) ≤ one (path_before x r))
         → one (path_before (a ∷ x) (b ∷ q)) + one (path_eq (a ∷ x) (b ∷ q)) ≤ one (path_before (a ∷ x) (c ∷ r))
     by_head true e k more =
-        two_of_three (one (path_before (a ∷ x) (b ∷ q))) (one (path_eq (a ∷ x) (b ∷ q))) (one (leads_to (b ∷ q) (a ∷ x))) (one (path_before (a ∷ x) (c ∷ r)))
-        (before_heads a b c (part_before a b || part_eq a b) refl e (path_before x q) (path_eq x q) (leads_to q x) (path_before x r) (exclusive (a ∷ x) (b ∷ q)))
+        two_of_three (one (path_before (a ∷ x) (b ∷ q))) (one (path_eq (a ∷ x) (b ∷ q))) (one (is_ancestor_of (b ∷ q) (a ∷ x))) (one (path_before (a ∷ x) (c ∷ r)))
+        (before_heads a b c (part_before a b || part_eq a b) refl e (path_before x q) (path_eq x q) (is_ancestor_of q x) (path_before x r) (exclusive (a ∷ x) (b ∷ q)))
     by_head false e k more = search (rules, part_same, left_true, head_two, right_true)
 
 -- what is before r, at r or behind it is before all that r is before and doesn't lead to
-pub behind_trans : (x r q : Path) → path_before r q ≡ true → leads_to r q ≡ false → one (path_before x r) + one (path_eq x r) + one (leads_to r x) ≤ one (path_before x q)
+pub behind_trans : (x r q : Path) → path_before r q ≡ true → is_ancestor_of r q ≡ false → one (path_before x r) + one (path_eq x r) + one (is_ancestor_of r x) ≤ one (path_before x q)
 behind_trans x [] c h l = cc
 behind_trans x (b ∷ r) [] h l = cc
 behind_trans [] (b ∷ r) (c ∷ q) h l = omega arith
 behind_trans (a ∷ x) (b ∷ r) (c ∷ q) h l = by_head (part_before b c) refl h (behind_trans x r q)
   where
     by_head : (t : Bool) → part_before b c ≡ t → (t || (part_eq b c && path_before r q)) ≡ true
-        → (path_before r q ≡ true → leads_to r q ≡ false → one (path_before x r) + one (path_eq x r) + one (leads_to r x) ≤ one (path_before x q))
-        → one (path_before (a ∷ x) (b ∷ r)) + one (path_eq (a ∷ x) (b ∷ r)) + one (leads_to (b ∷ r) (a ∷ x)) ≤ one (path_before (a ∷ x) (c ∷ q))
+        → (path_before r q ≡ true → is_ancestor_of r q ≡ false → one (path_before x r) + one (path_eq x r) + one (is_ancestor_of r x) ≤ one (path_before x q))
+        → one (path_before (a ∷ x) (b ∷ r)) + one (path_eq (a ∷ x) (b ∷ r)) + one (is_ancestor_of (b ∷ r) (a ∷ x)) ≤ one (path_before (a ∷ x) (c ∷ q))
     by_head true e k more =
-        before_heads a b c (part_before a b || part_eq a b) refl e (path_before x r) (path_eq x r) (leads_to r x) (path_before x q) (exclusive (a ∷ x) (b ∷ r))
+        before_heads a b c (part_before a b || part_eq a b) refl e (path_before x r) (path_eq x r) (is_ancestor_of r x) (path_before x q) (exclusive (a ∷ x) (b ∷ r))
     by_head false e k more = search (rules, left_true, part_same, head_three, part_eq-sym, right_true)
 
 -- what is at or before a path behind r is before r, at r or behind it
-pub behind_bound : (x r q : Path) → leads_to r q ≡ true → one (path_before x q) + one (path_eq x q) ≤ one (path_before x r) + one (path_eq x r) + one (leads_to r x)
+pub behind_bound : (x r q : Path) → is_ancestor_of r q ≡ true → one (path_before x q) + one (path_eq x q) ≤ one (path_before x r) + one (path_eq x r) + one (is_ancestor_of r x)
 behind_bound x [] [] h = cc
 behind_bound a [] (c ∷ q) h = grind (arith, exclusive)
 behind_bound x (b ∷ r) [] h = cc
 behind_bound [] (b ∷ r) (c ∷ q) h = omega arith
 behind_bound (a ∷ x) (b ∷ r) (c ∷ q) h = search (rules, part_same, left_true, part_eq-sym, behind_bound x r q, right_true)
 
-pub leads_before : (r q : Path) → leads_to r q ≡ true → path_before r q ≡ true
+pub leads_before : (r q : Path) → is_ancestor_of r q ≡ true → path_before r q ≡ true
 leads_before [] c h = grind arith
 leads_before (b ∷ r) [] h = cc
 leads_before (b ∷ r) (c ∷ q) h = grind (arith, left_true, leads_before r q, right_true)

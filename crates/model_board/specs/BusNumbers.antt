@@ -4,13 +4,13 @@
 --     bridge_count      how many bridges a board has, and so how many buses beside bus 0
 --     numbers_suffice, Enumerates      there are numbers for all of them
 use Rattle.std.specs.Prelude.{[], ◌∷◌, ℕ, ◌+◌, Bool, ◌&&◌, ◌≤◌, nat_le, count_by}
-use Rattle.model_board.specs.{Paths.{Path, path_before, leads_to, parent}, Board.{is_bridge, Board}}
+use Rattle.model_board.specs.{Paths.{Path, path_before, is_ancestor_of, parent}, Board.{is_bridge, Board}}
 
 abbrev pub secondary : Board → Path → ℕ
 secondary b p = 1 + count_by (λ r. is_bridge r.decl && path_before r.path p) b
 
 abbrev pub subordinate : Board → Path → ℕ
-subordinate b p = secondary b p + count_by (λ r. is_bridge r.decl && leads_to p r.path) b
+subordinate b p = secondary b p + count_by (λ r. is_bridge r.decl && is_ancestor_of p r.path) b
 
 -- the number of the bus behind a bridge; [] names bus 0
 abbrev pub bus_behind : Board → Path → ℕ

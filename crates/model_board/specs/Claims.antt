@@ -6,7 +6,7 @@
 use Rattle.std.specs.{Prelude.{List, [], ℕ, Bool, if◌then◌else◌, not, ◌||◌, Option, Some, None, map, flat_map}, List.list_all, Option.{option_map_or, option_to_list}}
 use Rattle.lists.specs.Elements.{first_some}
 use Rattle.model_registers.specs.Decoding.{Space, Hit, hit_of, lone_claim}
-use Rattle.model_board.specs.{Paths.{Path, leads_to}, Board.{endpoint, bridge}, State.BoardFunction, Windows.forwards}
+use Rattle.model_board.specs.{Paths.{Path, is_ancestor_of}, Board.{endpoint, bridge}, State.BoardFunction, Windows.forwards}
 
 pub record Claim : Type 0 where
   pub path : Path
@@ -14,7 +14,7 @@ pub record Claim : Type 0 where
   pub offset : ℕ
 
 abbrev pub is_forwarded : List BoardFunction → Path → Space → ℕ → Bool
-is_forwarded fs p space a = list_all (λ f. not (leads_to f.path p) || forwards space a f) fs
+is_forwarded fs p space a = list_all (λ f. not (is_ancestor_of f.path p) || forwards space a f) fs
 
 abbrev pub claim_at : Path → Hit → Claim
 claim_at p h = record { path = p; index = h.index; offset = h.offset }

@@ -1,6 +1,6 @@
 -- Where a function stands: the devices and functions from bus 0 down.
 --     Part, Path      a device and function of one bus; the parts from bus 0 down
---     path_before, leads_to      path order; a path is a proper beginning of another
+--     path_before, is_ancestor_of      path order; a path is a proper beginning of another
 --     parent, last_part      the bridge above; the device and function on its own bus
 --     same_device, function_zero      two functions stand in one device; the first function of a device
 --     IsPart, IsPath      16 devices of 8 functions on a bus; at most 16 buses down
@@ -34,11 +34,11 @@ path_before (p ∷ ps) [] = false
 path_before (p ∷ ps) (q ∷ qs) = part_before p q || (part_eq p q && path_before ps qs)
 
 -- the first path is a proper beginning of the second
-abbrev pub leads_to : Path → Path → Bool
-leads_to [] [] = false
-leads_to [] (q ∷ qs) = true
-leads_to (p ∷ ps) [] = false
-leads_to (p ∷ ps) (q ∷ qs) = part_eq p q && leads_to ps qs
+abbrev pub is_ancestor_of : Path → Path → Bool
+is_ancestor_of [] [] = false
+is_ancestor_of [] (q ∷ qs) = true
+is_ancestor_of (p ∷ ps) [] = false
+is_ancestor_of (p ∷ ps) (q ∷ qs) = part_eq p q && is_ancestor_of ps qs
 
 -- the path without its last part: the bridge above, or [] for bus 0
 abbrev pub parent : Path → Path

@@ -3,7 +3,7 @@
 --     ClaimsKeepLanes      a region takes an access in the byte lanes of its address
 --     PortsWhileNotEnabled      without the enable bit only the latch itself is no ordinary port
 use Rattle.std.specs.Prelude.{List, ◌≡◌, ℕ, ◌*◌, ◌/◌, ◌%◌, ◌^◌, false, ◌&&◌, ◌==◌, if◌then◌else◌, Some}
-use Rattle.model_registers.specs.{Registers.all_bytes, ByteEnables.{IsWidth, lanes, enables_of, into_lanes}, Decoding.Space}
+use Rattle.model_registers.specs.{Registers.all_bytes, ByteEnables.{IsWidth, lanes, enables_of, to_lanes}, Decoding.Space}
 use Rattle.model_board.specs.{State.BoardFunction, Claims.{Claim, first_claim}, Cycles.BusAddress, Ports.{config_reply, after_config_write, is_enabled, config_address, ordinary, port_target}}
 
 abbrev pub ConfigReadByLanes : Type 0
@@ -14,7 +14,7 @@ ConfigReadByLanes = (fs : List BoardFunction) (at : BusAddress) (off w : ℕ) �
 abbrev pub ConfigWriteByLanes : Type 0
 ConfigWriteByLanes = (fs : List BoardFunction) (at : BusAddress) (off w v : ℕ) → IsWidth w → off % w ≡ 0
     → after_config_write fs at off (all_bytes w) v
-    ≡ after_config_write fs at (off / 4 * 4) (lanes (enables_of off w)) (into_lanes off v)
+    ≡ after_config_write fs at (off / 4 * 4) (lanes (enables_of off w)) (to_lanes off v)
 
 abbrev pub ClaimsKeepLanes : Type 0
 ClaimsKeepLanes = (fs : List BoardFunction) (space : Space) (a : ℕ) (c : Claim) → first_claim fs space a ≡ Some c

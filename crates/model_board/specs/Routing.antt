@@ -21,7 +21,7 @@ use Rattle.std.specs.Prelude.{
 }
 use Rattle.std.specs.{List.list_all, Option.option_to_list}
 use Rattle.model_registers.specs.{Registers.File, EndpointTable.BaseAddress, Decoding.{Space, opens_space, command_word, base_address, Hit, hit_at}}
-use Rattle.model_board.specs.{Paths.{Path, leads_to}, Board.{Decl, endpoint, bridge}, State.BoardFunction, Windows.{Window, io_window, mem_window, pref_window, in_windows}, Claims.{Claim, claim_at}}
+use Rattle.model_board.specs.{Paths.{Path, is_ancestor_of}, Board.{Decl, endpoint, bridge}, State.BoardFunction, Windows.{Window, io_window, mem_window, pref_window, in_windows}, Claims.{Claim, claim_at}}
 
 -- the regions of an endpoint, or the I/O, memory and prefetchable window of a bridge
 pub data Ranges : Type 0 where
@@ -53,7 +53,7 @@ row_forwards space a r = elim r.ranges [
 ]
 
 abbrev pub is_routed : List RoutingRow → Path → Space → ℕ → Bool
-is_routed rows p space a = list_all (λ r. not (leads_to r.path p) || row_forwards space a r) rows
+is_routed rows p space a = list_all (λ r. not (is_ancestor_of r.path p) || row_forwards space a r) rows
 
 abbrev pub row_hits : Space → ℕ → RoutingRow → List Hit
 row_hits space a r = elim r.ranges [

@@ -2,7 +2,7 @@
 -- it; elsewhere the bridges that lead to them are.
 use Rattle.std.{proofs.{Common.{◌≡◌, ℕ, ◌+◌, ◌≤◌, ◌<◌, true, false, ◌||◌, not, List, [], ◌∷◌, ◌++◌, length, refl, sym, ap, ◌∙◌, subst, arith}, lemmas.Bool.{Decides.nat_tests, leb-true}}, specs.Prelude.{map, IsTrue}}
 use Rattle.lists.{proofs.{Members.{pairs_of_map, each_in, in_map, from_map, from_filter, in_flat_map, pairs_weaker, pairs_flat_map, all_in, pairs_of_part, pair_in}, EachLemmas.{each_from_map, pairs_from_map}, Tests.asked_true}, specs.Elements.{EachPair, IsIn}}
-use Rattle.model_board.{proofs.{PathOrder.part_self, PathEnds.{path_self, parent_snoc, last_snoc, length_snoc, not_before_itself}}, specs.{Paths.{Part, Path, part_eq, path_before, leads_to, parent, IsPath}, Board.{Board, Row, Decl, endpoint, is_bridge}, State.{row_at, BoardFunction}, Routing.{RoutingRow, row_of, routing, row_forwards, is_routed}}}
+use Rattle.model_board.{proofs.{PathOrder.part_self, PathEnds.{path_self, parent_snoc, last_snoc, length_snoc, not_before_itself}}, specs.{Paths.{Part, Path, part_eq, path_before, is_ancestor_of, parent, IsPath}, Board.{Board, Row, Decl, endpoint, is_bridge}, State.{row_at, BoardFunction}, Routing.{RoutingRow, row_of, routing, row_forwards, is_routed}}}
 use Rattle.model_registers.{specs.{Declarations.{Region, Endpoint}, Decoding.{Space, same_space, base_address}, Registers.File}, proofs.HitRegions.space_same}
 use Rattle.model_set_up.{specs.{Extents.AreApart, PlacedRegions.{PlacedRegion, holds}, UniqueClaimant.ShareNone}, proofs.{Partings.{Meeting, Same, Above, Below, Parting, meet, leads_down, one_row, BridgeAt, bridge_above}, Holders.{is_held, self_space}}}
 use Rattle.model_findings.{specs.{OpenRegions.{region_now, open_of, open_regions}, Agents.{Agent, region_agent, bridge_agent, agents_of, agents, answers}, Orderly.{IsForwarded, AreAlone, IsOrderly, IsStateOfBoard}}, proofs.Answering.{bridge_answers, region_answers}}
@@ -61,8 +61,8 @@ module _ (fs : List BoardFunction) (state : IsStateOfBoard fs) (orderly : IsOrde
       s : OpenOf f q
       s = open_source f.path f.decl f.file q k
 
-      leads : leads_to (bus ++ x ∷ []) f.path ≡ true
-      leads = ap (leads_to (bus ++ x ∷ [])) e ∙ leads_down bus x z zs
+      leads : is_ancestor_of (bus ++ x ∷ []) f.path ≡ true
+      leads = ap (is_ancestor_of (bus ++ x ∷ [])) e ∙ leads_down bus x z zs
 
       d : BridgeAt b state.places (bus ++ x ∷ [])
       d = bridge_above b state.places (row_at f) (bus ++ x ∷ []) (in_map row_at f fs m) leads (omega (arith, length_snoc bus x))
@@ -75,8 +75,8 @@ module _ (fs : List BoardFunction) (state : IsStateOfBoard fs) (orderly : IsOrde
           let path : g.path ≡ bus ++ x ∷ [] = ap (λ (y : Row). y.path) (sym same) ∙ at in
           let is_one : is_bridge g.decl ≡ true = ap (λ (y : Row). is_bridge y.decl) (sym same) ∙ is in
           let q_path : q.path ≡ f.path = ap (λ (y : PlacedRegion). y.path) s.is in
-          let over : leads_to g.path q.path ≡ true = ap (λ (y : Path). leads_to y q.path) path ∙ ap (leads_to (bus ++ x ∷ [])) q_path ∙ leads in
-          let forwards : row_forwards q.space n (row_of g) ≡ true = asked_true (leads_to g.path q.path) (row_forwards q.space n (row_of g)) over (all_in (λ (y : RoutingRow). not (leads_to y.path q.path) || row_forwards q.space n y) (row_of g) rows routed (in_map row_of g fs there)) in
+          let over : is_ancestor_of g.path q.path ≡ true = ap (λ (y : Path). is_ancestor_of y q.path) path ∙ ap (is_ancestor_of (bus ++ x ∷ [])) q_path ∙ leads in
+          let forwards : row_forwards q.space n (row_of g) ≡ true = asked_true (is_ancestor_of g.path q.path) (row_forwards q.space n (row_of g)) over (all_in (λ (y : RoutingRow). not (is_ancestor_of y.path q.path) || row_forwards q.space n y) (row_of g) rows routed (in_map row_of g fs there)) in
           record {
             agent = bridge_agent (row_of g) q.space;
             there = in_flat_map agents_of (row_of g) (bridge_agent (row_of g) q.space) rows (in_map row_of g fs there) (bridge_in g.path g.decl g.file q.space is_one);
@@ -89,7 +89,7 @@ module _ (fs : List BoardFunction) (state : IsStateOfBoard fs) (orderly : IsOrde
   clash x y space n alone bus h k = grind (arith, path_self)
 
   -- an endpoint leads nowhere
-  not_above : (f g : BoardFunction) (q : PlacedRegion) → IsIn f fs → IsIn g fs → OpenOf f q → leads_to f.path g.path ≡ true → ⊥
+  not_above : (f g : BoardFunction) (q : PlacedRegion) → IsIn f fs → IsIn g fs → OpenOf f q → is_ancestor_of f.path g.path ≡ true → ⊥
   not_above f g q m k s h =
       let some : 0 < length f.path = (each_in (λ (r : Row). IsPath r.path) (row_at f) b state.places.paths (in_map row_at f fs m)).some in
       let d : BridgeAt b state.places f.path = bridge_above b state.places (row_at g) f.path (in_map row_at g fs k) h some in

@@ -4,7 +4,7 @@ use Rattle.std.proofs.{Common.{◌≡◌, ℕ, ◌+◌, ◌-◌, ◌≤◌, ◌<
 use Rattle.lists.{specs.Elements.{Each, IsIn}, proofs.{Tests.{left_true, right_true}, Members.{each_in, in_flat_map, from_map, from_filter, pair_in}}}
 use Rattle.model_registers.{specs.{Registers.File, Apertures.{IsLawfulApertures, IsPrefOption, Aperture, Apertures}, Declarations.{Region, Endpoint, Bridge}, Decoding.{Space, io, memory, space_of, opens_space, command_word}}, proofs.HitRegions.space_same}
 use Rattle.model_board.{specs.{Board.{Board, Row, Decl, endpoint, bridge}, Paths.{Path, path_before, parent, IsPath}, Windows.{is_in, in_windows, io_window, mem_window, pref_window}, Routing.{RoutingRow, row_of, row_forwards}}, proofs.PathEnds.{path_self, not_before_itself}}
-use Rattle.model_set_up.{specs.{Pools.{Pool, io_pool, mem_pool, pref_pool, unit_of, bridges_above}, Extents.{IsInside, AreApart}, Placement.{Item, need, items_on, bus_first}, Layout.{LayoutRow, IsLawful, pool_rows, layout}, PlacementLaws.{region_row, window_row, HasRows}, WindowLaws.{window_over, placed_window, ForwardsPlaced, HasPlacedWindows}, SetUp.set_up_file, PlacedRegions.{pool_space, PlacedRegion, placed, holds}, UniqueClaimant.CanBePlaced}, proofs.{Holders.{Holds, holds_is}, PlacedApart.pool_of_space, PlacedRegions.{region_there, each_pool}, DeclaredRows.has_window_row, Items.{some_end, end_below_need, items_placeable}, Nesting.HasItems, Packing.unit_positive, LawfulPlacement.pool_self, UniqueClaimant.left}}
+use Rattle.model_set_up.{specs.{Pools.{Pool, io_pool, mem_pool, pref_pool, unit_of, bridges_above}, Extents.{IsInside, AreApart}, Placement.{PlacementItem, need, items_on, bus_first}, Layout.{LayoutRow, IsLawful, pool_rows, layout}, PlacementLaws.{region_row, window_row, HasRows}, WindowLaws.{window_over, placed_window, ForwardsPlaced, HasPlacedWindows}, SetUp.set_up_file, PlacedRegions.{pool_space, PlacedRegion, placed, holds}, UniqueClaimant.CanBePlaced}, proofs.{Holders.{Holds, holds_is}, PlacedApart.pool_of_space, PlacedRegions.{region_there, each_pool}, DeclaredRows.has_window_row, Items.{some_end, end_below_need, items_placeable}, Nesting.HasItems, Packing.unit_positive, LawfulPlacement.pool_self, UniqueClaimant.left}}
 use Rattle.model_findings.{specs.{OpenRegions.open_of, Agents.{Agent, region_agent, bridge_agent, agents_of, answers}}, proofs.{Answering.{bridge_answers, region_answers}, Placing.regions_placed}}
 
 -- ---- rows of one bus
@@ -41,7 +41,7 @@ module _ (b : Board) (a : Apertures) (can : CanBePlaced b a) where
   pub window_row_held : (p : Path) (pool : Pool) (n : ℕ) → IsPath p → is_in n (placed_window b a pool p) ≡ true → IsIn (window_row b a pool p) (layout b a) × (bus_first b a pool p ≤ n) × (n < bus_first b a pool p + need (unit_of pool) (items_on b a pool p))
   window_row_held p pool n lawful_path h = by (items_on b a pool p) refl h
     where
-      by : (is : List Item) → items_on b a pool p ≡ is → is_in n (window_over (unit_of pool) (bus_first b a pool p) is) ≡ true → IsIn (window_row b a pool p) (layout b a) × (bus_first b a pool p ≤ n) × (n < bus_first b a pool p + need (unit_of pool) (items_on b a pool p))
+      by : (is : List PlacementItem) → items_on b a pool p ≡ is → is_in n (window_over (unit_of pool) (bus_first b a pool p) is) ≡ true → IsIn (window_row b a pool p) (layout b a) × (bus_first b a pool p ≤ n) × (n < bus_first b a pool p + need (unit_of pool) (items_on b a pool p))
       by [] e k = cc
       by (i ∷ is) e k =
           let size : need (unit_of pool) (items_on b a pool p) ≡ need (unit_of pool) (i ∷ is) = ap (need (unit_of pool)) e in

@@ -5,7 +5,7 @@ use Rattle.lists.{specs.Elements.IsIn, proofs.{Tests.{left_true, right_true}, Me
 use Rattle.model_board.specs.{Paths.Path, Routing.{RoutingRow, Ranges, regions, windows}}
 use Rattle.model_registers.specs.{Apertures.Apertures, Decoding.Space}
 use Rattle.model_set_up.{specs.PlacedRegions.{PlacedRegion, holds}, proofs.Holders.{Holds, holds_is, is_held, self_space}}
-use Rattle.model_findings.{specs.{Agents.{Extent, extent_holds}, Lacks.{aperture_extents, is_in_apertures, prefetches, prefetch_edges, least_held}}, proofs.Problems.{IsLeast, found_least, finds}}
+use Rattle.model_findings.{specs.{Agents.{Extent, extent_holds}, ReadinessIssues.{aperture_extents, is_in_apertures, prefetches, prefetch_edges, least_held}}, proofs.Problems.{IsLeast, found_least, finds}}
 
 -- a test begins to hold at these numbers alone
 abbrev pub BeginsAt : (ℕ → Bool) → List ℕ → Type 0

@@ -2,7 +2,7 @@
 use Rattle.std.{proofs.{Common.{◌≡◌, ℕ, zero, suc, ◌+◌, ◌≤◌, ◌<◌, ◌⊎◌, inl, inr, Bool, true, false, ◌&&◌, ◌||◌, cond, List, [], ◌∷◌, ◌++◌, Option, Some, None, refl, ap₂, ◌∙◌, subst, arith, leb, ltb}, Math.Nat.{min-le_left, min-le_right}, lemmas.Bool.{Decides.nat_tests, leb-true, ltb-true, le-leb, lt-ltb, and_from, not-true, not_from_false}}, specs.{Prelude.{not, map, filter, flat_map, IsTrue}, List.{list_all, list_any}, Option.{option_map, option_to_list}}}
 use Rattle.lists.{specs.Elements.{Each, EachPair, first_some, IsIn}, proofs.{Tests.{left_true, right_true}, EachLemmas.each_map, Members.{each_in, each_from, in_map, in_filter, from_filter, in_front, in_back, front_or_back, from_flat_map, any_in, from_any, all_from, from_option, none_front, none_back, none_each, each_none, no_elements}, FirstFound.{IsFirstTold, first_from}}}
 use Rattle.model_registers.{specs.Decoding.{Space, same_space}, proofs.HitRegions.space_same}
-use Rattle.model_board.specs.{Paths.leads_to, Routing.{RoutingRow, row_forwards}}
+use Rattle.model_board.specs.{Paths.is_ancestor_of, Routing.{RoutingRow, row_forwards}}
 use Rattle.model_set_up.{specs.PlacedRegions.{PlacedRegion, holds}, proofs.Holders.{Holds, holds_is, is_held, self_space}}
 use Rattle.model_findings.{specs.{OpenRegions.open_regions, Agents.{Extent, extent_holds, forwarded_extents, Agent, agents, answers}, Orderly.{IsForwarded, AreAlone, IsOrderly}, Problems.{least, unforwarded, shared, Problem, not_forwarded, contended, not_found, blame, forwarding_problem, contention, contentions, routing_problems}, Witnesses.{ForwardsAll, IsNotForwarded, IsBefore, IsContended, RoutingDecides}}, proofs.Answering.forwards_extents}
 
@@ -102,10 +102,10 @@ all_false : {A : Type 0} (t : A → Bool) (x : A) (xs : List A) → IsIn x xs �
 all_false t x [] m h = absurd m
 all_false t x (y ∷ xs) m h = grind (arith, all_false t x xs)
 
-blamed : (q : PlacedRegion) (r : RoutingRow) (p : Problem) → blame q r ≡ Some p → (leads_to r.path q.path ≡ true) × (n : ℕ) × (unforwarded r q ≡ Some n) × (p ≡ not_forwarded q r.path n)
-blamed q r p h = by (leads_to r.path q.path) (unforwarded r q) refl refl h
+blamed : (q : PlacedRegion) (r : RoutingRow) (p : Problem) → blame q r ≡ Some p → (is_ancestor_of r.path q.path ≡ true) × (n : ℕ) × (unforwarded r q ≡ Some n) × (p ≡ not_forwarded q r.path n)
+blamed q r p h = by (is_ancestor_of r.path q.path) (unforwarded r q) refl refl h
   where
-    by : (t : Bool) (o : Option ℕ) → leads_to r.path q.path ≡ t → unforwarded r q ≡ o → cond t (option_map (not_forwarded q r.path) o) None ≡ Some p → (leads_to r.path q.path ≡ true) × (n : ℕ) × (unforwarded r q ≡ Some n) × (p ≡ not_forwarded q r.path n)
+    by : (t : Bool) (o : Option ℕ) → is_ancestor_of r.path q.path ≡ t → unforwarded r q ≡ o → cond t (option_map (not_forwarded q r.path) o) None ≡ Some p → (is_ancestor_of r.path q.path ≡ true) × (n : ℕ) × (unforwarded r q ≡ Some n) × (p ≡ not_forwarded q r.path n)
     by t o h k g = grind arith
 
 -- what a problem of the first two kinds says
@@ -115,7 +115,7 @@ IsRouted rows (contended a b n) = IsContended rows a b n
 IsRouted rows (not_found p at instead) = ⊥
 
 -- a bridge with no lost byte to tell forwards all
-forwards_rest : (q : PlacedRegion) (r : RoutingRow) → blame q r ≡ None → IsTrue (leads_to r.path q.path) → ForwardsAll q r
+forwards_rest : (q : PlacedRegion) (r : RoutingRow) → blame q r ≡ None → IsTrue (is_ancestor_of r.path q.path) → ForwardsAll q r
 forwards_rest q r none over n h = grind (arith, unforwarded_finds)
 
 lost_byte : (q : PlacedRegion) (r : RoutingRow) (n : ℕ) → unforwarded r q ≡ Some n → (holds q.space n q ≡ true) × (row_forwards q.space n r ≡ false)
@@ -125,7 +125,7 @@ lost_byte q r n found =
     (left_true (holds q.space n q) (not (row_forwards q.space n r)) passes, not-true (row_forwards q.space n r) (right_true (holds q.space n q) (not (row_forwards q.space n r)) passes))
 
 lost_is : (rows before after : List RoutingRow) (q : PlacedRegion) (r : RoutingRow) (n : ℕ) → IsIn q (open_regions rows) → rows ≡ before ++ r ∷ after
-    → Each (λ s. blame q s ≡ None) before → leads_to r.path q.path ≡ true → unforwarded r q ≡ Some n → IsNotForwarded rows q r.path n
+    → Each (λ s. blame q s ≡ None) before → is_ancestor_of r.path q.path ≡ true → unforwarded r q ≡ Some n → IsNotForwarded rows q r.path n
 lost_is rows before after q r n m split none over found =
     let l : IsLeast n (filter (lost r q) (starts r q)) = found_least (lost r q) (starts r q) n found in
     record {
@@ -136,7 +136,7 @@ lost_is rows before after q r n m split none over found =
       rows_are = split;
       bridge_is = refl;
       above = over;
-      first = each_map (λ s. blame q s ≡ None) (λ s. IsTrue (leads_to s.path q.path) → ForwardsAll q s) before (forwards_rest q) none;
+      first = each_map (λ s. blame q s ≡ None) (λ s. IsTrue (is_ancestor_of s.path q.path) → ForwardsAll q s) before (forwards_rest q) none;
       byte = (lost_byte q r n found).0;
       lost = (lost_byte q r n found).1;
       least = λ k h gone. let s = lost_start r q k h gone k q.first (inl refl) (omega arith) (holds_is q.space k q h).from (omega arith) in omega (arith, l.below s.0 s.1, s.2);
@@ -152,12 +152,12 @@ forwarding_real rows p m = of_region (from_flat_map (forwarding_problem rows) p 
         of_row f = grind (arith, blamed q f.element p f.told, lost_is)
 
 none_lost : (rows : List RoutingRow) (q : PlacedRegion) → forwarding_problem rows q ≡ [] → IsForwarded rows q
-none_lost rows q none n h = all_from (λ s. not (leads_to s.path q.path) || row_forwards q.space n s) rows (λ r m. by r m (leads_to r.path q.path) (row_forwards q.space n r) refl refl)
+none_lost rows q none n h = all_from (λ s. not (is_ancestor_of s.path q.path) || row_forwards q.space n s) rows (λ r m. by r m (is_ancestor_of r.path q.path) (row_forwards q.space n r) refl refl)
   where
     empty : (o : Option Problem) → option_to_list o ≡ [] → o ≡ None
     empty o e = grind arith
 
-    by : (r : RoutingRow) → IsIn r rows → (t u : Bool) → leads_to r.path q.path ≡ t → row_forwards q.space n r ≡ u → (not t || u) ≡ true
+    by : (r : RoutingRow) → IsIn r rows → (t u : Bool) → is_ancestor_of r.path q.path ≡ t → row_forwards q.space n r ≡ u → (not t || u) ≡ true
     by r m false u e f = refl
     by r m true true e f = refl
     by r m true false e f =

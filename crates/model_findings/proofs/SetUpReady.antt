@@ -4,7 +4,7 @@ use Rattle.lists.{specs.Elements.{Each, IsIn}, proofs.Members.{each_in, each_fro
 use Rattle.model_registers.specs.{Apertures.{Aperture, Apertures}, Declarations.{Region, Endpoint}, Decoding.{Space, base_address, space_of, same_space, opens_space}, EndpointTable.BaseAddress, Registers.File}
 use Rattle.model_board.specs.{Board.{Board, Row, Decl, endpoint, bridge, is_bridge, is_bridge_at, is_multifunction}, BusNumbers.{Enumerates, bus_behind}, Paths.{Path, IsPath, parent}, State.BoardFunction, Routing.{RoutingRow, row_of, routing}, Windows.is_in}
 use Rattle.model_set_up.{specs.{Pools.{Pool, pref_pool, bridges_above}, Layout.{LayoutRow, IsLawful, layout}, PlacementLaws.{pool_at, region_row, HasRows}, PlacedRegions.{PlacedRegion, placed, pool_space, holds}, SetUp.{first_of, set_up_file, set_up_state}, UniqueClaimant.CanBePlaced, WindowLaws.{placed_window, HasPlacedWindows}}, proofs.{Holders.{Holds, holds_is, self_space}, PlacedApart.pool_of_space, PlacedReads.InAperture, PlacedRegions.region_there, SetUpNumbers.{numbers_small, set_up_has_numbers}, SetUpRegisters.endpoint_opens, UniqueClaimant.{bases, left}, LawfulPlacement.layout_is_lawful, DeclaredRows.rows_are_declared, BoardWindows.set_up_windows}}
-use Rattle.model_findings.{specs.{OpenRegions.{region_now, regions_of, open_of, open_regions}, Found.bus_now, Lacks.{primary_register, is_in_apertures, is_plain, plain_of, plain_regions, prefetches, primary_lack, lacks}, ReadyLaws.{IsWithinApertures, PrefetchesNone, LacksNothing, SetUpIsReady, ReadyAsSetUp}}, proofs.{Found.numbers_of_board, Holding.window_row_held, Placing.regions_placed, SetUpPasses.{set_up_passes, routed_as_set_up}, Lacks.nothing_lacking}}
+use Rattle.model_findings.{specs.{OpenRegions.{region_now, regions_of, open_of, open_regions}, Found.bus_now, ReadinessIssues.{primary_register, is_in_apertures, is_plain, plain_of, plain_regions, prefetches, primary_issue, readiness_issues}, ReadyLaws.{IsWithinApertures, PrefetchesNone, LacksNothing, SetUpIsReady, ReadyAsSetUp}}, proofs.{Found.numbers_of_board, Holding.window_row_held, Placing.regions_placed, SetUpPasses.{set_up_passes, routed_as_set_up}, Lacks.nothing_lacking}}
 
 -- ---- apertures
 
@@ -130,12 +130,12 @@ module _ (b : Board) (a : Apertures) (few : Enumerates b) (can : CanBePlaced b a
           let s = of_row f.0 f.1 in
           plain_unprefetched s.0.path s.0.decl q s.1 (subst (λ (x : RoutingRow). IsIn q (plain_of x)) s.2 f.2)
 
-routing_ready : (b : Board) (a : Apertures) → Enumerates b → CanBePlaced b a → lacks a (set_up_state b a).functions ≡ []
+routing_ready : (b : Board) (a : Apertures) → Enumerates b → CanBePlaced b a → readiness_issues a (set_up_state b a).functions ≡ []
 routing_ready b a few can = grind (arith, nothing_lacking, lacks_nothing, layout_is_lawful, rows_are_declared, set_up_windows)
 
 pub set_up_is_ready : SetUpIsReady
-set_up_is_ready b a few can = record { no_problems = set_up_passes b a few can; no_lacks = routing_ready b a few can }
+set_up_is_ready b a few can = record { no_problems = set_up_passes b a few can; no_issues = routing_ready b a few can }
 
 pub ready_as_set_up : ReadyAsSetUp
 ready_as_set_up b a few can fs same numbers primaries =
-    grind (arith, routed_as_set_up, none_front, routing_ready b a few can, each_none (primary_lack fs) fs, each_from, each_in, numbers_of_board b can.places fs numbers)
+    grind (arith, routed_as_set_up, none_front, routing_ready b a few can, each_none (primary_issue fs) fs, each_from, each_in, numbers_of_board b can.places fs numbers)

@@ -4,7 +4,7 @@ use Rattle.lists.{specs.Elements.{Each, IsIn}, proofs.Members.{each_in, in_map, 
 use Rattle.model_registers.specs.{Declarations.{Region, Endpoint}, Decoding.{base_address, opens_space, command_word, space_of}, Registers.File}
 use Rattle.model_board.specs.{Board.{Decl, endpoint}, Paths.Path, Routing.{row_of, routing}}
 use Rattle.model_set_up.specs.{PlacedRegions.PlacedRegion, UniqueClaimant.IsClaimed}
-use Rattle.model_findings.{specs.{OpenRegions.{region_now, regions_of, open_of, open_regions}, Lacks.{is_plain, plain_of, plain_regions}, ReadyLaws.{IsWithinApertures, PrefetchesNone, LacksNothing, ReadyIsUsable, ReadyIsFound}}, proofs.{Claims.orderly_claims, Found.found_once, Witnesses.problems_decide, Lacks.lacking_nothing}}
+use Rattle.model_findings.{specs.{OpenRegions.{region_now, regions_of, open_of, open_regions}, ReadinessIssues.{is_plain, plain_of, plain_regions}, ReadyLaws.{IsWithinApertures, PrefetchesNone, LacksNothing, ReadyIsUsable, ReadyIsFound}}, proofs.{Claims.orderly_claims, Found.found_once, Witnesses.problems_decide, Lacks.lacking_nothing}}
 
 -- a declared region is one of its function's, where its register says
 pub region_here : (p : Path) (decl : Decl) (file : File) (d : Endpoint) (g : Region) → decl ≡ endpoint d → IsIn g d.regions
@@ -28,7 +28,7 @@ ready_is_usable a fs state ready f m d e g k = record {
     q = region_now f.path (base_address f.file g)
 
     nothing : LacksNothing a fs
-    nothing = lacking_nothing a fs ready.no_lacks
+    nothing = lacking_nothing a fs ready.no_issues
 
     row_there : IsIn (row_of f) (routing fs)
     row_there = in_map row_of f fs m

@@ -8,7 +8,7 @@ pub mod Notes
 pub mod AuditText
 pub mod AuditExamples
 pub mod SetUpPasses
-pub mod Lacks
+pub mod ReadinessIssues
 pub mod ReadyLaws
 pub mod ReadyText
 pub mod ReadyExamples

@@ -4,7 +4,7 @@
 --     notes rows      all of them, in path order
 use Rattle.std.specs.{Prelude.{List, [], ◌∷◌, ◌++◌, ◌+◌, Bool, ◌&&◌, nat_lt, if◌then◌else◌, flat_map}, List.list_any}
 use Rattle.model_registers.specs.Decoding.{Space, io, memory, same_space}
-use Rattle.model_board.specs.{Paths.{Path, leads_to}, Routing.RoutingRow}
+use Rattle.model_board.specs.{Paths.{Path, is_ancestor_of}, Routing.RoutingRow}
 use Rattle.model_set_up.specs.PlacedRegions.{PlacedRegion}
 use Rattle.model_findings.specs.{OpenRegions.open_regions, Agents.{Extent, forwarded_extents}}
 
@@ -15,7 +15,7 @@ pub data Note : Type 0 where
 -- a region behind the bridge has an address among these
 abbrev pub is_behind : Path → Space → Extent → PlacedRegion → Bool
 is_behind bridge space e q =
-    leads_to bridge q.path && same_space q.space space && nat_lt q.first e.end && nat_lt e.first (q.first + q.size)
+    is_ancestor_of bridge q.path && same_space q.space space && nat_lt q.first e.end && nat_lt e.first (q.first + q.size)
 
 abbrev pub idle_note : List RoutingRow → Path → Space → Extent → List Note
 idle_note rows bridge space e =

@@ -9,7 +9,7 @@
 --     problems fs      all of them
 use Rattle.std.specs.{Prelude.{List, [], ◌∷◌, ◌++◌, ℕ, false, ◌&&◌, not, min, if◌then◌else◌, Option, Some, None, map, filter, flat_map}, Option.{option_map, option_map_or, option_to_list}}
 use Rattle.lists.specs.Elements.{first_some}
-use Rattle.model_board.specs.{Paths.{Path, path_eq, leads_to}, State.BoardFunction, Cycles.BusAddress, Routing.{RoutingRow, routing, row_forwards}}
+use Rattle.model_board.specs.{Paths.{Path, path_eq, is_ancestor_of}, State.BoardFunction, Cycles.BusAddress, Routing.{RoutingRow, routing, row_forwards}}
 use Rattle.model_set_up.specs.PlacedRegions.{PlacedRegion, holds}
 use Rattle.model_findings.specs.{OpenRegions.open_regions, Agents.{forwarded_extents, Agent, agents, answers, on_one_bus}, Found.{address_now, path_reached}}
 
@@ -37,7 +37,7 @@ pub data Problem : Type 0 where
   not_found : Path → BusAddress → Option Path → Problem
 
 abbrev pub blame : PlacedRegion → RoutingRow → Option Problem
-blame q r = if leads_to r.path q.path then option_map (not_forwarded q r.path) (unforwarded r q) else None
+blame q r = if is_ancestor_of r.path q.path then option_map (not_forwarded q r.path) (unforwarded r q) else None
 
 abbrev pub forwarding_problem : List RoutingRow → PlacedRegion → List Problem
 forwarding_problem rows q = option_to_list (first_some (blame q) rows)

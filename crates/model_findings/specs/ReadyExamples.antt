@@ -7,7 +7,7 @@ use Rattle.model_registers.specs.{Registers.{config, write}, ByteEnables.lanes, 
 use Rattle.model_board.specs.{Paths.Path, State.{BoardFunction, with_file}, AtReset.reset_state, Examples.{main_board, main_apertures}}
 use Rattle.model_set_up.specs.{SetUp.set_up_state, PlacedRegions.PlacedRegion}
 use Rattle.model_guests.specs.Text.{text_of_lines}
-use Rattle.model_findings.specs.{Problems.routing_problems, AuditExamples.{between, card, card_at, on_root, behind, one_card}, Lacks.{not_open, outside_apertures, prefetched_by, other_primary, routing_lacks, lacks, is_ready}, ReadyText.ready_report}
+use Rattle.model_findings.specs.{Problems.routing_problems, AuditExamples.{between, card, card_at, on_root, behind, one_card}, ReadinessIssues.{not_open, outside_apertures, prefetched_by, other_primary, routing_issues, readiness_issues, is_ready}, ReadyText.ready_report}
 
 abbrev pub left : List BoardFunction
 left = (set_up_state main_board main_apertures).functions
@@ -21,41 +21,41 @@ at_zero p n space size = record { path = p; index = n; space = space; first = 0;
 
 pub record ReadyExamples : Type 0 where
   -- set-up leaves the main board ready
-  pub set_up : lacks main_apertures left ≡ []
+  pub set_up : readiness_issues main_apertures left ≡ []
   pub ready : is_ready main_apertures left ≡ true
   -- at reset each region is closed
   pub reset :
-      lacks main_apertures (reset_state main_board).functions
+      readiness_issues main_apertures (reset_state main_board).functions
       ≡ not_open (at_zero (on_root 1) 0 io 32) ∷ not_open (at_zero (on_root 1) 1 memory 4096)
       ∷ not_open (at_zero (behind 2 0) 0 memory 0x100000) ∷ not_open (at_zero (behind 2 0) 1 io 8)
       ∷ not_open (at_zero (behind 2 1) 0 memory 0x1000000) ∷ []
   -- a card that is closed lacks that alone
   pub closed :
-      routing_lacks main_apertures (one_card (between 0xc0000000 0xc00fffff) None 0 0xd0000000)
+      routing_issues main_apertures (one_card (between 0xc0000000 0xc00fffff) None 0 0xd0000000)
       ≡ not_open (card_at (behind 2 0) 0xd0000000) ∷ []
   -- it begins before the aperture, or goes on after its end
   pub before :
-      routing_lacks main_apertures (card (on_root 1) 2 0xbff80000 ∷ [])
+      routing_issues main_apertures (card (on_root 1) 2 0xbff80000 ∷ [])
       ≡ outside_apertures (card_at (on_root 1) 0xbff80000) 0xbff80000 ∷ []
   pub after :
-      routing_lacks main_apertures (card (on_root 1) 2 0xdff80000 ∷ [])
+      routing_issues main_apertures (card (on_root 1) 2 0xdff80000 ∷ [])
       ≡ outside_apertures (card_at (on_root 1) 0xdff80000) 0xe0000000 ∷ []
   -- a card that isn't prefetchable behind a prefetchable window: no problem, and a lack
   pub routed : routing_problems (one_card None (between 0xc0000000 0xc00fffff) 2 0xc0000000) ≡ []
   pub prefetched :
-      routing_lacks main_apertures (one_card None (between 0xc0000000 0xc00fffff) 2 0xc0000000)
+      routing_issues main_apertures (one_card None (between 0xc0000000 0xc00fffff) 2 0xc0000000)
       ≡ prefetched_by (card_at (behind 2 0) 0xc0000000) (on_root 2) 0xc0000000 ∷ []
   -- the memory window goes before, as far as it goes
   pub goes_before :
-      routing_lacks main_apertures
+      routing_issues main_apertures
       (one_card (between 0xc0000000 0xc01fffff) (between 0xc0000000 0xc02fffff) 2 0xc0080000)
       ≡ []
   pub ends_short :
-      routing_lacks main_apertures
+      routing_issues main_apertures
       (one_card (between 0xc0000000 0xc00fffff) (between 0xc0000000 0xc01fffff) 2 0xc0080000)
       ≡ prefetched_by (card_at (behind 2 0) 0xc0080000) (on_root 2) 0xc0100000 ∷ []
   -- a Primary Bus Number of another bus
-  pub primary : lacks main_apertures (with_primary 7) ≡ other_primary (on_root 2) 7 0 ∷ []
+  pub primary : readiness_issues main_apertures (with_primary 7) ≡ other_primary (on_root 2) 7 0 ∷ []
   pub not_yet : is_ready main_apertures (with_primary 7) ≡ false
   -- what is said of them
   pub text_of_none : ready_report main_apertures left ≡ text_of_lines (codes "ready: ok" ∷ [])

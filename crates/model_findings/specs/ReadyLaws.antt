@@ -12,15 +12,15 @@
 use Rattle.std.specs.Prelude.{List, [], ◌∷◌, ◌++◌, ◌≡◌, ℕ, ◌≤◌, ◌<◌, IsTrue, IsFalse, ◌↔◌}
 use Rattle.lists.specs.Elements.{IsIn, Each}
 use Rattle.model_registers.specs.{Apertures.Apertures, Declarations.{Region, Endpoint}, Decoding.{opens_space, is_open, space_of, base_address}}
-use Rattle.model_board.specs.{Paths.{Path, leads_to, parent}, Board.{Board, endpoint, is_bridge}, BusNumbers.{bus_of, Enumerates}, State.BoardFunction, Routing.{RoutingRow, routing}}
+use Rattle.model_board.specs.{Paths.{Path, is_ancestor_of, parent}, Board.{Board, endpoint, is_bridge}, BusNumbers.{bus_of, Enumerates}, State.BoardFunction, Routing.{RoutingRow, routing}}
 use Rattle.model_set_up.specs.{PlacedRegions.{PlacedRegion, holds}, Reach.HasNumbers, SetUp.set_up_state, UniqueClaimant.{CanBePlaced, IsClaimed}}
-use Rattle.model_findings.specs.{OpenRegions.{region_now, regions_of, open_regions}, Orderly.IsStateOfBoard, Found.{bus_now, IsFoundOnce}, Witnesses.IsInOrder, Lacks.{is_in_apertures, is_plain, plain_regions, prefetches, Lack, primary_register, not_open, outside_apertures, prefetched_by, other_primary, lacks, is_ready, IsReady}}
+use Rattle.model_findings.specs.{OpenRegions.{region_now, regions_of, open_regions}, Orderly.IsStateOfBoard, Found.{bus_now, IsFoundOnce}, Witnesses.IsInOrder, ReadinessIssues.{is_in_apertures, is_plain, plain_regions, prefetches, ReadinessIssue, primary_register, not_open, outside_apertures, prefetched_by, other_primary, readiness_issues, is_ready, IsReady}}
 
 abbrev pub IsWithinApertures : Apertures → PlacedRegion → Type 0
 IsWithinApertures a q = (n : ℕ) → IsTrue (holds q.space n q) → IsTrue (is_in_apertures a q.space n)
 
 abbrev pub PrefetchesNone : PlacedRegion → RoutingRow → Type 0
-PrefetchesNone q r = IsTrue (leads_to r.path q.path) → (n : ℕ) → IsTrue (holds q.space n q) → IsFalse (prefetches n r)
+PrefetchesNone q r = IsTrue (is_ancestor_of r.path q.path) → (n : ℕ) → IsTrue (holds q.space n q) → IsFalse (prefetches n r)
 
 -- ---- each lack is real
 
@@ -44,7 +44,7 @@ pub record IsPrefetched (rows : List RoutingRow) (q : PlacedRegion) (bridge : Pa
   pub after : List RoutingRow
   pub rows_are : rows ≡ before ++ row ∷ after
   pub bridge_is : row.path ≡ bridge
-  pub above : IsTrue (leads_to bridge q.path)
+  pub above : IsTrue (is_ancestor_of bridge q.path)
   pub first : Each (PrefetchesNone q) before
   pub byte : IsTrue (holds q.space n q)
   pub prefetched : IsTrue (prefetches n row)
@@ -59,14 +59,14 @@ pub record HasOtherPrimary (fs : List BoardFunction) (p : Path) (held number : �
   pub number_is : number ≡ bus_now fs (parent p)
   pub other : held ≡ number → ⊥
 
-abbrev pub IsRealLack : Apertures → List BoardFunction → Lack → Type 0
+abbrev pub IsRealLack : Apertures → List BoardFunction → ReadinessIssue → Type 0
 IsRealLack a fs (not_open q) = IsClosed (routing fs) q
 IsRealLack a fs (outside_apertures q n) = IsOutside a (routing fs) q n
 IsRealLack a fs (prefetched_by q p n) = IsPrefetched (routing fs) q p n
 IsRealLack a fs (other_primary p held number) = HasOtherPrimary fs p held number
 
 abbrev pub LacksAreReal : Type 0
-LacksAreReal = (a : Apertures) (fs : List BoardFunction) → Each (IsRealLack a fs) (lacks a fs)
+LacksAreReal = (a : Apertures) (fs : List BoardFunction) → Each (IsRealLack a fs) (readiness_issues a fs)
 
 -- ---- none is left out
 
@@ -77,7 +77,7 @@ pub record LacksNothing (a : Apertures) (fs : List BoardFunction) : Type 0 where
   pub primaries : Each (λ f. IsTrue (is_bridge f.decl) → primary_register f.file ≡ bus_now fs (parent f.path)) fs
 
 abbrev pub LacksDecide : Type 0
-LacksDecide = (a : Apertures) (fs : List BoardFunction) → (lacks a fs ≡ []) ↔ LacksNothing a fs
+LacksDecide = (a : Apertures) (fs : List BoardFunction) → (readiness_issues a fs ≡ []) ↔ LacksNothing a fs
 
 abbrev pub ReadyDecides : Type 0
 ReadyDecides = (a : Apertures) (fs : List BoardFunction)

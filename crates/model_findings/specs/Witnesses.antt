@@ -7,7 +7,7 @@
 --     RoutingDecides, NumberingDecides, ProblemsDecide      no problems where and only where it is so
 use Rattle.std.specs.{Prelude.{List, [], ◌∷◌, ◌++◌, ◌≡◌, ℕ, ◌≤◌, Option, Some, IsTrue, IsFalse, ◌↔◌, ◌⊎◌}, Option.option_map}
 use Rattle.lists.specs.Elements.{IsIn, Each}
-use Rattle.model_board.specs.{Paths.{Path, leads_to}, State.BoardFunction, Cycles.{BusAddress, reached}, Routing.{RoutingRow, routing, row_forwards}}
+use Rattle.model_board.specs.{Paths.{Path, is_ancestor_of}, State.BoardFunction, Cycles.{BusAddress, reached}, Routing.{RoutingRow, routing, row_forwards}}
 use Rattle.model_set_up.specs.PlacedRegions.{PlacedRegion, holds}
 use Rattle.model_findings.specs.{OpenRegions.open_regions, Agents.{Agent, agents, answers, on_one_bus}, Orderly.IsOrderly, Found.{address_now, IsNumbered}, Problems.{Problem, not_forwarded, contended, not_found, routing_problems, numbering_problems, problems}}
 
@@ -22,8 +22,8 @@ pub record IsNotForwarded (rows : List RoutingRow) (q : PlacedRegion) (bridge : 
   pub after : List RoutingRow
   pub rows_are : rows ≡ before ++ row ∷ after
   pub bridge_is : row.path ≡ bridge
-  pub above : IsTrue (leads_to bridge q.path)
-  pub first : Each (λ r. IsTrue (leads_to r.path q.path) → ForwardsAll q r) before
+  pub above : IsTrue (is_ancestor_of bridge q.path)
+  pub first : Each (λ r. IsTrue (is_ancestor_of r.path q.path) → ForwardsAll q r) before
   pub byte : IsTrue (holds q.space n q)
   pub lost : IsFalse (row_forwards q.space n row)
   pub least : (m : ℕ) → IsTrue (holds q.space m q) → IsFalse (row_forwards q.space m row) → n ≤ m

@@ -3,7 +3,7 @@ use Rattle.std.{proofs.{Common.{◌≡◌, ℕ, suc, ◌+◌, Bool, true, false,
 use Rattle.lists.specs.Elements.{first_of_two}
 use Rattle.model_board.{specs.Paths.Path, proofs.{PathOrder.path_same, PathEnds.path_self}}
 use Rattle.model_guests.specs.Guests.{GuestNow, GuestsNow}
-use Rattle.model_handoff.specs.{Functions.{Seat, is_there, seat_from}, FunctionLaws.{path_in_seat, SeatsHold, NoSeatHolds}}
+use Rattle.model_handoff.specs.{Functions.{Assignment, is_there, seat_from}, FunctionLaws.{path_in_seat, SeatsHold, NoSeatHolds}}
 
 -- ---- the first of a list that passes a test
 
@@ -46,12 +46,12 @@ not_in p g e n = grind (arith, none_at, position_from-zero, path_self)
 
 -- ---- all guests
 
-record HoldsFrom (p : Path) (i : ℕ) (gs : GuestsNow) (s : Seat) : Type 0 where
+record HoldsFrom (p : Path) (i : ℕ) (gs : GuestsNow) (s : Assignment) : Type 0 where
   place : ℕ
   from : s.guest ≡ i + place
   holds : path_in_seat gs (record { guest = place; slot = s.slot }) ≡ Some p
 
-holds_from : (p : Path) (i : ℕ) (gs : GuestsNow) (s : Seat) → seat_from p i gs ≡ Some s → HoldsFrom p i gs s
+holds_from : (p : Path) (i : ℕ) (gs : GuestsNow) (s : Assignment) → seat_from p i gs ≡ Some s → HoldsFrom p i gs s
 holds_from p i [] s e = cc
 holds_from p i (g ∷ gs) s e = by (position (is_there p) g.paths) refl e (holds_from p (i + 1) gs s)
   where

@@ -3,7 +3,7 @@ use Rattle.std.{proofs.{Common.{◌≡◌, ◌≤◌, ◌<◌, inl, inr, ℕ, ze
 use Rattle.lists.{specs.Elements.{IsIn, EachPair, first_of_two}, proofs.{Tests.{left_true, right_true}, Members.each_in, Indices.{found_at, index_in}, FirstFound.first_some_of}}
 use Rattle.model_registers.{specs.{Registers.{block, File}, Declarations.{Region, registers_of}, Decoding.{Space, space_of, base, is_open, Hit, hit_of, Function, lone_claim, first_hit}}, proofs.HitRegions.space_same}
 use Rattle.model_guests.specs.{Slots.{Slots, slot_at, Landing, landing_in, landing_from}, Lone.LoneGuest}
-use Rattle.model_handoff.specs.{GuestRegions.{RegionNow, region_now, region_at, region_answer}, QueryLaws.{HitIsInside, InsideIsHit}}
+use Rattle.model_handoff.specs.{GuestRegions.{LiveBar, region_now, region_at, region_answer}, QueryLaws.{HitIsInside, InsideIsHit}}
 
 -- ---- a hit in a function
 
@@ -77,14 +77,14 @@ hit_is_inside g lawful space a l e =
 
 -- ---- an address of an open region
 
-pub record IsTold (g : LoneGuest) (n m : ℕ) (r : RegionNow) : Type 0 where
+pub record IsTold (g : LoneGuest) (n m : ℕ) (r : LiveBar) : Type 0 where
   pub f : Function
   pub region : Region
   pub there : slot_at g.slots n ≡ Some f
   pub at : IsIn region f.decl.regions
   pub is : region_now f.file region ≡ r
 
-told_there : (g : LoneGuest) (n m : ℕ) (r : RegionNow) → region_answer g n m ≡ Ok r → IsTold g n m r
+told_there : (g : LoneGuest) (n m : ℕ) (r : LiveBar) → region_answer g n m ≡ Ok r → IsTold g n m r
 told_there g n m r = grind (arith, found_at, index_in)
 
 some_first : {A : Type 0} (o p : Option A) → is_some o ≡ true → is_some (first_of_two o p) ≡ true

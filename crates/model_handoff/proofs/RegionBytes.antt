@@ -2,10 +2,10 @@
 use Rattle.std.proofs.{Common.{◌≡◌, ℕ, ◌-◌, ◌<◌, true, Some, Ok, arith}, lemmas.Bool.Decides.nat_tests}
 use Rattle.model_registers.specs.Decoding.{Space, io, memory}
 use Rattle.model_guests.specs.{Accesses.{Op, in_region, Target, port, address}, Slots.{Landing, landing, landing_from}, Lone.{LoneGuest, at_target, reply_at, after_access_at}, DeviceEvents.DeviceByte}
-use Rattle.model_handoff.{specs.{GuestRegions.{RegionNow, region_answer}, QueryLaws.HasLawfulFunctions, RegionBytes.{byte_opening, byte_landing, byte_reply, after_byte, IsByteThere, BytesByAddress}}, proofs.Inside.hit_is_inside}
+use Rattle.model_handoff.{specs.{GuestRegions.{LiveBar, region_answer}, QueryLaws.HasLawfulFunctions, RegionBytes.{byte_opening, byte_landing, byte_reply, after_byte, IsByteThere, BytesByAddress}}, proofs.Inside.hit_is_inside}
 
 -- a region that is told, and that is open, opens to each of its bytes
-opens_there : (g : LoneGuest) (slot n off : ℕ) (r : RegionNow) → region_answer g slot n ≡ Ok r → r.is_open ≡ true → off < r.size
+opens_there : (g : LoneGuest) (slot n off : ℕ) (r : LiveBar) → region_answer g slot n ≡ Ok r → r.is_open ≡ true → off < r.size
     → byte_opening g (record { slot = slot; part = in_region n; offset = off }) ≡ Ok true
 opens_there g slot n off r told opened inside = grind (arith, nat_tests)
 

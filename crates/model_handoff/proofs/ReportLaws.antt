@@ -1,10 +1,10 @@
 -- A window is closed just where it has no items; what is counted and named in what set-up finds is so on the board.
 use Rattle.std.proofs.{lemmas.{Grind.common_steps, List.Sums.sum_by-cons}, Common.{◌≡◌, ℕ, ◌+◌, ◌-◌, ◌*◌, ◌<◌, ◌≤◌, List, [], ◌∷◌, le-ltb, lt-ltb, ne_eqb, lit<, refl, inl, arith}}
 use Rattle.lists.specs.Elements.{Each}
-use Rattle.model_set_up.{specs.{Pools.{Pool, io_pool, mem_pool, pref_pool, unit_of}, Placement.{Item, need, items_on, bus_first, end_from, in_order}, SetUp.window_of}, proofs.{Items.{IsPlaceable, some_end, end_below_need, items_placeable}, Packing.unit_positive, FoundBoards.found_is_bridge}}
+use Rattle.model_set_up.{specs.{Pools.{Pool, io_pool, mem_pool, pref_pool, unit_of}, Placement.{PlacementItem, need, items_on, bus_first, end_from, in_order}, SetUp.window_of}, proofs.{Items.{IsPlaceable, some_end, end_below_need, items_placeable}, Packing.unit_positive, FoundBoards.found_is_bridge}}
 use Rattle.model_handoff.specs.ReportLaws.{is_closed, is_empty, ClosedWithoutItems, CountsOfBoard, IdentitiesOfBoard, PinLines}
 
-without_items : (unit closed first : ℕ) (is : List Item) → 0 < unit → 0 < closed * unit → Each (IsPlaceable unit) is
+without_items : (unit closed first : ℕ) (is : List PlacementItem) → 0 < unit → 0 < closed * unit → Each (IsPlaceable unit) is
     → is_closed (window_of unit closed first is) ≡ is_empty is
 without_items unit closed first [] some used h = lt-ltb 0 (closed * unit) used
 without_items unit closed first (i ∷ is) some used h =

@@ -7,14 +7,14 @@ use Rattle.std.specs.Prelude.{ℕ, Bool, List, [], Option, option_map, slice_get
 use Rattle.model_registers.specs.Decoding.{io, memory, is_open}
 use Rattle.model_board.specs.{Paths.Path, State.{BoardFunction, State}}
 use Rattle.model_findings.specs.Found.{path_reached}
-use Rattle.model_handoff.specs.Functions.{FunctionNow, function_now, is_there}
+use Rattle.model_handoff.specs.Functions.{LiveFunction, function_now, is_there}
 
 abbrev pub is_found : List BoardFunction → Path → Bool
 is_found fs p = is_there p (path_reached fs p)
 
 -- no guest has it
 pub record DrivenFunctionNow : Type 0 where
-  pub function : FunctionNow
+  pub function : LiveFunction
   pub is_found : Bool
   pub opens_io : Bool
   pub opens_memory : Bool

@@ -9,7 +9,7 @@
 use Rattle.std.specs.Prelude.{◌≡◌, List, [], ◌∷◌, ℕ, ◌++◌, if◌then◌else◌, nat_lt, ◌==◌, ◌||◌, Option, Some, None, flat_map, map, not, count_by, codes}
 use Rattle.model_registers.specs.BridgeTable.{Window}
 use Rattle.model_board.specs.{Paths.Path, Board.{Decl, endpoint, bridge, is_bridge}, Lawful.HasLawfulDecls}
-use Rattle.model_set_up.specs.{FunctionTable.{BusRange, TableRow, sized_table}, SetUpWrites.{Writes, to_endpoint, to_bridge, Setting, Plan, planned}}
+use Rattle.model_set_up.specs.{FunctionTable.{BusRange, TableRow, sized_table}, SetUpWrites.{RegisterValues, to_endpoint, to_bridge, FunctionProgram, Plan, planned}}
 use Rattle.model_guests.specs.{Text.{Text, text_of_lines, ended}, World.{Guest, World}}
 use Rattle.model_handoff.specs.Report.{identity_text, range_text, head_text, base_line, pin_line, addresses_line, guest_lines, counts_text}
 
@@ -38,7 +38,7 @@ abbrev pub buses_text : ℕ → Option BusRange → Text
 buses_text bus None = []
 buses_text bus (Some behind) = range_text bus behind.first behind.last
 
-abbrev pub base_lines : Writes → List Text
+abbrev pub base_lines : RegisterValues → List Text
 base_lines (to_endpoint command bases) = map base_line bases
 base_lines (to_bridge w) = []
 
@@ -50,29 +50,29 @@ known_pin_lines p pin = if pin == 0 || nat_lt 4 pin then [] else pin_line p pin 
 abbrev pub named_window_lines : Text → Window → List Text
 named_window_lines name w = if nat_lt w.last w.first then [] else addresses_line name w.first w.last ∷ []
 
-abbrev pub written_windows : Writes → List Text
+abbrev pub written_windows : RegisterValues → List Text
 written_windows (to_endpoint command bases) = []
 written_windows (to_bridge w) =
     named_window_lines (codes "io") w.io ++ named_window_lines (codes "mem") w.mem
     ++ named_window_lines (codes "pref") w.pref
 
 -- what ends an endpoint's first line, and the lines after it; the same of a bridge
-abbrev pub endpoint_text : Path → ℕ → Writes → Text
+abbrev pub endpoint_text : Path → ℕ → RegisterValues → Text
 endpoint_text p pin w = codes "\n" ++ text_of_lines (base_lines w) ++ text_of_lines (known_pin_lines p pin)
 
-abbrev pub windows_text : Writes → Text
+abbrev pub windows_text : RegisterValues → Text
 windows_text w = codes "\n" ++ text_of_lines (written_windows w)
 
-abbrev pub decl_text : ℕ → Option BusRange → Path → Decl → Writes → Text
+abbrev pub decl_text : ℕ → Option BusRange → Path → Decl → RegisterValues → Text
 decl_text bus behind p (endpoint d) w =
     head_text bus p (codes " endpoint ") (identity_text d.vendor d.device) ++ endpoint_text p d.pin w
 decl_text bus behind p (bridge d) w =
     head_text bus p (codes " bridge ") (identity_text d.vendor d.device) ++ (buses_text bus behind ++ windows_text w)
 
-abbrev pub function_text : TableRow → Writes → Text
+abbrev pub function_text : TableRow → RegisterValues → Text
 function_text r w = decl_text r.bus r.behind r.path r.decl w
 
-abbrev pub functions_text : List TableRow → List Setting → Text
+abbrev pub functions_text : List TableRow → List FunctionProgram → Text
 functions_text [] ss = []
 functions_text (r ∷ rs) [] = []
 functions_text (r ∷ rs) (s ∷ ss) = function_text r s.writes ++ functions_text rs ss

@@ -8,7 +8,7 @@ use Rattle.model_registers.specs.Declarations.{io_kind, mem32, mem64}
 use Rattle.model_board.specs.{Windows.Window, Cycles.BusAddress, Routing.{regions, windows}, State.State, Examples.{part, main_board, main_apertures}}
 use Rattle.model_set_up.specs.SetUp.{set_up_state}
 use Rattle.model_guests.specs.{AgreedBoard.state_over, Examples.{main_world, on_bus_0, behind}, Guests.{GuestsNow, guests_at_first, Move, after_move}}
-use Rattle.model_handoff.specs.Functions.{Identity, FunctionNow, function_nth, slot_answer}
+use Rattle.model_handoff.specs.Functions.{Identity, LiveFunction, function_nth, slot_answer}
 
 abbrev pub moved : Move
 moved = record { from = codes "a"; slot = 1; to = codes "b"; target = 3 }
@@ -30,7 +30,7 @@ number_told bus d = record { bus = bus; part = part d 0 }
 abbrev pub window_told : ℕ → ℕ → Option Window
 window_told first last = Some (record { first = first; last = last })
 
-abbrev pub first_told : FunctionNow
+abbrev pub first_told : LiveFunction
 first_told = record {
   path = on_bus_0 1;
   at = number_told 0 1;
@@ -41,7 +41,7 @@ first_told = record {
   seat = Some (record { guest = 0; slot = 0 });
 }
 
-abbrev pub bridge_told : FunctionNow
+abbrev pub bridge_told : LiveFunction
 bridge_told = record {
   path = on_bus_0 2;
   at = number_told 0 2;
@@ -51,7 +51,7 @@ bridge_told = record {
   seat = None;
 }
 
-abbrev pub third_told : FunctionNow
+abbrev pub third_told : LiveFunction
 third_told = record {
   path = behind 2 1;
   at = number_told 1 1;

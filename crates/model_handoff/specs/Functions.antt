@@ -1,8 +1,8 @@
 -- What is told of a function of the board, as the registers and the guests are now: PCI Local Bus 3.0, chapter 6;
 -- PCI-to-PCI Bridge Architecture 1.2, chapter 3.
 --     Identity, identity_now      who made a function and what it is, by its identity registers
---     Seat, seat_of gs p      the guest, by its index, and the slot that hold the function at a path
---     FunctionNow, function_now s gs      a function with its number, its identity, its regions or windows, and its seat
+--     Assignment, seat_of gs p      the guest, by its index, and the slot that hold the function at a path
+--     LiveFunction, function_now s gs      a function with its number, its identity, its regions or windows, and its seat
 --     function_nth s gs i      the function at an index, in path order
 --     slot_answer s gs name n      the function in a slot of a guest, or the number of a refusal
 use Rattle.std.specs.{Prelude.{[], ◌∷◌, ℕ, ◌+◌, Bool, false, if◌then◌else◌, nat_le, Option, None, Result, Err, find, position, option_map, option_and_then, slice_get}, Option.{option_map_or, ok_or}}
@@ -37,35 +37,35 @@ identity_now d file = record {
 
 -- ---- seats
 
-pub record Seat : Type 0 where
+pub record Assignment : Type 0 where
   pub guest : ℕ
   pub slot : ℕ
 
 abbrev pub is_there : Path → Option Path → Bool
 is_there p q = option_map_or (λ (x : Path). path_eq x p) q false
 
-abbrev pub seat_in : Path → ℕ → GuestNow → Option Seat
+abbrev pub seat_in : Path → ℕ → GuestNow → Option Assignment
 seat_in p i g = option_map (λ (n : ℕ). record { guest = i; slot = n }) (position (is_there p) g.paths)
 
 -- i is the index of the first guest of the list
-abbrev pub seat_from : Path → ℕ → GuestsNow → Option Seat
+abbrev pub seat_from : Path → ℕ → GuestsNow → Option Assignment
 seat_from p i [] = None
 seat_from p i (g ∷ gs) = first_of_two (seat_in p i g) (seat_from p (i + 1) gs)
 
-abbrev pub seat_of : GuestsNow → Path → Option Seat
+abbrev pub seat_of : GuestsNow → Path → Option Assignment
 seat_of gs p = seat_from p 0 gs
 
 -- ---- functions
 
 -- the ranges are the regions of an endpoint, or the windows of a bridge, where the board's registers have them
-pub record FunctionNow : Type 0 where
+pub record LiveFunction : Type 0 where
   pub path : Path
   pub at : BusAddress
   pub identity : Identity
   pub ranges : Ranges
-  pub seat : Option Seat
+  pub seat : Option Assignment
 
-abbrev pub function_now : State → GuestsNow → BoardFunction → FunctionNow
+abbrev pub function_now : State → GuestsNow → BoardFunction → LiveFunction
 function_now s gs f = record {
   path = f.path;
   at = address_now s.functions f.path;
@@ -74,13 +74,13 @@ function_now s gs f = record {
   seat = seat_of gs f.path;
 }
 
-abbrev pub function_nth : State → GuestsNow → ℕ → Option FunctionNow
+abbrev pub function_nth : State → GuestsNow → ℕ → Option LiveFunction
 function_nth s gs i = option_map (function_now s gs) (slice_get s.functions i)
 
-abbrev pub function_at : State → GuestsNow → Path → Option FunctionNow
+abbrev pub function_at : State → GuestsNow → Path → Option LiveFunction
 function_at s gs p = option_map (function_now s gs) (find (λ (f : BoardFunction). path_eq f.path p) s.functions)
 
 -- the checks in their order, as for a raise: the slot's number, the slot's function
-abbrev pub slot_answer : State → GuestsNow → Text → ℕ → Result FunctionNow ℕ
+abbrev pub slot_answer : State → GuestsNow → Text → ℕ → Result LiveFunction ℕ
 slot_answer s gs name n =
     if nat_le 32 n then Err 303 else ok_or (option_and_then (function_at s gs) (path_in gs name n)) 601

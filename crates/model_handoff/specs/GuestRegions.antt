@@ -1,6 +1,6 @@
 -- Where the regions of a guest's functions stand now, in the guest's own view: PCI Local Bus 3.0, chapter 6.2.5.
 --     is_prefetchable      a kind of region that is prefetchable memory
---     RegionNow, region_now      a region by its registers and Command as they stand
+--     LiveBar, region_now      a region by its registers and Command as they stand
 --     region_at f n      the region of a function that begins at base address register n
 --     region_answer g slot n      where that region of the function in a slot stands, or the number of a refusal
 use Rattle.std.specs.{Prelude.{ℕ, Bool, false, ◌==◌, if◌then◌else◌, nat_le, Option, Result, Err, find, option_map}, Option.{option_map_or, ok_or}}
@@ -13,14 +13,14 @@ is_prefetchable (mem32 pref) = pref
 is_prefetchable (mem64 pref) = pref
 
 -- it takes `size` addresses of its space from the first one on, and is decoded there where Command opens the space
-pub record RegionNow : Type 0 where
+pub record LiveBar : Type 0 where
   pub space : Space
   pub first : ℕ
   pub size : ℕ
   pub prefetchable : Bool
   pub is_open : Bool
 
-abbrev pub region_now : File → Region → RegionNow
+abbrev pub region_now : File → Region → LiveBar
 region_now file r = record {
   space = space_of r.kind;
   first = base file r.index r.kind;
@@ -33,11 +33,11 @@ abbrev pub region_at : Function → ℕ → Option Region
 region_at f n = find (λ (r : Region). r.index == n) f.decl.regions
 
 -- the last check: a register at which a region begins
-abbrev pub region_of : Function → ℕ → Result RegionNow ℕ
+abbrev pub region_of : Function → ℕ → Result LiveBar ℕ
 region_of f n = ok_or (option_map (region_now f.file) (region_at f n)) 303
 
 -- the checks in their order, as for a raise: the slot's number, the slot's function, its region
-abbrev pub region_answer : LoneGuest → ℕ → ℕ → Result RegionNow ℕ
+abbrev pub region_answer : LoneGuest → ℕ → ℕ → Result LiveBar ℕ
 region_answer g slot n =
     if nat_le 32 slot then Err 303
     else option_map_or (λ (f : Function). region_of f n) (slot_at g.slots slot) (Err 601)

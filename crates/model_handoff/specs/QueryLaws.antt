@@ -6,7 +6,7 @@
 use Rattle.std.specs.Prelude.{◌≡◌, ◌≤◌, ◌<◌, ℕ, ◌+◌, ◌-◌, true, false, is_some, Some, None, Ok}
 use Rattle.model_registers.specs.{Registers.{block, all_ones}, Declarations.HasLawfulRegions, Decoding.{Space, Function}}
 use Rattle.model_guests.specs.{Accesses.{Target, Op, reads, writes, access, answered}, Slots.{Slots, slot_at, Landing, landing_from, fault_of, perform, effect}, Lone.{LoneGuest, answer, after_event}}
-use Rattle.model_handoff.specs.{GuestRegions.{RegionNow, region_answer}, Located.{located, is_latch_access}}
+use Rattle.model_handoff.specs.{GuestRegions.{LiveBar, region_answer}, Located.{located, is_latch_access}}
 
 -- all but the one access that is the guest's own latch
 abbrev pub AccessLands : Type 0
@@ -30,7 +30,7 @@ HasLawfulFunctions slots = (n : ℕ) (f : Function) → slot_at slots n ≡ Some
 
 pub record IsInside (g : LoneGuest) (space : Space) (a : ℕ) (l : Landing) : Type 0 where
   pub register : ℕ
-  pub region : RegionNow
+  pub region : LiveBar
   pub told : region_answer g l.slot register ≡ Ok region
   pub opened : region.is_open ≡ true
   pub space_is : region.space ≡ space
@@ -43,5 +43,5 @@ HitIsInside = (g : LoneGuest) → HasLawfulFunctions g.slots → (space : Space)
     → landing_from 0 space a g.slots ≡ Some l → IsInside g space a l
 
 abbrev pub InsideIsHit : Type 0
-InsideIsHit = (g : LoneGuest) (slot register : ℕ) (r : RegionNow) → region_answer g slot register ≡ Ok r → r.is_open ≡ true
+InsideIsHit = (g : LoneGuest) (slot register : ℕ) (r : LiveBar) → region_answer g slot register ≡ Ok r → r.is_open ≡ true
     → (a : ℕ) → r.first ≤ a → a < r.first + r.size → is_some (landing_from 0 r.space a g.slots) ≡ true

@@ -11,7 +11,7 @@
 use Rattle.std.specs.Prelude.{List, [], ◌∷◌, ℕ, ◌+◌, ◌-◌, ◌++◌, true, false, if◌then◌else◌, ◌==◌, flat_map, map, not, count_by, codes, decimal}
 use Rattle.model_registers.specs.{Declarations.{Kind, io_kind, mem32, mem64, Endpoint, Bridge}, EndpointTable.BaseAddress, Apertures.Apertures}
 use Rattle.model_board.specs.{Paths.{Path, last_part}, Board.{endpoint, bridge, is_bridge, Row, Board}, BusNumbers.{bus_of, secondary, subordinate}, Interrupts.{root_device, root_pin}}
-use Rattle.model_set_up.specs.{Pools.{Pool, io_pool, mem_pool, pref_pool, unit_of}, Placement.{Item, need, items_on, bus_first}, SetUpWrites.placed_base}
+use Rattle.model_set_up.specs.{Pools.{Pool, io_pool, mem_pool, pref_pool, unit_of}, Placement.{PlacementItem, need, items_on, bus_first}, SetUpWrites.placed_base}
 use Rattle.model_guests.specs.{Text.{Text, text_of_lines}, World.{Guest, World}, PathTexts.{hexadecimal, path_text}, Replies.hex_digits}
 
 -- ---- fields
@@ -66,7 +66,7 @@ abbrev pub addresses_line : Text → ℕ → ℕ → Text
 addresses_line name first last = codes "  " ++ name ++ codes " " ++ hexadecimal first ++ codes " " ++ hexadecimal last
 
 -- the window of a bus that begins at an address: it extends over what its items need
-abbrev pub items_lines : Text → (unit first : ℕ) → List Item → List Text
+abbrev pub items_lines : Text → (unit first : ℕ) → List PlacementItem → List Text
 items_lines name unit first [] = []
 items_lines name unit first (i ∷ is) = addresses_line name first (first + need unit (i ∷ is) - 1) ∷ []
 

@@ -7,7 +7,7 @@
 use Rattle.std.specs.Prelude.{◌≡◌, Bool, true, false, nat_lt, ◌==◌, if◌then◌else◌, not, count_by, List, [], ◌∷◌}
 use Rattle.model_registers.specs.{Declarations.Endpoint, DeclarationRules.IsLawfulEndpoint, Apertures.Apertures, BridgeTable.Window}
 use Rattle.model_board.specs.{Paths.Path, Board.{Decl, Board, is_bridge}, Lawful.HasLawfulDecls}
-use Rattle.model_set_up.specs.{Pools.{io_pool, mem_pool, pref_pool}, Placement.{Item, items_on}, SetUp.windows_of, FunctionTable.{found_decl, sized_table}}
+use Rattle.model_set_up.specs.{Pools.{io_pool, mem_pool, pref_pool}, Placement.{PlacementItem, items_on}, SetUp.windows_of, FunctionTable.{found_decl, sized_table}}
 use Rattle.model_guests.specs.World.{World}
 use Rattle.model_handoff.specs.{Report.{counts_text, pin_line, report}, FoundReport.{set_up_board, count_line, identity_of, known_pin_lines, found_report}}
 
@@ -17,7 +17,7 @@ ReportOfBoard = (w : World) → HasLawfulDecls w.board → found_report (set_up_
 abbrev pub is_closed : Window → Bool
 is_closed w = nat_lt w.last w.first
 
-abbrev pub is_empty : List Item → Bool
+abbrev pub is_empty : List PlacementItem → Bool
 is_empty [] = true
 is_empty (i ∷ is) = false
 

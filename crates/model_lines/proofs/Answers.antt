@@ -5,7 +5,7 @@ use Rattle.model_registers.specs.Decoding.{opens_space}
 use Rattle.model_board.{specs.{Claims.{Claim, first_claim}, Paths.path_eq, Routing.{RoutingRow, row_of, routing}}, proofs.PathEnds.path_self}
 use Rattle.model_set_up.{specs.PlacedRegions.{PlacedRegion, claim_in}, proofs.Holders.{holds_is, holder_first}}
 use Rattle.model_findings.{specs.{OpenRegions.{regions_of, open_of, open_regions}, Orderly.HasClaimsOfRegions, ReadyLaws.LacksNothing}, proofs.{Claims.orderly_claims, Witnesses.problems_decide, Lacks.lacking_nothing}}
-use Rattle.model_lines.{specs.{Why.{Told, is_answer, told}, WhyLaws.{claim_there, IsTrueTold, OrderlyAnswersAlone, ReadyTellsNothing}}, proofs.Why.told_true}
+use Rattle.model_lines.{specs.{Why.{UnansweredRegion, is_answer, told}, WhyLaws.{claim_there, IsTrueTold, OrderlyAnswersAlone, ReadyTellsNothing}}, proofs.Why.told_true}
 
 -- the region of the first claim is the answering one
 answering : (n : ℕ) (q : PlacedRegion) (o : Option Claim) → o ≡ Some (claim_there n q) → is_answer o q ≡ true
@@ -17,7 +17,7 @@ orderly_answers_alone fs state orderly space n = each_from (λ t. t.causes ≡ [
     own : HasClaimsOfRegions fs
     own = orderly_claims fs state orderly
 
-    alone : (t : Told) → IsTrueTold fs space n t → t.causes ≡ [] → ⊥
+    alone : (t : UnansweredRegion) → IsTrueTold fs space n t → t.causes ≡ [] → ⊥
     alone t is e = grind (arith, own, from_option, answering)
 
 pub ready_tells_nothing : ReadyTellsNothing
@@ -27,9 +27,9 @@ ready_tells_nothing a fs state ready space n = no_elements (told fs space n) (λ
     own = orderly_claims fs state ((problems_decide fs).0 ready.no_problems).routes
 
     nothing : LacksNothing a fs
-    nothing = lacking_nothing a fs ready.no_lacks
+    nothing = lacking_nothing a fs ready.no_issues
 
-    answers : (t : Told) → IsTrueTold fs space n t → ⊥
+    answers : (t : UnansweredRegion) → IsTrueTold fs space n t → ⊥
     answers t is =
         let row : IsIn (row_of is.function) (routing fs) = in_map row_of is.function fs is.there in
         let opened : opens_space (row_of is.function).command t.region.space ≡ true =

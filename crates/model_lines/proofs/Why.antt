@@ -2,10 +2,10 @@
 use Rattle.std.{proofs.{Common.{◌≡◌, ℕ, ◌-◌, ◌⊎◌, inl, inr, Bool, true, false, ◌&&◌, not, cond, List, [], ◌∷◌, ◌++◌, Option, Some, None, refl, sym, ap, ◌∙◌, subst, arith}, lemmas.{List.{reverse-append, reverse-reverse}, Bool.{Decides.nat_tests, and_from, not-true, not_from_false, or_parts}}}, specs.{Prelude.{map, filter, flat_map, reverse, slice_get}, Option.option_to_list}}
 use Rattle.lists.{specs.Elements.{Each, IsIn}, proofs.{Members.{each_from, in_front, in_back, front_or_back, in_map, from_map, in_filter, from_filter, in_flat_map, from_flat_map, all_from, from_option}, Indices.index_in}}
 use Rattle.model_registers.specs.{Declarations.Bridge, Decoding.{Space, io, memory, opens_space, is_open, command_word, Hit, hit_at}, EndpointTable.BaseAddress, Registers.File}
-use Rattle.model_board.{specs.{Board.{Decl, endpoint, bridge}, Paths.{Path, leads_to}, State.BoardFunction, Windows.{is_in, mem_window, pref_window, is_in_window, forwards}, Claims.{Claim, claim_at, is_forwarded, claims, first_claim}, Routing.{Ranges, regions, windows, RoutingRow, ranges_of, row_of, routing, row_forwards, is_routed, row_claims}}, proofs.Routing.{forwarded_by_routing, claims_by_routing, first_of_claims}}
+use Rattle.model_board.{specs.{Board.{Decl, endpoint, bridge}, Paths.{Path, is_ancestor_of}, State.BoardFunction, Windows.{is_in, mem_window, pref_window, is_in_window, forwards}, Claims.{Claim, claim_at, is_forwarded, claims, first_claim}, Routing.{Ranges, regions, windows, RoutingRow, ranges_of, row_of, routing, row_forwards, is_routed, row_claims}}, proofs.Routing.{forwarded_by_routing, claims_by_routing, first_of_claims}}
 use Rattle.model_set_up.specs.PlacedRegions.{PlacedRegion, holds}
 use Rattle.model_findings.{specs.{OpenRegions.{region_now, regions_of}, Agents.{bridge_agent, answers}}, proofs.Answering.bridge_answers}
-use Rattle.model_lines.specs.{Why.{windows_now, hindrance, Cause, closed_by, stopped_at, closing, stop, stops, causes_of, Told, is_answer, holders, told_of, told, is_closed, forwarder, forwarders}, WhyLaws.{IsAnswering, IsForwarding, LiesOutside, IsTrueHindrance, claim_there, IsTrueCause, IsTrueTold, AddressesExplained}}
+use Rattle.model_lines.specs.{Why.{windows_now, hindrance, Cause, closed_by, stopped_at, closing, stop, stops, causes_of, UnansweredRegion, is_answer, holders, told_of, told, is_closed, forwarder, forwarders}, WhyLaws.{IsAnswering, IsForwarding, LiesOutside, IsTrueHindrance, claim_there, IsTrueCause, IsTrueTold, AddressesExplained}}
 
 -- ---- an open region that is forwarded to has a claim
 
@@ -69,10 +69,10 @@ module _ (fs : List BoardFunction) (space : Space) (n : ℕ) where
   abbrev down : BoardFunction → List Cause
   down f = stops fs space n f.path ++ closing space f
 
-  bridge_told : (f g : BoardFunction) → IsIn g fs → leads_to g.path f.path ≡ true → forwards space n g ≡ false → IsIn (stopped_at g.path (hindrance space g)) (causes_of fs space n f)
+  bridge_told : (f g : BoardFunction) → IsIn g fs → is_ancestor_of g.path f.path ≡ true → forwards space n g ≡ false → IsIn (stopped_at g.path (hindrance space g)) (causes_of fs space n f)
   bridge_told f g m over stopped =
       let c = stopped_at g.path (hindrance space g) in
-      let told : stop space n f.path g ≡ Some c = stops_if c (leads_to g.path f.path) (forwards space n g) over stopped in
+      let told : stop space n f.path g ≡ Some c = stops_if c (is_ancestor_of g.path f.path) (forwards space n g) over stopped in
       in_reverse c (down f) (in_front c (stops fs space n f.path) (closing space f)
       (in_flat_map (λ (h : BoardFunction). option_to_list (stop space n f.path h)) g c fs m (subst (λ (o : Option Cause). IsIn c (option_to_list o)) (sym told) (inl refl))))
 
@@ -105,13 +105,13 @@ module _ (fs : List BoardFunction) (space : Space) (n : ℕ) where
 
   -- ---- what is told
 
-  pub told_true : (t : Told) → IsIn t (told fs space n) → IsTrueTold fs space n t
+  pub told_true : (t : UnansweredRegion) → IsIn t (told fs space n) → IsTrueTold fs space n t
   told_true t m = grind (arith, from_flat_map, nat_tests, closed_here, causes_true, from_filter, not-true, command_told, bridge_told, has_claim, opened, all_pass, and_parts, from_map)
 
-  complete : (f : BoardFunction) → IsIn f fs → (q : PlacedRegion) → IsIn q (regions_of (row_of f)) → holds space n q ≡ true → (is_answer (first_claim fs space n) q ≡ true) ⊎ ((t : Told) × IsIn t (told fs space n) × (t.region ≡ q))
+  complete : (f : BoardFunction) → IsIn f fs → (q : PlacedRegion) → IsIn q (regions_of (row_of f)) → holds space n q ≡ true → (is_answer (first_claim fs space n) q ≡ true) ⊎ ((t : UnansweredRegion) × IsIn t (told fs space n) × (t.region ≡ q))
   complete f m q k h = by (is_answer (first_claim fs space n) q) refl
     where
-      by : (u : Bool) → is_answer (first_claim fs space n) q ≡ u → (is_answer (first_claim fs space n) q ≡ true) ⊎ ((t : Told) × IsIn t (told fs space n) × (t.region ≡ q))
+      by : (u : Bool) → is_answer (first_claim fs space n) q ≡ u → (is_answer (first_claim fs space n) q ≡ true) ⊎ ((t : UnansweredRegion) × IsIn t (told fs space n) × (t.region ≡ q))
       by true e = inl e
       by false e = inr (
         record { region = q; causes = causes_of fs space n f },

@@ -1,6 +1,6 @@
 -- The lines of a session that ask something of the host: `host audit`, `host ready` and `host guests`, and why something
 -- finds what it finds, `host why mem ADDR`, `host why io PORT` and `host why cfg BB:DD.F`.
---     WhyAsked      an address, a port or a number that is asked about
+--     ExplainTarget      an address, a port or a number that is asked about
 --     HostRequest, request line      what a line asks, if it is of such a form
 --     why_written s a      what is told of why
 --     RequestExamples      what some lines ask
@@ -10,13 +10,13 @@ use Rattle.model_board.specs.{Cycles.BusAddress, State.State}
 use Rattle.model_guests.specs.{Text.{Text, words}, Numbers.{below, number_of}, Grammar.{on_word, bus_address, is_long}}
 use Rattle.model_lines.specs.{WhyText.{why_text, why_number_text}, WhyPorts.why_port_text}
 
-pub data WhyAsked : Type 0 where
-  of_address : ℕ → WhyAsked
-  of_port : ℕ → WhyAsked
-  of_function : BusAddress → WhyAsked
+pub data ExplainTarget : Type 0 where
+  of_address : ℕ → ExplainTarget
+  of_port : ℕ → ExplainTarget
+  of_function : BusAddress → ExplainTarget
 
 -- mem ADDR, io PORT with a port of 32 bits, cfg BB:DD.F
-abbrev pub why_place : Text → Text → Option WhyAsked
+abbrev pub why_place : Text → Text → Option ExplainTarget
 why_place space at =
     if bytes_eq space (codes "mem") then option_map of_address (number_of at)
     else (if bytes_eq space (codes "io") then option_map of_port (below (2 ^ 32) (number_of at))
@@ -26,7 +26,7 @@ pub data HostRequest : Type 0 where
   for_audit : HostRequest
   for_ready : HostRequest
   for_guests : HostRequest
-  for_why : WhyAsked → HostRequest
+  for_why : ExplainTarget → HostRequest
 
 abbrev pub request_of_word : Text → Option HostRequest
 request_of_word w =
@@ -47,7 +47,7 @@ request_in (w ∷ ws) = on_word w (codes "host") (request_of ws)
 abbrev pub request : Text → Option HostRequest
 request line = if is_long line then None else request_in (words line)
 
-abbrev pub why_written : State → WhyAsked → Text
+abbrev pub why_written : State → ExplainTarget → Text
 why_written s (of_address n) = why_text s.functions memory n
 why_written s (of_port n) = why_port_text s n
 why_written s (of_function at) = why_number_text s.functions at

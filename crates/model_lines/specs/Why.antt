@@ -1,17 +1,17 @@
 -- Why an address finds what it finds, or nobody, in any register state: PCI Local Bus 3.0, chapter 6.2.5; PCI-to-PCI
 -- Bridge Architecture 1.2, chapters 3.2.5 and 4.
 --     NamedWindow, windows_now      the windows that a bridge has for a space, each with its addresses or shut
---     Hindrance, hindrance      what keeps a bridge from forwarding
+--     BlockReason, hindrance      what keeps a bridge from forwarding
 --     Cause      a region is closed, or is behind a bridge that doesn't forward
 --     closing, stops, causes_of      its Command, all such bridges, and both: the causes for the regions of a function
---     Told, told fs space n      each region that holds an address, but for the one that answers, with all its causes
+--     UnansweredRegion, told fs space n      each region that holds an address, but for the one that answers, with all its causes
 --     is_as_at_reset      one that was never placed, so far as registers tell
 --     apart, at_reset      those that aren't as at reset, and how many are
 --     Forwarder, forwarders fs space n      each bridge that forwards an address to the bus behind it, down to where its way ends
 --     Why, why fs space n      who answers, what forwards it, what is told of regions apart, and how many are as at reset
 use Rattle.std.specs.{Prelude.{List, [], ◌∷◌, ◌++◌, ℕ, Bool, true, false, ◌&&◌, ◌==◌, not, if◌then◌else◌, Option, Some, None, map, filter, count_by, flat_map, reverse}, Option.option_to_list}
 use Rattle.model_registers.specs.{Registers.File, Declarations.{Bridge, IoDecode, no_io, io16, io32, PrefDecode, no_pref, pref32, pref64}, Decoding.{Space, io, memory, command_word, is_open}}
-use Rattle.model_board.specs.{Paths.{Path, path_eq, leads_to}, Board.{endpoint, bridge}, State.BoardFunction, Windows.{Window, io_window, mem_window, pref_window, forwards}, Claims.{Claim, is_forwarded, first_claim}, Cycles.secondary_register, Routing.row_of}
+use Rattle.model_board.specs.{Paths.{Path, path_eq, is_ancestor_of}, Board.{endpoint, bridge}, State.BoardFunction, Windows.{Window, io_window, mem_window, pref_window, forwards}, Claims.{Claim, is_forwarded, first_claim}, Cycles.secondary_register, Routing.row_of}
 use Rattle.model_set_up.specs.PlacedRegions.{PlacedRegion, holds}
 use Rattle.model_findings.specs.OpenRegions.{regions_of}
 
@@ -47,13 +47,13 @@ windows_now d file memory = named for_memory (mem_window file) ∷ pref_windows 
 
 -- ---- what keeps a region from answering
 
-pub data Hindrance : Type 0 where
+pub data BlockReason : Type 0 where
   -- Command doesn't open the space
-  closes : ℕ → Hindrance
+  closes : ℕ → BlockReason
   -- no window of the space holds the address
-  misses : List NamedWindow → Hindrance
+  misses : List NamedWindow → BlockReason
 
-abbrev pub hindrance : Space → BoardFunction → Hindrance
+abbrev pub hindrance : Space → BoardFunction → BlockReason
 hindrance space f = elim f.decl [
   | endpoint d ↦ misses []
   | bridge d ↦
@@ -64,14 +64,14 @@ pub data Cause : Type 0 where
   -- this Command doesn't open its space
   closed_by : ℕ → Cause
   -- a bridge above it that doesn't forward the address
-  stopped_at : Path → Hindrance → Cause
+  stopped_at : Path → BlockReason → Cause
 
 abbrev pub closing : Space → BoardFunction → List Cause
 closing space f = if is_open f.file space then [] else closed_by (command_word f.file) ∷ []
 
 abbrev pub stop : Space → ℕ → Path → BoardFunction → Option Cause
 stop space n p f =
-    if leads_to f.path p && not (forwards space n f) then Some (stopped_at f.path (hindrance space f)) else None
+    if is_ancestor_of f.path p && not (forwards space n f) then Some (stopped_at f.path (hindrance space f)) else None
 
 -- those of the bridges above, from bus 0 down
 abbrev pub stops : List BoardFunction → Space → ℕ → Path → List Cause
@@ -83,7 +83,7 @@ causes_of fs space n f = reverse (stops fs space n f.path ++ closing space f)
 
 -- ---- what is told
 
-pub record Told : Type 0 where
+pub record UnansweredRegion : Type 0 where
   pub region : PlacedRegion
   pub causes : List Cause
 
@@ -95,13 +95,13 @@ is_answer (Some c) q = path_eq c.path q.path && c.index == q.index
 abbrev pub holders : Space → ℕ → BoardFunction → List PlacedRegion
 holders space n f = filter (holds space n) (regions_of (row_of f))
 
-abbrev pub told_of : List BoardFunction → Space → ℕ → BoardFunction → List Told
+abbrev pub told_of : List BoardFunction → Space → ℕ → BoardFunction → List UnansweredRegion
 told_of fs space n f =
     map (λ q. record { region = q; causes = causes_of fs space n f })
     (filter (λ q. not (is_answer (first_claim fs space n) q)) (holders space n f))
 
 -- in path order, then by register
-abbrev pub told : List BoardFunction → Space → ℕ → List Told
+abbrev pub told : List BoardFunction → Space → ℕ → List UnansweredRegion
 told fs space n = flat_map (told_of fs space n) fs
 
 -- a Command is the nearest cause
@@ -111,14 +111,14 @@ is_closed (closed_by command ∷ cs) = true
 is_closed (stopped_at p h ∷ cs) = false
 
 -- as at reset its base is 0 and its function's Command doesn't open its space
-abbrev pub is_as_at_reset : Told → Bool
+abbrev pub is_as_at_reset : UnansweredRegion → Bool
 is_as_at_reset t = t.region.first == 0 && is_closed t.causes
 
 -- those as at reset are told by their number alone
-abbrev pub apart : List Told → List Told
+abbrev pub apart : List UnansweredRegion → List UnansweredRegion
 apart ts = filter (λ t. not (is_as_at_reset t)) ts
 
-abbrev pub at_reset : List Told → ℕ
+abbrev pub at_reset : List UnansweredRegion → ℕ
 at_reset ts = count_by is_as_at_reset ts
 
 -- ---- where an address goes
@@ -142,7 +142,7 @@ forwarders fs space n = map forwarder (filter (passes_on fs space n) fs)
 pub record Why : Type 0 where
   pub answer : Option Claim
   pub forwarders : List Forwarder
-  pub told : List Told
+  pub told : List UnansweredRegion
   pub at_reset : ℕ
 
 abbrev pub why : List BoardFunction → Space → ℕ → Why

@@ -12,10 +12,10 @@
 use Rattle.std.specs.Prelude.{List, [], ◌∷◌, ◌++◌, ◌≡◌, ℕ, ◌-◌, Option, Some, None, IsTrue, IsFalse, ◌⊎◌, ◌==◌, ⊤}
 use Rattle.model_registers.specs.{Apertures.Apertures, Decoding.{Space, command_word, is_open}}
 use Rattle.lists.specs.Elements.{IsIn, Each}
-use Rattle.model_board.specs.{Board.{endpoint, bridge}, Paths.{Path, leads_to, parent}, State.BoardFunction, Windows.{is_in, forwards}, Claims.{Claim, is_forwarded, claims, first_claim}, Cycles.{secondary_register, covers, taker, BusAddress, reached}, Routing.{row_of, routing}}
+use Rattle.model_board.specs.{Board.{endpoint, bridge}, Paths.{Path, is_ancestor_of, parent}, State.BoardFunction, Windows.{is_in, forwards}, Claims.{Claim, is_forwarded, claims, first_claim}, Cycles.{secondary_register, covers, taker, BusAddress, reached}, Routing.{row_of, routing}}
 use Rattle.model_set_up.specs.PlacedRegions.{PlacedRegion, holds}
-use Rattle.model_findings.specs.{OpenRegions.regions_of, Agents.{bridge_agent, answers}, Orderly.{IsOrderly, IsStateOfBoard}, Lacks.IsReady}
-use Rattle.model_lines.specs.{Why.{NamedWindow, windows_now, Hindrance, closes, misses, hindrance, Cause, closed_by, stopped_at, Told, is_answer, told, is_as_at_reset, apart, at_reset, Forwarder, forwarder, why}, Ways.{bridges_on_way, takers_on_way, end_of, reached_at, Missing, no_bridge, no_function, missing, WhyNumber, why_number}}
+use Rattle.model_findings.specs.{OpenRegions.regions_of, Agents.{bridge_agent, answers}, Orderly.{IsOrderly, IsStateOfBoard}, ReadinessIssues.IsReady}
+use Rattle.model_lines.specs.{Why.{NamedWindow, windows_now, BlockReason, closes, misses, hindrance, Cause, closed_by, stopped_at, UnansweredRegion, is_answer, told, is_as_at_reset, apart, at_reset, Forwarder, forwarder, why}, Ways.{bridges_on_way, takers_on_way, end_of, reached_at, Missing, no_bridge, no_function, missing, WhyNumber, why_number}}
 use Rattle.model_findings.specs.Problems as audit
 
 -- ---- an address
@@ -28,16 +28,16 @@ LiesOutside n w = IsFalse (is_in n w.window)
 abbrev pub windows_at : Space → BoardFunction → List NamedWindow
 windows_at space f = elim f.decl [ endpoint d ↦ [] | bridge d ↦ windows_now d f.file space ]
 
-abbrev pub IsTrueHindrance : Space → ℕ → BoardFunction → Hindrance → Type 0
+abbrev pub IsTrueHindrance : Space → ℕ → BoardFunction → BlockReason → Type 0
 IsTrueHindrance space n f (closes command) = (command ≡ command_word f.file) × IsFalse (is_open f.file space)
 IsTrueHindrance space n f (misses ws) = (ws ≡ windows_at space f) × Each (LiesOutside n) ws
 
 -- a bridge above the path that doesn't forward the address
-pub record IsStopped (fs : List BoardFunction) (space : Space) (n : ℕ) (p bridge : Path) (h : Hindrance) : Type 0 where
+pub record IsStopped (fs : List BoardFunction) (space : Space) (n : ℕ) (p bridge : Path) (h : BlockReason) : Type 0 where
   pub function : BoardFunction
   pub there : IsIn function fs
   pub bridge_is : function.path ≡ bridge
-  pub above : IsTrue (leads_to bridge p)
+  pub above : IsTrue (is_ancestor_of bridge p)
   pub stops : IsFalse (forwards space n function)
   pub hindrance_is : IsTrueHindrance space n function h
 
@@ -48,7 +48,7 @@ abbrev pub IsTrueCause : List BoardFunction → Space → ℕ → BoardFunction 
 IsTrueCause fs space n f (closed_by command) = (command ≡ command_word f.file) × IsFalse (is_open f.file space)
 IsTrueCause fs space n f (stopped_at p h) = IsStopped fs space n f.path p h
 
-pub record IsTrueTold (fs : List BoardFunction) (space : Space) (n : ℕ) (t : Told) : Type 0 where
+pub record IsTrueTold (fs : List BoardFunction) (space : Space) (n : ℕ) (t : UnansweredRegion) : Type 0 where
   pub function : BoardFunction
   pub there : IsIn function fs
   pub region : IsIn t.region (regions_of (row_of function))
@@ -57,7 +57,7 @@ pub record IsTrueTold (fs : List BoardFunction) (space : Space) (n : ℕ) (t : T
   pub causes : Each (IsTrueCause fs space n function) t.causes
   -- all of them
   pub command : IsFalse (is_open function.file space) → IsIn (closed_by (command_word function.file)) t.causes
-  pub bridges : (g : BoardFunction) → IsIn g fs → IsTrue (leads_to g.path function.path) → IsFalse (forwards space n g)
+  pub bridges : (g : BoardFunction) → IsIn g fs → IsTrue (is_ancestor_of g.path function.path) → IsFalse (forwards space n g)
       → IsIn (stopped_at g.path (hindrance space g)) t.causes
   -- without a cause it would answer
   pub too : t.causes ≡ [] → IsIn (claim_there n t.region) (claims fs space n)
@@ -93,7 +93,7 @@ pub record IsExplained (fs : List BoardFunction) (space : Space) (n : ℕ) : Typ
   -- a region that holds the address answers, or is told
   pub complete : (f : BoardFunction) → IsIn f fs → (q : PlacedRegion) → IsIn q (regions_of (row_of f))
       → IsTrue (holds space n q)
-      → IsTrue (is_answer (first_claim fs space n) q) ⊎ ((t : Told) × IsIn t (told fs space n) × (t.region ≡ q))
+      → IsTrue (is_answer (first_claim fs space n) q) ⊎ ((t : UnansweredRegion) × IsIn t (told fs space n) × (t.region ≡ q))
   -- those that aren't as at reset are told one by one, the others by their number
   pub one_by_one : (why fs space n).told ≡ apart (told fs space n)
   pub by_number : (why fs space n).at_reset ≡ at_reset (told fs space n)

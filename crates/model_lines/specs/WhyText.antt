@@ -9,7 +9,7 @@ use Rattle.model_registers.specs.Decoding.{Space}
 use Rattle.model_board.specs.{Paths.{Path, parent}, State.BoardFunction, Windows.Window, Claims.Claim, Cycles.BusAddress}
 use Rattle.model_guests.specs.{Text.{Text, text_of_lines}, Replies.hex_digits, PathTexts.{hexadecimal, part_text, path_text}}
 use Rattle.model_findings.specs.AuditText.{register_text, region_text, space_text, number_text}
-use Rattle.model_lines.specs.{Why.{WindowName, for_io, for_memory, for_prefetchable, NamedWindow, Hindrance, closes, misses, Cause, closed_by, stopped_at, Told, Forwarder, Why, why}, Ways.{Missing, no_bridge, no_function, WhyNumber, why_number}}
+use Rattle.model_lines.specs.{Why.{WindowName, for_io, for_memory, for_prefetchable, NamedWindow, BlockReason, closes, misses, Cause, closed_by, stopped_at, UnansweredRegion, Forwarder, Why, why}, Ways.{Missing, no_bridge, no_function, WhyNumber, why_number}}
 
 abbrev pub command_text : ℕ → Text
 command_text command = codes "Command 0x" ++ hex_digits 4 command
@@ -31,7 +31,7 @@ windows_text [] = codes "no window"
 windows_text (w ∷ []) = window_text w
 windows_text (w ∷ v ∷ ws) = window_text w ++ codes ", " ++ window_text v
 
-abbrev pub hindrance_text : Space → Hindrance → Text
+abbrev pub hindrance_text : Space → BlockReason → Text
 hindrance_text space (closes command) = command_text command ++ codes " closes " ++ space_text space
 hindrance_text space (misses ws) = windows_text ws
 
@@ -46,7 +46,7 @@ abbrev pub causes_text : Space → List Cause → Text
 causes_text space [] = codes "would answer too"
 causes_text space (c ∷ cs) = cause_text space c ++ more_text space cs
 
-abbrev pub told_text : Space → Told → Text
+abbrev pub told_text : Space → UnansweredRegion → Text
 told_text space t = region_text t.region ++ codes ": " ++ causes_text space t.causes
 
 abbrev pub at_reset_lines : ℕ → List Text

@@ -1,6 +1,6 @@
 -- A number of 1, 2 or 4 bytes is the enabled bytes of the word in which it lies.
 use Rattle.std.{proofs.{Common.{◌≡◌, ℕ, zero, suc, ◌+◌, ◌-◌, ◌*◌, ◌/◌, ◌%◌, ◌^◌, ◌<◌, ◌≤◌, Bool, true, false, cond, List, [], ◌∷◌, ◌++◌, replicate, refl, sym, ap, ◌∙◌, arith}, Math.Nat.{pow-suc, one-le-pow, div-div-eq-div-mul, mul-div_cancel, mod-one, mul_comm}}, specs.Prelude.⊤}
-use Rattle.model_registers.{proofs.RegisterFiles.low_byte, specs.{Cell.written, Registers.{Place, config, block, after, offset_of, File, cell_at, changed, read, write, number, all_bytes, all_ones}, ByteEnables.{lanes, enabled_bytes, into_lanes, word_of}, AccessLaws.{AlignedLiesInWord, NumberByLanes, LanesFit, NumberFromWord, AllOnesByLanes, WriteByLanes, DisabledRead, DisabledStay, HoldsBytes, NumberFits, ReadsEnabled}}}
+use Rattle.model_registers.{proofs.RegisterFiles.low_byte, specs.{Cell.written, Registers.{Place, config, block, after, offset_of, File, cell_at, changed, read, write, number, all_bytes, all_ones}, ByteEnables.{lanes, enabled_bytes, to_lanes, word_of}, AccessLaws.{AlignedLiesInWord, NumberByLanes, LanesFit, NumberFromWord, AllOnesByLanes, WriteByLanes, DisabledRead, DisabledStay, HoldsBytes, NumberFits, ReadsEnabled}}}
 
 pub aligned_lies_in_word : AlignedLiesInWord
 aligned_lies_in_word = grind arith
@@ -96,10 +96,10 @@ write_same (suc w) x y p file h = grind (arith, low_byte, write_same w (x / 256)
 pub write_by_lanes : WriteByLanes
 write_by_lanes file p w v within =
     let l : ℕ = offset_of p % 4 in
-    sym (ap (λ ons. write ons (into_lanes (offset_of p) v) (word_of p) file) (tables l w 0 within).0
-    ∙ write_lanes l w (4 - (l + w)) (into_lanes (offset_of p) v) file (word_of p)
-    ∙ ap (λ q. write (all_bytes w) (into_lanes (offset_of p) v / 256 ^ l) q file) (in_word p)
-    ∙ write_same w (into_lanes (offset_of p) v / 256 ^ l) v p file (tables l w v within).2)
+    sym (ap (λ ons. write ons (to_lanes (offset_of p) v) (word_of p) file) (tables l w 0 within).0
+    ∙ write_lanes l w (4 - (l + w)) (to_lanes (offset_of p) v) file (word_of p)
+    ∙ ap (λ q. write (all_bytes w) (to_lanes (offset_of p) v / 256 ^ l) q file) (in_word p)
+    ∙ write_same w (to_lanes (offset_of p) v / 256 ^ l) v p file (tables l w v within).2)
 
 -- ---- the bytes of a word
 

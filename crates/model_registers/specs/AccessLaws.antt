@@ -7,7 +7,7 @@
 --     HoldsBytes, NumberFits, ReadsEnabled      where each cell holds a byte, what is read has its bytes alone
 use Rattle.std.specs.Prelude.{◌≡◌, ◌<◌, ℕ, ◌-◌, ◌/◌, ◌%◌, ◌^◌, Bool, false, List, replicate}
 use Rattle.lists.specs.Elements.{Each}
-use Rattle.model_registers.specs.{Registers.{Place, offset_of, PlacedCell, File, read, write, number, all_bytes, all_ones}, ByteEnables.{lanes, enabled_bytes, IsWidth, LiesInWord, enables_of, into_lanes, from_lanes, word_of}}
+use Rattle.model_registers.specs.{Registers.{Place, offset_of, PlacedCell, File, read, write, number, all_bytes, all_ones}, ByteEnables.{lanes, enabled_bytes, IsWidth, LiesInWord, enables_of, to_lanes, from_lanes, word_of}}
 
 -- an access at a multiple of its width lies in one word
 abbrev pub AlignedLiesInWord : Type 0
@@ -38,7 +38,7 @@ AllOnesByLanes = (off w : ℕ) → LiesInWord off w → from_lanes off w (2 ^ 32
 abbrev pub WriteByLanes : Type 0
 WriteByLanes = (file : File) (p : Place) (w v : ℕ) → LiesInWord (offset_of p) w
     → write (all_bytes w) v p file
-    ≡ write (lanes (enables_of (offset_of p) w)) (into_lanes (offset_of p) v) (word_of p) file
+    ≡ write (lanes (enables_of (offset_of p) w)) (to_lanes (offset_of p) v) (word_of p) file
 
 -- bytes that are not enabled read 0 and stay
 abbrev pub DisabledRead : Type 0

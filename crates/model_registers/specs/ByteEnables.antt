@@ -2,7 +2,7 @@
 --     lanes enables      the four enables that the bits 0 to 3 of a number say
 --     enabled_bytes ons n      a number with 0 in each byte that is not enabled
 --     enables_of off w      the enables of w bytes from an offset on, in the word of that offset
---     into_lanes off v, from_lanes off w word      a number moved to those lanes, and taken from them
+--     to_lanes off v, from_lanes off w word      a number moved to those lanes, and taken from them
 --     word_of p      the place of the word in which a place lies
 --     enabled_bits enables      the bits of the enabled bytes
 use Rattle.std.specs.{Prelude.{◌≡◌, ◌≤◌, ℕ, ◌+◌, ◌-◌, ◌*◌, ◌/◌, ◌%◌, ◌^◌, ◌==◌, ◌⊎◌, if◌then◌else◌, Bool, List, [], ◌∷◌}, Int.bit_at}
@@ -29,8 +29,8 @@ LiesInWord off w = off % 4 + w ≤ 4
 abbrev pub enables_of : ℕ → ℕ → ℕ
 enables_of off w = (2 ^ w - 1) * 2 ^ (off % 4)
 
-abbrev pub into_lanes : ℕ → ℕ → ℕ
-into_lanes off v = v * 256 ^ (off % 4) % 2 ^ 32
+abbrev pub to_lanes : ℕ → ℕ → ℕ
+to_lanes off v = v * 256 ^ (off % 4) % 2 ^ 32
 
 abbrev pub from_lanes : ℕ → ℕ → ℕ → ℕ
 from_lanes off w word = word / 256 ^ (off % 4) % 256 ^ w

@@ -2,8 +2,8 @@
 use Rattle.std.{proofs.{Common.{◌≡◌, ℕ, zero, suc, ◌+◌, ◌-◌, ◌%◌, ◌^◌, ◌≤◌, ◌<◌, inl, Bool, true, ◌||◌, not, List, [], ◌∷◌, ◌++◌, length, Option, Some, MatchOption, refl, sym, ap, ◌∙◌, subst, arith, rules, inr}, lemmas.Bool.{ltb-true, and_parts, or_right, or_left, le-leb}}, specs.{Prelude.{filter, IsTrue, ⊤}, List.list_all}}
 use Rattle.lists.{specs.Elements.{Each, IsIn}, proofs.Members.{each_in, each_from, from_flat_map, in_filter, in_flat_map, any_in, all_in}}
 use Rattle.model_registers.specs.{Declarations.{Kind, Region, Endpoint, IoDecode, Bridge}, BridgeTable.{Window, BridgeValues, bridge_file}, Apertures.{IsLawfulApertures, Aperture, Apertures}}
-use Rattle.model_board.{specs.{Board.{Board, Row, Decl, endpoint, bridge, rows_on, IsBoard}, Paths.{Path, leads_to, last_part, IsPath}, Lawful.HasLawfulDecls, Windows.{io_window, mem_window, pref_window, is_in_window}}, proofs.PathEnds.{leads_self, leads_trans}}
-use Rattle.model_set_up.{specs.{Pools.{Pool, io_pool, mem_pool, pref_pool, same_pool, unit_of, bridge_of, bridges_above, pref_reaches, pool_of, is_io, opens_io, has_io, has_io_paths, aperture_of}, Placement.{Item, need, window_items, items_of, items_within, items_on, fits, bus_first, a_region, a_window}, Layout.{IsAligned, IsLawful, pool_rows, LayoutRow, layout}, Extents.IsInside, PlacementLaws.{window_row, window_rows, IsRowFor, HasRows}, SetUp.{window_of, set_up_file}, WindowLaws.{io_reach, pref_reach, IsWhole, window_over, HasPlacedWindows, SetUpWindows, ForwardsPlaced}, PlacedRegions.pool_space}, proofs.{Packing.unit_positive, Items.{some_end, end_below_need, items_placeable, region_of_item, on_bus}, Nesting.HasItems, LawfulPlacement.pool_lawful, DeclaredRows.has_window_row, WindowReads.{closed_windows, windows_named}}}
+use Rattle.model_board.{specs.{Board.{Board, Row, Decl, endpoint, bridge, rows_on, IsBoard}, Paths.{Path, is_ancestor_of, last_part, IsPath}, Lawful.HasLawfulDecls, Windows.{io_window, mem_window, pref_window, is_in_window}}, proofs.PathEnds.{leads_self, leads_trans}}
+use Rattle.model_set_up.{specs.{Pools.{Pool, io_pool, mem_pool, pref_pool, same_pool, unit_of, bridge_of, bridges_above, pref_reaches, pool_of, is_io, opens_io, has_io, has_io_paths, aperture_of}, Placement.{PlacementItem, need, window_items, items_of, items_within, items_on, fits, bus_first, a_region, a_window}, Layout.{IsAligned, IsLawful, pool_rows, LayoutRow, layout}, Extents.IsInside, PlacementLaws.{window_row, window_rows, IsRowFor, HasRows}, SetUp.{window_of, set_up_file}, WindowLaws.{io_reach, pref_reach, IsWhole, window_over, HasPlacedWindows, SetUpWindows, ForwardsPlaced}, PlacedRegions.pool_space}, proofs.{Packing.unit_positive, Items.{some_end, end_below_need, items_placeable, region_of_item, on_bus}, Nesting.HasItems, LawfulPlacement.pool_lawful, DeclaredRows.has_window_row, WindowReads.{closed_windows, windows_named}}}
 
 -- ---- items stand for regions behind
 
@@ -11,30 +11,30 @@ use Rattle.model_set_up.{specs.{Pools.{Pool, io_pool, mem_pool, pref_pool, same_
 record Behind (b : Board) (a : Apertures) (pool : Pool) (p : Path) : Type 0 where
   row : Row
   there : IsIn row b
-  leads : leads_to p row.path ≡ true
+  leads : is_ancestor_of p row.path ≡ true
   decl : Endpoint
   decl_is : row.decl ≡ endpoint decl
   region : Region
   declared : IsIn region decl.regions
   in_pool : same_pool (pool_of a (bridges_above b row.path) region.kind) pool ≡ true
 
-window_item : (unit : ℕ) (is : List Item) (p : Path) (i : Item) → IsIn i (window_items unit (last_part p) is) → (j : Item) × IsIn j is
+window_item : (unit : ℕ) (is : List PlacementItem) (p : Path) (i : PlacementItem) → IsIn i (window_items unit (last_part p) is) → (j : PlacementItem) × IsIn j is
 window_item unit [] p i m = absurd m
 window_item unit (j ∷ is) p i m = (j, inl refl)
 
 module _ (b : Board) (a : Apertures) (pool : Pool) (paths : Each (λ r. IsPath r.path) b) where
-  behind : (n : ℕ) (p : Path) (i : Item) → IsIn i (items_within b a pool n p) → Behind b a pool p
+  behind : (n : ℕ) (p : Path) (i : PlacementItem) → IsIn i (items_within b a pool n p) → Behind b a pool p
   behind zero p i m = absurd m
   behind (suc n) p i m = by_row (from_flat_map (items_of b a pool (items_within b a pool n)) i (rows_on b p) m) (behind n)
     where
-      by_row : (r : Row) × IsIn r (rows_on b p) × IsIn i (items_of b a pool (items_within b a pool n) r) → ((q : Path) (j : Item) → IsIn j (items_within b a pool n q) → Behind b a pool q) → Behind b a pool p
+      by_row : (r : Row) × IsIn r (rows_on b p) × IsIn i (items_of b a pool (items_within b a pool n) r) → ((q : Path) (j : PlacementItem) → IsIn j (items_within b a pool n q) → Behind b a pool q) → Behind b a pool p
       by_row (r, m, k) more = by_decl r.decl refl k
         where
           on : IsIn r b × (r.path ≡ p ++ last_part r.path ∷ [])
           on = on_bus b p r paths m
 
-          leads : leads_to p r.path ≡ true
-          leads = subst (λ (x : Path). leads_to p x ≡ true) (sym on.1) (leads_self p (last_part r.path))
+          leads : is_ancestor_of p r.path ≡ true
+          leads = subst (λ (x : Path). is_ancestor_of p x ≡ true) (sym on.1) (leads_self p (last_part r.path))
 
           deeper : Behind b a pool r.path → Behind b a pool p
           deeper h = grind (arith, leads, leads_trans)
@@ -44,8 +44,8 @@ module _ (b : Board) (a : Apertures) (pool : Pool) (paths : Each (λ r. IsPath r
           by_decl (bridge d) e k = let j = window_item (unit_of pool) (items_within b a pool n r.path) r.path i k in deeper (more r.path j.0 j.1)
 
 -- a bridge of the board that leads to a path is above it
-above : (b : Board) (r : Row) (d : Bridge) (p : Path) → IsIn r b → r.decl ≡ bridge d → leads_to r.path p ≡ true → IsIn d (bridges_above b p)
-above b r d p m e leads = in_flat_map bridge_of r d (filter (λ r. leads_to r.path p) b) (in_filter (λ (r : Row). leads_to r.path p) r b m leads) (rw e (inl refl))
+above : (b : Board) (r : Row) (d : Bridge) (p : Path) → IsIn r b → r.decl ≡ bridge d → is_ancestor_of r.path p ≡ true → IsIn d (bridges_above b p)
+above b r d p m e leads = in_flat_map bridge_of r d (filter (λ r. is_ancestor_of r.path p) b) (in_filter (λ (r : Row). is_ancestor_of r.path p) r b m leads) (rw e (inl refl))
 
 -- ---- what the pool of a region says of the bridges above it
 
@@ -109,19 +109,19 @@ placed_here b a pool board lawful fit p long (i, m) =
     }
 
 -- registers that hold the window of a bus with these items name its window
-abbrev placed_from : ℕ → ℕ → List Item → Window
+abbrev placed_from : ℕ → ℕ → List PlacementItem → Window
 placed_from first unit is = record { first = first; last = first + need unit is - 1 }
 
 module _ (d : Bridge) (multifunction : Bool) (r : BridgeValues) (first : ℕ) where
-  io_named : (is : List Item) → r.io ≡ window_of (2 ^ 12) 0xf first is → ((i : Item) → IsIn i is → IsWhole (2 ^ 12) (io_reach d.io) (placed_from first (2 ^ 12) is)) → io_window d.io (bridge_file d multifunction r) ≡ window_over (2 ^ 12) first is
+  io_named : (is : List PlacementItem) → r.io ≡ window_of (2 ^ 12) 0xf first is → ((i : PlacementItem) → IsIn i is → IsWhole (2 ^ 12) (io_reach d.io) (placed_from first (2 ^ 12) is)) → io_window d.io (bridge_file d multifunction r) ≡ window_over (2 ^ 12) first is
   io_named [] e whole = (closed_windows d multifunction r).io e
   io_named (i ∷ is) e whole = (windows_named d multifunction r).io (subst (IsWhole (2 ^ 12) (io_reach d.io)) (sym e) (whole i (inl refl))) ∙ ap (λ s. Some s) e
 
-  mem_named : (is : List Item) → r.mem ≡ window_of (2 ^ 20) 0xfff first is → ((i : Item) → IsIn i is → IsWhole (2 ^ 20) (2 ^ 32) (placed_from first (2 ^ 20) is)) → mem_window (bridge_file d multifunction r) ≡ window_over (2 ^ 20) first is
+  mem_named : (is : List PlacementItem) → r.mem ≡ window_of (2 ^ 20) 0xfff first is → ((i : PlacementItem) → IsIn i is → IsWhole (2 ^ 20) (2 ^ 32) (placed_from first (2 ^ 20) is)) → mem_window (bridge_file d multifunction r) ≡ window_over (2 ^ 20) first is
   mem_named [] e whole = (closed_windows d multifunction r).mem e
   mem_named (i ∷ is) e whole = (windows_named d multifunction r).mem (subst (IsWhole (2 ^ 20) (2 ^ 32)) (sym e) (whole i (inl refl))) ∙ ap (λ s. Some s) e
 
-  pref_named : (is : List Item) → r.pref ≡ window_of (2 ^ 20) 0xfff first is → ((i : Item) → IsIn i is → IsWhole (2 ^ 20) (pref_reach d.pref) (placed_from first (2 ^ 20) is)) → pref_window d.pref (bridge_file d multifunction r) ≡ window_over (2 ^ 20) first is
+  pref_named : (is : List PlacementItem) → r.pref ≡ window_of (2 ^ 20) 0xfff first is → ((i : PlacementItem) → IsIn i is → IsWhole (2 ^ 20) (pref_reach d.pref) (placed_from first (2 ^ 20) is)) → pref_window d.pref (bridge_file d multifunction r) ≡ window_over (2 ^ 20) first is
   pref_named [] e whole = (closed_windows d multifunction r).pref e
   pref_named (i ∷ is) e whole = (windows_named d multifunction r).pref (subst (IsWhole (2 ^ 20) (pref_reach d.pref)) (sym e) (whole i (inl refl))) ∙ ap (λ s. Some s) e
 
@@ -151,10 +151,10 @@ set_up_windows b a board lawful apertures ways fit = each_from (λ r. HasPlacedW
 -- a window row of the layout is that of a bridge with items behind it
 pub record IsBridgeWindow (b : Board) (a : Apertures) (w : LayoutRow) : Type 0 where
   pub is : w ≡ window_row b a w.pool w.path
-  pub item : Item
+  pub item : PlacementItem
   pub behind : IsIn item (items_on b a w.pool w.path)
 
-of_row : (b : Board) (a : Apertures) (pool : Pool) (w : LayoutRow) (p : Path) (is : List Item) → is ≡ items_on b a pool p → IsIn w (window_rows b a pool p is) → IsBridgeWindow b a w
+of_row : (b : Board) (a : Apertures) (pool : Pool) (w : LayoutRow) (p : Path) (is : List PlacementItem) → is ≡ items_on b a pool p → IsIn w (window_rows b a pool p is) → IsBridgeWindow b a w
 of_row b a pool w p [] e m = absurd m
 of_row b a pool w p (i ∷ is) e (inl f) = subst (IsBridgeWindow b a) (sym f) (record { is = refl; item = i; behind = subst (IsIn i) e (inl refl) })
 of_row b a pool w p (i ∷ is) e (inr m) = absurd m
@@ -168,7 +168,7 @@ bridge_window b a has w m what = grind (arith, from_flat_map (pool_rows b a) w (
 
 -- ---- a window with items holds the addresses inside it
 
-module _ (b : Board) (a : Apertures) (p : Path) (d : Bridge) (forwards : ForwardsPlaced b a p d) (i : Item) (n : ℕ) where
+module _ (b : Board) (a : Apertures) (p : Path) (d : Bridge) (forwards : ForwardsPlaced b a p d) (i : PlacementItem) (n : ℕ) where
   pub window_holds : (pool : Pool) → IsIn i (items_on b a pool p) → bus_first b a pool p ≤ n → n < bus_first b a pool p + need (unit_of pool) (items_on b a pool p) → is_in_window d (set_up_file b a p (bridge d)) (pool_space pool) n ≡ true
   window_holds io_pool m l u = grind (arith, le-leb)
   window_holds mem_pool m l u = grind (arith, or_left, le-leb)

@@ -3,7 +3,7 @@ use Rattle.std.{proofs.{lemmas.{Grind.common_steps, Bool.{and_parts, Decides.nat
 use Rattle.lists.{specs.Elements.{Each, EachPair, IsIn}, proofs.Members.{each_in, each_from, from_map, in_map, in_filter, pairs_weaker, pairs_flat_map, none_pass, one_passes, pairs_of_map}}
 use Rattle.model_registers.specs.{Declarations.{Endpoint, Region}, Apertures.Apertures}
 use Rattle.model_board.{specs.{Board.{Board, Row, Decl, endpoint, bridge, IsBoard}, Paths.{Part, Path, path_eq, parent, last_part, IsPath}, Lawful.HasLawfulDecls}, proofs.{PathOrder.path_same, PathEnds.{snoc, path_self, parent_snoc, path_eq-snoc, path_eq-sym}}}
-use Rattle.model_set_up.{specs.{Pools.{Pool, same_pool, bridges_above, pool_of}, Placement.{Placed, a_region, a_window, same_placed, Item, Spot, spots, region_item, items_on, bus_first, region_first}, Layout.{LayoutRow, row_of, bus_rows, buses, pool_rows}, PlacementLaws.{pool_at, region_row, window_row, window_rows, rows_at, HasOwnRows, IsRowFor, RowsAreDeclared}}, proofs.{PlacedApart.pool_is, Items.{spot_of, item_of, spots_differ, same_placed-sym, items_for, region_of_item, origin, on_own_bus, items_differ}, Nesting.{HasItems, WindowOn, offset_of, window_of, window_above}, LawfulPlacement.{buses_differ, pool_self, OnBus, on_bus_row, row_in}}}
+use Rattle.model_set_up.{specs.{Pools.{Pool, same_pool, bridges_above, pool_of}, Placement.{Placed, a_region, a_window, same_placed, PlacementItem, PlacedItem, spots, region_item, items_on, bus_first, region_first}, Layout.{LayoutRow, row_of, bus_rows, buses, pool_rows}, PlacementLaws.{pool_at, region_row, window_row, window_rows, rows_at, HasOwnRows, IsRowFor, RowsAreDeclared}}, proofs.{PlacedApart.pool_is, Items.{spot_of, item_of, spots_differ, same_placed-sym, items_for, region_of_item, origin, on_own_bus, items_differ}, Nesting.{HasItems, WindowOn, offset_of, window_of, window_above}, LawfulPlacement.{buses_differ, pool_self, OnBus, on_bus_row, row_in}}}
 
 abbrev pub row_with : Pool → Path → Placed → ℕ → ℕ → LayoutRow
 row_with pool p w n k = record { path = p; what = w; pool = pool; first = n; size = k }
@@ -21,7 +21,7 @@ placed_self : (w : Placed) → same_placed w w ≡ true
 placed_self w = grind (arith, nat_tests)
 
 module _ (b : Board) (a : Apertures) (pool : Pool) (board : IsBoard b) (lawful : HasLawfulDecls b) where
-  abbrev the_row : Path → Spot → LayoutRow
+  abbrev the_row : Path → PlacedItem → LayoutRow
   the_row bus s = row_of pool bus (bus_first b a pool bus) s
 
   bus_rows_differ : (bus : Path) → EachPair RowsDiffer (bus_rows b a pool bus)
@@ -32,7 +32,7 @@ module _ (b : Board) (a : Apertures) (pool : Pool) (board : IsBoard b) (lawful :
       pairs_flat_map (λ x y. path_eq x y ≡ false) RowsDiffer (bus_rows b a pool) (buses b) (buses_differ b board) (λ bus m. bus_rows_differ bus)
       (λ x y m k other r s l n. of_two x y other r s (from_map (row_of pool x (bus_first b a pool x)) r (spots (items_on b a pool x)) l) (from_map (row_of pool y (bus_first b a pool y)) s (spots (items_on b a pool y)) n) (path_eq r.path s.path) refl)
     where
-      of_two : (x y : Path) → path_eq x y ≡ false → (r s : LayoutRow) → (t : Spot) × IsIn t (spots (items_on b a pool x)) × (r ≡ the_row x t) → (u : Spot) × IsIn u (spots (items_on b a pool y)) × (s ≡ the_row y u)
+      of_two : (x y : Path) → path_eq x y ≡ false → (r s : LayoutRow) → (t : PlacedItem) × IsIn t (spots (items_on b a pool x)) × (r ≡ the_row x t) → (u : PlacedItem) × IsIn u (spots (items_on b a pool y)) × (s ≡ the_row y u)
           → (v : Bool) → path_eq r.path s.path ≡ v → RowsDiffer r s
       of_two x y other r s (t, m, e) (u, k, f) false apart = rw apart
       of_two x y other r s (t, m, e) (u, k, f) true meet = grind (arith, nat_tests, common_steps, parent_snoc, path_same, path_self)
@@ -43,11 +43,11 @@ module _ (b : Board) (a : Apertures) (pool : Pool) (board : IsBoard b) (lawful :
 
   -- ---- the row at a spot
 
-  pub region_row_at : (p : Path) (k : Region) (bus : Path) (s : Spot) → IsIn s (spots (items_on b a pool bus)) → p ≡ bus ++ s.item.part ∷ [] → s.item ≡ region_item (last_part p) k
+  pub region_row_at : (p : Path) (k : Region) (bus : Path) (s : PlacedItem) → IsIn s (spots (items_on b a pool bus)) → p ≡ bus ++ s.item.part ∷ [] → s.item ≡ region_item (last_part p) k
       → the_row bus s ≡ row_in_pool b a pool p k
   region_row_at p k bus s m path item = grind (arith, parent_snoc bus s.item.part, offset_of b a pool board lawful bus s m)
 
-  pub window_row_at : (p : Path) (bus : Path) (s : Spot) → IsIn s (spots (items_on b a pool bus)) → p ≡ bus ++ s.item.part ∷ [] → s.item.what ≡ a_window → the_row bus s ≡ window_row b a pool p
+  pub window_row_at : (p : Path) (bus : Path) (s : PlacedItem) → IsIn s (spots (items_on b a pool bus)) → p ≡ bus ++ s.item.part ∷ [] → s.item.what ≡ a_window → the_row bus s ≡ window_row b a pool p
   window_row_at p bus s m path what = grind (arith, window_of b a pool board lawful bus s m what)
 
   -- ---- each region and each window has its row
@@ -62,11 +62,11 @@ module _ (b : Board) (a : Apertures) (pool : Pool) (board : IsBoard b) (lawful :
       on : IsIn (region_item (last_part r.path) k) (items_on b a pool (parent r.path))
       on = on_own_bus b a pool board r m (region_item (last_part r.path) k) (rw decl (in_map (region_item (last_part r.path)) k (filter keeps d.regions) (in_filter keeps k d.regions l same)))
 
-      by_spot : (s : Spot) × IsIn s (spots (items_on b a pool (parent r.path))) × (s.item ≡ region_item (last_part r.path) k)
+      by_spot : (s : PlacedItem) × IsIn s (spots (items_on b a pool (parent r.path))) × (s.item ≡ region_item (last_part r.path) k)
           → IsIn (row_in_pool b a pool r.path k) (pool_rows b a pool)
       by_spot (s, n, item) =
           let split : r.path ≡ parent r.path ++ last_part r.path ∷ [] = snoc r.path (each_in (λ (x : Row). IsPath x.path) r b board.paths m).some in
-          let path : r.path ≡ parent r.path ++ s.item.part ∷ [] = split ∙ ap (λ (i : Item). parent r.path ++ i.part ∷ []) (sym item) in
+          let path : r.path ≡ parent r.path ++ s.item.part ∷ [] = split ∙ ap (λ (i : PlacementItem). parent r.path ++ i.part ∷ []) (sym item) in
           subst (λ (x : LayoutRow). IsIn x (pool_rows b a pool)) (region_row_at r.path k (parent r.path) s n path item) (row_in b a pool board lawful (parent r.path) s n)
 
   pub has_window_row : (p : Path) → 0 < length p → HasItems b a pool p → IsIn (window_row b a pool p) (pool_rows b a pool)
@@ -95,13 +95,13 @@ module _ (b : Board) (a : Apertures) (pool : Pool) (board : IsBoard b) (lawful :
       test : LayoutRow → Bool
       test r = path_eq r.path p && same_placed r.what a_window
 
-      by_items : (is : List Item) → items_on b a pool p ≡ is → filter test (pool_rows b a pool) ≡ window_rows b a pool p is
+      by_items : (is : List PlacementItem) → items_on b a pool p ≡ is → filter test (pool_rows b a pool) ≡ window_rows b a pool p is
       by_items [] none = grind (arith, none_pass, window_has)
       by_items (i ∷ is) e = only_row (window_row b a pool p) (has_window_row p some (i, subst (IsIn i) (sym e) (inl refl)))
 
   -- ---- and no other row stands
 
-  row_for : (p : Path) (d : Decl) (x : LayoutRow) (bus : Path) (s : Spot) → IsIn s (spots (items_on b a pool bus)) → x ≡ the_row bus s → p ≡ bus ++ s.item.part ∷ [] → IsIn s.item (items_for b a pool p d) → IsRowFor b a pool x p d
+  row_for : (p : Path) (d : Decl) (x : LayoutRow) (bus : Path) (s : PlacedItem) → IsIn s (spots (items_on b a pool bus)) → x ≡ the_row bus s → p ≡ bus ++ s.item.part ∷ [] → IsIn s.item (items_for b a pool p d) → IsRowFor b a pool x p d
   row_for p (endpoint d) x bus s m row path item =
       let k = region_of_item b a pool p d s.item item in
       let own : pool_at b a p k.0 ≡ pool = pool_is (pool_at b a p k.0) pool k.2 in

@@ -2,8 +2,8 @@
 use Rattle.std.{proofs.{Common.{◌≡◌, ℕ, ◌+◌, ◌≤◌, Bool, ◌&&◌, ◌||◌, cond, List, [], ◌∷◌, length, refl, sym, ap, ap₂, ◌∙◌, subst, arith, rules, zero, suc}, lemmas.List.{map-append, Folds.{list_all-map, flat_map-map}, Sums.sum_by-cons}}, specs.{Prelude.{map, filter, flat_map, count_by}, List.{list_all, list_any}}}
 use Rattle.lists.{proofs.{EachLemmas.each_of_map, Members.pairs_of_map}, specs.Elements.Each}
 use Rattle.model_registers.{specs.{Declarations.{Kind, Region, Endpoint, Bridge}, OwnCopies.bare, Apertures.Apertures, Decoding.{io, memory, space_of, same_space}, EndpointTable.BaseAddress}, proofs.BareRegions.{bare_each, bare_order}}
-use Rattle.model_board.{specs.{Paths.{Path, path_eq, path_before, leads_to, parent, last_part}, Board.{Decl, endpoint, bridge, is_bridge, Row, Board, stands_at, is_bridge_at, IsBoard, rows_on}, BusNumbers.{secondary, subordinate, bus_behind, bus_of, Enumerates}, Lawful.HasLawfulDecls}, proofs.{BusNumbers.{bridges, bridges-cons}, PathOrder.one}}
-use Rattle.model_set_up.specs.{Pools.{bridge_of, bridges_above, pool_of, Pool, io_pool, mem_pool, pref_pool, unit_of, same_pool, has_io, is_io, opens_io, has_io_paths}, FunctionTable.{met_endpoint, met_bridge, found_decl, range_behind, table_row, sized_table, board_in, PlacedAsFound}, Placement.{Item, a_region, region_item, window_items, items_of, items_within, items_on, root_first, spots, offset_in, first_below, bus_first, region_first}, Layout.{buses, pool_rows}, SetUp.{first_of, command_of}, SetUpWrites.{placed_base, windows_of, writes_of, planned, placement_rules}}
+use Rattle.model_board.{specs.{Paths.{Path, path_eq, path_before, is_ancestor_of, parent, last_part}, Board.{Decl, endpoint, bridge, is_bridge, Row, Board, stands_at, is_bridge_at, IsBoard, rows_on}, BusNumbers.{secondary, subordinate, bus_behind, bus_of, Enumerates}, Lawful.HasLawfulDecls}, proofs.{BusNumbers.{bridges, bridges-cons}, PathOrder.one}}
+use Rattle.model_set_up.specs.{Pools.{bridge_of, bridges_above, pool_of, Pool, io_pool, mem_pool, pref_pool, unit_of, same_pool, has_io, is_io, opens_io, has_io_paths}, FunctionTable.{met_endpoint, met_bridge, found_decl, range_behind, table_row, sized_table, board_in, PlacedAsFound}, Placement.{PlacementItem, a_region, region_item, window_items, items_of, items_within, items_on, root_first, spots, offset_in, first_below, bus_first, region_first}, Layout.{buses, pool_rows}, SetUp.{first_of, command_of}, SetUpWrites.{placed_base, windows_of, writes_of, planned, placement_rules}}
 
 abbrev pub found_endpoint : Endpoint → Endpoint
 found_endpoint d = record (met_endpoint d) { regions = map bare d.regions }
@@ -65,7 +65,7 @@ pub found_secondary : (b : Board) (p : Path) → secondary (found_board b) p ≡
 found_secondary b p = ap (λ n. 1 + n) (found_count (λ q. path_before q p) b)
 
 pub found_subordinate : (b : Board) (p : Path) → subordinate (found_board b) p ≡ subordinate b p
-found_subordinate b p = ap₂ ◌+◌ (found_secondary b p) (found_count (λ q. leads_to p q) b)
+found_subordinate b p = ap₂ ◌+◌ (found_secondary b p) (found_count (λ q. is_ancestor_of p q) b)
 
 found_behind : (b : Board) (p : Path) → bus_behind (found_board b) p ≡ bus_behind b p
 found_behind b [] = refl
@@ -100,7 +100,7 @@ found_bridges [] = refl
 found_bridges (r ∷ b) = grind (arith, found_bridges b, map-append)
 
 pub found_above : (b : Board) (p : Path) → bridges_above (found_board b) p ≡ map found_bridge (bridges_above b p)
-found_above b p = ap (flat_map bridge_of) (filter_found (λ r. leads_to r.path p) (λ r. leads_to r.path p) (λ r. refl) b) ∙ found_bridges (filter (λ r. leads_to r.path p) b)
+found_above b p = ap (flat_map bridge_of) (filter_found (λ r. is_ancestor_of r.path p) (λ r. is_ancestor_of r.path p) (λ r. refl) b) ∙ found_bridges (filter (λ r. is_ancestor_of r.path p) b)
 
 pub found_pool : (b : Board) (a : Apertures) (p : Path) (k : Kind) → pool_of a (bridges_above (found_board b) p) k ≡ pool_of a (bridges_above b p) k
 found_pool b a p k = grind (arith, found_above, list_all-map)
@@ -115,7 +115,7 @@ regions_found : (b : Board) (a : Apertures) (pool : Pool) (p : Path) (rs : List 
 regions_found b a pool p [] = refl
 regions_found b a pool p (r ∷ rs) = search (rules, found_pool, regions_found b a pool p rs)
 
-items_of_found : (b : Board) (a : Apertures) (pool : Pool) (f g : Path → List Item) (p : Path) (d : Decl) → f p ≡ g p
+items_of_found : (b : Board) (a : Apertures) (pool : Pool) (f g : Path → List PlacementItem) (p : Path) (d : Decl) → f p ≡ g p
     → items_of (found_board b) a pool f (record { path = p; decl = found_decl d }) ≡ items_of b a pool g (record { path = p; decl = d })
 items_of_found b a pool f g p (endpoint d) e = regions_found b a pool p d.regions
 items_of_found b a pool f g p (bridge d) e = ap (window_items (unit_of pool) (last_part p)) e
@@ -137,7 +137,7 @@ module _ (b c : Board) (a : Apertures) (pool : Pool) (same : (bus : Path) → it
   bus_first_same bus = grind (arith, first_below_same (root_first a pool (items_on c a pool [])) [] bus, same [])
 
   pub region_first_same : (p : Path) (k : ℕ) → region_first c a pool p k ≡ region_first b a pool p k
-  region_first_same p k = ap₂ (λ n (is : List Item). n + offset_in (spots is) (last_part p) (a_region k)) (bus_first_same (parent p)) (same (parent p))
+  region_first_same p k = ap₂ (λ n (is : List PlacementItem). n + offset_in (spots is) (last_part p) (a_region k)) (bus_first_same (parent p)) (same (parent p))
 
 -- ---- the rows of the layout
 

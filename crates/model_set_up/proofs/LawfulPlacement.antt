@@ -1,9 +1,9 @@
 -- Where a pool fits, the rows of its compact placement are lawful.
 use Rattle.std.{proofs.{Common.{◌≡◌, ℕ, ◌+◌, ◌%◌, ◌≤◌, ◌<◌, ◌⊎◌, inl, inr, Bool, true, false, ◌&&◌, List, [], ◌∷◌, ◌++◌, length, Option, MatchOption, refl, sym, ap, ap₂, ◌∙◌, subst, arith, rules}, lemmas.Bool.{leb-true, and_parts}, Math.Nat.mul-mod_left}, specs.{Prelude.{IsTrue, map, filter, nat_le}, List.list_any, Option.option_map_or}}
 use Rattle.lists.{specs.Elements.{Each, EachPair, IsIn}, proofs.{Members.{each_in, each_from, in_flat_map, from_flat_map, in_map, from_map, in_filter, from_filter, any_in, from_any, pairs_weaker, pairs_flat_map, pairs_of_map}, EachLemmas.pairs_filter}}
-use Rattle.model_board.{specs.{Board.{Board, Row, is_bridge, IsBoard}, Paths.{Path, path_eq, path_before, leads_to, parent, last_part, IsPath}, Lawful.HasLawfulDecls}, proofs.{PlacesLaw.before_apart, PathEnds.{snoc, path_self, parent_snoc, leads_up}}}
+use Rattle.model_board.{specs.{Board.{Board, Row, is_bridge, IsBoard}, Paths.{Path, path_eq, path_before, is_ancestor_of, parent, last_part, IsPath}, Lawful.HasLawfulDecls}, proofs.{PlacesLaw.before_apart, PathEnds.{snoc, path_self, parent_snoc, leads_up}}}
 use Rattle.model_registers.specs.Apertures.{Apertures, Aperture}
-use Rattle.model_set_up.{specs.{Pools.{Pool, io_pool, mem_pool, pref_pool, same_pool, unit_of, aperture_of}, Placement.{Placed, a_region, a_window, Item, Spot, spot_end, spots, in_order, round_up, items_on, fits, bus_first}, Layout.{LayoutRow, IsAligned, is_window_over, IsUnderWindows, IsLawful, row_of, bus_rows, buses, pool_rows, layout}, Extents.{IsInside, AreApart}, Packing.IsPowerOfTwo, PlacementLaws.{PoolsAreLawful, LayoutIsLawful}}, proofs.{PlacedApart.pool_is, Packing.{Divides, divides_chain, powers_divide, unit_positive, round_up_not_before}, Items.{item_of, unit_power, unit_below, AlignsAs, IsPlaceable, some_end, end_below_need, items_placeable}, Nesting.{HasItems, bus_end, WindowOn, window_of, window_above, root_has, spot_placeable, bus_run, spot_aligned, bus_aligned, IsWithin, nested, items_above, bridge_of_bus}}}
+use Rattle.model_set_up.{specs.{Pools.{Pool, io_pool, mem_pool, pref_pool, same_pool, unit_of, aperture_of}, Placement.{Placed, a_region, a_window, PlacementItem, PlacedItem, spot_end, spots, in_order, round_up, items_on, fits, bus_first}, Layout.{LayoutRow, IsAligned, is_window_over, IsUnderWindows, IsLawful, row_of, bus_rows, buses, pool_rows, layout}, Extents.{IsInside, AreApart}, Packing.IsPowerOfTwo, PlacementLaws.{PoolsAreLawful, LayoutIsLawful}}, proofs.{PlacedApart.pool_is, Packing.{Divides, divides_chain, powers_divide, unit_positive, round_up_not_before}, Items.{item_of, unit_power, unit_below, AlignsAs, IsPlaceable, some_end, end_below_need, items_placeable}, Nesting.{HasItems, bus_end, WindowOn, window_of, window_above, root_has, spot_placeable, bus_run, spot_aligned, bus_aligned, IsWithin, nested, items_above, bridge_of_bus}}}
 
 -- ---- buses
 
@@ -26,7 +26,7 @@ pool_self pool = grind arith
 
 -- ---- one row
 
-aligned_as : (i : Item) (path : Path) (v : Placed) (pool : Pool) (first : ℕ) (w : Placed) → IsPowerOfTwo i.align → IsPowerOfTwo (unit_of pool) → AlignsAs (unit_of pool) i w → Divides i.align first
+aligned_as : (i : PlacementItem) (path : Path) (v : Placed) (pool : Pool) (first : ℕ) (w : Placed) → IsPowerOfTwo i.align → IsPowerOfTwo (unit_of pool) → AlignsAs (unit_of pool) i w → Divides i.align first
     → IsAligned (record { path = path; what = v; pool = pool; first = first; size = i.size }) w
 aligned_as i path v pool first (a_region n) p u h (k, e) = ap₂ ◌%◌ e (sym h) ∙ mul-mod_left k i.align
 aligned_as i path v pool first a_window p u h d =
@@ -46,7 +46,7 @@ window_over r v t h = grind arith
 pub record OnBus (b : Board) (a : Apertures) (pool : Pool) (row : LayoutRow) : Type 0 where
   pub bus : Path
   pub is_bus : IsIn bus (buses b)
-  pub spot : Spot
+  pub spot : PlacedItem
   pub on : IsIn spot (spots (items_on b a pool bus))
   pub row_is : row ≡ row_of pool bus (bus_first b a pool bus) spot
 
@@ -54,10 +54,10 @@ pub on_bus_row : (b : Board) (a : Apertures) (pool : Pool) (row : LayoutRow) →
 on_bus_row b a pool row m = grind (arith, from_flat_map (bus_rows b a pool) row (buses b) m, from_map)
 
 module _ (b : Board) (a : Apertures) (pool : Pool) (board : IsBoard b) (lawful : HasLawfulDecls b) where
-  abbrev the_row : Path → Spot → LayoutRow
+  abbrev the_row : Path → PlacedItem → LayoutRow
   the_row bus s = row_of pool bus (bus_first b a pool bus) s
 
-  spot_has : (bus : Path) (s : Spot) → IsIn s (spots (items_on b a pool bus)) → HasItems b a pool bus
+  spot_has : (bus : Path) (s : PlacedItem) → IsIn s (spots (items_on b a pool bus)) → HasItems b a pool bus
   spot_has bus s m = (s.item, item_of s (items_on b a pool bus) m)
 
   -- a bus with items is among the buses of the board, and its spots' rows among the rows
@@ -67,47 +67,47 @@ module _ (b : Board) (a : Apertures) (pool : Pool) (board : IsBoard b) (lawful :
       let f = bridge_of_bus b a pool board lawful (x ∷ bus) has (omega arith) in
       inr (subst (λ (q : Path). IsIn q (map (λ (r : Row). r.path) (filter (λ r. is_bridge r.decl) b))) f.2 (in_map (λ (r : Row). r.path) f.0 (filter (λ r. is_bridge r.decl) b) (in_filter (λ (r : Row). is_bridge r.decl) f.0 b f.1 f.3)))
 
-  pub row_in : (bus : Path) (s : Spot) → IsIn s (spots (items_on b a pool bus)) → IsIn (the_row bus s) (pool_rows b a pool)
+  pub row_in : (bus : Path) (s : PlacedItem) → IsIn s (spots (items_on b a pool bus)) → IsIn (the_row bus s) (pool_rows b a pool)
   row_in bus s m =
       in_flat_map (bus_rows b a pool) bus (the_row bus s) (buses b) (bus_in bus (spot_has bus s m))
       (in_map (row_of pool bus (bus_first b a pool bus)) s (spots (items_on b a pool bus)) m)
 
-  row_aligned : (bus : Path) (s : Spot) → IsIn s (spots (items_on b a pool bus)) → IsAligned (the_row bus s) s.item.what
+  row_aligned : (bus : Path) (s : PlacedItem) → IsIn s (spots (items_on b a pool bus)) → IsAligned (the_row bus s) s.item.what
   row_aligned bus s m =
       let whole : IsPlaceable (unit_of pool) s.item = spot_placeable b a pool board lawful bus s m in
       search (rules, aligned_as, unit_power, spot_aligned, bus_aligned, spot_has)
 
   -- a spot's row stands inside each bus that leads to it
-  row_inside : (bus : Path) (s : Spot) → IsIn s (spots (items_on b a pool bus)) → (q : Path) → (q ≡ bus) ⊎ (leads_to q bus ≡ true)
+  row_inside : (bus : Path) (s : PlacedItem) → IsIn s (spots (items_on b a pool bus)) → (q : Path) → (q ≡ bus) ⊎ (is_ancestor_of q bus ≡ true)
       → IsInside (bus_first b a pool q) (bus_first b a pool q + bus_end b a pool q) (the_row bus s).first (the_row bus s).size
   row_inside bus s m q over =
       let up : IsWithin b a pool board lawful q bus = nested b a pool board lawful bus (spot_has bus s m) q over in
-      let inside = each_in (λ (t : Spot). (0 ≤ t.first) × (spot_end t ≤ bus_end b a pool bus)) s (spots (items_on b a pool bus)) (bus_run b a pool board lawful bus).within m in
+      let inside = each_in (λ (t : PlacedItem). (0 ≤ t.first) × (spot_end t ≤ bus_end b a pool bus)) s (spots (items_on b a pool bus)) (bus_run b a pool board lawful bus).within m in
       grind (arith, bus_end)
 
-  from_root : (bus : Path) → ([] ≡ bus) ⊎ (leads_to [] bus ≡ true)
+  from_root : (bus : Path) → ([] ≡ bus) ⊎ (is_ancestor_of [] bus ≡ true)
   from_root bus = grind arith
 
-  row_in_aperture : fits b a pool ≡ true → (bus : Path) (s : Spot) → IsIn s (spots (items_on b a pool bus)) → MatchOption (aperture_of a pool) ⊥ (λ ap. IsInside ap.first (ap.last + 1) (the_row bus s).first (the_row bus s).size)
+  row_in_aperture : fits b a pool ≡ true → (bus : Path) (s : PlacedItem) → IsIn s (spots (items_on b a pool bus)) → MatchOption (aperture_of a pool) ⊥ (λ ap. IsInside ap.first (ap.last + 1) (the_row bus s).first (the_row bus s).size)
   row_in_aperture fit bus s m =
       grind (arith, items_placeable b a pool lawful [], root_has b a pool board lawful bus (spot_has bus s m), spot_has bus s m, row_inside bus s m [] (from_root bus), from_root bus, in_aperture, unit_below, unit_positive, some_end)
 
-  row_under : (bus : Path) (s : Spot) → IsIn s (spots (items_on b a pool bus)) → IsUnderWindows b (pool_rows b a pool) (the_row bus s)
+  row_under : (bus : Path) (s : PlacedItem) → IsIn s (spots (items_on b a pool bus)) → IsUnderWindows b (pool_rows b a pool) (the_row bus s)
   row_under bus s m = record {
     inside = each_from (λ w. IsTrue (is_window_over (the_row bus s) w) → IsInside w.first (w.first + w.size) (the_row bus s).first (the_row bus s).size) (pool_rows b a pool) (λ w k over. of_window w (on_bus_row b a pool w k) over);
-    there = each_from (λ (d : Row). IsTrue (leads_to d.path (bus ++ s.item.part ∷ [])) → IsTrue (list_any (λ w. is_window_over (the_row bus s) w && path_eq w.path d.path) (pool_rows b a pool))) b
+    there = each_from (λ (d : Row). IsTrue (is_ancestor_of d.path (bus ++ s.item.part ∷ [])) → IsTrue (list_any (λ w. is_window_over (the_row bus s) w && path_eq w.path d.path) (pool_rows b a pool))) b
         (λ d k leads. of_bridge d.path (each_in (λ (r : Row). IsPath r.path) d b board.paths k).some leads);
   }
     where
       of_window : (w : LayoutRow) → OnBus b a pool w → is_window_over (the_row bus s) w ≡ true → IsInside w.first (w.first + w.size) (the_row bus s).first (the_row bus s).size
       of_window w o over = rw o.row_is (of_spot o.bus o.spot o.on (rw o.row_is at over))
         where
-          of_spot : (x : Path) (t : Spot) → IsIn t (spots (items_on b a pool x)) → is_window_over (the_row bus s) (the_row x t) ≡ true → IsInside (bus_first b a pool x + t.first) (bus_first b a pool x + t.first + t.item.size) (the_row bus s).first (the_row bus s).size
+          of_spot : (x : Path) (t : PlacedItem) → IsIn t (spots (items_on b a pool x)) → is_window_over (the_row bus s) (the_row x t) ≡ true → IsInside (bus_first b a pool x + t.first) (bus_first b a pool x + t.first + t.item.size) (the_row bus s).first (the_row bus s).size
           of_spot x t k over =
-              let k' = window_over (the_row bus s) t.item.what (same_pool pool pool && leads_to (x ++ t.item.part ∷ []) (bus ++ s.item.part ∷ [])) over in
-              grind (arith, and_parts (same_pool pool pool) (leads_to (x ++ t.item.part ∷ []) (bus ++ s.item.part ∷ [])) k'.1, window_of b a pool board lawful x t k k'.0, row_inside bus s m (x ++ t.item.part ∷ []), leads_up (x ++ t.item.part ∷ []) bus s.item.part, end_below_need, unit_positive)
+              let k' = window_over (the_row bus s) t.item.what (same_pool pool pool && is_ancestor_of (x ++ t.item.part ∷ []) (bus ++ s.item.part ∷ [])) over in
+              grind (arith, and_parts (same_pool pool pool) (is_ancestor_of (x ++ t.item.part ∷ []) (bus ++ s.item.part ∷ [])) k'.1, window_of b a pool board lawful x t k k'.0, row_inside bus s m (x ++ t.item.part ∷ []), leads_up (x ++ t.item.part ∷ []) bus s.item.part, end_below_need, unit_positive)
 
-      of_bridge : (q : Path) → 0 < length q → leads_to q (bus ++ s.item.part ∷ []) ≡ true → list_any (λ w. is_window_over (the_row bus s) w && path_eq w.path q) (pool_rows b a pool) ≡ true
+      of_bridge : (q : Path) → 0 < length q → is_ancestor_of q (bus ++ s.item.part ∷ []) ≡ true → list_any (λ w. is_window_over (the_row bus s) w && path_eq w.path q) (pool_rows b a pool) ≡ true
       of_bridge q some leads =
           let has : HasItems b a pool q = items_above b a pool board lawful bus (spot_has bus s m) q (leads_up q bus s.item.part leads) in
           let w : WindowOn b a pool (parent q) (last_part q) = window_above b a pool board lawful q has some in
@@ -125,7 +125,7 @@ module _ (b : Board) (a : Apertures) (pool : Pool) (board : IsBoard b) (lawful :
       pairs_flat_map (λ x y. path_eq x y ≡ false) ApartOnBus (bus_rows b a pool) (buses b) (buses_differ b board) (λ bus m. bus_apart bus)
       (λ x y m k other r s l n same. of_two x y other r s (from_map (row_of pool x (bus_first b a pool x)) r (spots (items_on b a pool x)) l) (from_map (row_of pool y (bus_first b a pool y)) s (spots (items_on b a pool y)) n) same)
     where
-      of_two : (x y : Path) → path_eq x y ≡ false → (r s : LayoutRow) → (t : Spot) × IsIn t (spots (items_on b a pool x)) × (r ≡ the_row x t) → (u : Spot) × IsIn u (spots (items_on b a pool y)) × (s ≡ the_row y u)
+      of_two : (x y : Path) → path_eq x y ≡ false → (r s : LayoutRow) → (t : PlacedItem) × IsIn t (spots (items_on b a pool x)) × (r ≡ the_row x t) → (u : PlacedItem) × IsIn u (spots (items_on b a pool y)) × (s ≡ the_row y u)
           → (same_pool r.pool s.pool && path_eq (parent r.path) (parent s.path)) ≡ true → AreApart r.first r.size s.first s.size
       of_two x y other r s (t, m, e) (u, k, f) same = grind (arith, parent_snoc, and_parts)
 
@@ -165,8 +165,8 @@ module _ (b : Board) (a : Apertures) (each_lawful : (pool : Pool) → IsLawful b
   -- a window over a row is of the row's pool
   same_rows : (p q : Pool) (r w : LayoutRow) → IsIn r (pool_rows b a p) → IsIn w (pool_rows b a q) → is_window_over r w ≡ true → IsIn w (pool_rows b a p)
   same_rows p q r w m k over =
-      let t = (window_over r w.what (same_pool w.pool r.pool && leads_to w.path r.path) over).1 in
-      let same : same_pool q p ≡ true = sym (ap₂ same_pool (row_pool q w k) (row_pool p r m)) ∙ (and_parts (same_pool w.pool r.pool) (leads_to w.path r.path) t).0 in
+      let t = (window_over r w.what (same_pool w.pool r.pool && is_ancestor_of w.path r.path) over).1 in
+      let same : same_pool q p ≡ true = sym (ap₂ same_pool (row_pool q w k) (row_pool p r m)) ∙ (and_parts (same_pool w.pool r.pool) (is_ancestor_of w.path r.path) t).0 in
       subst (λ (x : Pool). IsIn w (pool_rows b a x)) (pool_is q p same) k
 
   under_all : (p : Pool) (r : LayoutRow) → IsIn r (pool_rows b a p) → IsUnderWindows b (layout b a) r
@@ -175,8 +175,8 @@ module _ (b : Board) (a : Apertures) (each_lawful : (pool : Pool) → IsLawful b
       record {
         inside = each_row (λ w. IsTrue (is_window_over r w) → IsInside w.first (w.first + w.size) r.first r.size)
             (λ q w k over. each_in (λ (x : LayoutRow). IsTrue (is_window_over r x) → IsInside x.first (x.first + x.size) r.first r.size) w (pool_rows b a p) own.inside (same_rows p q r w m k over) over);
-        there = each_from (λ (d : Row). IsTrue (leads_to d.path r.path) → IsTrue (list_any (λ w. is_window_over r w && path_eq w.path d.path) (layout b a))) b
-            (λ d k leads. widened d (each_in (λ (x : Row). IsTrue (leads_to x.path r.path) → IsTrue (list_any (λ w. is_window_over r w && path_eq w.path x.path) (pool_rows b a p))) d b own.there k leads));
+        there = each_from (λ (d : Row). IsTrue (is_ancestor_of d.path r.path) → IsTrue (list_any (λ w. is_window_over r w && path_eq w.path d.path) (layout b a))) b
+            (λ d k leads. widened d (each_in (λ (x : Row). IsTrue (is_ancestor_of x.path r.path) → IsTrue (list_any (λ w. is_window_over r w && path_eq w.path x.path) (pool_rows b a p))) d b own.there k leads));
       }
     where
       widened : (d : Row) → list_any (λ w. is_window_over r w && path_eq w.path d.path) (pool_rows b a p) ≡ true → list_any (λ w. is_window_over r w && path_eq w.path d.path) (layout b a) ≡ true

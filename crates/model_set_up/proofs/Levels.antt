@@ -3,7 +3,7 @@ use Rattle.std.{proofs.Common.{◌≡◌, ℕ, zero, suc, ◌+◌, ◌≤◌, �
 use Rattle.lists.{specs.Elements.Each, proofs.{Members.{each_in, from_filter, flat_map_same}, Tests.right_true}}
 use Rattle.model_board.specs.{Board.{Board, Row, Decl, rows_on}, Paths.{Path, path_eq, part_eq, parent, IsPath}}
 use Rattle.model_registers.specs.Apertures.{Apertures}
-use Rattle.model_set_up.specs.{Pools.Pool, Placement.{Item, items_of, items_within}, Levels.ItemsByBus}
+use Rattle.model_set_up.specs.{Pools.Pool, Placement.{PlacementItem, items_of, items_within}, Levels.ItemsByBus}
 
 -- equal paths are as long
 path_eq-length : (p q : Path) → path_eq p q ≡ true → length p ≡ length q
@@ -16,7 +16,7 @@ parent-shorter [] h = absurd (omega arith)
 parent-shorter (p ∷ []) h = refl
 parent-shorter (p ∷ q ∷ ps) h = ap suc (parent-shorter (q ∷ ps) (omega arith))
 
-items_of_same : (b : Board) (a : Apertures) (pool : Pool) (f g : Path → List Item) (p : Path) (d : Decl) → f p ≡ g p
+items_of_same : (b : Board) (a : Apertures) (pool : Pool) (f g : Path → List PlacementItem) (p : Path) (d : Decl) → f p ≡ g p
     → items_of b a pool f (record { path = p; decl = d }) ≡ items_of b a pool g (record { path = p; decl = d })
 items_of_same b a pool f g p d e = grind arith
 

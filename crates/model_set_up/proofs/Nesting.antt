@@ -1,9 +1,9 @@
 -- The buses of a board nest: each that has items begins and ends inside its window on the bus above.
 use Rattle.std.{proofs.Common.{◌≡◌, ℕ, zero, suc, ◌+◌, ◌-◌, ◌/◌, ◌%◌, ◌≤◌, ◌<◌, ◌⊎◌, inl, inr, true, List, [], ◌∷◌, ◌++◌, length, Option, Some, None, refl, sym, ap, ◌∙◌, subst, arith, append_assoc, append-nil, div-add-mod'}, specs.{Prelude.IsTrue, Option.option_map_or}}
 use Rattle.lists.{specs.Elements.IsIn, proofs.{Tests.{left_true, right_true}, Members.{each_in, from_any}}}
-use Rattle.model_board.{specs.{Board.{Board, Row, Decl, endpoint, bridge, is_bridge, is_bridge_at, IsBoard}, Paths.{Part, Path, leads_to, parent, last_part}, Lawful.HasLawfulDecls}, proofs.{PathOrder.path_same, PathEnds.{snoc, parent_snoc, length_snoc, leads_up}}}
+use Rattle.model_board.{specs.{Board.{Board, Row, Decl, endpoint, bridge, is_bridge, is_bridge_at, IsBoard}, Paths.{Part, Path, is_ancestor_of, parent, last_part}, Lawful.HasLawfulDecls}, proofs.{PathOrder.path_same, PathEnds.{snoc, parent_snoc, length_snoc, leads_up}}}
 use Rattle.model_registers.specs.Apertures.{Apertures, Aperture}
-use Rattle.model_set_up.{specs.{Pools.{Pool, unit_of, aperture_of}, Placement.{Placed, a_window, Item, Spot, spots, in_order, end_from, round_up, need, alignment, window_items, items_on, root_first, offset_on, first_below, bus_first}, Packing.{IsPowerOfTwo, IsRun}}, proofs.{Packing.{Divides, divides_add, divides_chain, powers_divide, unit_positive}, Items.{spot_of, item_of, spots_differ, offset_of_spot, alignment_power, align_below, unit_power, IsPlaceable, powers, run_of, end_below_need, items_placeable, items_for, region_of_item, Origin, origin, on_own_bus, items_differ}}}
+use Rattle.model_set_up.{specs.{Pools.{Pool, unit_of, aperture_of}, Placement.{Placed, a_window, PlacementItem, PlacedItem, spots, in_order, end_from, round_up, need, alignment, window_items, items_on, root_first, offset_on, first_below, bus_first}, Packing.{IsPowerOfTwo, IsRun}}, proofs.{Packing.{Divides, divides_add, divides_chain, powers_divide, unit_positive}, Items.{spot_of, item_of, spots_differ, offset_of_spot, alignment_power, align_below, unit_power, IsPlaceable, powers, run_of, end_below_need, items_placeable, items_for, region_of_item, Origin, origin, on_own_bus, items_differ}}}
 
 -- ---- the first address of a bus, by that of the bus above
 
@@ -23,7 +23,7 @@ divides_from a n h = (n / a, omega (arith, div-add-mod' n a))
 -- ---- windows
 
 abbrev pub HasItems : Board → Apertures → Pool → Path → Type 0
-HasItems b a pool bus = (i : Item) × IsIn i (items_on b a pool bus)
+HasItems b a pool bus = (i : PlacementItem) × IsIn i (items_on b a pool bus)
 
 -- where the last item of a bus ends
 abbrev pub bus_end : Board → Apertures → Pool → Path → ℕ
@@ -36,7 +36,7 @@ pub record WindowOn (b : Board) (a : Apertures) (pool : Pool) (bus : Path) (p : 
   pub path_is : row.path ≡ bus ++ p ∷ []
   pub is_bridge_row : is_bridge row.decl ≡ true
   pub behind : HasItems b a pool (bus ++ p ∷ [])
-  pub spot : Spot
+  pub spot : PlacedItem
   pub on : IsIn spot (spots (items_on b a pool bus))
   pub part_is : spot.item.part ≡ p
   pub what_is : spot.item.what ≡ a_window
@@ -45,29 +45,29 @@ pub record WindowOn (b : Board) (a : Apertures) (pool : Pool) (bus : Path) (p : 
   pub first_is : bus_first b a pool (bus ++ p ∷ []) ≡ bus_first b a pool bus + spot.first
 
 -- an item of a function that is a window is that of a bridge with items behind it
-record IsWindow (unit : ℕ) (is : List Item) (i : Item) : Type 0 where
-  some : (j : Item) × IsIn j is
+record IsWindow (unit : ℕ) (is : List PlacementItem) (i : PlacementItem) : Type 0 where
+  some : (j : PlacementItem) × IsIn j is
   align_is : i.align ≡ alignment unit is
   size_is : i.size ≡ need unit is
 
-is_window : (unit : ℕ) (p : Part) (is : List Item) (i : Item) → IsIn i (window_items unit p is) → IsWindow unit is i
+is_window : (unit : ℕ) (p : Part) (is : List PlacementItem) (i : PlacementItem) → IsIn i (window_items unit p is) → IsWindow unit is i
 is_window unit p [] i m = absurd m
-is_window unit p (j ∷ is) i (inl e) = record { some = (j, inl refl); align_is = ap (λ (k : Item). k.align) e; size_is = ap (λ (k : Item). k.size) e }
+is_window unit p (j ∷ is) i (inl e) = record { some = (j, inl refl); align_is = ap (λ (k : PlacementItem). k.align) e; size_is = ap (λ (k : PlacementItem). k.size) e }
 is_window unit p (j ∷ is) i (inr m) = absurd m
 
-has_window : (unit : ℕ) (p : Part) (is : List Item) (j : Item) → IsIn j is → (i : Item) × IsIn i (window_items unit p is) × (i.part ≡ p) × (i.what ≡ a_window)
+has_window : (unit : ℕ) (p : Part) (is : List PlacementItem) (j : PlacementItem) → IsIn j is → (i : PlacementItem) × IsIn i (window_items unit p is) × (i.part ≡ p) × (i.what ≡ a_window)
 has_window unit p [] j m = absurd m
 has_window unit p (k ∷ is) j m = (record { part = p; what = a_window; align = alignment unit (k ∷ is); size = need unit (k ∷ is) }, inl refl, refl, refl)
 
 module _ (b : Board) (a : Apertures) (pool : Pool) (board : IsBoard b) (lawful : HasLawfulDecls b) where
-  of_bridge : (p : Path) (d : Decl) (i : Item) → i.what ≡ a_window → IsIn i (items_for b a pool p d) → (is_bridge d ≡ true) × IsWindow (unit_of pool) (items_on b a pool p) i
+  of_bridge : (p : Path) (d : Decl) (i : PlacementItem) → i.what ≡ a_window → IsIn i (items_for b a pool p d) → (is_bridge d ≡ true) × IsWindow (unit_of pool) (items_on b a pool p) i
   of_bridge p d i w m = grind (arith, region_of_item, is_window)
 
-  pub offset_of : (bus : Path) (s : Spot) → IsIn s (spots (items_on b a pool bus)) → offset_on b a pool bus s.item.part s.item.what ≡ s.first
+  pub offset_of : (bus : Path) (s : PlacedItem) → IsIn s (spots (items_on b a pool bus)) → offset_on b a pool bus s.item.part s.item.what ≡ s.first
   offset_of bus s m = offset_of_spot s (spots (items_on b a pool bus)) (spots_differ (items_on b a pool bus) (items_differ b a pool board lawful bus)) m
 
   -- a spot of a window is that of the bridge at its part
-  pub window_of : (bus : Path) (s : Spot) → IsIn s (spots (items_on b a pool bus)) → s.item.what ≡ a_window → (w : WindowOn b a pool bus s.item.part) × (w.spot ≡ s)
+  pub window_of : (bus : Path) (s : PlacedItem) → IsIn s (spots (items_on b a pool bus)) → s.item.what ≡ a_window → (w : WindowOn b a pool bus s.item.part) × (w.spot ≡ s)
   window_of bus s m what =
       let o : Origin b a pool bus s.item = origin b a pool board bus s.item (item_of s (items_on b a pool bus) m) in
       let k = of_bridge o.row.path o.row.decl s.item what o.item in
@@ -99,16 +99,16 @@ module _ (b : Board) (a : Apertures) (pool : Pool) (board : IsBoard b) (lawful :
       by_parent : (q : Path) → q ≡ bus → (q ≡ []) ⊎ IsTrue (is_bridge_at b q) → (r : Row) × IsIn r b × (r.path ≡ bus) × (is_bridge r.decl ≡ true)
       by_parent q e none = grind (arith, from_any, path_same, right_true, left_true)
 
-  own_window : (p : Path) (d : Decl) → is_bridge d ≡ true → HasItems b a pool p → (i : Item) × IsIn i (items_for b a pool p d) × (i.part ≡ last_part p) × (i.what ≡ a_window)
+  own_window : (p : Path) (d : Decl) → is_bridge d ≡ true → HasItems b a pool p → (i : PlacementItem) × IsIn i (items_for b a pool p d) × (i.part ≡ last_part p) × (i.what ≡ a_window)
   own_window p (endpoint d) h has = cc
   own_window p (bridge d) h (j, m) = has_window (unit_of pool) (last_part p) (items_on b a pool p) j m
 
   pub window_above : (bus : Path) → HasItems b a pool bus → 0 < length bus → WindowOn b a pool (parent bus) (last_part bus)
   window_above bus has some = by_row (bridge_of_bus bus has some)
     where
-      by_spot : (r : Row) → r.path ≡ bus → (i : Item) → i.part ≡ last_part r.path → i.what ≡ a_window → (s : Spot) × IsIn s (spots (items_on b a pool (parent r.path))) × (s.item ≡ i) → WindowOn b a pool (parent bus) (last_part bus)
+      by_spot : (r : Row) → r.path ≡ bus → (i : PlacementItem) → i.part ≡ last_part r.path → i.what ≡ a_window → (s : PlacedItem) × IsIn s (spots (items_on b a pool (parent r.path))) × (s.item ≡ i) → WindowOn b a pool (parent bus) (last_part bus)
       by_spot r path i part what (s, k, e) =
-          let w = window_of (parent r.path) s k (ap (λ (j : Item). j.what) e ∙ what) in
+          let w = window_of (parent r.path) s k (ap (λ (j : PlacementItem). j.what) e ∙ what) in
           grind arith
 
       by_row : (r : Row) × IsIn r b × (r.path ≡ bus) × (is_bridge r.decl ≡ true) → WindowOn b a pool (parent bus) (last_part bus)
@@ -135,7 +135,7 @@ module _ (b : Board) (a : Apertures) (pool : Pool) (board : IsBoard b) (lawful :
   pub root_has : (bus : Path) → HasItems b a pool bus → HasItems b a pool []
   root_has bus has = down_buses (λ q. HasItems b a pool []) (λ h. h) (λ q p w h. h) bus has
 
-  pub spot_placeable : (bus : Path) (s : Spot) → IsIn s (spots (items_on b a pool bus)) → IsPlaceable (unit_of pool) s.item
+  pub spot_placeable : (bus : Path) (s : PlacedItem) → IsIn s (spots (items_on b a pool bus)) → IsPlaceable (unit_of pool) s.item
   spot_placeable bus s m = each_in (IsPlaceable (unit_of pool)) s.item (items_on b a pool bus) (items_placeable b a pool lawful bus) (item_of s (items_on b a pool bus) m)
 
   pub bus_run : (bus : Path) → IsRun 0 (bus_end b a pool bus) (spots (items_on b a pool bus))
@@ -145,13 +145,13 @@ module _ (b : Board) (a : Apertures) (pool : Pool) (board : IsBoard b) (lawful :
   bus_power bus = alignment_power (unit_of pool) (items_on b a pool bus) (unit_power pool) (powers (unit_of pool) (items_on b a pool bus) (items_placeable b a pool lawful bus))
 
   -- a spot's alignment divides its address, if that of its bus divides the bus's
-  pub spot_aligned : (bus : Path) → Divides (alignment (unit_of pool) (items_on b a pool bus)) (bus_first b a pool bus) → (s : Spot) → IsIn s (spots (items_on b a pool bus)) → Divides s.item.align (bus_first b a pool bus + s.first)
+  pub spot_aligned : (bus : Path) → Divides (alignment (unit_of pool) (items_on b a pool bus)) (bus_first b a pool bus) → (s : PlacedItem) → IsIn s (spots (items_on b a pool bus)) → Divides s.item.align (bus_first b a pool bus + s.first)
   spot_aligned bus h s m =
       let whole : IsPlaceable (unit_of pool) s.item = spot_placeable bus s m in
       let le : s.item.align ≤ alignment (unit_of pool) (items_on b a pool bus) = align_below (unit_of pool) s.item (items_on b a pool bus) (item_of s (items_on b a pool bus) m) in
       divides_add s.item.align (bus_first b a pool bus) s.first
       (divides_chain s.item.align (alignment (unit_of pool) (items_on b a pool bus)) (bus_first b a pool bus) (powers_divide s.item.align (alignment (unit_of pool) (items_on b a pool bus)) whole.power (bus_power bus) le) h)
-      (divides_from s.item.align s.first (each_in (λ (t : Spot). t.first % t.item.align ≡ 0) s (spots (items_on b a pool bus)) (bus_run bus).aligned m))
+      (divides_from s.item.align s.first (each_in (λ (t : PlacedItem). t.first % t.item.align ≡ 0) s (spots (items_on b a pool bus)) (bus_run bus).aligned m))
 
   pub bus_aligned : (bus : Path) → HasItems b a pool bus → Divides (alignment (unit_of pool) (items_on b a pool bus)) (bus_first b a pool bus)
   bus_aligned bus has = down_buses (λ q. Divides (alignment (unit_of pool) (items_on b a pool q)) (bus_first b a pool q)) root step bus has
@@ -173,27 +173,27 @@ module _ (b : Board) (a : Apertures) (pool : Pool) (board : IsBoard b) (lawful :
     pub begins : bus_first b a pool q ≤ bus_first b a pool bus
     pub ends : bus_first b a pool bus + bus_end b a pool bus ≤ bus_first b a pool q + bus_end b a pool q
 
-  pub nested : (bus : Path) → HasItems b a pool bus → (q : Path) → (q ≡ bus) ⊎ (leads_to q bus ≡ true) → IsWithin q bus
-  nested bus has = down_buses (λ x. (q : Path) → (q ≡ x) ⊎ (leads_to q x ≡ true) → IsWithin q x) (λ h. root) step bus has
+  pub nested : (bus : Path) → HasItems b a pool bus → (q : Path) → (q ≡ bus) ⊎ (is_ancestor_of q bus ≡ true) → IsWithin q bus
+  nested bus has = down_buses (λ x. (q : Path) → (q ≡ x) ⊎ (is_ancestor_of q x ≡ true) → IsWithin q x) (λ h. root) step bus has
     where
       itself : (q x : Path) → q ≡ x → IsWithin q x
       itself q x e = subst (IsWithin q) e (record { begins = omega arith; ends = omega arith })
 
-      root : (q : Path) → (q ≡ []) ⊎ (leads_to q [] ≡ true) → IsWithin q []
+      root : (q : Path) → (q ≡ []) ⊎ (is_ancestor_of q [] ≡ true) → IsWithin q []
       root q (inl e) = itself q [] e
       root [] (inr h) = cc
       root (x ∷ q) (inr h) = cc
 
-      step : (x : Path) (p : Part) → WindowOn b a pool x p → ((q : Path) → (q ≡ x) ⊎ (leads_to q x ≡ true) → IsWithin q x) → (q : Path) → (q ≡ x ++ p ∷ []) ⊎ (leads_to q (x ++ p ∷ []) ≡ true) → IsWithin q (x ++ p ∷ [])
+      step : (x : Path) (p : Part) → WindowOn b a pool x p → ((q : Path) → (q ≡ x) ⊎ (is_ancestor_of q x ≡ true) → IsWithin q x) → (q : Path) → (q ≡ x ++ p ∷ []) ⊎ (is_ancestor_of q (x ++ p ∷ []) ≡ true) → IsWithin q (x ++ p ∷ [])
       step x p w more q e = grind (arith, itself, leads_up, each_in, bus_run, end_below_need, unit_positive)
 
-  pub items_above : (bus : Path) → HasItems b a pool bus → (q : Path) → (q ≡ bus) ⊎ (leads_to q bus ≡ true) → HasItems b a pool q
-  items_above bus has = down_buses (λ x. (q : Path) → (q ≡ x) ⊎ (leads_to q x ≡ true) → HasItems b a pool q) root step bus has
+  pub items_above : (bus : Path) → HasItems b a pool bus → (q : Path) → (q ≡ bus) ⊎ (is_ancestor_of q bus ≡ true) → HasItems b a pool q
+  items_above bus has = down_buses (λ x. (q : Path) → (q ≡ x) ⊎ (is_ancestor_of q x ≡ true) → HasItems b a pool q) root step bus has
     where
-      root : HasItems b a pool [] → (q : Path) → (q ≡ []) ⊎ (leads_to q [] ≡ true) → HasItems b a pool q
+      root : HasItems b a pool [] → (q : Path) → (q ≡ []) ⊎ (is_ancestor_of q [] ≡ true) → HasItems b a pool q
       root h q (inl e) = subst (HasItems b a pool) (sym e) h
       root h [] (inr k) = cc
       root h (x ∷ q) (inr k) = cc
 
-      step : (x : Path) (p : Part) → WindowOn b a pool x p → ((q : Path) → (q ≡ x) ⊎ (leads_to q x ≡ true) → HasItems b a pool q) → (q : Path) → (q ≡ x ++ p ∷ []) ⊎ (leads_to q (x ++ p ∷ []) ≡ true) → HasItems b a pool q
+      step : (x : Path) (p : Part) → WindowOn b a pool x p → ((q : Path) → (q ≡ x) ⊎ (is_ancestor_of q x ≡ true) → HasItems b a pool q) → (q : Path) → (q ≡ x ++ p ∷ []) ⊎ (is_ancestor_of q (x ++ p ∷ []) ≡ true) → HasItems b a pool q
       step x p w more q h = grind (arith, leads_up)

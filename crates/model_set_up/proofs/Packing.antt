@@ -3,7 +3,7 @@ use Rattle.std.{proofs.{Common.{◌≡◌, ℕ, zero, suc, ◌+◌, ◌-◌, ◌
 use Rattle.lists.{specs.Elements.{Each, EachPair}, proofs.{EachLemmas.{each_append, each_of_map, pairs_filter, each_filter, each_map, each_both, filter_passes, pairs_map}, Members.each_from}}
 use Rattle.model_board.specs.{Board.{Board, Row, Decl, is_bridge, rows_on}, Paths.{Path, path_eq, parent}}
 use Rattle.model_registers.specs.Apertures.{Apertures}
-use Rattle.model_set_up.{specs.{Pools.{Pool, unit_of}, Placement.{items_of, items_within, items_on, Item, stands_before, inserted, in_order, round_up, end_from, spots_from, spots}, Extents.{IsInside, AreApart}, Packing.{IsPowerOfTwo, Interval, FlatNeed, HasPowerSizes, FlatNeedOnBus, IsRun, CompactIsRun}}, proofs.InOrder.{each_in_order, order_pairs}}
+use Rattle.model_set_up.{specs.{Pools.{Pool, unit_of}, Placement.{items_of, items_within, items_on, PlacementItem, stands_before, inserted, in_order, round_up, end_from, spots_from, spots}, Extents.{IsInside, AreApart}, Packing.{IsPowerOfTwo, Interval, FlatNeed, HasPowerSizes, FlatNeedOnBus, IsRun, CompactIsRun}}, proofs.InOrder.{each_in_order, order_pairs}}
 
 -- ---- lists
 
@@ -57,25 +57,25 @@ spots_take (suc n) (x ∷ ss) start stop few h within apart =
 
 -- ---- the compact placement of regions
 
-abbrev total : List Item → ℕ
+abbrev total : List PlacementItem → ℕ
 total is = sum_by (λ i. i.size) is
 
-total-cons : (i : Item) (is : List Item) → total (i ∷ is) ≡ i.size + total is
-total-cons i is = sum_by-cons (λ (k : Item). k.size) i is
+total-cons : (i : PlacementItem) (is : List PlacementItem) → total (i ∷ is) ≡ i.size + total is
+total-cons i is = sum_by-cons (λ (k : PlacementItem). k.size) i is
 
-total_inserted_cases : (i j : Item) (js : List Item) (b : Bool) → total (inserted i js) ≡ i.size + total js → total (cond b (j ∷ inserted i js) (i ∷ j ∷ js)) ≡ i.size + (j.size + total js)
+total_inserted_cases : (i j : PlacementItem) (js : List PlacementItem) (b : Bool) → total (inserted i js) ≡ i.size + total js → total (cond b (j ∷ inserted i js) (i ∷ j ∷ js)) ≡ i.size + (j.size + total js)
 total_inserted_cases i j js b h = grind (arith, total-cons j (inserted i js), total-cons i (j ∷ js), total-cons j js)
 
-total_inserted : (i : Item) (js : List Item) → total (inserted i js) ≡ i.size + total js
+total_inserted : (i : PlacementItem) (js : List PlacementItem) → total (inserted i js) ≡ i.size + total js
 total_inserted i [] = total-cons i []
 total_inserted i (j ∷ js) = total_inserted_cases i j js (stands_before j i) (total_inserted i js) ∙ ap (λ n. i.size + n) (sym (total-cons j js))
 
-total_in_order : (is : List Item) → total (in_order is) ≡ total is
+total_in_order : (is : List PlacementItem) → total (in_order is) ≡ total is
 total_in_order [] = refl
 total_in_order (i ∷ is) = total_inserted i (in_order is) ∙ ap (λ n. i.size + n) (total_in_order is) ∙ sym (total-cons i is)
 
 -- alignments don't rise
-abbrev Descends : List Item → Type 0
+abbrev Descends : List PlacementItem → Type 0
 Descends is = EachPair (λ i j. j.align ≤ i.align) is
 
 -- ---- powers of two
@@ -108,14 +108,14 @@ round_up_multiple a n h k = grind (arith, div-eq_of_lt, add-mul-div_right, zero-
 -- ---- no gaps
 
 -- a region: its alignment is its size, a power of two
-record IsRegion (i : Item) : Type 0 where
+record IsRegion (i : PlacementItem) : Type 0 where
   align_is_size : i.align ≡ i.size
   power : IsPowerOfTwo i.size
 
-next_divides : (n : ℕ) (j : Item) → IsRegion j → (i : Item) → (i.align ≤ j.align) × (IsRegion i × Divides i.size n) → Divides i.size (n + j.size)
+next_divides : (n : ℕ) (j : PlacementItem) → IsRegion j → (i : PlacementItem) → (i.align ≤ j.align) × (IsRegion i × Divides i.size n) → Divides i.size (n + j.size)
 next_divides n j rj i h = grind (arith, divides_add, powers_divide)
 
-end_flat : (js : List Item) (n : ℕ) → Each IsRegion js → Descends js → Each (λ i. Divides i.size n) js → end_from n js ≡ n + total js
+end_flat : (js : List PlacementItem) (n : ℕ) → Each IsRegion js → Descends js → Each (λ i. Divides i.size n) js → end_from n js ≡ n + total js
 end_flat [] n regions down divides = omega arith
 end_flat (j ∷ js) n regions down divides =
     let at : round_up j.align n ≡ n =
@@ -125,16 +125,16 @@ end_flat (j ∷ js) n regions down divides =
     (each_both (λ i. i.align ≤ j.align) (λ i. IsRegion i × Divides i.size n) js down.0 (each_both IsRegion (λ i. Divides i.size n) js regions.1 divides.1)) in
     ap (λ x. end_from (x + j.size) js) at ∙ end_flat js (n + j.size) regions.1 down.1 tail ∙ omega (arith, total-cons j js)
 
-end_in_order : (is : List Item) → Each IsRegion is → end_from 0 (in_order is) ≡ total is
+end_in_order : (is : List PlacementItem) → Each IsRegion is → end_from 0 (in_order is) ≡ total is
 end_in_order is regions = grind (arith, end_flat, each_in_order, each_from, total_in_order, zero-add, pairs_map, nat_tests, order_pairs)
 
 round_up_least : (unit n units : ℕ) → 0 < unit → n ≤ units * unit → round_up unit n ≤ units * unit
 round_up_least unit n units h k = grind (arith, suc-mul, div-lt_iff_lt-mul, mul-le-mul_right)
 
-placed_total : (is : List Item) (spots : List Interval) → map (λ (s : Interval). s.size) spots ≡ map (λ (i : Item). i.size) is → sizes spots ≡ total is
-placed_total is spots e = sym (sum-map (λ (s : Interval). s.size) spots) ∙ ap sum e ∙ sum-map (λ (i : Item). i.size) is
+placed_total : (is : List PlacementItem) (spots : List Interval) → map (λ (s : Interval). s.size) spots ≡ map (λ (i : PlacementItem). i.size) is → sizes spots ≡ total is
+placed_total is spots e = sym (sum-map (λ (s : Interval). s.size) spots) ∙ ap sum e ∙ sum-map (λ (i : PlacementItem). i.size) is
 
-flat_need_lem : (unit : ℕ) (is : List Item) → 0 < unit → Each IsRegion is → FlatNeed unit is
+flat_need_lem : (unit : ℕ) (is : List PlacementItem) → 0 < unit → Each IsRegion is → FlatNeed unit is
 flat_need_lem unit is h regions = record {
   is_sum = ap (round_up unit) (end_in_order is regions);
   least = λ start units spots p.
@@ -153,7 +153,7 @@ each_flat_map : {A B : Type 0} (P : B → Type 0) (f : A → List B) (xs : List 
 each_flat_map P f [] h = tt
 each_flat_map P f (x ∷ xs) h = each_append P (f x) (flat_map f xs) h.0 (each_flat_map P f xs h.1)
 
-row_items_are : (b : Board) (a : Apertures) (pool : Pool) (behind : Path → List Item) (p : Path) (d : Decl) → is_bridge d ≡ false → HasPowerSizes d
+row_items_are : (b : Board) (a : Apertures) (pool : Pool) (behind : Path → List PlacementItem) (p : Path) (d : Decl) → is_bridge d ≡ false → HasPowerSizes d
     → Each IsRegion (items_of b a pool behind (record { path = p; decl = d }))
 row_items_are b a pool behind p d e h = grind (arith, each_of_map, each_map, each_filter)
 
@@ -174,16 +174,16 @@ round_up_not_before a n h = omega (arith, lt-div-mul-add {a = n + (a - 1)} h)
 pub round_up_is_multiple : (a n : ℕ) → round_up a n % a ≡ 0
 round_up_is_multiple a n = mul-mod_left ((n + (a - 1)) / a) a
 
-end_not_before : (n : ℕ) (is : List Item) → Each (λ i. 0 < i.align) is → n ≤ end_from n is
+end_not_before : (n : ℕ) (is : List PlacementItem) → Each (λ i. 0 < i.align) is → n ≤ end_from n is
 end_not_before n [] h = omega arith
 end_not_before n (i ∷ is) h = omega (arith, round_up_not_before i.align n h.0, end_not_before (round_up i.align n + i.size) is h.1)
 
-run_from : (n : ℕ) (is : List Item) → Each (λ i. 0 < i.align) is → IsRun n (end_from n is) (spots_from n is)
+run_from : (n : ℕ) (is : List PlacementItem) → Each (λ i. 0 < i.align) is → IsRun n (end_from n is) (spots_from n is)
 run_from n [] h = record { aligned = tt; within = tt; apart = tt }
 run_from n (i ∷ is) h =
     grind (arith, round_up_not_before, end_not_before, round_up_is_multiple, each_map, run_from ((round_up i.align n) + i.size) is h.1)
 
-pub run_in_order : (is : List Item) → Each (λ i. 0 < i.align) is → IsRun 0 (end_from 0 (in_order is)) (spots is)
+pub run_in_order : (is : List PlacementItem) → Each (λ i. 0 < i.align) is → IsRun 0 (end_from 0 (in_order is)) (spots is)
 run_in_order is positive = run_from 0 (in_order is) (each_in_order (λ i. 0 < i.align) is positive)
 
 pub compact_is_run : CompactIsRun

@@ -2,7 +2,7 @@
 use Rattle.std.{proofs.Common.{◌≡◌, ℕ, ◌+◌, ◌⊎◌, inr, Bool, true, false, ◌&&◌, Option, List, [], ◌∷◌, ◌++◌, refl, sym, ap, ◌∙◌, subst, arith, rules}, specs.{Prelude.{IsTrue, MatchOption}, List.list_any}}
 use Rattle.model_registers.specs.{Declarations.{Kind, Bridge}, Decoding.{memory, space_of, same_space}, Apertures.{IsLawfulApertures, IsPrefOption, Aperture, Apertures}}
 use Rattle.lists.{proofs.{Tests.{left_true, right_true}, Members.{each_in, from_any, pair_in}}, specs.Elements.IsIn}
-use Rattle.model_board.{specs.{Board.{Board, Row, is_bridge, IsBoard}, Paths.{Part, Path, path_eq, leads_to, parent}}, proofs.{PathOrder.{path_same, part_self}, PathEnds.{path_self, parent_snoc, last_snoc, length_snoc}}}
+use Rattle.model_board.{specs.{Board.{Board, Row, is_bridge, IsBoard}, Paths.{Part, Path, path_eq, is_ancestor_of, parent}}, proofs.{PathOrder.{path_same, part_self}, PathEnds.{path_self, parent_snoc, last_snoc, length_snoc}}}
 use Rattle.model_set_up.{specs.{Pools.{Pool, io_pool, mem_pool, pref_pool, same_pool, pref_or_mem, pool_of, aperture_of}, Layout.{LayoutRow, is_window_over, IsUnderWindows, IsLawful}, Extents.{IsInside, AreApart}, Placement.{Placed, a_window}, PlacedRegions.pool_space}, proofs.Partings.{Meeting, Same, Above, Below, Parting, meet, leads_down, one_row, bridge_above}}
 
 -- ---- pools
@@ -24,7 +24,7 @@ pool_of_space a above k = grind (arith, or_space)
 
 -- a window over a row is in the row's pool, above the row
 over_parts : (r : LayoutRow) (p : Path) (what : Placed) (pool : Pool) (first size : ℕ) → is_window_over r (record { path = p; what = what; pool = pool; first = first; size = size }) ≡ true
-    → (what ≡ a_window) × (same_pool pool r.pool ≡ true) × (leads_to p r.path ≡ true)
+    → (what ≡ a_window) × (same_pool pool r.pool ≡ true) × (is_ancestor_of p r.path ≡ true)
 over_parts r p what pool first size h = grind (arith, left_true, right_true)
 
 pub record WindowOver (rows : List LayoutRow) (r : LayoutRow) (q : Path) : Type 0 where
@@ -44,10 +44,10 @@ apart_sym r s e = grind arith
 
 module _ (b : Board) (a : Apertures) (board : IsBoard b) (rows : List LayoutRow) (lawful : IsLawful b a rows) where
   -- each bridge above a row has a window over it
-  pub window_over : (r : LayoutRow) (d : Row) → IsIn r rows → IsIn d b → leads_to d.path r.path ≡ true → WindowOver rows r d.path
+  pub window_over : (r : LayoutRow) (d : Row) → IsIn r rows → IsIn d b → is_ancestor_of d.path r.path ≡ true → WindowOver rows r d.path
   window_over r d m k h =
       let under : IsUnderWindows b rows r = each_in (IsUnderWindows b rows) r rows lawful.under_windows m in
-      let f = from_any (λ (w : LayoutRow). is_window_over r w && path_eq w.path d.path) rows (each_in (λ (e : Row). IsTrue (leads_to e.path r.path) → IsTrue (list_any (λ w. is_window_over r w && path_eq w.path e.path) rows)) d b under.there k h) in
+      let f = from_any (λ (w : LayoutRow). is_window_over r w && path_eq w.path d.path) rows (each_in (λ (e : Row). IsTrue (is_ancestor_of e.path r.path) → IsTrue (list_any (λ w. is_window_over r w && path_eq w.path e.path) rows)) d b under.there k h) in
       grind (arith, left_true, over_parts, pool_is, path_same, right_true, each_in)
 
   -- on each bus of its path a row of its pool holds its addresses
@@ -75,7 +75,7 @@ module _ (b : Board) (a : Apertures) (board : IsBoard b) (rows : List LayoutRow)
     pub is_endpoint : is_bridge function.decl ≡ false
     pub path_is : function.path ≡ r.path
 
-  not_above : (r s : LayoutRow) → OfEndpoint r → OfEndpoint s → leads_to r.path s.path ≡ true → ⊥
+  not_above : (r s : LayoutRow) → OfEndpoint r → OfEndpoint s → is_ancestor_of r.path s.path ≡ true → ⊥
   not_above r s f g h = search (rules, each_in, bridge_above, one_row)
 
   -- two regions of one pool are one row, or apart

@@ -3,7 +3,7 @@
 --     reached_by_names      where all bridges do so for the number of a bus, a cycle reaches the function that stands there, or none
 use Rattle.std.{proofs.{Common.{◌≡◌, ℕ, ◌≤◌, ◌<◌, ◌⊎◌, inl, inr, Bool, true, false, not, ◌&&◌, cond, List, [], ◌∷◌, ◌++◌, length, Option, Some, None, refl, sym, ap, ap₂, ◌∙◌, subst, arith, eqb, leb, append_assoc, rules, find}, lemmas.Bool.{Decides.nat_tests, leb-true, and_from, le-leb, eqb-true}}, specs.{Prelude.{find, map, IsTrue}, List.list_any, Option.option_map_or}}
 use Rattle.lists.{specs.Elements.{Each, IsIn}, proofs.{Tests.{left_true, right_true, same_test}, EachLemmas.each_map, FirstFound.{found_passes, each_found, found}, Members.{each_in, in_map, from_map, any_in, from_any}}}
-use Rattle.model_board.{specs.{Board.{Board, Row, is_bridge, is_bridge_at, IsBoard}, Paths.{Part, Path, part_eq, path_eq, leads_to, parent, last_part, IsPath}, BusNumbers.{secondary, subordinate, bus_behind, bus_of}, State.{BoardFunction, row_at}, Cycles.{is_route, takes, taker, covers, ends_in, secondary_register, subordinate_register, reached, reached_type0}}, proofs.{PathOrder.{part_same, path_same, part_self}, PathEnds.{path_self, snoc, parent_snoc, snoc_some}, PlacesLaw.path_total, BusNumbers.numbering}}
+use Rattle.model_board.{specs.{Board.{Board, Row, is_bridge, is_bridge_at, IsBoard}, Paths.{Part, Path, part_eq, path_eq, is_ancestor_of, parent, last_part, IsPath}, BusNumbers.{secondary, subordinate, bus_behind, bus_of}, State.{BoardFunction, row_at}, Cycles.{is_route, takes, taker, covers, ends_in, secondary_register, subordinate_register, reached, reached_type0}}, proofs.{PathOrder.{part_same, path_same, part_self}, PathEnds.{path_self, snoc, parent_snoc, snoc_some}, PlacesLaw.path_total, BusNumbers.numbering}}
 use Rattle.model_set_up.{specs.Reach.{HasNumbers, ReachedByNumbers, address_of, OnlyNamed}, proofs.Partings.{BridgeAt, bridge_at, bridge_above, leads_down}}
 use Rattle.model_registers.proofs.RegisterFiles.{self, below}
 
@@ -16,9 +16,9 @@ find_same s t h (x ∷ xs) = ap₂ (λ c o. cond c (Some x) o) (h x) (find_same 
 -- ---- paths
 
 -- a path that begins as another and is at it or above it names the other's next part
-next_leads : (above : Path) (x p : Part) (rest : Path) → leads_to (above ++ x ∷ []) (above ++ p ∷ rest) ≡ true → part_eq x p ≡ true
-next_leads [] x p rest h = left_true (part_eq x p) (leads_to [] rest) h
-next_leads (a ∷ above) x p rest h = next_leads above x p rest (right_true (part_eq a a) (leads_to (above ++ x ∷ []) (above ++ p ∷ rest)) h)
+next_leads : (above : Path) (x p : Part) (rest : Path) → is_ancestor_of (above ++ x ∷ []) (above ++ p ∷ rest) ≡ true → part_eq x p ≡ true
+next_leads [] x p rest h = left_true (part_eq x p) (is_ancestor_of [] rest) h
+next_leads (a ∷ above) x p rest h = next_leads above x p rest (right_true (part_eq a a) (is_ancestor_of (above ++ x ∷ []) (above ++ p ∷ rest)) h)
 
 next_equal : (above : Path) (x p : Part) (rest : Path) → path_eq (above ++ x ∷ []) (above ++ p ∷ rest) ≡ true → part_eq x p ≡ true
 next_equal [] x p rest h = left_true (part_eq x p) (path_eq [] rest) h
@@ -86,7 +86,7 @@ module _ (b : Board) (lawful : IsBoard b) (fs : List BoardFunction) (rows : map 
     named f m k = each_in (λ (g : BoardFunction). IsTrue (is_bridge g.decl) → Names b goal g) f fs names m k
 
     -- a bridge whose numbers cover the target's is the target or leads to it
-    over : (p : Path) → is_bridge_at b p ≡ true → secondary b p ≤ goal → goal ≤ subordinate b p → (path_eq p target ≡ true) ⊎ (leads_to p target ≡ true)
+    over : (p : Path) → is_bridge_at b p ≡ true → secondary b p ≤ goal → goal ≤ subordinate b p → (path_eq p target ≡ true) ⊎ (is_ancestor_of p target ≡ true)
     over p h low high = grind (arith, numbering b lawful p target h is_target, path_total p target)
 
     -- each beginning of the target is a bridge's path
@@ -117,7 +117,7 @@ module _ (b : Board) (lawful : IsBoard b) (fs : List BoardFunction) (rows : map 
         let cover = subst (λ (x : Path). (secondary b x ≤ goal) × (goal ≤ subordinate b x)) (sym g.3) (covering above p rest e h) in
         grind (arith, parent_snoc, path_self, any_in, and_from, named)
 
-    next_part : (above : Path) (x p : Part) (rest : Path) → (path_eq (above ++ x ∷ []) (above ++ p ∷ rest) ≡ true) ⊎ (leads_to (above ++ x ∷ []) (above ++ p ∷ rest) ≡ true) → x ≡ p
+    next_part : (above : Path) (x p : Part) (rest : Path) → (path_eq (above ++ x ∷ []) (above ++ p ∷ rest) ≡ true) ⊎ (is_ancestor_of (above ++ x ∷ []) (above ++ p ∷ rest) ≡ true) → x ≡ p
     next_part above x p rest e = grind (arith, part_same, next_equal, next_leads)
 
     taken : (above : Path) (p : Part) (rest : Path) → target ≡ above ++ p ∷ rest → Taken above p

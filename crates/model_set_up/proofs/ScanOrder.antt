@@ -1,7 +1,7 @@
 -- A scan meets the functions in path order, and gives bus numbers in it.
 use Rattle.std.{proofs.{lemmas.{Grind.common_steps, Bool.{Decides.nat_tests, false_from_ne_true, or_right}, List.Sums.sum_by-cons}, Common.{◌≡◌, ℕ, ◌+◌, ◌<◌, inl, inr, Bool, true, false, ◌&&◌, ◌||◌, cond, List, [], ◌∷◌, ◌++◌, append_assoc, length, zero-add, refl, sym, ap, ap₂, ◌∙◌, subst, arith, rules}}, specs.Prelude.{filter, count_by, IsTrue}}
 use Rattle.lists.{specs.Elements.{Each, EachPair, IsIn}, proofs.{Members.{each_in, any_in, none_pass, filter_same}, Tests.{same_test, and_true}}}
-use Rattle.model_board.{specs.{Paths.{Path, path_eq, path_before, leads_to, IsPath}, Board.{Board, Row, is_bridge, is_bridge_at, stands_at, IsBoard}}, proofs.{PathOrder.{one, exclusive, part_same, path_same, part_self}, PathEnds.{path_self, length_snoc, not_before_itself, leads_longer, snoc_some}, BusNumbers.{bridges, bridges-cons, at, counted, counted_once}}}
+use Rattle.model_board.{specs.{Paths.{Path, path_eq, path_before, is_ancestor_of, IsPath}, Board.{Board, Row, is_bridge, is_bridge_at, stands_at, IsBoard}}, proofs.{PathOrder.{one, exclusive, part_same, path_same, part_self}, PathEnds.{path_self, length_snoc, not_before_itself, leads_longer, snoc_some}, BusNumbers.{bridges, bridges-cons, at, counted, counted_once}}}
 use Rattle.model_set_up.{specs.{Scanning.{no_numbers, board_numbers, open_numbers}, ScanOrder.{nth_part, on, next_part, met, MeetsInPathOrder, GivesNumbersInPathOrder, ScanMeetsInPathOrder, ScanGivesNumbersInPathOrder}}, proofs.{Partings.{one_row, bridge_at, bridge_above}, Scanning.goes_before, ScanParts.{before_first, before_last, before_later, leads_place, is_between, none_passed, row_path}}}
 
 -- ---- filters
@@ -47,7 +47,7 @@ module _ (b : Board) (lawful : IsBoard b) where
       by_path [] h = absurd (omega arith)
       by_path (u ∷ x) h = refl
 
-  some_before_end : (x : Path) → (path_before x [] || path_eq x [] || leads_to [] x) ≡ true
+  some_before_end : (x : Path) → (path_before x [] || path_eq x [] || is_ancestor_of [] x) ≡ true
   some_before_end x = grind arith
 
   -- ---- parts of a bus
@@ -64,17 +64,17 @@ module _ (b : Board) (lawful : IsBoard b) where
   self_within (a ∷ bus) n m h rest = rw (part_self a) (self_within bus n m h rest)
 
   -- what is at a path or behind it goes on from there
-  goes_on : (p x : Path) → (path_eq x p || leads_to p x) ≡ true → (rest : Path) × (x ≡ p ++ rest)
+  goes_on : (p x : Path) → (path_eq x p || is_ancestor_of p x) ≡ true → (rest : Path) × (x ≡ p ++ rest)
   goes_on [] x h = grind arith
   goes_on (a ∷ p) [] h = cc
   goes_on (a ∷ p) (u ∷ x) h = search (rules, nat_tests, part_same, goes_on p x)
 
   -- the functions that are met from a part to the next are those at it and behind it
-  passed : (bus : Path) (n : ℕ) (y : Row) → IsIn y b → is_between bus n (next_part b bus n) y.path ≡ (path_eq y.path (on bus n) || leads_to (on bus n) y.path)
+  passed : (bus : Path) (n : ℕ) (y : Row) → IsIn y b → is_between bus n (next_part b bus n) y.path ≡ (path_eq y.path (on bus n) || is_ancestor_of (on bus n) y.path)
   passed bus n y m = search (rules, same_test, none_passed, or_right, goes_on, append_assoc, self_within, next_later)
 
   -- nothing stands behind what is no bridge
-  none_behind : (p : Path) → 0 < length p → is_bridge_at b p ≡ false → (y : Row) → IsIn y b → leads_to p y.path ≡ false
+  none_behind : (p : Path) → 0 < length p → is_bridge_at b p ≡ false → (y : Row) → IsIn y b → is_ancestor_of p y.path ≡ false
   none_behind p some h y m = search (rules, false_from_ne_true, bridge_above, any_in, path_self)
 
   -- a row at a path where no bridge stands is no bridge
@@ -106,7 +106,7 @@ module _ (b : Board) (lawful : IsBoard b) where
         (λ y m. met_next bus n (no_bridge_none (on bus n) h) y m ∙ or_false (path_before y.path (on bus n)) (path_eq y.path (on bus n)) (none_there (on bus n) h y m));
     back = λ bus n h. met_same (on (on bus n) 128) (on bus (next_part b bus n))
         (λ y m. before_next bus n y m ∙ ap (λ t. path_before y.path (on bus n) || t) (passed bus n y m)
-        ∙ sym (or_assoc (path_before y.path (on bus n)) (path_eq y.path (on bus n)) (leads_to (on bus n) y.path)) ∙ sym (before_last y.path (on bus n) (row_path b lawful y m).parts));
+        ∙ sym (or_assoc (path_before y.path (on bus n)) (path_eq y.path (on bus n)) (is_ancestor_of (on bus n) y.path)) ∙ sym (before_last y.path (on bus n) (row_path b lawful y m).parts));
   }
     where
       or_assoc : (s t u : Bool) → (s || t || u) ≡ (s || (t || u))
@@ -123,22 +123,22 @@ module _ (b : Board) (lawful : IsBoard b) where
   counted_met here (r ∷ bs) = grind (arith, nat_tests, common_steps, bridges-cons, bridges, one, and_true, sum_by-cons, zero-add, counted_met here bs)
 
   -- the bridges before the end of a bus are those before its bridge, that bridge, and those behind it
-  counted_last : (p : Path) (bs : Board) → Each (λ r. IsPath r.path) bs → bridges (λ x. path_before x (on p 128)) bs ≡ bridges (λ x. path_before x p) bs + bridges (at p) bs + bridges (λ x. leads_to p x) bs
+  counted_last : (p : Path) (bs : Board) → Each (λ r. IsPath r.path) bs → bridges (λ x. path_before x (on p 128)) bs ≡ bridges (λ x. path_before x p) bs + bridges (at p) bs + bridges (λ x. is_ancestor_of p x) bs
   counted_last p [] h = refl
   counted_last p (r ∷ bs) h = grind (arith, nat_tests, common_steps, exclusive, one, before_last, bridges-cons, at, counted_last p bs h.1)
 
   some_path : (q : Path) → is_bridge_at b q ≡ true → (path_before q [] || path_eq q []) ≡ false
   some_path q h = at_bridge (λ x. (path_before x [] || path_eq x []) ≡ false) not_none q h
 
-  none_leads : (q : Path) → is_bridge_at b q ≡ true → (leads_to q [] || path_eq q []) ≡ false
-  none_leads q h = at_bridge (λ x. (leads_to x [] || path_eq x []) ≡ false) (λ y m. by_path y.path (row_path b lawful y m).some) q h
+  none_leads : (q : Path) → is_bridge_at b q ≡ true → (is_ancestor_of q [] || path_eq q []) ≡ false
+  none_leads q h = at_bridge (λ x. (is_ancestor_of x [] || path_eq x []) ≡ false) (λ y m. by_path y.path (row_path b lawful y m).some) q h
     where
-      by_path : (x : Path) → 0 < length x → (leads_to x [] || path_eq x []) ≡ false
+      by_path : (x : Path) → 0 < length x → (is_ancestor_of x [] || path_eq x []) ≡ false
       by_path [] h = absurd (omega arith)
       by_path (u ∷ x) h = refl
 
   -- a bridge does not lead to the bus above it
-  not_above : (bus : Path) (n : ℕ) (q : Path) → path_eq q (on bus n) ≡ true → (leads_to q bus || path_eq q bus) ≡ false
+  not_above : (bus : Path) (n : ℕ) (q : Path) → path_eq q (on bus n) ≡ true → (is_ancestor_of q bus || path_eq q bus) ≡ false
   not_above bus n q h = grind (arith, nat_tests, common_steps, false_from_ne_true, path_same, leads_longer, length_snoc)
 
   behind_cases : {A : Type 0} (o m z : A) (l e t : Bool) → cond (l || e) o (cond (t || e) m z) ≡ cond e o (cond l o (cond t m z))
@@ -155,16 +155,16 @@ module _ (b : Board) (lawful : IsBoard b) where
     last = λ q h. rw (leads_place q [] (nth_part 128) ∙ none_leads q h, at_bridge (λ x. path_before x (on [] 128) ≡ true) (λ y m. before_last y.path [] (row_path b lawful y m).parts ∙ some_before_end y.path) q h);
     behind = λ p q.
         ap₂ (λ s t. cond s (open_numbers b q) (cond t (board_numbers b q) no_numbers)) (leads_place q p (nth_part 0)) (before_first q p)
-        ∙ behind_cases (open_numbers b q) (board_numbers b q) no_numbers (leads_to q p) (path_eq q p) (path_before q p);
+        ∙ behind_cases (open_numbers b q) (board_numbers b q) no_numbers (is_ancestor_of q p) (path_eq q p) (path_before q p);
     no_bridge = λ bus n h q there.
         ap₂ (λ s t. cond s (open_numbers b q) (cond t (board_numbers b q) no_numbers)) (leads_place q bus (nth_part (next_part b bus n)) ∙ sym (leads_place q bus (nth_part n))) (same_before bus n h q there);
     back = λ bus n h q there.
         ap₂ (λ s t. cond s (open_numbers b q) (cond t (board_numbers b q) no_numbers)) (leads_place q bus (nth_part (next_part b bus n)))
-        (at_bridge (λ x. path_before x (on bus (next_part b bus n)) ≡ (path_before x (on bus n) || (path_eq x (on bus n) || leads_to (on bus n) x))) (λ y m. before_next bus n y m ∙ ap (λ t. path_before y.path (on bus n) || t) (passed bus n y m)) q there)
-        ∙ back_cases (open_numbers b q) (board_numbers b q) no_numbers (leads_to q bus || path_eq q bus) (path_eq q (on bus n)) (leads_to (on bus n) q) (path_before q (on bus n)) (not_above bus n q)
+        (at_bridge (λ x. path_before x (on bus (next_part b bus n)) ≡ (path_before x (on bus n) || (path_eq x (on bus n) || is_ancestor_of (on bus n) x))) (λ y m. before_next bus n y m ∙ ap (λ t. path_before y.path (on bus n) || t) (passed bus n y m)) q there)
+        ∙ back_cases (open_numbers b q) (board_numbers b q) no_numbers (is_ancestor_of q bus || path_eq q bus) (path_eq q (on bus n)) (is_ancestor_of (on bus n) q) (path_before q (on bus n)) (not_above bus n q)
         ∙ ap (λ v. cond (path_eq q (on bus n)) (board_numbers b q) v) (sym (ap₂ (λ s t. cond s (open_numbers b q) (cond t (board_numbers b q) no_numbers))
         (leads_place q (on bus n) (nth_part 128) ∙ ap (λ t. t || path_eq q (on bus n)) (leads_place q bus (nth_part n)))
-        (at_bridge (λ x. path_before x (on (on bus n) 128) ≡ (path_before x (on bus n) || path_eq x (on bus n) || leads_to (on bus n) x)) (λ y m. before_last y.path (on bus n) (row_path b lawful y m).parts) q there)));
+        (at_bridge (λ x. path_before x (on (on bus n) 128) ≡ (path_before x (on bus n) || path_eq x (on bus n) || is_ancestor_of (on bus n) x)) (λ y m. before_last y.path (on bus n) (row_path b lawful y m).parts) q there)));
   }
     where
       not_itself : (bus : Path) (n : ℕ) → is_bridge_at b (on bus n) ≡ false → (q : Path) → is_bridge_at b q ≡ true → path_eq q (on bus n) ≡ false

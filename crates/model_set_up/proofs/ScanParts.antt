@@ -1,7 +1,7 @@
 -- Parts of a bus in path order: which paths come before the first, the last and the next part.
 use Rattle.std.{proofs.{Common.{◌≡◌, ℕ, ◌+◌, ◌*◌, ◌/◌, ◌%◌, ◌≤◌, ◌<◌, ◌⊎◌, inl, inr, Bool, true, false, not, ◌&&◌, ◌||◌, cond, [], ◌∷◌, ◌++◌, refl, sym, ap, ◌∙◌, subst, arith, eqb, rules}, lemmas.Bool.{Decides.nat_tests, ltb-true}}, specs.Prelude.{nat_lt, nat_le}}
 use Rattle.lists.{specs.Elements.{Each, IsIn}, proofs.{Tests.{left_true, right_true}, Members.{each_in, any_in}}}
-use Rattle.model_board.{specs.{Paths.{Part, Path, part_eq, part_before, path_eq, path_before, leads_to, last_part, function_zero, IsPart, IsPath}, Board.{Board, Row, stands_at, is_multifunction, IsBoard}}, proofs.{PathOrder.{part_same, part_eq-sym}, PathEnds.{path_self, parent_snoc, last_snoc, path_eq-snoc, snoc_some}}}
+use Rattle.model_board.{specs.{Paths.{Part, Path, part_eq, part_before, path_eq, path_before, is_ancestor_of, last_part, function_zero, IsPart, IsPath}, Board.{Board, Row, stands_at, is_multifunction, IsBoard}}, proofs.{PathOrder.{part_same, part_eq-sym}, PathEnds.{path_self, parent_snoc, last_snoc, path_eq-snoc, snoc_some}}}
 use Rattle.model_set_up.{specs.ScanOrder.{nth_part, on, next_part}, proofs.Partings.{bridge_above, leads_down}}
 
 -- ---- the first part behind a function
@@ -25,21 +25,21 @@ before_first (u ∷ x) [] = nothing (part_before u (nth_part 0)) (part_eq u (nth
     nothing c d e h k = grind arith
 before_first (u ∷ x) (a ∷ p) = either (part_before u a) (part_eq u a) (path_before x (on p 0)) (path_before x p) (path_eq x p) (before_first x p)
 
-pub leads_place : (x p : Path) (q : Part) → leads_to x (p ++ q ∷ []) ≡ (leads_to x p || path_eq x p)
+pub leads_place : (x p : Path) (q : Part) → is_ancestor_of x (p ++ q ∷ []) ≡ (is_ancestor_of x p || path_eq x p)
 leads_place [] a q = grind arith
-leads_place (u ∷ x) [] q = nothing (part_eq u q) (leads_to x []) (none x)
+leads_place (u ∷ x) [] q = nothing (part_eq u q) (is_ancestor_of x []) (none x)
   where
-    none : (x : Path) → leads_to x [] ≡ false
+    none : (x : Path) → is_ancestor_of x [] ≡ false
     none [] = refl
     none (u ∷ x) = refl
 
     nothing : (d e : Bool) → e ≡ false → (d && e) ≡ false
     nothing d e h = grind arith
-leads_place (u ∷ x) (a ∷ p) q = either false (part_eq u a) (leads_to x (p ++ q ∷ [])) (leads_to x p) (path_eq x p) (leads_place x p q)
+leads_place (u ∷ x) (a ∷ p) q = either false (part_eq u a) (is_ancestor_of x (p ++ q ∷ [])) (is_ancestor_of x p) (path_eq x p) (leads_place x p q)
 
 -- ---- past the last part of a bus
 
-pub before_last : (x p : Path) → Each IsPart x → path_before x (on p 128) ≡ (path_before x p || path_eq x p || leads_to p x)
+pub before_last : (x p : Path) → Each IsPart x → path_before x (on p 128) ≡ (path_before x p || path_eq x p || is_ancestor_of p x)
 before_last [] a h = grind arith
 before_last (u ∷ x) [] h = grind (arith, nat_tests)
 before_last (u ∷ x) (a ∷ p) h = grind (arith, before_last x p, part_eq-sym)
@@ -109,11 +109,11 @@ module _ (b : Board) (lawful : IsBoard b) where
   stands_there r m p u (q ∷ rest) e = grind (arith, bridge_above b lawful r (p ++ u ∷ []) m, leads_down p u q rest, snoc_some p u)
 
   abbrev AtOrBehind : Row → Path → Type 0
-  AtOrBehind r p = (path_eq r.path p ≡ true) ⊎ (leads_to p r.path ≡ true)
+  AtOrBehind r p = (path_eq r.path p ≡ true) ⊎ (is_ancestor_of p r.path ≡ true)
 
   at_or_behind : (r : Row) (p : Path) (u : Part) (rest : Path) → r.path ≡ p ++ u ∷ rest → AtOrBehind r (p ++ u ∷ [])
   at_or_behind r p u [] e = inl (ap (λ (x : Path). path_eq x (p ++ u ∷ [])) e ∙ path_self (p ++ u ∷ []))
-  at_or_behind r p u (q ∷ rest) e = inr (subst (λ (x : Path). leads_to (p ++ u ∷ []) x ≡ true) (sym e) (leads_down p u q rest))
+  at_or_behind r p u (q ∷ rest) e = inr (subst (λ (x : Path). is_ancestor_of (p ++ u ∷ []) x ≡ true) (sym e) (leads_down p u q rest))
 
   -- a device in which a further function stands has function 0, which says so
   is_multifunction_here : (p : Path) (n : ℕ) → n % 8 ≡ 0 → (u : Part) → u.device ≡ n / 8 → 0 < u.function → (s : Row) → IsIn s b → s.path ≡ p ++ u ∷ [] → (stands_at b (on p n) && is_multifunction b (on p n)) ≡ true

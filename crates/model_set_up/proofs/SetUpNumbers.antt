@@ -2,7 +2,7 @@
 use Rattle.std.{proofs.Common.{◌≡◌, ℕ, ◌+◌, ◌*◌, ◌%◌, ◌≤◌, ◌<◌, inl, true, [], ◌∷◌, refl, ap, arith}, specs.Prelude.{map, count_by, IsTrue}}
 use Rattle.lists.{specs.Elements.{Each, IsIn}, proofs.{Members.any_in, Tests.and_true}}
 use Rattle.model_registers.specs.{Registers.File, Apertures.Apertures}
-use Rattle.model_board.{specs.{Paths.{Path, path_before, leads_to}, Board.{Decl, Row, Board, is_bridge, is_bridge_at}, BusNumbers.{secondary, subordinate, Enumerates}, Cycles.{secondary_register, subordinate_register}, State.{row_at, BoardFunction}}, proofs.{BusNumbers.{bridges, at, count_three, counted}, PathEnds.path_self, PathOrder.exclusive}}
+use Rattle.model_board.{specs.{Paths.{Path, path_before, is_ancestor_of}, Board.{Decl, Row, Board, is_bridge, is_bridge_at}, BusNumbers.{secondary, subordinate, Enumerates}, Cycles.{secondary_register, subordinate_register}, State.{row_at, BoardFunction}}, proofs.{BusNumbers.{bridges, at, count_three, counted}, PathEnds.path_self, PathOrder.exclusive}}
 use Rattle.model_set_up.specs.{Reach.SetUpHasNumbers, SetUp.set_up_file}
 
 -- the numbers of a bridge are bytes
@@ -13,8 +13,8 @@ pub record IsSmall (b : Board) (p : Path) : Type 0 where
 -- so they are on a board that enumerates
 pub numbers_small : (b : Board) → Enumerates b → (p : Path) → is_bridge_at b p ≡ true → IsSmall b p
 numbers_small b few p h =
-    let parts : bridges (λ x. path_before x p) b + bridges (at p) b + bridges (λ x. leads_to p x) b ≤ bridges (λ x. true) b =
-    count_three (λ x. path_before x p) (at p) (λ x. leads_to p x) (λ x. true) (λ x. exclusive x p) b in
+    let parts : bridges (λ x. path_before x p) b + bridges (at p) b + bridges (λ x. is_ancestor_of p x) b ≤ bridges (λ x. true) b =
+    count_three (λ x. path_before x p) (at p) (λ x. is_ancestor_of p x) (λ x. true) (λ x. exclusive x p) b in
     let whole : bridges (λ x. true) b ≡ count_by (λ r. is_bridge r.decl) b = λ i. count_by (λ r. and_true (is_bridge r.decl) i) b in
     grind (arith, bridges, at, counted)
 

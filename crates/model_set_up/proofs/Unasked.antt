@@ -3,7 +3,7 @@
 use Rattle.std.{proofs.Common.{◌≡◌, ℕ, Bool, List, [], ◌∷◌, ◌++◌, true, false, Option, Some, None, refl}, specs.{Prelude.map, Option.option_map}}
 use Rattle.model_registers.specs.{ByteEnables.lanes, Declarations.{io32, pref32, Bridge}, EndpointTable.endpoint_file, BridgeTable.{Window, bridge_file}, Decoding.{Space, io, memory}}
 use Rattle.model_board.specs.{Paths.Path, Board.{endpoint, bridge}, State.{State, BoardFunction}, Cycles.reached, AtReset.reset_state, Windows.{Window, io_window, mem_window, pref_window, forwards, window as window_between}, Ports.{config_reply, after_memory_write}, Examples.{part, first_endpoint, main_board, main_bridge, main_apertures, memory_bridge, many_bridges}}
-use Rattle.model_set_up.specs.{Placement.{a_region, Item, in_order}, Scanning.{no_numbers, scan_numbers, scan_state}, ScanOrder.{on, met, next_part}, SetUp.set_up_state}
+use Rattle.model_set_up.specs.{Placement.{a_region, PlacementItem, in_order}, Scanning.{no_numbers, scan_numbers, scan_state}, ScanOrder.{on, met, next_part}, SetUp.set_up_state}
 
 abbrev bridge_path : Path
 bridge_path = part 2 0 ∷ []
@@ -51,7 +51,7 @@ first_done = refl
 
 -- ---- items
 
-abbrev item : ℕ → ℕ → ℕ → ℕ → Item
+abbrev item : ℕ → ℕ → ℕ → ℕ → PlacementItem
 item d f n size = record { part = part d f; what = a_region n; align = size; size = size }
 
 -- in whatever order they come

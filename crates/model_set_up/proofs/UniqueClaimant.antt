@@ -2,8 +2,8 @@
 use Rattle.std.{proofs.{Common.{◌≡◌, ℕ, ◌+◌, ◌-◌, ◌≤◌, ◌<◌, Bool, true, false, ◌&&◌, ◌||◌, cond, List, [], ◌∷◌, Option, Some, None, refl, sym, ap, ap₂, ◌∙◌, subst, arith}, lemmas.{List.{map-append, Folds.list_all-map}, Bool.and_from}}, specs.{Prelude.{not, map, flat_map, slice_get}, Option.option_to_list}}
 use Rattle.lists.{specs.Elements.{Each, EachPair, IsIn}, proofs.Members.{each_in, each_from, any_in, in_map, in_flat_map, all_from, flat_map_same, flat_map_map, flat_map_flat}}
 use Rattle.model_registers.{specs.{Declarations.{Region, registers_of, IsLawfulRegion, HasLawfulRegions, Endpoint, Bridge}, DeclarationRules.IsConfigBlock, Decoding.{Space, space_of, same_space, base, is_open, Hit, hit_of}, Apertures.Apertures}, proofs.HitRegions.space_same}
-use Rattle.model_board.{specs.{Board.{Board, Row, Decl, endpoint, bridge, is_bridge, is_multifunction}, Paths.{Path, leads_to}, State.BoardFunction, Windows.{forwards, is_in_window}, Claims.{Claim, claim_at, claims_of, is_forwarded, claims, first_claim}, Routing.{RoutingRow, routing, is_routed, routed_claims}}, proofs.Routing.{first_listed, first_of_claims, forwarded_by_routing, claims_by_routing}}
-use Rattle.model_set_up.{specs.{Pools.{Pool, unit_of, bridges_above}, Placement.{Item, need, items_on, bus_first}, Layout.{LayoutRow, IsAligned, IsLawful, layout}, Extents.IsInside, SetUp.{first_of, command_of, bridge_values, set_up_file, set_up_state}, PlacementLaws.{region_row, window_row, HasRows}, PlacedRegions.{pool_space, PlacedRegion, placed, placed_at, placed_regions, holds, claim_in, placed_claim}, UniqueClaimant.{CanBePlaced, IsClaimed, ShareNone, HasUniqueClaims, UniqueClaimant, ClaimOfRegion, ClaimInAnyOrder, RowsArePlaced}, WindowLaws.HasPlacedWindows}, proofs.{Holders.{Holds, holds_is, is_held, self_space, claims_in, one_at_most, holder_first, same_members}, SetUpRegisters.{FitsRegister, bases_read, endpoint_opens, bridge_opens}, LawfulPlacement.layout_is_lawful, DeclaredRows.rows_are_declared, BoardWindows.{set_up_windows, IsBridgeWindow, bridge_window, window_holds}, Partings.{one_row, bridge_above}, PlacedApart.{pool_of_space, WindowOver, window_over}, PlacedRegions.{source, lawful_decl, lawful_regions, region_there, placed_apart, rows_to_placed, placed_to_rows}, PlacedReads.{InAperture, fits_register}}}
+use Rattle.model_board.{specs.{Board.{Board, Row, Decl, endpoint, bridge, is_bridge, is_multifunction}, Paths.{Path, is_ancestor_of}, State.BoardFunction, Windows.{forwards, is_in_window}, Claims.{Claim, claim_at, claims_of, is_forwarded, claims, first_claim}, Routing.{RoutingRow, routing, is_routed, routed_claims}}, proofs.Routing.{first_listed, first_of_claims, forwarded_by_routing, claims_by_routing}}
+use Rattle.model_set_up.{specs.{Pools.{Pool, unit_of, bridges_above}, Placement.{PlacementItem, need, items_on, bus_first}, Layout.{LayoutRow, IsAligned, IsLawful, layout}, Extents.IsInside, SetUp.{first_of, command_of, bridge_values, set_up_file, set_up_state}, PlacementLaws.{region_row, window_row, HasRows}, PlacedRegions.{pool_space, PlacedRegion, placed, placed_at, placed_regions, holds, claim_in, placed_claim}, UniqueClaimant.{CanBePlaced, IsClaimed, ShareNone, HasUniqueClaims, UniqueClaimant, ClaimOfRegion, ClaimInAnyOrder, RowsArePlaced}, WindowLaws.HasPlacedWindows}, proofs.{Holders.{Holds, holds_is, is_held, self_space, claims_in, one_at_most, holder_first, same_members}, SetUpRegisters.{FitsRegister, bases_read, endpoint_opens, bridge_opens}, LawfulPlacement.layout_is_lawful, DeclaredRows.rows_are_declared, BoardWindows.{set_up_windows, IsBridgeWindow, bridge_window, window_holds}, Partings.{one_row, bridge_above}, PlacedApart.{pool_of_space, WindowOver, window_over}, PlacedRegions.{source, lawful_decl, lawful_regions, region_there, placed_apart, rows_to_placed, placed_to_rows}, PlacedReads.{InAperture, fits_register}}}
 
 -- ---- claims function by function
 
@@ -34,10 +34,10 @@ module _ (b : Board) (a : Apertures) (can : CanBePlaced b a) (lawful : IsLawful 
 
 module _ (b : Board) (a : Apertures) (can : CanBePlaced b a) (lawful : IsLawful b a (layout b a)) (has : HasRows b a) (windows : Each (λ r. HasPlacedWindows b a r.path r.decl) b) where
   -- a bridge above a row of the layout has a window that holds the row's addresses
-  bridge_forwards : (l : LayoutRow) (p : Path) (d : Bridge) (n : ℕ) → IsIn l (layout b a) → IsIn (record { path = p; decl = bridge d }) b → leads_to p l.path ≡ true → l.first ≤ n → n < l.first + l.size → is_in_window d (set_up_file b a p (bridge d)) (pool_space l.pool) n ≡ true
+  bridge_forwards : (l : LayoutRow) (p : Path) (d : Bridge) (n : ℕ) → IsIn l (layout b a) → IsIn (record { path = p; decl = bridge d }) b → is_ancestor_of p l.path ≡ true → l.first ≤ n → n < l.first + l.size → is_in_window d (set_up_file b a p (bridge d)) (pool_space l.pool) n ≡ true
   bridge_forwards l p d n m k h low high = by_window (window_over b a can.places (layout b a) lawful l (record { path = p; decl = bridge d }) m k h)
     where
-      by_row : (w : LayoutRow) → w ≡ window_row b a l.pool p → (i : Item) → IsIn i (items_on b a l.pool p) → IsInside w.first (w.first + w.size) l.first l.size → is_in_window d (set_up_file b a p (bridge d)) (pool_space l.pool) n ≡ true
+      by_row : (w : LayoutRow) → w ≡ window_row b a l.pool p → (i : PlacementItem) → IsIn i (items_on b a l.pool p) → IsInside w.first (w.first + w.size) l.first l.size → is_in_window d (set_up_file b a p (bridge d)) (pool_space l.pool) n ≡ true
       by_row w is i behind inside =
           let within : IsInside (bus_first b a l.pool p) (bus_first b a l.pool p + need (unit_of l.pool) (items_on b a l.pool p)) l.first l.size = subst (λ (x : LayoutRow). IsInside x.first (x.first + x.size) l.first l.size) is inside in
           window_holds b a p d (each_in (λ (r : Row). HasPlacedWindows b a r.path r.decl) (record { path = p; decl = bridge d }) b windows k) i n l.pool behind (omega (arith, within.0)) (omega (arith, within.1))
@@ -56,18 +56,18 @@ module _ (b : Board) (a : Apertures) (can : CanBePlaced b a) (lawful : IsLawful 
     in_layout : IsIn row (layout b a)
     in_layout = region_there b a has r e g on_board decl_is declared
 
-    by_bridge : (p : Path) (d : Bridge) (n : ℕ) → IsIn (record { path = p; decl = bridge d }) b → leads_to p r.path ≡ true → row.first ≤ n → n < row.first + row.size → forwards (space_of g.kind) n (left b a (record { path = p; decl = bridge d })) ≡ true
+    by_bridge : (p : Path) (d : Bridge) (n : ℕ) → IsIn (record { path = p; decl = bridge d }) b → is_ancestor_of p r.path ≡ true → row.first ≤ n → n < row.first + row.size → forwards (space_of g.kind) n (left b a (record { path = p; decl = bridge d })) ≡ true
     by_bridge p d n m h low high =
         let opened : is_open (set_up_file b a p (bridge d)) (space_of g.kind) ≡ true = bridge_opens d (is_multifunction b p) (bridge_values b a p) (space_of g.kind) refl in
         let held : is_in_window d (set_up_file b a p (bridge d)) (space_of g.kind) n ≡ true =
         subst (λ (x : Space). is_in_window d (set_up_file b a p (bridge d)) x n ≡ true) (pool_of_space a (bridges_above b r.path) g.kind) (bridge_forwards row p d n in_layout m h low high) in
         and_from (is_open (set_up_file b a p (bridge d)) (space_of g.kind)) (is_in_window d (set_up_file b a p (bridge d)) (space_of g.kind) n) opened held
 
-    by_decl : (p : Path) (d : Decl) (n : ℕ) → is_bridge d ≡ true → IsIn (record { path = p; decl = d }) b → leads_to p r.path ≡ true → row.first ≤ n → n < row.first + row.size → forwards (space_of g.kind) n (left b a (record { path = p; decl = d })) ≡ true
+    by_decl : (p : Path) (d : Decl) (n : ℕ) → is_bridge d ≡ true → IsIn (record { path = p; decl = d }) b → is_ancestor_of p r.path ≡ true → row.first ≤ n → n < row.first + row.size → forwards (space_of g.kind) n (left b a (record { path = p; decl = d })) ≡ true
     by_decl p (endpoint d) n is m h low high = cc
     by_decl p (bridge d) n is m h low high = by_bridge p d n m h low high
 
-    by_row : (s : Row) (n : ℕ) → IsIn s b → row.first ≤ n → n < row.first + row.size → (t : Bool) → leads_to s.path r.path ≡ t → (not t || forwards (space_of g.kind) n (left b a s)) ≡ true
+    by_row : (s : Row) (n : ℕ) → IsIn s b → row.first ≤ n → n < row.first + row.size → (t : Bool) → is_ancestor_of s.path r.path ≡ t → (not t || forwards (space_of g.kind) n (left b a s)) ≡ true
     by_row s n m low high t h = grind (arith, each_in, bridge_above, one_row, by_decl)
 
     forwarded : (n : ℕ) → row.first ≤ n → n < row.first + row.size → is_forwarded (set_up_state b a).functions r.path (space_of g.kind) n ≡ true

@@ -5,8 +5,8 @@
 --     bus_rows, pool_rows, layout      the rows of compact placement, bus by bus, as they stand on each bus
 use Rattle.std.specs.{Prelude.{List, [], ◌∷◌, ◌≡◌, ℕ, ◌+◌, ◌%◌, Bool, false, ◌&&◌, ◌++◌, flat_map, map, filter, IsTrue, MatchOption}, List.list_any}
 use Rattle.lists.specs.Elements.{Each, EachPair}
-use Rattle.model_board.specs.{Paths.{Path, path_eq, leads_to, parent}, Board.{is_bridge, Board}}
-use Rattle.model_set_up.specs.{Pools.{Pool, io_pool, mem_pool, pref_pool, same_pool, unit_of, aperture_of}, Extents.{IsInside, AreApart}, Placement.{Placed, a_region, a_window, Spot, spots, items_on, bus_first}}
+use Rattle.model_board.specs.{Paths.{Path, path_eq, is_ancestor_of, parent}, Board.{is_bridge, Board}}
+use Rattle.model_set_up.specs.{Pools.{Pool, io_pool, mem_pool, pref_pool, same_pool, unit_of, aperture_of}, Extents.{IsInside, AreApart}, Placement.{Placed, a_region, a_window, PlacedItem, spots, items_on, bus_first}}
 use Rattle.model_registers.specs.Apertures.{Apertures}
 
 pub record LayoutRow : Type 0 where
@@ -23,14 +23,14 @@ IsAligned r a_window = (r.first % unit_of r.pool ≡ 0) × (r.size % unit_of r.p
 
 -- w is the window of r's pool of a bridge above r
 abbrev pub is_window_over : LayoutRow → LayoutRow → Bool
-is_window_over r w = elim w.what [ a_region n ↦ false | a_window ↦ same_pool w.pool r.pool && leads_to w.path r.path ]
+is_window_over r w = elim w.what [ a_region n ↦ false | a_window ↦ same_pool w.pool r.pool && is_ancestor_of w.path r.path ]
 
 -- in every window over it, and each bridge above has such a window
 pub record IsUnderWindows (b : Board) (rows : List LayoutRow) (r : LayoutRow) : Type 0 where
   pub inside :
       Each (λ w. IsTrue (is_window_over r w) → IsInside w.first (w.first + w.size) r.first r.size) rows
   pub there :
-      Each (λ d. IsTrue (leads_to d.path r.path)
+      Each (λ d. IsTrue (is_ancestor_of d.path r.path)
       → IsTrue (list_any (λ w. is_window_over r w && path_eq w.path d.path) rows)) b
 
 pub record IsLawful (b : Board) (a : Apertures) (rows : List LayoutRow) : Type 0 where
@@ -44,7 +44,7 @@ pub record IsLawful (b : Board) (a : Apertures) (rows : List LayoutRow) : Type 0
       → AreApart r.first r.size s.first s.size) rows
 
 -- what stands at a spot of the bus that begins at n
-abbrev pub row_of : Pool → Path → ℕ → Spot → LayoutRow
+abbrev pub row_of : Pool → Path → ℕ → PlacedItem → LayoutRow
 row_of pool bus n s =
     record { path = bus ++ s.item.part ∷ []; what = s.item.what; pool = pool; first = n + s.first; size = s.item.size }
 

@@ -3,20 +3,20 @@
 --     OneOrder      however a bus's items are sorted, they come in this order
 use Rattle.std.specs.{Prelude.{List, ◌≡◌}, List.Sorted.{IsPermutation, IsSortedBy}}
 use Rattle.model_board.specs.{Paths.Path, Board.{Board, IsBoard}, Lawful.HasLawfulDecls}
-use Rattle.model_set_up.specs.{Pools.Pool, Placement.{Item, stands_before, in_order, items_on}}
+use Rattle.model_set_up.specs.{Pools.Pool, Placement.{PlacementItem, stands_before, in_order, items_on}}
 use Rattle.model_registers.specs.Apertures.{Apertures}
 
 -- no item stands before the one that it follows
-abbrev pub IsInOrder : List Item → Type 0
+abbrev pub IsInOrder : List PlacementItem → Type 0
 IsInOrder is = IsSortedBy stands_before is
 
-pub record IsOrderOf (is js : List Item) : Type 0 where
+pub record IsOrderOf (is js : List PlacementItem) : Type 0 where
   pub same : IsPermutation is js
   pub sorted : IsInOrder js
 
 abbrev pub OrderIsSorted : Type 0
-OrderIsSorted = (is : List Item) → IsOrderOf is (in_order is)
+OrderIsSorted = (is : List PlacementItem) → IsOrderOf is (in_order is)
 
 abbrev pub OneOrder : Type 0
-OneOrder = (b : Board) (a : Apertures) (pool : Pool) (bus : Path) → IsBoard b → HasLawfulDecls b → (js : List Item)
+OneOrder = (b : Board) (a : Apertures) (pool : Pool) (bus : Path) → IsBoard b → HasLawfulDecls b → (js : List PlacementItem)
     → IsOrderOf (items_on b a pool bus) js → js ≡ in_order (items_on b a pool bus)

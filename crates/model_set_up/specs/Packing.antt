@@ -6,7 +6,7 @@
 --     IsRun, CompactIsRun      spots one after the other; compact placement is such a run
 use Rattle.std.specs.Prelude.{List, ◌≡◌, ℕ, ◌<◌, ◌+◌, ◌*◌, ◌%◌, ◌≤◌, ◌^◌, map, sum_by, IsFalse}
 use Rattle.lists.specs.Elements.{Each, EachPair}
-use Rattle.model_set_up.specs.{Extents.{IsInside, AreApart}, Pools.{Pool, unit_of}, Placement.{Item, round_up, Spot, spot_end, spots, need, items_on}}
+use Rattle.model_set_up.specs.{Extents.{IsInside, AreApart}, Pools.{Pool, unit_of}, Placement.{PlacementItem, round_up, PlacedItem, spot_end, spots, need, items_on}}
 use Rattle.model_board.specs.{Paths.Path, Board.{Decl, endpoint, bridge, is_bridge, Board, rows_on}}
 use Rattle.model_registers.specs.Apertures.{Apertures}
 
@@ -20,13 +20,13 @@ pub record Interval : Type 0 where
 
 -- each item has a spot of its size at a multiple of its size; the spots are apart, and within `units` units from
 -- `start` on
-pub record IsPlacement (unit start units : ℕ) (is : List Item) (spots : List Interval) : Type 0 where
+pub record IsPlacement (unit start units : ℕ) (is : List PlacementItem) (spots : List Interval) : Type 0 where
   pub sizes : map (λ s. s.size) spots ≡ map (λ i. i.size) is
   pub aligned : Each (λ s. s.first % s.size ≡ 0) spots
   pub within : Each (λ s. IsInside start (start + units * unit) s.first s.size) spots
   pub apart : EachPair (λ s t. AreApart s.first s.size t.first t.size) spots
 
-pub record FlatNeed (unit : ℕ) (is : List Item) : Type 0 where
+pub record FlatNeed (unit : ℕ) (is : List PlacementItem) : Type 0 where
   pub is_sum : need unit is ≡ round_up unit (sum_by (λ i. i.size) is)
   pub least : (start units : ℕ) (spots : List Interval) → IsPlacement unit start units is spots
       → need unit is ≤ units * unit
@@ -42,11 +42,11 @@ FlatNeedOnBus = (b : Board) (a : Apertures) (pool : Pool) (bus : Path)
     → FlatNeed (unit_of pool) (items_on b a pool bus)
 
 -- spots of one bus: each at a multiple of its alignment, at `start` or after, before `stop`, and before all later ones
-pub record IsRun (start stop : ℕ) (ss : List Spot) : Type 0 where
+pub record IsRun (start stop : ℕ) (ss : List PlacedItem) : Type 0 where
   pub aligned : Each (λ s. s.first % s.item.align ≡ 0) ss
   pub within : Each (λ s. (start ≤ s.first) × (spot_end s ≤ stop)) ss
   pub apart : EachPair (λ s t. spot_end s ≤ t.first) ss
 
 -- compact placement on a bus, with windows too, keeps within its need
 abbrev pub CompactIsRun : Type 0
-CompactIsRun = (unit : ℕ) (is : List Item) → 0 < unit → Each (λ i. 0 < i.align) is → IsRun 0 (need unit is) (spots is)
+CompactIsRun = (unit : ℕ) (is : List PlacementItem) → 0 < unit → Each (λ i. 0 < i.align) is → IsRun 0 (need unit is) (spots is)

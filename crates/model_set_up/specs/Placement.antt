@@ -1,8 +1,8 @@
 -- Where set-up places regions and windows, one pool at a time: this project's own rule. A window extends over whole
 -- units: PCI-to-PCI Bridge Architecture 1.2, chapter 3.2.5.
---     Placed, Item      the region of a register or a bridge's window; one of them on a bus, with alignment and size
+--     Placed, PlacementItem      the region of a register or a bridge's window; one of them on a bus, with alignment and size
 --     in_order      items by alignment descending, then device, function and register
---     Spot, spots      an item and its offset on the bus; the items one after the other
+--     PlacedItem, spots      an item and its offset on the bus; the items one after the other
 --     need, alignment      size and alignment of a bus's window
 --     items_on      what stands on a bus: its regions of the pool, and the windows of its bridges that have items
 --     fits      whether a pool fits its aperture
@@ -29,24 +29,24 @@ register_of (a_region n) = n
 register_of a_window = 0
 
 -- what one function of a bus has there
-pub record Item : Type 0 where
+pub record PlacementItem : Type 0 where
   pub part : Part
   pub what : Placed
   pub align : ℕ
   pub size : ℕ
 
 -- alignment descending, then device, function and register
-abbrev pub stands_before : Item → Item → Bool
+abbrev pub stands_before : PlacementItem → PlacementItem → Bool
 stands_before i j =
     nat_lt j.align i.align || (i.align == j.align && (nat_lt i.part.device j.part.device
     || (i.part.device == j.part.device && (nat_lt i.part.function j.part.function
     || (i.part.function == j.part.function && nat_lt (register_of i.what) (register_of j.what))))))
 
-abbrev pub inserted : Item → List Item → List Item
+abbrev pub inserted : PlacementItem → List PlacementItem → List PlacementItem
 inserted i [] = i ∷ []
 inserted i (j ∷ js) = if stands_before j i then j ∷ inserted i js else i ∷ j ∷ js
 
-abbrev pub in_order : List Item → List Item
+abbrev pub in_order : List PlacementItem → List PlacementItem
 in_order [] = []
 in_order (i ∷ is) = inserted i (in_order is)
 
@@ -55,56 +55,56 @@ abbrev pub round_up : ℕ → ℕ → ℕ
 round_up a n = (n + (a - 1)) / a * a
 
 -- where the last of the items ends, if the first may begin at n
-abbrev pub end_from : ℕ → List Item → ℕ
+abbrev pub end_from : ℕ → List PlacementItem → ℕ
 end_from n [] = n
 end_from n (i ∷ is) = end_from (round_up i.align n + i.size) is
 
 -- an item and the offset at which it begins
-pub record Spot : Type 0 where
-  pub item : Item
+pub record PlacedItem : Type 0 where
+  pub item : PlacementItem
   pub first : ℕ
 
-abbrev pub spot_end : Spot → ℕ
+abbrev pub spot_end : PlacedItem → ℕ
 spot_end s = s.first + s.item.size
 
 -- the items one after the other, each at the least multiple of its alignment that is not before the former's end
-abbrev pub spots_from : ℕ → List Item → List Spot
+abbrev pub spots_from : ℕ → List PlacementItem → List PlacedItem
 spots_from n [] = []
 spots_from n (i ∷ is) = record { item = i; first = round_up i.align n } ∷ spots_from (round_up i.align n + i.size) is
 
-abbrev pub spots : List Item → List Spot
+abbrev pub spots : List PlacementItem → List PlacedItem
 spots is = spots_from 0 (in_order is)
 
 -- the item is what the function at this part has
-abbrev pub is_item : Part → Placed → Item → Bool
+abbrev pub is_item : Part → Placed → PlacementItem → Bool
 is_item p w i = part_eq i.part p && same_placed i.what w
 
 -- its offset on the bus
-abbrev pub offset_in : List Spot → Part → Placed → ℕ
+abbrev pub offset_in : List PlacedItem → Part → Placed → ℕ
 offset_in [] p w = 0
 offset_in (s ∷ ss) p w = if is_item p w s.item then s.first else offset_in ss p w
 
-abbrev pub need : ℕ → List Item → ℕ
+abbrev pub need : ℕ → List PlacementItem → ℕ
 need unit is = round_up unit (end_from 0 (in_order is))
 
-abbrev pub alignment : ℕ → List Item → ℕ
+abbrev pub alignment : ℕ → List PlacementItem → ℕ
 alignment unit [] = unit
 alignment unit (i ∷ is) = max i.align (alignment unit is)
 
-abbrev pub region_item : Part → Region → Item
+abbrev pub region_item : Part → Region → PlacementItem
 region_item p r = record { part = p; what = a_region r.index; align = r.size; size = r.size }
 
-abbrev pub region_items : Board → Apertures → Pool → Path → Endpoint → List Item
+abbrev pub region_items : Board → Apertures → Pool → Path → Endpoint → List PlacementItem
 region_items b a pool p d =
     map (region_item (last_part p)) (filter (λ r. same_pool (pool_of a (bridges_above b p) r.kind) pool) d.regions)
 
 -- a bus without items has no window
-abbrev pub window_items : ℕ → Part → List Item → List Item
+abbrev pub window_items : ℕ → Part → List PlacementItem → List PlacementItem
 window_items unit p [] = []
 window_items unit p (i ∷ is) =
     record { part = p; what = a_window; align = alignment unit (i ∷ is); size = need unit (i ∷ is) } ∷ []
 
-abbrev pub items_of : Board → Apertures → Pool → (Path → List Item) → Row → List Item
+abbrev pub items_of : Board → Apertures → Pool → (Path → List PlacementItem) → Row → List PlacementItem
 items_of b a pool behind r =
     elim r.decl [
       | endpoint d ↦ region_items b a pool r.path d
@@ -112,23 +112,23 @@ items_of b a pool behind r =
     ]
 
 -- the items of a bus, with at most n levels of buses from it down
-abbrev pub items_within : Board → Apertures → Pool → ℕ → Path → List Item
+abbrev pub items_within : Board → Apertures → Pool → ℕ → Path → List PlacementItem
 items_within b a pool zero bus = []
 items_within b a pool (suc n) bus = flat_map (items_of b a pool (items_within b a pool n)) (rows_on b bus)
 
 -- a path has at most 16 parts, so there are at most 16 levels
-abbrev pub items_on : Board → Apertures → Pool → Path → List Item
+abbrev pub items_on : Board → Apertures → Pool → Path → List PlacementItem
 items_on b a pool bus = items_within b a pool 16 bus
 
 -- bus 0 begins at the least multiple of its alignment that is not before the aperture
-abbrev pub root_first : Apertures → Pool → List Item → ℕ
+abbrev pub root_first : Apertures → Pool → List PlacementItem → ℕ
 root_first a pool is =
     option_map_or (λ (ap : Aperture). round_up (alignment (unit_of pool) is) ap.first) (aperture_of a pool) 0
 
 abbrev pub aperture_end : Apertures → Pool → ℕ
 aperture_end a pool = option_map_or (λ (ap : Aperture). ap.last + 1) (aperture_of a pool) 0
 
-abbrev pub fits_items : Apertures → Pool → List Item → Bool
+abbrev pub fits_items : Apertures → Pool → List PlacementItem → Bool
 fits_items a pool [] = true
 fits_items a pool (i ∷ is) = nat_le (root_first a pool (i ∷ is) + end_from 0 (in_order (i ∷ is))) (aperture_end a pool)
 

@@ -5,7 +5,7 @@ use Rattle.std.specs.Prelude.{List, [], ◌∷◌, ◌≡◌, ◌&&◌, filter, 
 use Rattle.lists.specs.Elements.{Each, IsIn}
 use Rattle.model_registers.specs.{Declarations.Region, Apertures.Apertures}
 use Rattle.model_board.specs.{Paths.{Path, path_eq}, Board.{Decl, endpoint, bridge, Row, Board, IsBoard}, Lawful.HasLawfulDecls}
-use Rattle.model_set_up.specs.{Pools.{Pool, unit_of, bridges_above, pool_of}, Placement.{Placed, a_region, a_window, same_placed, Item, need, items_on, fits, bus_first}, Layout.{LayoutRow, IsLawful, pool_rows, layout}, SetUp.first_of}
+use Rattle.model_set_up.specs.{Pools.{Pool, unit_of, bridges_above, pool_of}, Placement.{Placed, a_region, a_window, same_placed, PlacementItem, need, items_on, fits, bus_first}, Layout.{LayoutRow, IsLawful, pool_rows, layout}, SetUp.first_of}
 
 abbrev pub PoolsAreLawful : Type 0
 PoolsAreLawful = (b : Board) (a : Apertures) → IsBoard b → HasLawfulDecls b → (pool : Pool) → IsTrue (fits b a pool)
@@ -33,7 +33,7 @@ window_row b a pool p = record {
 }
 
 -- a bridge has a window where items stand behind it
-abbrev pub window_rows : Board → Apertures → Pool → Path → List Item → List LayoutRow
+abbrev pub window_rows : Board → Apertures → Pool → Path → List PlacementItem → List LayoutRow
 window_rows b a pool p [] = []
 window_rows b a pool p (i ∷ is) = window_row b a pool p ∷ []
 

@@ -6,7 +6,7 @@
 --     has_io_paths      each I/O region stands behind bridges with I/O windows alone
 use Rattle.std.specs.{Prelude.{List, [], ◌∷◌, ℕ, Bool, true, false, ◌&&◌, if◌then◌else◌, ◌^◌, flat_map, not, ◌||◌, nat_lt, Option, Some, None, filter}, List.{list_any, list_all}}
 use Rattle.model_registers.specs.Declarations.{Kind, io_kind, mem32, mem64, IoDecode, no_io, io16, io32, PrefDecode, no_pref, pref32, pref64, Bridge}
-use Rattle.model_board.specs.{Paths.{Path, leads_to}, Board.{Decl, endpoint, bridge, Row, Board}}
+use Rattle.model_board.specs.{Paths.{Path, is_ancestor_of}, Board.{Decl, endpoint, bridge, Row, Board}}
 pub use Rattle.model_registers.specs.Apertures.{Aperture, Apertures}
 
 pub data Pool : Type 0 where
@@ -30,7 +30,7 @@ abbrev pub bridge_of : Row → List Bridge
 bridge_of r = elim r.decl [ endpoint d ↦ [] | bridge d ↦ d ∷ [] ]
 
 abbrev pub bridges_above : Board → Path → List Bridge
-bridges_above b p = flat_map bridge_of (filter (λ r. leads_to r.path p) b)
+bridges_above b p = flat_map bridge_of (filter (λ r. is_ancestor_of r.path p) b)
 
 abbrev pub has_pref : PrefDecode → Bool
 has_pref no_pref = false

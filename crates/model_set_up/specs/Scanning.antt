@@ -12,7 +12,7 @@
 use Rattle.std.specs.Prelude.{List, [], ◌∷◌, ◌++◌, ◌≡◌, ℕ, ◌≤◌, if◌then◌else◌, map, find, IsTrue, ◌⊎◌}
 use Rattle.lists.specs.Elements.{Each}
 use Rattle.model_registers.specs.{Registers.{config, File, number}, EndpointTable.endpoint_reset, BridgeTable.{BridgeValues, no_bridge_values, bridge_file}}
-use Rattle.model_board.specs.{Paths.{Part, Path, path_eq, path_before, leads_to}, Board.{Decl, endpoint, bridge, is_bridge, is_bridge_at, is_multifunction, Board, IsBoard}, BusNumbers.{secondary, subordinate, bus_behind, bus_of, Enumerates}, State.{BoardFunction, State, row_at, state_of}, Cycles.{secondary_register, subordinate_register, reached}, Lawful.HasLawfulDecls, AtReset.board_at}
+use Rattle.model_board.specs.{Paths.{Part, Path, path_eq, path_before, is_ancestor_of}, Board.{Decl, endpoint, bridge, is_bridge, is_bridge_at, is_multifunction, Board, IsBoard}, BusNumbers.{secondary, subordinate, bus_behind, bus_of, Enumerates}, State.{BoardFunction, State, row_at, state_of}, Cycles.{secondary_register, subordinate_register, reached}, Lawful.HasLawfulDecls, AtReset.board_at}
 
 pub record BusNumbers : Type 0 where
   pub primary : ℕ
@@ -33,7 +33,7 @@ open_numbers b p = record (board_numbers b p) { subordinate = 0xff }
 -- were not met
 abbrev pub scan_numbers : Board → Path → Path → BusNumbers
 scan_numbers b here p =
-    if leads_to p here then open_numbers b p else (if path_before p here then board_numbers b p else no_numbers)
+    if is_ancestor_of p here then open_numbers b p else (if path_before p here then board_numbers b p else no_numbers)
 
 abbrev pub numbers_in : File → BusNumbers
 numbers_in file = record {

@@ -9,7 +9,7 @@
 use Rattle.std.specs.{Prelude.{List, [], ◌∷◌, ℕ, ◌-◌, ◌+◌, ◌*◌, Bool, if◌then◌else◌}, List.list_any}
 use Rattle.model_registers.specs.{Registers.File, Declarations.{Region, Endpoint}, EndpointTable.endpoint_file, BridgeTable.{Window, BridgeValues, bridge_file}, Decoding.{Space, io, memory, space_of, same_space}, Apertures.Apertures}
 use Rattle.model_board.specs.{Paths.Path, Board.{Decl, endpoint, bridge, Board, is_multifunction}, BusNumbers.{secondary, subordinate, bus_of}, State.{State, state_of}}
-use Rattle.model_set_up.specs.{Pools.{Pool, io_pool, mem_pool, pref_pool, unit_of, bridges_above, pool_of}, Placement.{Item, need, items_on, bus_first, region_first}}
+use Rattle.model_set_up.specs.{Pools.{Pool, io_pool, mem_pool, pref_pool, unit_of, bridges_above, pool_of}, Placement.{PlacementItem, need, items_on, bus_first, region_first}}
 
 -- the region's first address, in its pool
 abbrev pub first_of : Board → Apertures → Path → Region → ℕ
@@ -22,7 +22,7 @@ abbrev pub command_of : Endpoint → ℕ
 command_of d = (if opens d io then 1 else 0) + (if opens d memory then 2 else 0)
 
 -- a window without items has its base in the last unit that the register names, and its limit at 0
-abbrev pub window_of : ℕ → ℕ → ℕ → List Item → Window
+abbrev pub window_of : ℕ → ℕ → ℕ → List PlacementItem → Window
 window_of unit closed first [] = record { first = closed * unit; last = 0 }
 window_of unit closed first (i ∷ is) = record { first = first; last = first + need unit (i ∷ is) - 1 }
 

@@ -1,6 +1,6 @@
 -- What set-up writes into the functions of a board, and why it refuses one: PCI Local Bus 3.0, chapters 6.2.2 and
 -- 6.2.5; PCI-to-PCI Bridge Architecture 1.2, chapter 3.2.5.
---     Writes, Setting      Command, bases and windows of one function; the same with the numbers that reach it
+--     RegisterValues, FunctionProgram      Command, bases and windows of one function; the same with the numbers that reach it
 --     settings      of each function of a board, in path order
 --     Plan, planned      the rows of compact placement, and those settings
 --     placement_rules, set_up_rules      what a board must keep, in order, each with the number of its refusal
@@ -10,27 +10,27 @@ use Rattle.model_board.specs.{Paths.Path, Board.{Decl, endpoint, bridge, Row, Bo
 use Rattle.model_set_up.specs.{Reach.address_of, Pools.{io_pool, mem_pool, pref_pool, has_io_paths}, Placement.fits, Layout.{LayoutRow, layout}, SetUp.{first_of, command_of}}
 pub use Rattle.model_set_up.specs.SetUp.{Windows, windows_of}
 
-pub data Writes : Type 0 where
-  to_endpoint : ℕ → List BaseAddress → Writes
-  to_bridge : Windows → Writes
+pub data RegisterValues : Type 0 where
+  to_endpoint : ℕ → List BaseAddress → RegisterValues
+  to_bridge : Windows → RegisterValues
 
-pub record Setting : Type 0 where
+pub record FunctionProgram : Type 0 where
   pub at : BusAddress
-  pub writes : Writes
+  pub writes : RegisterValues
 
 abbrev pub placed_base : Board → Apertures → Path → Region → BaseAddress
 placed_base b a p r = record { index = r.index; kind = r.kind; size = r.size; base = first_of b a p r }
 
-abbrev pub writes_of : Board → Apertures → Path → Decl → Writes
+abbrev pub writes_of : Board → Apertures → Path → Decl → RegisterValues
 writes_of b a p (endpoint d) = to_endpoint (command_of d) (map (placed_base b a p) d.regions)
 writes_of b a p (bridge d) = to_bridge (windows_of b a p)
 
-abbrev pub settings : Board → Apertures → List Setting
+abbrev pub settings : Board → Apertures → List FunctionProgram
 settings b a = map (λ (r : Row). record { at = address_of b r.path; writes = writes_of b a r.path r.decl }) b
 
 pub record Plan : Type 0 where
   pub rows : List LayoutRow
-  pub settings : List Setting
+  pub settings : List FunctionProgram
 
 abbrev pub planned : Board → Apertures → Plan
 planned b a = record { rows = layout b a; settings = settings b a }

@@ -7,7 +7,7 @@ use Rattle.std.specs.Prelude.{List, [], ◌∷◌, ◌≡◌, ℕ, ◌-◌, ◌+
 use Rattle.lists.specs.Elements.{Each}
 use Rattle.model_registers.specs.{Declarations.{IoDecode, no_io, io16, io32, PrefDecode, no_pref, pref32, pref64, Bridge}, BridgeTable.{BridgeValues, bridge_file}, Apertures.{IsLawfulApertures, Apertures}}
 use Rattle.model_board.specs.{Paths.Path, Board.{Decl, endpoint, bridge, Board, IsBoard}, Windows.{Window, io_window, mem_window, pref_window}, Lawful.HasLawfulDecls}
-use Rattle.model_set_up.specs.{Pools.{Pool, io_pool, mem_pool, pref_pool, unit_of, has_io_paths}, Placement.{Item, need, items_on, fits, bus_first}, SetUp.{window_of, set_up_file}}
+use Rattle.model_set_up.specs.{Pools.{Pool, io_pool, mem_pool, pref_pool, unit_of, has_io_paths}, Placement.{PlacementItem, need, items_on, fits, bus_first}, SetUp.{window_of, set_up_file}}
 
 -- as set-up leaves a window without items: the base in the last unit that the register names, and the limit at 0
 abbrev pub closed_io : Window
@@ -53,7 +53,7 @@ abbrev pub NamedWindows : Type 0
 NamedWindows = (d : Bridge) (multifunction : Bool) (r : BridgeValues) → Names d multifunction r
 
 -- the window of a bus that begins at `first`: none without items
-abbrev pub window_over : ℕ → ℕ → List Item → Option Window
+abbrev pub window_over : ℕ → ℕ → List PlacementItem → Option Window
 window_over unit first [] = None
 window_over unit first (i ∷ is) = Some (record { first = first; last = first + need unit (i ∷ is) - 1 })
 

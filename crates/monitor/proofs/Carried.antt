@@ -6,7 +6,7 @@ use Rattle.model_board.specs.{Paths.Path, Board.{Decl, endpoint, Row}, AtReset.b
 use Rattle.model_findings.specs.Orderly.{IsStateOfBoard}
 use Rattle.model_guests.specs.{Text.Text, Slots.Slots, Guests.GuestsNow}
 use Rattle.model_handoff.proofs.Standing.{at_path, found}
-use Rattle.monitor.specs.{declared.guest.{Held.Held, Guest.Guest}, Keeping.{IsHeld, IsSlot, AreSlots, AreGuests}}
+use Rattle.monitor.specs.{declared.guest.{AssignedFunction.AssignedFunction, Guest.Guest}, Keeping.{IsHeld, IsSlot, AreSlots, AreGuests}}
 
 -- ---- the bases of an endpoint, by its routing row
 
@@ -33,13 +33,13 @@ bases_held fs state i p d at = of (at_map row_at fs i (record { path = p; decl =
 -- ---- slot by slot
 
 module _ (s t : State) (on_s : IsStateOfBoard s.functions) (on_t : IsStateOfBoard t.functions) (same_board : board_at t.functions ≡ board_at s.functions) (same_routing : routing t.functions ≡ routing s.functions) where
-  pub held_carried : (p : Path) (f : Function) (h : Held) → IsHeld s p f h → IsHeld t p f h
+  pub held_carried : (p : Path) (f : Function) (h : AssignedFunction) → IsHeld s p f h → IsHeld t p f h
   held_carried p f h is = search (rules, bases_held)
 
-  slot_carried : (q : Option Path) (f : Option Function) (o : Option Held) → IsSlot s q f o → IsSlot t q f o
+  slot_carried : (q : Option Path) (f : Option Function) (o : Option AssignedFunction) → IsSlot s q f o → IsSlot t q f o
   slot_carried q f o is = grind (arith, held_carried)
 
-  slots_carried : (qs : List (Option Path)) (fs : Slots) (os : List (Option Held)) → AreSlots s qs fs os → AreSlots t qs fs os
+  slots_carried : (qs : List (Option Path)) (fs : Slots) (os : List (Option AssignedFunction)) → AreSlots s qs fs os → AreSlots t qs fs os
   slots_carried [] [] [] are = tt
   slots_carried (q ∷ qs) (f ∷ fs) (o ∷ os) are = (slot_carried q f o are.0, slots_carried qs fs os are.1)
   slots_carried qs fs os are = absurd are

@@ -1,11 +1,11 @@
 -- A read and a write of the configuration space of the function in a slot.
 use Rattle.std.{proofs.{Common.{◌≡◌, ℕ, ◌*◌, ◌/◌, ◌%◌, Bool, false, cond, List, [], Some, None, Option, slice_get, slice_set, sym, ap, ap₂, ◌∙◌, subst, get_or, length, refl, arith}, lemmas.Option.{slice_get_read, slice_get_within}}, specs.{Prelude.is_some, Option.option_map_or}}
-use Rattle.model_registers.{specs.{Registers.{config, File, read, write, all_bytes, number}, ByteEnables.{lanes, enables_of, into_lanes, IsWidth}, OwnCopies.handed_on, Decoding.Function}, proofs.ByteAccesses.{aligned_lies_in_word, write_by_lanes}}
+use Rattle.model_registers.{specs.{Registers.{config, File, read, write, all_bytes, number}, ByteEnables.{lanes, enables_of, to_lanes, IsWidth}, OwnCopies.handed_on, Decoding.Function}, proofs.ByteAccesses.{aligned_lies_in_word, write_by_lanes}}
 use Rattle.model_guests.{specs.{Accesses.{answered, reads, writes, configuration}, Slots.{Landing, landing, perform, effect, slot_at}, Lone.{at_target, reply_at, after_access_at}, WorldNow.WorldNow, ChangeLaws.with_slot_changed, AgreedBoard.with_change_at, Text.Text}, proofs.{AgreedFiles.writes_alike, Seats.written_shape}}
 use Rattle.model_handoff.specs.StayLaws.{any_tells}
 use Rattle.guest_functions.proofs.HeldCopies.{lawful_copies, written_held}
 use Rattle.host_bridge.specs.{ByIndex.with_file_nth, HostState.{HostState, with_functions}}
-use Rattle.monitor.{specs.{declared.guest.{Held.Held, Guest.Guest}, Keeping.IsKept, ByIndex.{lone_nth, with_lone_nth, guest_nth}, Counts.changes_at, Configs.{IsSeen, HoldsAt, IsHolding, WritesGuest, WritesOwn}}, proofs.{Steps.{with_guest_at, kept_slot, GuestAt, SlotAt, with_same}, Reached.{board_shows, changed_held, endpoint_held, reached_held, file_held, lawful}, Calls.{Leaves, leaves}, Exchanges.holds_nth}}
+use Rattle.monitor.{specs.{declared.guest.{AssignedFunction.AssignedFunction, Guest.Guest}, Keeping.IsKept, ByIndex.{lone_nth, with_lone_nth, guest_nth}, Counts.changes_at, Configs.{IsSeen, HoldsAt, IsHolding, WritesGuest, WritesOwn}}, proofs.{Steps.{with_guest_at, kept_slot, GuestAt, SlotAt, with_same}, Reached.{board_shows, changed_held, endpoint_held, reached_held, file_held, lawful}, Calls.{Leaves, leaves}, Exchanges.holds_nth}}
 
 -- ---- one guest
 
@@ -13,15 +13,15 @@ use Rattle.monitor.{specs.{declared.guest.{Held.Held, Guest.Guest}, Keeping.IsKe
 pub same_at : {A : Type 0} (xs : List A) (i : ℕ) (x y : A) → slice_get xs i ≡ Some x → y ≡ get_or xs i y → y ≡ x
 same_at xs i x y at is = let read = slice_get_read xs (length xs) i y refl (slice_get_within xs i x at) is in cc
 
-pub guest_written : (gs : List Guest) (i n word enables value : ℕ) (holds : HoldsAt gs i n) (slots new : List (Option Held)) (r : ℕ × ℕ) (guest : Guest)
+pub guest_written : (gs : List Guest) (i n word enables value : ℕ) (holds : HoldsAt gs i n) (slots new : List (Option AssignedFunction)) (r : ℕ × ℕ) (guest : Guest)
     → slots ≡ holds.guest.slots.items → ((h : IsHolding slots n) → WritesOwn slots n h word enables value new r) → guest.latch ≡ holds.guest.latch → guest.slots.items ≡ new
     → WritesGuest gs i n holds word enables value (slice_set gs i guest) r
 guest_written gs i n word enables value holds slots new r guest same written latch items = record {
   guest = guest;
   after = refl;
   latch = latch;
-  slots = subst (λ (os : List (Option Held)). WritesOwn holds.guest.slots.items n holds.slot word enables value os r) (sym items)
-      (subst (λ (os : List (Option Held)). (h : IsHolding os n) → WritesOwn os n h word enables value new r) same written holds.slot);
+  slots = subst (λ (os : List (Option AssignedFunction)). WritesOwn holds.guest.slots.items n holds.slot word enables value os r) (sym items)
+      (subst (λ (os : List (Option AssignedFunction)). (h : IsHolding os n) → WritesOwn os n h word enables value new r) same written holds.slot);
 }
 
 pub written_lent : {gs ms new : List Guest} {i n word enables value : ℕ} {r : ℕ × ℕ} → ms ≡ gs → (holds : HoldsAt gs i n)
@@ -32,7 +32,7 @@ written_lent {gs} {ms} {new} {i} {n} {word} {enables} {value} {r} same holds wri
 -- ---- a function in a slot of a world that is kept
 
 module _ {w : WorldNow} {h : HostState} {names : List Text} {gs : List Guest} {i : ℕ} {g : Guest} (at : GuestAt w h names gs i g) where
-  module _ {n : ℕ} {held : Held} (slot : SlotAt at n held) where
+  module _ {n : ℕ} {held : AssignedFunction} (slot : SlotAt at n held) where
     pub seen : IsSeen h held
     seen = record {
       file = slot.f.file;
@@ -55,7 +55,7 @@ module _ {w : WorldNow} {h : HostState} {names : List Text} {gs : List Guest} {i
     config_reads off width is = grind (arith, lands)
 
     -- a write of the bytes of a word
-    module _ (off width v : ℕ) (wide : IsWidth width) (aligned : off % width ≡ 0) {enables moved : ℕ} (enables_are : enables ≡ enables_of off width) (moved_is : moved ≡ into_lanes off v)
+    module _ (off width v : ℕ) (wide : IsWidth width) (aligned : off % width ≡ 0) {enables moved : ℕ} (enables_are : enables ≡ enables_of off width) (moved_is : moved ≡ to_lanes off v)
         {left : List Guest} {r : ℕ × ℕ} (written : WritesGuest gs i n (holds_nth at slot) (off / 4 * 4) enables moved left r)
         {new : HostState} (is_new : new ≡ with_functions (with_file_nth (write (lanes r.1) moved (config (off / 4 * 4))) r.0 h.state.functions) h) where
       abbrev word : ℕ

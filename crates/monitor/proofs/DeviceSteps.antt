@@ -8,7 +8,7 @@ use Rattle.headers.specs.Places.{place_of}
 use Rattle.bridge_forward.specs.Lending.{as_endpoint, endpoint_at, endpoint_nth, with_endpoint}
 use Rattle.host_bridge.{specs.{ByIndex.{file_nth, with_file_nth}, HostState.{HostState, with_functions}}, proofs.Lent.changed_endpoint}
 use Rattle.accesses.specs.Accesses.{part_of}
-use Rattle.monitor.{specs.{declared.guest.{Held.Held, Guest.Guest}, Keeping.{IsHeld, IsKept}, ByIndex.{lone_nth, guest_nth, name_nth, with_lone_nth}, DeviceBytes.{device_byte, Refuses, Reaches}, InSlots.{IsInSlot, IsSlotFault}}, proofs.{Steps.{slot_there, GuestAt, SlotAt, function_there, in_place, kept_put, lone_named, path_there, slot_lent, slots_lent}, Reached.{changed_held, distinct, endpoint_held, file_held, left, found_on_board, places_same}, RaiseSteps.named_place, Calls.{Leaves, leaves}, ResetSteps.{answer_named, device_named}, Checks.{low_slot, passes_slot, refused_first}}}
+use Rattle.monitor.{specs.{declared.guest.{AssignedFunction.AssignedFunction, Guest.Guest}, Keeping.{IsHeld, IsKept}, ByIndex.{lone_nth, guest_nth, name_nth, with_lone_nth}, DeviceBytes.{device_byte, Refuses, Reaches}, InSlots.{IsInSlot, IsSlotFault}}, proofs.{Steps.{slot_there, GuestAt, SlotAt, function_there, in_place, kept_put, lone_named, path_there, slot_lent, slots_lent}, Reached.{changed_held, distinct, endpoint_held, file_held, left, found_on_board, places_same}, RaiseSteps.named_place, Calls.{Leaves, leaves}, ResetSteps.{answer_named, device_named}, Checks.{low_slot, passes_slot, refused_first}}}
 use Rattle.headers.specs.declared.place.Place as headers
 
 -- ---- the place
@@ -19,10 +19,10 @@ device_named_place f place off h = grind (arith, named_place)
 -- ---- the checks
 
 -- a slot that is refused
-pub byte_refused : (slots : List (Option Held)) (n : ℕ) {number : ℕ} (place : headers.Place) (off : ℕ) → IsSlotFault slots n number → Refuses slots n place off number
+pub byte_refused : (slots : List (Option AssignedFunction)) (n : ℕ) {number : ℕ} (place : headers.Place) (off : ℕ) → IsSlotFault slots n number → Refuses slots n place off number
 byte_refused slots n place off fault = grind (arith, refused_first)
 
-pub out_of_reach : {slots : List (Option Held)} {n : ℕ} {held : Held} (place : headers.Place) (off : ℕ) → IsInSlot slots n held
+pub out_of_reach : {slots : List (Option AssignedFunction)} {n : ℕ} {held : AssignedFunction} (place : headers.Place) (off : ℕ) → IsInSlot slots n held
     → ((s : State) (p : Path) (f : Function) → IsHeld s p f held → is_some (device_place f (part_of place) off) ≡ false) → Refuses slots n place off 303
 out_of_reach {slots} {n} {held} place off is none = λ s qs fs are.
     let slot = slot_there s qs fs slots n held are is.there in
@@ -45,7 +45,7 @@ same_change left own same v q = grind (arith, change_none, stands_is, agreed_pla
 apart_from_own : (p q : Place) → is_device_byte p ≡ true → is_own q ≡ true → place_eq p q ≡ false
 apart_from_own p q device mine = grind (arith, place_same, device_not_own)
 
-module _ {w : WorldNow} {h : HostState} {names : List Text} {gs : List Guest} {i : ℕ} {g : Guest} (at : GuestAt w h names gs i g) {n : ℕ} {held : Held} (slot : SlotAt at n held) where
+module _ {w : WorldNow} {h : HostState} {names : List Text} {gs : List Guest} {i : ℕ} {g : Guest} (at : GuestAt w h names gs i g) {n : ℕ} {held : AssignedFunction} (slot : SlotAt at n held) where
   abbrev left_file : File
   left_file = left at slot
 
@@ -98,7 +98,7 @@ module _ {w : WorldNow} {h : HostState} {names : List Text} {gs : List Guest} {i
 
 -- ---- a function in a slot of a world that is kept
 
-module _ {w : WorldNow} {h : HostState} {names : List Text} {gs : List Guest} {i : ℕ} {g : Guest} (at : GuestAt w h names gs i g) {slots : List (Option Held)} (same : slots ≡ g.slots.items) where
+module _ {w : WorldNow} {h : HostState} {names : List Text} {gs : List Guest} {i : ℕ} {g : Guest} (at : GuestAt w h names gs i g) {slots : List (Option AssignedFunction)} (same : slots ≡ g.slots.items) where
   -- the slots as code holds them, for which the byte is refused
   pub refused_there : (n : ℕ) (place : headers.Place) (off : ℕ) {number : ℕ} → Refuses slots n place off number → byte_fault (lone_nth w i).slots (device_byte n place off) ≡ Some number
   refused_there n place off faults = faults w.handoff (guest_nth w i).paths (lone_nth w i).slots (slots_lent at same)

@@ -6,9 +6,9 @@ use Rattle.model_board.specs.{Paths.Path, Board.endpoint, AtReset.board_at, Port
 use Rattle.model_findings.specs.Orderly.{IsStateOfBoard}
 use Rattle.model_guests.{specs.{Slots.reset_function, World.declared}, proofs.{CopiesNeverRise.declared_lawful, DeclaredRows.declared_row}}
 use Rattle.model_handoff.proofs.Standing.{at_path, stands}
-use Rattle.bars.specs.{Resets.{reset_from, at_reset, with_no_base}, Slots.bases_from, declared.region.BasedRegion.BasedRegion}
+use Rattle.bars.specs.{Resets.{reset_from, at_reset, with_no_base}, Slots.bases_from, declared.region.BarWithBase.BarWithBase}
 use Rattle.bridge_forward.specs.BasesNow.{bases_of, bases_nth}
-use Rattle.monitor.specs.{declared.guest.Held.Held, Keeping.{IsHeld, IsSlot}, Beginnings.{declared_in, IsStanding}}
+use Rattle.monitor.specs.{declared.guest.AssignedFunction.AssignedFunction, Keeping.{IsHeld, IsSlot}, Beginnings.{declared_in, IsStanding}}
 
 -- ---- registers at reset
 
@@ -20,13 +20,13 @@ opened_closed : (rs : List Region) → map opened (map closed rs) ≡ map bare r
 opened_closed [] = refl
 opened_closed (r ∷ rs) = ap (λ (xs : List Region). bare r ∷ xs) (opened_closed rs)
 
-declared_reset : (n : ℕ) (slots : List (Option BasedRegion)) → reset_from n (map declared_in slots) ≡ map with_no_base (bases_from n slots)
+declared_reset : (n : ℕ) (slots : List (Option BarWithBase)) → reset_from n (map declared_in slots) ≡ map with_no_base (bases_from n slots)
 declared_reset n [] = refl
 declared_reset n (None ∷ slots) = declared_reset (n + 1) slots
 declared_reset n (Some r ∷ slots) = ap (λ (bs : List BaseAddress). record { index = n; kind = r.decl.kind; size = r.decl.size; base = 0 } ∷ bs) (declared_reset (n + 1) slots)
 
 -- what is declared of registers that hold these bases
-pub decls_reset : (bars : List (Option Bar)) (slots : List (Option BasedRegion)) (bs : List BaseAddress) → bars ≡ map declared_in slots → bases_from 0 slots ≡ bs
+pub decls_reset : (bars : List (Option Bar)) (slots : List (Option BarWithBase)) (bs : List BaseAddress) → bars ≡ map declared_in slots → bases_from 0 slots ≡ bs
     → at_reset bars ≡ map with_no_base bs
 decls_reset bars slots bs decls bases = ap at_reset decls ∙ declared_reset 0 slots ∙ ap (map with_no_base) bases
 
@@ -45,7 +45,7 @@ module _ (s : State) (i : ℕ) (p : Path) (f : Function) (is : IsStanding s i p 
   module _ (bars : List (Option Bar)) (rest : at_reset bars ≡ map with_no_base (bases_nth s.functions i)) where
     pub held_at_first : (own : OwnCopies) → own ≡ record { command = 0; bases = at_reset bars }
         → ((e : Endpoint) → Each (λ b. 0x40 ≤ b.offset) e.blocks → map closed e.regions ≡ at_reset bars → HoldsOwn (endpoint_reset e false) own)
-        → (placed : List (Option BasedRegion)) → bases_from 0 placed ≡ bases_nth s.functions i
+        → (placed : List (Option BarWithBase)) → bases_from 0 placed ≡ bases_nth s.functions i
         → IsHeld s p f (record { own = own; placed = placed; index = i })
     held_at_first own own_is reset placed bases = search (rules, bases_there, closed_there, each_map, map_at, opened_closed)
 
@@ -88,6 +88,6 @@ module _ (s : State) (state : IsStateOfBoard s.functions) (p : Path) (some : IsS
     pub stands_there : IsStanding s i p (function_of stand.d)
     stands_there = record { lawful = stand.lawful; there = told ∙ stand.found; at_reset = refl }
 
-    pub slot_at_first : (h : Held) → ((f : Function) → IsStanding s i p f → IsHeld s p f h) → IsSlot s (Some p) (reset_function (declared (board_at s.functions) p)) (Some h)
+    pub slot_at_first : (h : AssignedFunction) → ((f : Function) → IsStanding s i p f → IsHeld s p f h) → IsSlot s (Some p) (reset_function (declared (board_at s.functions) p)) (Some h)
     slot_at_first h holds =
         subst (λ (o : Option Endpoint). IsSlot s (Some p) (reset_function o) (Some h)) (sym stand.declares) (holds (function_of stand.d) stands_there)

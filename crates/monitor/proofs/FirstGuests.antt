@@ -6,12 +6,12 @@ use Rattle.model_board.specs.{Paths.Path, Board.Board, State.State}
 use Rattle.model_guests.specs.{Text.Text, Slots.{Slots, reset_function}, World.{Guest as Declared, World, declared, HasLawfulGuests}, Guests.{GuestNow, GuestsNow, guest_at_first}}
 use Rattle.host_bridge.specs.HostState.{HostState}
 use Rattle.window_packing.{specs.Readies.board_below, proofs.BarLists.take_at}
-use Rattle.monitor.specs.{declared.guest.{Held.Held, Guest.Guest}, Keeping.{IsSlot, AreSlots, IsGuest, AreGuests}, Beginnings.AreSlotsAtFirst, Counts.counts_of}
+use Rattle.monitor.specs.{declared.guest.{AssignedFunction.AssignedFunction, Guest.Guest}, Keeping.{IsSlot, AreSlots, IsGuest, AreGuests}, Beginnings.AreSlotsAtFirst, Counts.counts_of}
 
 -- ---- one more
 
 module _ (now : State) where
-  slots_push : (qs : List (Option Path)) (fs : Slots) (os : List (Option Held)) (q : Option Path) (f : Option Function) (o : Option Held) → AreSlots now qs fs os → IsSlot now q f o
+  slots_push : (qs : List (Option Path)) (fs : Slots) (os : List (Option AssignedFunction)) (q : Option Path) (f : Option Function) (o : Option AssignedFunction) → AreSlots now qs fs os → IsSlot now q f o
       → AreSlots now (qs ++ q ∷ []) (fs ++ f ∷ []) (os ++ o ∷ [])
   slots_push [] [] [] q f o are is = (is, tt)
   slots_push (p ∷ qs) (g ∷ fs) (k ∷ os) q f o are is = (are.0, slots_push qs fs os q f o are.1 is)
@@ -29,7 +29,7 @@ map_push f xs i x at = ap (map f) (take_at xs i x at) ∙ map-append f (take i x
 -- ---- slots
 
 -- with k empty ones
-abbrev pub AreSlotsWith : HostState → List Path → ℕ → List (Option Held) → Type 0
+abbrev pub AreSlotsWith : HostState → List Path → ℕ → List (Option AssignedFunction) → Type 0
 AreSlotsWith h ps k os = AreSlots h.state (map Some ps ++ replicate k None) (map reset_function (map (declared (board_below h)) ps ++ replicate k None)) os
 
 one_more : {A : Type 0} (k : ℕ) (x : A) → replicate k x ++ x ∷ [] ≡ replicate (suc k) x
@@ -40,7 +40,7 @@ module _ (h : HostState) where
   abbrev b : Board
   b = board_below h
 
-  pub slot_pushed : (ps : List Path) (i : ℕ) (p : Path) (o : Held) (os : List (Option Held)) → slice_get ps i ≡ Some p → AreSlotsWith h (take i ps) 0 os
+  pub slot_pushed : (ps : List Path) (i : ℕ) (p : Path) (o : AssignedFunction) (os : List (Option AssignedFunction)) → slice_get ps i ≡ Some p → AreSlotsWith h (take i ps) 0 os
       → IsSlot h.state (Some p) (reset_function (declared b p)) (Some o) → AreSlotsWith h (take (i + 1) ps) 0 (os ++ Some o ∷ [])
   slot_pushed ps i p o os at are is =
       let qs : List (Option Path) = map Some (take i ps) in
@@ -49,10 +49,10 @@ module _ (h : HostState) where
       let decls : (ds ++ []) ++ declared b p ∷ [] ≡ map (declared b) (take (i + 1) ps) ++ [] = ap (λ xs. xs ++ declared b p ∷ []) (append-nil ds) ∙ sym (map_push (declared b) ps i p at) ∙ sym (append-nil (map (declared b) (take (i + 1) ps))) in
       grind (arith, map-append, slots_push)
 
-  pub all_filled : (ps : List Path) (i : ℕ) (os : List (Option Held)) → length ps ≤ i → AreSlotsWith h (take i ps) 0 os → (k : ℕ) → k ≡ 0 → AreSlotsWith h ps k os
+  pub all_filled : (ps : List Path) (i : ℕ) (os : List (Option AssignedFunction)) → length ps ≤ i → AreSlotsWith h (take i ps) 0 os → (k : ℕ) → k ≡ 0 → AreSlotsWith h ps k os
   all_filled ps i os past are k none = grind (arith, take_all)
 
-  pub empty_pushed : (ps : List Path) (k : ℕ) (os : List (Option Held)) → AreSlotsWith h ps k os → AreSlotsWith h ps (suc k) (os ++ None ∷ [])
+  pub empty_pushed : (ps : List Path) (k : ℕ) (os : List (Option AssignedFunction)) → AreSlotsWith h ps k os → AreSlotsWith h ps (suc k) (os ++ None ∷ [])
   empty_pushed ps k os are =
       let qs : List (Option Path) = map Some ps in
       let ds : List (Option Endpoint) = map (declared b) ps in
@@ -60,7 +60,7 @@ module _ (h : HostState) where
       let decls : (ds ++ replicate k None) ++ None ∷ [] ≡ ds ++ replicate (suc k) None = append_assoc ds (replicate k None) (None ∷ []) ∙ ap (λ xs. ds ++ xs) (one_more k None) in
       grind (arith, map-append, slots_push)
 
-  pub all_slots : (ps : List Path) (k : ℕ) (os : List (Option Held)) → k ≡ 32 - length ps → AreSlotsWith h ps k os → AreSlotsAtFirst h ps os
+  pub all_slots : (ps : List Path) (k : ℕ) (os : List (Option AssignedFunction)) → k ≡ 32 - length ps → AreSlotsWith h ps k os → AreSlotsAtFirst h ps os
   all_slots ps k os all are = search (rules, length-map)
 
 -- ---- guests

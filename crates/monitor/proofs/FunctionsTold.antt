@@ -4,9 +4,9 @@ use Rattle.lists.proofs.Indices.{map_at}
 use Rattle.model_registers.specs.Decoding.{Function}
 use Rattle.model_board.specs.{Paths.Path, Board.{Row, Board, IsBoard}, AtReset.board_at, State.{BoardFunction, State, row_at}}
 use Rattle.model_guests.{specs.{Text.Text, Slots.{Slots, slot_at}, Guests.{GuestsNow, path_in}, WorldNow.{WorldNow, board_state}}, proofs.GuestsByName.path_at}
-use Rattle.model_handoff.specs.Functions.{Seat, seat_from, seat_of, FunctionNow, function_now, function_nth, function_at, slot_answer}
+use Rattle.model_handoff.specs.Functions.{Assignment, seat_from, seat_of, LiveFunction, function_now, function_nth, function_at, slot_answer}
 use Rattle.host_bridge.specs.HostState.{HostState}
-use Rattle.monitor.{specs.{declared.guest.{Held.Held, Guest.Guest}, Keeping.{AreSlots, AreGuests, IsKept}, ByIndex.{name_nth, guest_nth, lone_nth}, FunctionsTold.seat_kept, InSlots.{is_at, IsInSlot, IsSlotFault}}, proofs.{Steps.{path_named, GuestAt, fault_lent, path_there, slot_lent, slots_lent}, Reached.{board_row, found_on_board}, Indexed.found_in_slots, GiftSteps.board_is, Checks.{low_slot, slot_checked}}}
+use Rattle.monitor.{specs.{declared.guest.{AssignedFunction.AssignedFunction, Guest.Guest}, Keeping.{AreSlots, AreGuests, IsKept}, ByIndex.{name_nth, guest_nth, lone_nth}, FunctionsTold.seat_kept, InSlots.{is_at, IsInSlot, IsSlotFault}}, proofs.{Steps.{path_named, GuestAt, fault_lent, path_there, slot_lent, slots_lent}, Reached.{board_row, found_on_board}, Indexed.found_in_slots, GiftSteps.board_is, Checks.{low_slot, slot_checked}}}
 
 -- ---- seats
 
@@ -17,13 +17,13 @@ seats_shown s board i r at k (t ∷ ts) (w ∷ ws) (g ∷ gs) are = grind (arith
 seats_shown s board i r at k ts ws gs are = absurd are
 
 -- the seat is none of the first guest's
-pub seat_next : (i k : ℕ) (gs : List Guest) (g : Guest) (slots : List (Option Held)) (r : Option Seat) → 1 ≤ length gs → g ≡ get_or gs 0 g → slots ≡ g.slots.items
+pub seat_next : (i k : ℕ) (gs : List Guest) (g : Guest) (slots : List (Option AssignedFunction)) (r : Option Assignment) → 1 ≤ length gs → g ≡ get_or gs 0 g → slots ≡ g.slots.items
     → position (is_at i) slots ≡ None → r ≡ seat_kept i (k + 1) (take (length gs - 1) (drop 1 gs)) → r ≡ seat_kept i k gs
 seat_next i k gs g slots r some is same none more = grind (arith, take_all)
 
 -- ---- a slot without a function has no path
 
-no_path : (s : State) (qs : List (Option Path)) (fs : Slots) (os : List (Option Held)) (n : ℕ) → AreSlots s qs fs os → slot_at fs n ≡ None → path_at qs n ≡ None
+no_path : (s : State) (qs : List (Option Path)) (fs : Slots) (os : List (Option AssignedFunction)) (n : ℕ) → AreSlots s qs fs os → slot_at fs n ≡ None → path_at qs n ≡ None
 no_path s [] [] [] n are at = refl
 no_path s (None ∷ qs) (f ∷ fs) (o ∷ os) zero are at = refl
 no_path s (Some p ∷ qs) (None ∷ fs) (o ∷ os) zero are at = absurd are.0
@@ -45,15 +45,15 @@ module _ {w : WorldNow} {h : HostState} {names : List Text} {gs : List Guest} (k
           seats_shown w.handoff kept.lawful.handoff.board.places i (row_at f) stands 0 names w.guests gs kept.guests ∙ ap (seat_of w.guests) path
 
   -- what is told over the host's registers is told over the board
-  pub nth_told : (i : ℕ) {o : Option FunctionNow} → o ≡ function_nth h.state w.guests i → o ≡ function_nth (board_state w) w.guests i
+  pub nth_told : (i : ℕ) {o : Option LiveFunction} → o ≡ function_nth h.state w.guests i → o ≡ function_nth (board_state w) w.guests i
   nth_told i told = told ∙ ap (λ (s : State). function_nth s w.guests i) kept.agrees
 
-module _ {w : WorldNow} {h : HostState} {names : List Text} {gs : List Guest} {i : ℕ} {g : Guest} (at : GuestAt w h names gs i g) {slots : List (Option Held)} (same : slots ≡ g.slots.items) (n : ℕ) where
-  abbrev slot_by : Bool → Option Path → Result FunctionNow ℕ
+module _ {w : WorldNow} {h : HostState} {names : List Text} {gs : List Guest} {i : ℕ} {g : Guest} (at : GuestAt w h names gs i g) {slots : List (Option AssignedFunction)} (same : slots ≡ g.slots.items) (n : ℕ) where
+  abbrev slot_by : Bool → Option Path → Result LiveFunction ℕ
   slot_by past q = cond past (Err 303) (ok_or (option_and_then (function_at (board_state w) w.guests) q) 601)
 
-  pub slot_withheld : {number : ℕ} → IsSlotFault slots n number → Err number ≡ slot_answer (board_state w) w.guests (name_nth w i) n
-  slot_withheld {number} fault = of (nat_le 32 n) (slot_at (lone_nth w i).slots n) refl (fault_lent at n same fault)
+  pub slot_assign_error : {number : ℕ} → IsSlotFault slots n number → Err number ≡ slot_answer (board_state w) w.guests (name_nth w i) n
+  slot_assign_error {number} fault = of (nat_le 32 n) (slot_at (lone_nth w i).slots n) refl (fault_lent at n same fault)
     where
       of : (past : Bool) (o : Option Function) → slot_at (lone_nth w i).slots n ≡ o → slot_checked past (is_some o) None ≡ Some number → Err number ≡ slot_by past (path_in w.guests (name_nth w i) n)
       of true o none e = cc
@@ -62,8 +62,8 @@ module _ {w : WorldNow} {h : HostState} {names : List Text} {gs : List Guest} {i
           ap (λ (k : Option ℕ). Err (unwrap_or k 0)) (sym e) ∙ ap (slot_by false) (sym path)
       of false (Some f) none e = cc
 
-  pub slot_told : {held : Held} → IsInSlot slots n held → {o : Option FunctionNow} → o ≡ function_nth h.state w.guests held.index → ok_or o 601 ≡ slot_answer (board_state w) w.guests (name_nth w i) n
+  pub slot_told : {held : AssignedFunction} → IsInSlot slots n held → {o : Option LiveFunction} → o ≡ function_nth h.state w.guests held.index → ok_or o 601 ≡ slot_answer (board_state w) w.guests (name_nth w i) n
   slot_told {held} inside told =
       let slot = slot_lent at same inside.there in
-      ap (λ (x : Option FunctionNow). ok_or x 601) (nth_told at.kept held.index told ∙ ap (option_map (function_now (board_state w) w.guests)) (board_row at slot ∙ sym (found_on_board at slot)))
+      ap (λ (x : Option LiveFunction). ok_or x 601) (nth_told at.kept held.index told ∙ ap (option_map (function_now (board_state w) w.guests)) (board_row at slot ∙ sym (found_on_board at slot)))
       ∙ ap (slot_by false) (sym (path_there at slot)) ∙ ap (λ (t : Bool). slot_by t (path_in w.guests (name_nth w i) n)) (sym (low_slot inside.low))

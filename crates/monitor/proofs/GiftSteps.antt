@@ -6,10 +6,10 @@ use Rattle.model_board.{specs.{Paths.Path, Board.{Row, Board, IsBoard, Decl, end
 use Rattle.model_findings.specs.Orderly.{IsStateOfBoard}
 use Rattle.model_guests.{specs.{Slots.reset_function, Text.Text, World.declared, Guests.{GuestsNow, file_of, function_in}, WorldNow.{WorldNow, board_state}}, proofs.CopiesNeverRise.declared_lawful}
 use Rattle.model_handoff.{specs.{ViewLaws.sits, Giving.{has_closed_region, give_fault, endpoint_fault}}, proofs.{Keeping.{keeps_board, keeps_routing}, Regions.state_stays, Standing.at_path, Alike.command_at}}
-use Rattle.bars.specs.{declared.region.BasedRegion.BasedRegion, Resets.with_no_base, Slots.bases_from}
-use Rattle.bridge_forward.specs.{BasesNow.{bases_of, bases_nth}, ByIndex.ranges_told, Lending.as_endpoint, RoutingRows.window_of, declared.by_index.RangesNow.{RangesNow, TheVariants.{Regions, Windows}}}
+use Rattle.bars.specs.{declared.region.BarWithBase.BarWithBase, Resets.with_no_base, Slots.bases_from}
+use Rattle.bridge_forward.specs.{BasesNow.{bases_of, bases_nth}, ByIndex.ranges_told, Lending.as_endpoint, RoutingRows.window_of, declared.by_index.LiveRanges.{LiveRanges, TheVariants.{Regions, Windows}}}
 use Rattle.host_bridge.specs.HostState.{HostState}
-use Rattle.monitor.{specs.{declared.{guest.{Held.Held, Guest.Guest}, slots.assign_error.Withheld.TheVariants.{PastSlots, NoEndpoint, HasGuest, SlotTaken, ClosedRegion}}, Beginnings.IsStanding, ByIndex.name_nth, Keeping.{AreGuests, IsHeld, IsKept, IsSlot}, Moves.is_taken, Seatings.{IsEndpointAt, MakesGift, gift_nth, has_index, is_closed_base, is_closed_slot}}, proofs.{Carried.held_carried, Indexed.in_slots, FirstFunctions.{function_of, lawful_there}, MoveSteps.taken_lent, Steps.{GuestAt, kept_nth}, TakenOver.declared_there}}
+use Rattle.monitor.{specs.{declared.{guest.{AssignedFunction.AssignedFunction, Guest.Guest}, slots.assign_error.AssignError.TheVariants.{PastSlots, NoEndpoint, HasGuest, SlotTaken, ClosedRegion}}, Beginnings.IsStanding, ByIndex.name_nth, Keeping.{AreGuests, IsHeld, IsKept, IsSlot}, Moves.is_taken, Seatings.{IsEndpointAt, MakesGift, gift_nth, has_index, is_closed_base, is_closed_slot}}, proofs.{Carried.held_carried, Indexed.in_slots, FirstFunctions.{function_of, lawful_there}, MoveSteps.taken_lent, Steps.{GuestAt, kept_nth}, TakenOver.declared_there}}
 
 -- ---- the endpoint at a path
 
@@ -58,11 +58,11 @@ pub bridge_at : (s : State) (p : Path) (i : ℕ) → slice_get s.functions i ≡
     → declared (board_at s.functions) p ≡ None
 bridge_at s p i at wio wmem wpref told = grind (arith, declared_by)
 
-abbrev pub AreWindows : RangesNow → Type 0
+abbrev pub AreWindows : LiveRanges → Type 0
 AreWindows (Regions slots) = ⊥
 AreWindows (Windows wio wmem wpref) = ⊤
 
-pub windows_at : (s : State) (p : Path) (i : ℕ) → slice_get s.functions i ≡ there_at s p → (r : RangesNow) → AreWindows r → Some (ranges_told r) ≡ option_map (λ (f : BoardFunction). ranges_of f.file f.decl) (slice_get s.functions i)
+pub windows_at : (s : State) (p : Path) (i : ℕ) → slice_get s.functions i ≡ there_at s p → (r : LiveRanges) → AreWindows r → Some (ranges_told r) ≡ option_map (λ (f : BoardFunction). ranges_of f.file f.decl) (slice_get s.functions i)
     → declared (board_at s.functions) p ≡ None
 windows_at s p i at (Regions slots) are told = absurd are
 windows_at s p i at (Windows wio wmem wpref) are told = bridge_at s p i at (option_map window_of wio) (option_map window_of wmem) (option_map window_of wpref) told
@@ -80,7 +80,7 @@ in_guests s board i r at ts ws gs are = absurd are
 
 -- ---- closed regions
 
-pub closed_slots : (command n : ℕ) (slots : List (Option BasedRegion)) → list_any (is_closed_slot command) slots ≡ list_any (is_closed_base command) (bases_from n slots)
+pub closed_slots : (command n : ℕ) (slots : List (Option BarWithBase)) → list_any (is_closed_slot command) slots ≡ list_any (is_closed_base command) (bases_from n slots)
 closed_slots command n [] = refl
 closed_slots command n (None ∷ slots) = closed_slots command (n + 1) slots
 closed_slots command n (Some r ∷ slots) = ap (λ t. not (opens_space command (space_of r.decl.kind)) || t) (closed_slots command (n + 1) slots)
@@ -89,7 +89,7 @@ closed_bases : (command : ℕ) (file : File) (rs : List Declared) → list_any (
 closed_bases command file [] = refl
 closed_bases command file (r ∷ rs) = ap (λ t. not (opens_space command (space_of r.kind)) || t) (closed_bases command file rs)
 
-pub closed_told : (fs : List BoardFunction) (i : ℕ) (f : BoardFunction) → slice_get fs i ≡ Some f → (command : ℕ) → Some command ≡ option_map (λ (g : BoardFunction). number g.file (config 4) 2) (slice_get fs i) → (placed : List (Option BasedRegion)) → bases_from 0 placed ≡ bases_nth fs i
+pub closed_told : (fs : List BoardFunction) (i : ℕ) (f : BoardFunction) → slice_get fs i ≡ Some f → (command : ℕ) → Some command ≡ option_map (λ (g : BoardFunction). number g.file (config 4) 2) (slice_get fs i) → (placed : List (Option BarWithBase)) → bases_from 0 placed ≡ bases_nth fs i
     → list_any (is_closed_slot command) placed ≡ list_any (is_closed_base (command_word f.file)) (bases_of f.decl f.file)
 closed_told fs i f at command told placed bases = search (rules, closed_slots)
 
@@ -118,7 +118,7 @@ module _ (w : WorldNow) (h : HostState) (names : List Text) (gs : List Guest) (k
     standing_is = record { lawful = lawful; there = is.there; at_reset = refl }
 
     -- where the board has the function, the handoff has it
-    pub held_is : (held : Held) → ((f : Function) → IsStanding h.state i p f → IsHeld h.state p f held) → IsSlot w.handoff (Some p) (reset_function (declared (board_at w.handoff.functions) p)) (Some held)
+    pub held_is : (held : AssignedFunction) → ((f : Function) → IsStanding h.state i p f → IsHeld h.state p f held) → IsSlot w.handoff (Some p) (reset_function (declared (board_at w.handoff.functions) p)) (Some held)
     held_is held holds =
         subst (λ (o : Option Endpoint). IsSlot w.handoff (Some p) (reset_function o) (Some held)) (sym (sym declared_is ∙ is.declares))
         (held_carried (board_state w) w.handoff (state_stays w.handoff kept.lawful.handoff.board w.guests) kept.lawful.handoff.board
@@ -129,14 +129,14 @@ module _ (w : WorldNow) (h : HostState) (names : List Text) (gs : List Guest) (k
     abbrev fault_by : Bool → Option Endpoint → Option ℕ
     fault_by past o = cond past (Some 303) (endpoint_fault w (gift_nth w p j n) o)
 
-    pub past_withheld : nat_le 32 n ≡ true → MakesGift w p j n (Err PastSlots)
-    past_withheld e = record { fault = sym (ap (λ t. fault_by t (declared (board_at w.handoff.functions) p)) e); comes = tt }
+    pub past_assign_error : nat_le 32 n ≡ true → MakesGift w p j n (Err PastSlots)
+    past_assign_error e = record { fault = sym (ap (λ t. fault_by t (declared (board_at w.handoff.functions) p)) e); comes = tt }
 
     within : n ≤ 31 → give_fault w (gift_nth w p j n) ≡ endpoint_fault w (gift_nth w p j n) (declared (board_at w.handoff.functions) p)
     within low = let few : nat_le 32 n ≡ false = lt-leb 32 n (omega arith) in ap (λ t. fault_by t (declared (board_at w.handoff.functions) p)) few
 
-    pub absent_withheld : n ≤ 31 → declared (board_at h.state.functions) p ≡ None → MakesGift w p j n (Err NoEndpoint)
-    absent_withheld low none = record { fault = sym (within low ∙ ap (endpoint_fault w (gift_nth w p j n)) (sym declared_is ∙ none)); comes = tt }
+    pub absent_assign_error : n ≤ 31 → declared (board_at h.state.functions) p ≡ None → MakesGift w p j n (Err NoEndpoint)
+    absent_assign_error low none = record { fault = sym (within low ∙ ap (endpoint_fault w (gift_nth w p j n)) (sym declared_is ∙ none)); comes = tt }
 
     module _ (low : n ≤ 31) (i : ℕ) (is : IsEndpointAt h.state p i) where
       abbrev after_path : Bool → Bool → Bool → Option ℕ
@@ -152,23 +152,23 @@ module _ (w : WorldNow) (h : HostState) (names : List Text) (gs : List Guest) (k
       had_is : (had : Bool) → has_index i gs ≡ had → sits w.guests p ≡ had
       had_is had e = sym (in_guests w.handoff kept.lawful.handoff.board.places i (record { path = p; decl = endpoint is.d }) row_is names w.guests gs kept.guests) ∙ e
 
-      pub had_withheld : has_index i gs ≡ true → MakesGift w p j n (Err HasGuest)
-      had_withheld e = record { fault = sym (fault_is true (is_some (function_in w.guests (name_nth w j) n)) (has_closed_region w.handoff p is.d) (had_is true e) refl refl); comes = tt }
+      pub had_assign_error : has_index i gs ≡ true → MakesGift w p j n (Err HasGuest)
+      had_assign_error e = record { fault = sym (fault_is true (is_some (function_in w.guests (name_nth w j) n)) (has_closed_region w.handoff p is.d) (had_is true e) refl refl); comes = tt }
 
       module _ (free : has_index i gs ≡ false) (g : Guest) (there : slice_get gs j ≡ Some g) where
         at : GuestAt w h names gs j g
         at = kept_nth kept there
 
-        pub full_withheld : is_taken g.slots.items n ≡ true → MakesGift w p j n (Err SlotTaken)
-        full_withheld e =
+        pub full_assign_error : is_taken g.slots.items n ≡ true → MakesGift w p j n (Err SlotTaken)
+        full_assign_error e =
             record { fault = sym (fault_is false true (has_closed_region w.handoff p is.d) (had_is false free) (sym (taken_lent at refl n) ∙ e) refl); comes = tt }
 
         module _ (empty : is_taken g.slots.items n ≡ false) where
           empty_is : is_some (function_in w.guests (name_nth w j) n) ≡ false
           empty_is = sym (taken_lent at refl n) ∙ empty
 
-          pub closed_withheld : list_any (is_closed_base (command_word (file_at h.state.functions p))) (map (base_address (file_at h.state.functions p)) is.d.regions) ≡ true → MakesGift w p j n (Err ClosedRegion)
-          closed_withheld e = record { fault = sym (fault_is false false true (had_is false free) empty_is (sym (closed_is i is) ∙ e)); comes = tt }
+          pub closed_assign_error : list_any (is_closed_base (command_word (file_at h.state.functions p))) (map (base_address (file_at h.state.functions p)) is.d.regions) ≡ true → MakesGift w p j n (Err ClosedRegion)
+          closed_assign_error e = record { fault = sym (fault_is false false true (had_is false free) empty_is (sym (closed_is i is) ∙ e)); comes = tt }
 
-          pub made : list_any (is_closed_base (command_word (file_at h.state.functions p))) (map (base_address (file_at h.state.functions p)) is.d.regions) ≡ false → (held : Held) → ((f : Function) → IsStanding h.state i p f → IsHeld h.state p f held) → MakesGift w p j n (Ok held)
+          pub made : list_any (is_closed_base (command_word (file_at h.state.functions p))) (map (base_address (file_at h.state.functions p)) is.d.regions) ≡ false → (held : AssignedFunction) → ((f : Function) → IsStanding h.state i p f → IsHeld h.state p f held) → MakesGift w p j n (Ok held)
           made e held holds = record { fault = sym (fault_is false false false (had_is false free) empty_is (sym (closed_is i is) ∙ e)); comes = held_is i is held holds }

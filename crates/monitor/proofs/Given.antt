@@ -6,10 +6,10 @@ use Rattle.model_findings.specs.Orderly.{IsStateOfBoard}
 use Rattle.model_guests.specs.{Slots.reset_function, Text.Text, World.declared, Guests.{GuestNow, GuestsNow, guest_named, with_guest, with_slot_filled}, WorldNow.{WorldNow, board_state}}
 use Rattle.model_handoff.{specs.{Kept.IsLawfulOver, ViewLaws.with_seated_reset, Giving.{Gift, with_reset_at, give_fault, after_give, given}}, proofs.{Keeping.keeps_board, Regions.state_stays, Alike.IsAlike, Giving.{CanGive, can_give, given_is, is_alike, board_after_gift, lawful_after_gift, shown_after_gift}, GivenSeats.below}}
 use Rattle.host_bridge.specs.{ByIndex.with_reset_nth, HostState.{HostState, with_functions}}
-use Rattle.monitor.{specs.{declared.{guest.{Held.Held, Guest.Guest}, slots.assign_error.Withheld.Withheld}, ByIndex.{name_nth, guest_nth, lone_nth}, Keeping.{AreGuests, IsKept, IsSlot, AreSlots}, Moves.{HasSlot, IsExchanged}, Seatings.{MakesGift, gift_nth}}, proofs.{Carried.guests_carried, Steps.{guests_set, with_named, GuestAt, named, slots_put}, TakenOver.reset_row, TakingSteps.reset_by, Calls.{Leaves, leaves}, Exchanges.{has_nth, items_are, latch_stays}}}
+use Rattle.monitor.{specs.{declared.{guest.{AssignedFunction.AssignedFunction, Guest.Guest}, slots.assign_error.AssignError.AssignError}, ByIndex.{name_nth, guest_nth, lone_nth}, Keeping.{AreGuests, IsKept, IsSlot, AreSlots}, Moves.{HasSlot, IsExchanged}, Seatings.{MakesGift, gift_nth}}, proofs.{Carried.guests_carried, Steps.{guests_set, with_named, GuestAt, named, slots_put}, TakenOver.reset_row, TakingSteps.reset_by, Calls.{Leaves, leaves}, Exchanges.{has_nth, items_are, latch_stays}}}
 
 -- what is made in the world that is kept
-pub makes_gift : {w : WorldNow} {h : HostState} {names : List Text} {gs lent : List Guest} → IsKept w h names gs → {p : Path} {i n : ℕ} {r : Result Held Withheld} → lent ≡ gs
+pub makes_gift : {w : WorldNow} {h : HostState} {names : List Text} {gs lent : List Guest} → IsKept w h names gs → {p : Path} {i n : ℕ} {r : Result AssignedFunction AssignError} → lent ≡ gs
     → ((v : WorldNow) (ts : List Text) → IsKept v h ts lent → MakesGift v p i n r) → MakesGift w p i n r
 makes_gift {w} {h} {names} kept same makes = makes w names (subst (IsKept w h names) (sym same) kept)
 
@@ -19,7 +19,7 @@ nothing_given w g fault = ap (λ (o : Option ℕ). cond (is_some o) w (given g (
 pub board_kept : {w : WorldNow} {h : HostState} {names : List Text} {gs : List Guest} → IsKept w h names gs → IsStateOfBoard h.state.functions
 board_kept {w} kept = subst (λ (s : State). IsStateOfBoard s.functions) (sym kept.agrees) (state_stays w.handoff kept.lawful.handoff.board w.guests)
 
-module _ {w : WorldNow} {h : HostState} {names : List Text} {gs : List Guest} {i : ℕ} {g : Guest} (at : GuestAt w h names gs i g) {p : Path} {n : ℕ} {held : Held} (makes : MakesGift w p i n (Ok held)) where
+module _ {w : WorldNow} {h : HostState} {names : List Text} {gs : List Guest} {i : ℕ} {g : Guest} (at : GuestAt w h names gs i g) {p : Path} {n : ℕ} {held : AssignedFunction} (makes : MakesGift w p i n (Ok held)) where
   abbrev the_gift : Gift
   the_gift = gift_nth w p i n
 
@@ -53,7 +53,7 @@ module _ {w : WorldNow} {h : HostState} {names : List Text} {gs : List Guest} {i
   comes : IsSlot w.handoff (Some p) (reset_function (Some d)) (Some held)
   comes = subst (λ (o : Option Endpoint). IsSlot w.handoff (Some p) (reset_function o) (Some held)) can.1.declares makes.comes
 
-  pub give_left : {empty : Option Held} {back : List Guest} {new : HostState} → IsExchanged gs i n empty (Some held) back → new ≡ with_functions (with_reset_nth held.index h.state.functions) h
+  pub give_left : {empty : Option AssignedFunction} {back : List Guest} {new : HostState} → IsExchanged gs i n empty (Some held) back → new ≡ with_functions (with_reset_nth held.index h.state.functions) h
       → Leaves (after_give w the_gift) h new names back
   give_left {empty} {back} {new} ex is_new = leaves at.kept kept_given (sym alike.routing_is ∙ ap (λ (x : WorldNow). routing x.handoff.functions) (sym is))
     where

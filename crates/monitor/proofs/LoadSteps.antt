@@ -11,7 +11,7 @@
 --     wrote_one      the guest writes a byte
 use Rattle.std.{proofs.{Common.{◌≡◌, ◌≤◌, ◌<◌, ◌+◌, ◌*◌, ◌/◌, ◌%◌, ℕ, inl, Bool, true, false, cond, List, [], ◌∷◌, length, Some, None, Option, slice_get, slice_set, refl, sym, ap, ◌∙◌, subst, arith}, lemmas.{List.{set-set, set-get_or}, Option.{unwrap_or-slice_get, slice_get_within}}}, specs.{Prelude.{IsSome, nat_le, unwrap_or}, Option.option_map_or}}
 use Rattle.lists.proofs.Indices.{get_set, map_at}
-use Rattle.model_registers.specs.{Registers.{Place, config, after, File, write, all_bytes}, ByteEnables.{lanes, enables_of, into_lanes}, DeclarationRules.IsLawfulEndpoint, DeviceBytes.{is_device_byte, set_value}, Decoding.Function}
+use Rattle.model_registers.specs.{Registers.{Place, config, after, File, write, all_bytes}, ByteEnables.{lanes, enables_of, to_lanes}, DeclarationRules.IsLawfulEndpoint, DeviceBytes.{is_device_byte, set_value}, Decoding.Function}
 use Rattle.model_board.specs.{Paths.{Path, path_eq}, State.{BoardFunction, with_file}}
 use Rattle.model_guests.{specs.{Accesses.{configuration, writes}, DeviceEvents.device_place, Lone.{LoneGuest, after_access_at, at_target}, Slots.{Slots, Landing, effect, slot_at}, WorldNow.WorldNow}, proofs.GuestFiles.{slot_set, with_file_there}}
 use Rattle.model_images.specs.StepLaws.{put_run}
@@ -19,7 +19,7 @@ use Rattle.headers.specs.{declared.place.Place.TheVariants.{Cfg, Bar}, Places.pl
 use Rattle.bridge_forward.{specs.Lending.{as_endpoint, endpoint_nth}, proofs.Changes.same_files}
 use Rattle.host_bridge.specs.{ByIndex.with_file_nth, HostState.{HostState, with_functions}}
 use Rattle.accesses.specs.Accesses.{part_of}
-use Rattle.monitor.{specs.{declared.guest.{Held.Held, Guest.Guest}, ByIndex.{guest_nth, lone_nth, with_lone_nth}, Configs.{HoldsAt, WritesGuest}, Keeping.IsKept, Loadings.{KeepsFunction, Becomes, with_slot_nth}}, proofs.{Steps.{GuestAt, SlotAt, kept_nth, slot_nth, slots_count, with_same}, Checks.low_slot, ConfigSteps.{config_written, lands}, DeviceSteps.{byte_put, put_kept}, Exchanges.holds_nth, Reached.{endpoint_held, held_row, lawful, seated}, RestartSteps.{lone_set, set_again}}}
+use Rattle.monitor.{specs.{declared.guest.{AssignedFunction.AssignedFunction, Guest.Guest}, ByIndex.{guest_nth, lone_nth, with_lone_nth}, Configs.{HoldsAt, WritesGuest}, Keeping.IsKept, Loadings.{KeepsFunction, Becomes, with_slot_nth}}, proofs.{Steps.{GuestAt, SlotAt, kept_nth, slot_nth, slots_count, with_same}, Checks.low_slot, ConfigSteps.{config_written, lands}, DeviceSteps.{byte_put, put_kept}, Exchanges.holds_nth, Reached.{endpoint_held, held_row, lawful, seated}, RestartSteps.{lone_set, set_again}}}
 use Rattle.headers.specs.declared.place.Place as headers
 
 -- ---- a function of the board by its index
@@ -220,20 +220,20 @@ put_all (v ∷ vs) {h} {gs} {i} {n} k place first reach {new} is =
 
 -- ---- a byte that a guest writes
 
-module _ {h : HostState} {gs : List Guest} {i n : ℕ} (k : KeepsFunction h gs i n) (off v : ℕ) {enables moved : ℕ} (enables_are : enables ≡ enables_of off 1) (moved_is : moved ≡ into_lanes off v)
+module _ {h : HostState} {gs : List Guest} {i n : ℕ} (k : KeepsFunction h gs i n) (off v : ℕ) {enables moved : ℕ} (enables_are : enables ≡ enables_of off 1) (moved_is : moved ≡ to_lanes off v)
     {left : List Guest} {r : ℕ × ℕ} (written : (holds : HoldsAt gs i n) → WritesGuest gs i n holds (off / 4 * 4) enables moved left r) where
   abbrev its_write : WritesGuest gs i n k.holds (off / 4 * 4) enables moved left r
   its_write = written k.holds
 
   still_holds : HoldsAt left i n
   still_holds =
-      let held : Held = record k.holds.slot.held { own = its_write.slots.own } in
+      let held : AssignedFunction = record k.holds.slot.held { own = its_write.slots.own } in
       record {
         guest = its_write.guest;
         there = ap (λ (xs : List Guest). slice_get xs i) its_write.after ∙ get_set gs i k.holds.guest its_write.guest k.holds.there;
         slot = record {
           held = held;
-          there = ap (λ (os : List (Option Held)). slice_get os n) its_write.slots.after ∙ get_set k.holds.guest.slots.items n (Some k.holds.slot.held) (Some held) k.holds.slot.there;
+          there = ap (λ (os : List (Option AssignedFunction)). slice_get os n) its_write.slots.after ∙ get_set k.holds.guest.slots.items n (Some k.holds.slot.held) (Some held) k.holds.slot.there;
         };
       }
 

@@ -18,7 +18,7 @@ use Rattle.model_guests.specs.{Text.Text, Slots.{Slots, slot_at}, Lone.LoneGuest
 use Rattle.model_handoff.specs.Changes.{MachineNow}
 use Rattle.model_images.{specs.{Images.{Image, restored, loaded, lone_of_image, after_load, at_reset}, ByteLaws.{AreBytes, IsSavableGuest}, LoadedBytes.{after_latch, load_fault}, LoadedLaws.IsFittingImage, TakenBytes.{values_begin, slot_size, taken_function, taken_slot, taken_image, le_number}}, proofs.{LoadedBytes.savable_is_declared, TakenBytes.{accepted_is_taken, image_is_taken, slots_are_taken}}}
 use Rattle.host_bridge.specs.HostState.{HostState}
-use Rattle.monitor.{specs.{declared.guest.{Held.Held, Guest.Guest}, ByIndex.{guest_nth, lone_nth, name_nth, with_lone_nth}, Configs.HoldsAt, Counts.{counted_nth, counts_of}, Keeping.{IsKept, IsSound}, Views.{machine_shown, slot_shown}, Loadings.{KeepsFunction, Becomes, IsLoadable, filled_with}, Loads.{AreLoadable, CanLoad, IsLoaded, KeepsWorld, Takes, slot_loaded, slots_loaded, value_span}}, proofs.{Landed.same_count, Steps.{GuestAt, kept_latch, lone_named, slot_empty, slot_nth, with_named, with_same}, Exchanges.holds_nth, Calls.{Leaves, leaves}, RestartSteps.{lone_set, none_set, requested, set_again}, SavedImages.{few_slots, lone_is}, LoadedSlots.{all_loaded, bytes_after, bytes_before, can_load, latch_there, loaded_lone, next_rest, one_more, reset_taken, reset_takes, reset_twice, rest_at, still_there}}}
+use Rattle.monitor.{specs.{declared.guest.{AssignedFunction.AssignedFunction, Guest.Guest}, ByIndex.{guest_nth, lone_nth, name_nth, with_lone_nth}, Configs.HoldsAt, Counts.{counted_nth, counts_of}, Keeping.{IsKept, IsSound}, Views.{machine_shown, slot_shown}, Loadings.{KeepsFunction, Becomes, IsLoadable, filled_with}, Loads.{AreLoadable, CanLoad, IsLoaded, KeepsWorld, Takes, slot_loaded, slots_loaded, value_span}}, proofs.{Landed.same_count, Steps.{GuestAt, kept_latch, lone_named, slot_empty, slot_nth, with_named, with_same}, Exchanges.holds_nth, Calls.{Leaves, leaves}, RestartSteps.{lone_set, none_set, requested, set_again}, SavedImages.{few_slots, lone_is}, LoadedSlots.{all_loaded, bytes_after, bytes_before, can_load, latch_there, loaded_lone, next_rest, one_more, reset_taken, reset_takes, reset_twice, rest_at, still_there}}}
 
 -- what code holds in bytes
 pub are_bytes : (xs : List ℕ) → ((i : ℕ) → Fits w8 (get_or xs i 0)) → AreBytes xs
@@ -46,20 +46,20 @@ pub none_of : (o : Option Function) → None ≡ option_map value_span o → o �
 none_of None h = refl
 none_of (Some f) h = cc
 
-held_there : (os : List (Option Held)) (n : ℕ) (held : Held) → unwrap_or (slice_get os n) None ≡ Some held → slice_get os n ≡ Some (Some held)
+held_there : (os : List (Option AssignedFunction)) (n : ℕ) (held : AssignedFunction) → unwrap_or (slice_get os n) None ≡ Some held → slice_get os n ≡ Some (Some held)
 held_there os n held h = grind arith
 
 module _ {w : WorldNow} {h : HostState} {names : List Text} {gs : List Guest} {i : ℕ} {g : Guest} (at : GuestAt w h names gs i g) where
   pub lone_count : length (lone_nth w i).slots ≡ 32
   lone_count = same_count w.handoff (guest_nth w i).paths (lone_nth w i).slots g.slots.items at.is.slots ∙ few_slots at
 
-  pub slot_is : (n : ℕ) {slots : List (Option Held)} → slots ≡ g.slots.items → slot_at (map (slot_shown h.state.functions) slots) n ≡ slot_at (lone_nth w i).slots n
-  slot_is n same = ap (λ (os : List (Option Held)). slot_at (map (slot_shown h.state.functions) os) n) same ∙ ap (λ (l : LoneGuest). slot_at l.slots n) (sym (lone_is at))
+  pub slot_is : (n : ℕ) {slots : List (Option AssignedFunction)} → slots ≡ g.slots.items → slot_at (map (slot_shown h.state.functions) slots) n ≡ slot_at (lone_nth w i).slots n
+  slot_is n same = ap (λ (os : List (Option AssignedFunction)). slot_at (map (slot_shown h.state.functions) os) n) same ∙ ap (λ (l : LoneGuest). slot_at l.slots n) (sym (lone_is at))
 
   pub holds_at : (n : ℕ) (f : Function) → slot_at (lone_nth w i).slots n ≡ Some f → HoldsAt gs i n
   holds_at n f there = by (unwrap_or (slice_get g.slots.items n) None) refl
     where
-      by : (o : Option Held) → unwrap_or (slice_get g.slots.items n) None ≡ o → HoldsAt gs i n
+      by : (o : Option AssignedFunction) → unwrap_or (slice_get g.slots.items n) None ≡ o → HoldsAt gs i n
       by None e = let none = slot_empty w.handoff (guest_nth w i).paths (lone_nth w i).slots g.slots.items n at.is.slots e in absurd (cc there)
       by (Some held) e = holds_nth at (slot_nth at (held_there g.slots.items n held e))
 

@@ -4,13 +4,13 @@ use Rattle.model_board.specs.{Paths.Path, State.State, AtReset.board_at}
 use Rattle.model_guests.{specs.{Text.Text, Slots.{Slots, slot_at}, Lone.reset_guest, Guests.{GuestNow, GuestsNow, Move, after_move, function_in, guest_named, move_fault, path_in, with_slot_emptied, with_slot_filled, handed_over}, WorldNow.{WorldNow, move_reply}, Accesses.{done, refused}}, proofs.{MoveIndices.moves, MovedFunctions.move_resets_one_function, SeatedMoves.seated_after_moves}}
 use Rattle.model_handoff.proofs.{Served.served_after_moves, Views.reset_after_moves}
 use Rattle.host_bridge.specs.{ByIndex.with_reset_nth, HostState.{HostState, with_functions}}
-use Rattle.monitor.{specs.{declared.guest.{Held.Held, Guest.Guest}, Keeping.{IsHeld, AreSlots, AreGuests}, ByIndex.{name_nth, guest_nth, lone_nth}, Moves.{move_nth, is_taken, fault_between, reset_held, HandsOver, HasSlot, IsExchanged}, Configs.{HoldsAt, IsHolding}}, proofs.{Steps.{GuestOf, guests_set, named, GuestAt, SlotAt, function_by_name, function_there, guest_there, path_there, slot_nth, slots_lent, slots_put}, Reached.lawful, Calls.{Leaves, leaves}, ResetSteps.{at_reset, board_reset, held_reset}, Exchanges.{has_nth, held_same, holds_nth, items_are, latch_stays}}}
+use Rattle.monitor.{specs.{declared.guest.{AssignedFunction.AssignedFunction, Guest.Guest}, Keeping.{IsHeld, AreSlots, AreGuests}, ByIndex.{name_nth, guest_nth, lone_nth}, Moves.{move_nth, is_taken, fault_between, reset_held, HandsOver, HasSlot, IsExchanged}, Configs.{HoldsAt, IsHolding}}, proofs.{Steps.{GuestOf, guests_set, named, GuestAt, SlotAt, function_by_name, function_there, guest_there, path_there, slot_nth, slots_lent, slots_put}, Reached.lawful, Calls.{Leaves, leaves}, ResetSteps.{at_reset, board_reset, held_reset}, Exchanges.{has_nth, held_same, holds_nth, items_are, latch_stays}}}
 
 -- ---- slots
 
 module _ (s : State) where
   -- a slot is taken just where it has a function
-  taken_is : (qs : List (Option Path)) (fs : Slots) (os : List (Option Held)) (n : ℕ) → AreSlots s qs fs os → is_taken os n ≡ is_some (slot_at fs n)
+  taken_is : (qs : List (Option Path)) (fs : Slots) (os : List (Option AssignedFunction)) (n : ℕ) → AreSlots s qs fs os → is_taken os n ≡ is_some (slot_at fs n)
   taken_is [] [] [] n are = refl
   taken_is (None ∷ qs) (None ∷ fs) (None ∷ os) zero are = refl
   taken_is (Some p ∷ qs) (Some f ∷ fs) (Some h ∷ os) zero are = refl
@@ -20,19 +20,19 @@ module _ (s : State) where
 
 -- ---- the checks
 
-holding : (os : List (Option Held)) (n : ℕ) → is_taken os n ≡ true → IsHolding os n
+holding : (os : List (Option AssignedFunction)) (n : ℕ) → is_taken os n ≡ true → IsHolding os n
 holding os n taken = cases (slice_get os n) refl taken
   where
-    cases : (o : Option (Option Held)) → slice_get os n ≡ o → is_some (unwrap_or o None) ≡ true → IsHolding os n
+    cases : (o : Option (Option AssignedFunction)) → slice_get os n ≡ o → is_some (unwrap_or o None) ≡ true → IsHolding os n
     cases None e h = cc
     cases (Some None) e h = cc
     cases (Some (Some held)) e h = record { held = held; there = e }
 
-record Passes (os : List (Option Held)) (n m : ℕ) : Type 0 where
+record Passes (os : List (Option AssignedFunction)) (n m : ℕ) : Type 0 where
   taken : is_taken os n ≡ true
   in_range : m < 32
 
-passes : (os ps : List (Option Held)) (n m : ℕ) → None ≡ fault_between os n ps m → Passes os n m
+passes : (os ps : List (Option AssignedFunction)) (n m : ℕ) → None ≡ fault_between os n ps m → Passes os n m
 passes os ps n m h = grind (arith, nat_tests)
 
 -- ---- guests
@@ -45,16 +45,16 @@ name_stays (g ∷ ws) (suc i) zero x y z d at same is = let one : g ≡ z = cc i
 name_stays (g ∷ ws) (suc i) (suc j) x y z d at same is = name_stays ws i j x y z d at same is
 
 module _ {w : WorldNow} {h : HostState} {names : List Text} {gs : List Guest} {i : ℕ} {g : Guest} (at : GuestAt w h names gs i g) where
-  pub taken_lent : {slots : List (Option Held)} → slots ≡ g.slots.items → (n : ℕ) → is_taken slots n ≡ is_some (function_in w.guests (name_nth w i) n)
+  pub taken_lent : {slots : List (Option AssignedFunction)} → slots ≡ g.slots.items → (n : ℕ) → is_taken slots n ≡ is_some (function_in w.guests (name_nth w i) n)
   taken_lent {slots} same n = taken_is w.handoff (guest_nth w i).paths (lone_nth w i).slots slots n (slots_lent at same) ∙ ap is_some (sym (function_by_name at n))
 
-  pub left_guests : {n : ℕ} {was : Option Held} {left : List Guest} → (is : IsExchanged gs i n was None left)
+  pub left_guests : {n : ℕ} {was : Option AssignedFunction} {left : List Guest} → (is : IsExchanged gs i n was None left)
       → AreGuests w.handoff names (slice_set w.guests i (with_slot_emptied n (guest_nth w i))) (slice_set gs i is.guest)
   left_guests {n} is = search (rules, guests_set, items_are, latch_stays, slots_put)
 
 -- a move between two guests, or from one to itself
 module _ {w : WorldNow} {h : HostState} {names : List Text} {gs : List Guest} {i j : ℕ} {g k : Guest} (from : GuestAt w h names gs i g) (to : GuestAt w h names gs j k) (n m : ℕ)
-    {os ps : List (Option Held)} (os_are : os ≡ g.slots.items) (ps_are : ps ≡ k.slots.items) where
+    {os ps : List (Option AssignedFunction)} (os_are : os ≡ g.slots.items) (ps_are : ps ≡ k.slots.items) where
   abbrev the_move : Move
   the_move = move_nth w i n j m
 
@@ -78,7 +78,7 @@ module _ {w : WorldNow} {h : HostState} {names : List Text} {gs : List Guest} {i
     move_done = ap (λ (o : Option ℕ). option_map_or refused o done) (passed ∙ fault_is)
 
     holds : IsHolding g.slots.items n
-    holds = subst (λ (xs : List (Option Held)). IsHolding xs n) os_are (holding os n (passes os ps n m passed).taken)
+    holds = subst (λ (xs : List (Option AssignedFunction)). IsHolding xs n) os_are (holding os n (passes os ps n m passed).taken)
 
     slot : SlotAt from n holds.held
     slot = slot_nth from holds.there
@@ -128,7 +128,7 @@ module _ {w : WorldNow} {h : HostState} {names : List Text} {gs : List Guest} {i
             latch = taker.is.latch ∙ sym over.comes.latch;
             slots = subst (AreSlots w.handoff (slice_set taker.x.paths m (Some slot.p)) (slice_set taker.x.lone.slots m (Some (at_reset slot.f)))) (sym over.comes.items)
                 (slots_put w.handoff taker.x.paths taker.x.lone.slots over.comes.before.slots.items m (Some slot.p) (Some (at_reset slot.f)) (Some (reset_held over.held)) taker.is.slots
-                (subst (λ (x : Held). IsHeld w.handoff slot.p (at_reset slot.f) (reset_held x)) (sym same) (held_reset w.handoff slot.p slot.f holds.held (lawful from slot) slot.held)));
+                (subst (λ (x : AssignedFunction). IsHeld w.handoff slot.p (at_reset slot.f) (reset_held x)) (sym same) (held_reset w.handoff slot.p slot.f holds.held (lawful from slot) slot.held)));
           })))
 
       there : IsSome (guest_named w.guests (name_nth w j))
@@ -144,7 +144,7 @@ module _ {w : WorldNow} {h : HostState} {names : List Text} {gs : List Guest} {i
         };
         clear = from.kept.clear;
         at_reset = reset_after_moves w.handoff w.guests from.kept.lawful.seated the_move there ∙ from.kept.at_reset;
-        agrees = board_reset from slot (over.board ∙ ap (λ (x : Held). with_functions (with_reset_nth x.index h.state.functions) h) same)
+        agrees = board_reset from slot (over.board ∙ ap (λ (x : AssignedFunction). with_functions (with_reset_nth x.index h.state.functions) h) same)
             ∙ sym (move_resets_one_function w.handoff w.guests from.kept.lawful.seated the_move there (sym (passed ∙ fault_is)) slot.p slot.f (path_there from slot) (function_there from slot));
         guests = guests;
       }) refl

@@ -4,10 +4,10 @@ use Rattle.lists.proofs.{Indices.{found_at, index_in}, Members.{each_in, in_map}
 use Rattle.model_registers.specs.{Registers.{config, File, read, number, all_bytes}, ByteEnables.lanes, Declarations.{Kind, mem64, Region, registers_of, IsLawfulRegion, HasLawfulRegions}, EndpointTable.BaseAddress, OwnCopies.{OwnCopies, HoldsOwn, IsLawfulOwn, handed_on, bare}, Decoding.{Function, space_of, base, is_open, base_address}}
 use Rattle.model_board.specs.{Paths.Path, State.State, Ports.file_at}
 use Rattle.model_guests.specs.{Slots.slot_at, Text.Text, WorldNow.WorldNow}
-use Rattle.model_handoff.specs.GuestRegions.{RegionNow, is_prefetchable, region_now, region_at, region_of, region_answer}
-use Rattle.bars.specs.declared.region.BasedRegion.{BasedRegion}
+use Rattle.model_handoff.specs.GuestRegions.{LiveBar, is_prefetchable, region_now, region_at, region_of, region_answer}
+use Rattle.bars.specs.declared.region.BarWithBase.{BarWithBase}
 use Rattle.host_bridge.specs.HostState.{HostState}
-use Rattle.monitor.{specs.{declared.guest.{Held.Held, Guest.Guest}, Keeping.{IsHeld, AreSlots}, ByIndex.{guest_nth, lone_nth}, Queries.IsGuestNth, InSlots.{IsInSlot, IsSlotFault}}, proofs.{Steps.{slot_there, GuestAt, lone_named, slot_nth}, ConfigSteps.seen, Checks.low_slot}}
+use Rattle.monitor.{specs.{declared.guest.{AssignedFunction.AssignedFunction, Guest.Guest}, Keeping.{IsHeld, AreSlots}, ByIndex.{guest_nth, lone_nth}, Queries.IsGuestNth, InSlots.{IsInSlot, IsSlotFault}}, proofs.{Steps.{slot_there, GuestAt, lone_named, slot_nth}, ConfigSteps.seen, Checks.low_slot}}
 use Rattle.bars.specs.Slots as bars
 
 -- ---- a base of 64 bits
@@ -49,20 +49,20 @@ wide_base own file holds n low high others more first second k pref is room =
 -- ---- the region that begins at a register
 
 -- as code reads it, and past the last
-module _ (slots : List (Option BasedRegion)) (n : ℕ) where
-  pub slot_read : {x o : Option BasedRegion} → true ≡ nat_lt n (length slots) → x ≡ get_or slots n x → x ≡ o → bars.slot_at slots n ≡ o
+module _ (slots : List (Option BarWithBase)) (n : ℕ) where
+  pub slot_read : {x o : Option BarWithBase} → true ≡ nat_lt n (length slots) → x ≡ get_or slots n x → x ≡ o → bars.slot_at slots n ≡ o
   slot_read {x} {o} low is same =
-      ap (λ (y : Option (Option BasedRegion)). unwrap_or y None) (slice_get_read slots (length slots) n x refl (ltb-true n (length slots) (sym low)) is) ∙ same
+      ap (λ (y : Option (Option BarWithBase)). unwrap_or y None) (slice_get_read slots (length slots) n x refl (ltb-true n (length slots) (sym low)) is) ∙ same
 
   pub slot_past : false ≡ nat_lt n (length slots) → bars.slot_at slots n ≡ None
-  slot_past past = ap (λ (y : Option (Option BasedRegion)). unwrap_or y None) (slice_get_past slots n (ltb-false n (length slots) (sym past)))
+  slot_past past = ap (λ (y : Option (Option BarWithBase)). unwrap_or y None) (slice_get_past slots n (ltb-false n (length slots) (sym past)))
 
-none_from : (n k : ℕ) (slots : List (Option BasedRegion)) → n < k → find (λ (x : BaseAddress). eqb x.index n) (bars.bases_from k slots) ≡ None
+none_from : (n k : ℕ) (slots : List (Option BarWithBase)) → n < k → find (λ (x : BaseAddress). eqb x.index n) (bars.bases_from k slots) ≡ None
 none_from n k [] h = refl
 none_from n k (None ∷ slots) h = none_from n (k + 1) slots (omega arith)
 none_from n k (Some r ∷ slots) h = grind (arith, nat_tests, none_from n (k + 1) slots)
 
-pub kept_at : (n k : ℕ) (slots : List (Option BasedRegion)) → find (λ (x : BaseAddress). eqb x.index (k + n)) (bars.bases_from k slots) ≡ option_map (bars.placed (k + n)) (bars.slot_at slots n)
+pub kept_at : (n k : ℕ) (slots : List (Option BarWithBase)) → find (λ (x : BaseAddress). eqb x.index (k + n)) (bars.bases_from k slots) ≡ option_map (bars.placed (k + n)) (bars.slot_at slots n)
 kept_at n k [] = refl
 kept_at zero k (None ∷ slots) = none_from (k + 0) (k + 1) slots (omega arith)
 kept_at zero k (Some r ∷ slots) = grind (arith, nat_tests)
@@ -73,7 +73,7 @@ placed_at : (s : State) (p : Path) (n : ℕ) (rs : List Region) → find (λ (x 
 placed_at s p n [] = refl
 placed_at s p n (r ∷ rs) = grind (arith, placed_at s p n rs)
 
-same_place : (s : State) (p : Path) (f : Function) (h : Held) (n : ℕ) → IsHeld s p f h → option_map (bars.placed n) (bars.slot_at h.placed n) ≡ option_map (base_address (file_at s.functions p)) (region_at f n)
+same_place : (s : State) (p : Path) (f : Function) (h : AssignedFunction) (n : ℕ) → IsHeld s p f h → option_map (bars.placed n) (bars.slot_at h.placed n) ≡ option_map (base_address (file_at s.functions p)) (region_at f n)
 same_place s p f h n held =
     let zero_on : 0 + n ≡ n = omega arith in
     ap (λ (m : ℕ). option_map (bars.placed m) (bars.slot_at h.placed n)) (sym zero_on) ∙ sym (kept_at n 0 h.placed)
@@ -81,7 +81,7 @@ same_place s p f h n held =
     ∙ ap (find (λ (x : BaseAddress). eqb x.index n)) held.placed ∙ placed_at s p n f.decl.regions
 
 -- none, or one of this kind and size
-pub record IsRegionAt (f : Function) (n : ℕ) (x : BasedRegion) : Type 0 where
+pub record IsRegionAt (f : Function) (n : ℕ) (x : BarWithBase) : Type 0 where
   pub region : Region
   pub there : region_at f n ≡ Some region
   pub index : region.index ≡ n
@@ -89,14 +89,14 @@ pub record IsRegionAt (f : Function) (n : ℕ) (x : BasedRegion) : Type 0 where
   pub size : region.size ≡ x.decl.size
   pub room : n + registers_of region.kind ≤ 6
 
-pub no_region : (s : State) (p : Path) (f : Function) (h : Held) (n : ℕ) → IsHeld s p f h → bars.slot_at h.placed n ≡ None → region_at f n ≡ None
+pub no_region : (s : State) (p : Path) (f : Function) (h : AssignedFunction) (n : ℕ) → IsHeld s p f h → bars.slot_at h.placed n ≡ None → region_at f n ≡ None
 no_region s p f h n held none = by_region (region_at f n) (ap (option_map (bars.placed n)) (sym none) ∙ same_place s p f h n held)
   where
     by_region : (o : Option Region) → None ≡ option_map (base_address (file_at s.functions p)) o → o ≡ None
     by_region None e = refl
     by_region (Some r) e = cc
 
-pub a_region : (s : State) (p : Path) (f : Function) (h : Held) (n : ℕ) (x : BasedRegion) → IsHeld s p f h → IsLawfulOwn h.own → bars.slot_at h.placed n ≡ Some x → IsRegionAt f n x
+pub a_region : (s : State) (p : Path) (f : Function) (h : AssignedFunction) (n : ℕ) (x : BarWithBase) → IsHeld s p f h → IsLawfulOwn h.own → bars.slot_at h.placed n ≡ Some x → IsRegionAt f n x
 a_region s p f h n x held lawful some = by_region (region_at f n) refl (ap (option_map (bars.placed n)) (sym some) ∙ same_place s p f h n held)
   where
     by_region : (o : Option Region) → region_at f n ≡ o → Some (bars.placed n x) ≡ option_map (base_address (file_at s.functions p)) o → IsRegionAt f n x
@@ -109,7 +109,7 @@ a_region s p f h n x held lawful some = by_region (region_at f n) refl (ap (opti
         let room : r.index + registers_of r.kind ≤ 6 = (each_in IsLawfulRegion (bare r) (map bare f.decl.regions) regions.each (in_map bare r f.decl.regions (index_in f.decl.regions found.1.0 r found.1.1))).registers in
         grind arith
 
-pub region_told : (f : Function) (n : ℕ) (x : BasedRegion) → IsRegionAt f n x → (k : Kind) → k ≡ x.decl.kind → (v : RegionNow) → v.space ≡ space_of k → (n + registers_of k ≤ 6 → v.first ≡ base f.file n k)
+pub region_told : (f : Function) (n : ℕ) (x : BarWithBase) → IsRegionAt f n x → (k : Kind) → k ≡ x.decl.kind → (v : LiveBar) → v.space ≡ space_of k → (n + registers_of k ≤ 6 → v.first ≡ base f.file n k)
     → v.size ≡ x.decl.size → v.prefetchable ≡ is_prefetchable k → v.is_open ≡ is_open f.file (space_of k) → Some v ≡ option_map (region_now f.file) (region_at f n)
 region_told f n x is k kind v space first size pref opened = grind arith
 
@@ -125,21 +125,21 @@ guest_nth_is at = record {
 
 -- ---- answers
 
-module _ {w : WorldNow} {i : ℕ} {g : Guest} (is : IsGuestNth w i g) {slots : List (Option Held)} (same : slots ≡ g.slots.items) (n m : ℕ) where
+module _ {w : WorldNow} {i : ℕ} {g : Guest} (is : IsGuestNth w i g) {slots : List (Option AssignedFunction)} (same : slots ≡ g.slots.items) (n m : ℕ) where
   lent : AreSlots w.handoff (guest_nth w i).paths (lone_nth w i).slots slots
   lent = subst (AreSlots w.handoff (guest_nth w i).paths (lone_nth w i).slots) (sym same) is.slots
 
-  abbrev answer_by : Bool → Option Function → Result RegionNow ℕ
+  abbrev answer_by : Bool → Option Function → Result LiveBar ℕ
   answer_by past o = cond past (Err 303) (option_map_or (λ (f : Function). region_of f m) o (Err 601))
 
   pub answer_refused : {number : ℕ} → IsSlotFault slots n number → Err number ≡ region_answer (lone_nth w i) n m
   answer_refused {number} fault = grind (arith, lent)
 
-  pub answer_there : {held : Held} → IsInSlot slots n held → {o : Option RegionNow}
+  pub answer_there : {held : AssignedFunction} → IsInSlot slots n held → {o : Option LiveBar}
       → ((s : State) (p : Path) (f : Function) → IsHeld s p f held → IsLawfulOwn held.own → o ≡ option_map (region_now f.file) (region_at f m))
       → ok_or o 303 ≡ region_answer (lone_nth w i) n m
   answer_there {held} inside {o} told =
       let slot = slot_there w.handoff (guest_nth w i).paths (lone_nth w i).slots slots n held lent inside.there in
-      let lawful : IsLawfulOwn held.own = is.lawful n held (ap (λ (os : List (Option Held)). slice_get os n) (sym same) ∙ inside.there) in
-      ap (λ (p : Option RegionNow). ok_or p 303) (told w.handoff slot.p slot.f slot.held lawful)
+      let lawful : IsLawfulOwn held.own = is.lawful n held (ap (λ (os : List (Option AssignedFunction)). slice_get os n) (sym same) ∙ inside.there) in
+      ap (λ (p : Option LiveBar). ok_or p 303) (told w.handoff slot.p slot.f slot.held lawful)
       ∙ ap (answer_by false) (sym slot.function) ∙ ap (λ (t : Bool). answer_by t (slot_at (lone_nth w i).slots n)) (sym (low_slot inside.low))

@@ -3,10 +3,10 @@ use Rattle.std.{proofs.{Common.{◌≡◌, ℕ, zero, suc, ◌+◌, ◌<◌, ◌
 use Rattle.model_registers.specs.{Registers.{Place, block, File, raise}, Declarations.Region, EndpointTable.BaseAddress, OwnCopies.is_own, Decoding.{Function, base_address}}
 use Rattle.model_board.specs.{Paths.Path, State.{BoardFunction, with_file, State}, Ports.file_at}
 use Rattle.model_guests.specs.{Accesses.in_region, Slots.raise_place}
-use Rattle.bars.specs.{Slots.{bases_from, slot_at}, declared.region.BasedRegion.BasedRegion}
+use Rattle.bars.specs.{Slots.{bases_from, slot_at}, declared.region.BarWithBase.BarWithBase}
 use Rattle.bridge_forward.proofs.Changes.{same_files}
 use Rattle.host_bridge.specs.ByIndex.{with_file_nth}
-use Rattle.monitor.specs.{declared.guest.Held.Held, Keeping.IsHeld, Raises.raised_beside_copies}
+use Rattle.monitor.specs.{declared.guest.AssignedFunction.AssignedFunction, Keeping.IsHeld, Raises.raised_beside_copies}
 
 -- ---- a region in the six registers
 
@@ -14,15 +14,15 @@ use Rattle.monitor.specs.{declared.guest.Held.Held, Keeping.IsHeld, Raises.raise
 abbrev reaches : ℕ → ℕ → BaseAddress → Bool
 reaches n off x = eqb x.index n && nat_lt off x.size
 
-abbrev kept_size : ℕ → Option BasedRegion → Bool
-kept_size off o = option_map_or (λ (r : BasedRegion). nat_lt off r.decl.size) o false
+abbrev kept_size : ℕ → Option BarWithBase → Bool
+kept_size off o = option_map_or (λ (r : BarWithBase). nat_lt off r.decl.size) o false
 
-none_below : (n k off : ℕ) (slots : List (Option BasedRegion)) → n < k → list_any (reaches n off) (bases_from k slots) ≡ false
+none_below : (n k off : ℕ) (slots : List (Option BarWithBase)) → n < k → list_any (reaches n off) (bases_from k slots) ≡ false
 none_below n k off [] h = refl
 none_below n k off (None ∷ slots) h = none_below n (k + 1) off slots (omega arith)
 none_below n k off (Some r ∷ slots) h = grind (arith, nat_tests, none_below n (k + 1) off slots)
 
-any_kept : (n k off : ℕ) (slots : List (Option BasedRegion)) → list_any (reaches (k + n) off) (bases_from k slots) ≡ kept_size off (slot_at slots n)
+any_kept : (n k off : ℕ) (slots : List (Option BarWithBase)) → list_any (reaches (k + n) off) (bases_from k slots) ≡ kept_size off (slot_at slots n)
 any_kept n k off [] = refl
 any_kept zero k off r = grind (arith, none_below, nat_tests)
 any_kept (suc n) k off (None ∷ slots) = grind (arith, any_kept n (k + 1) off slots)
@@ -34,7 +34,7 @@ any_placed : (s : State) (p : Path) (n off : ℕ) (rs : List Region) → list_an
 any_placed s p n off [] = refl
 any_placed s p n off (r ∷ rs) = ap (λ (t : Bool). (eqb r.index n && nat_lt off r.size) || t) (any_placed s p n off rs)
 
-pub region_reaches : (s : State) (p : Path) (f : Function) (h : Held) (n off : ℕ) (o : Option BasedRegion) → IsHeld s p f h → slot_at h.placed n ≡ o
+pub region_reaches : (s : State) (p : Path) (f : Function) (h : AssignedFunction) (n off : ℕ) (o : Option BarWithBase) → IsHeld s p f h → slot_at h.placed n ≡ o
     → kept_size off o ≡ is_some (raise_place f (in_region n) off)
 region_reaches s p f h n off o held at =
     let zero_on : 0 + n ≡ n = omega arith in

@@ -8,14 +8,14 @@ use Rattle.guest_functions.proofs.HeldCopies.{raised_held}
 use Rattle.headers.specs.Places.{place_of}
 use Rattle.host_bridge.specs.{ByIndex.with_file_nth, HostState.{HostState, with_functions}}
 use Rattle.accesses.specs.Accesses.{part_of}
-use Rattle.monitor.{specs.{declared.guest.{Held.Held, Guest.Guest}, Keeping.{IsKept, IsHeld}, ByIndex.{lone_nth, with_lone_nth, guest_nth}, Raises.raised_beside_copies, InSlots.IsSlotFault}, proofs.{Steps.{with_guest_at, kept_slot, GuestAt, SlotAt, fault_lent, in_place, with_same}, Reached.changed_held, Calls.{Leaves, leaves}, Checks.{low_slot, passes_slot, refused_first}}}
+use Rattle.monitor.{specs.{declared.guest.{AssignedFunction.AssignedFunction, Guest.Guest}, Keeping.{IsKept, IsHeld}, ByIndex.{lone_nth, with_lone_nth, guest_nth}, Raises.raised_beside_copies, InSlots.IsSlotFault}, proofs.{Steps.{with_guest_at, kept_slot, GuestAt, SlotAt, fault_lent, in_place, with_same}, Reached.changed_held, Calls.{Leaves, leaves}, Checks.{low_slot, passes_slot, refused_first}}}
 use Rattle.headers.specs.declared.place.Place as headers
 
 abbrev pub raise_of : ℕ → headers.Place → ℕ → ℕ → Raise
 raise_of slot place off mask = record { slot = slot; part = part_of place; offset = off; mask = mask }
 
 -- what `has_place` says of a function in a slot
-abbrev pub HasPlace : Held → headers.Place → ℕ → Bool → Type 0
+abbrev pub HasPlace : AssignedFunction → headers.Place → ℕ → Bool → Type 0
 HasPlace held place off has = (s : State) (p : Path) (f : Function) → IsHeld s p f held → has ≡ is_some (raise_place f (part_of place) off)
 
 -- the place of a raise that is not refused
@@ -34,10 +34,10 @@ module _ {w : WorldNow} {h : HostState} {names : List Text} {gs : List Guest} {i
     nothing_raised =
         sym (with_same at) ∙ ap (λ (o : Option ℕ). with_lone_nth i (if is_some o then lone_nth w i else record (lone_nth w i) { slots = affected (lone_nth w i).slots (raises r) }) w) (sym fault)
 
-  pub raise_slot_refused : {slots : List (Option Held)} → slots ≡ g.slots.items → (r : Raise) {number : ℕ} → IsSlotFault slots r.slot number → raise_fault (lone_nth w i).slots r ≡ Some number
+  pub raise_slot_refused : {slots : List (Option AssignedFunction)} → slots ≡ g.slots.items → (r : Raise) {number : ℕ} → IsSlotFault slots r.slot number → raise_fault (lone_nth w i).slots r ≡ Some number
   raise_slot_refused same r fault = search (rules, fault_lent, refused_first)
 
-  module _ {n : ℕ} {held : Held} (slot : SlotAt at n held) (low : n ≤ 31) (place : headers.Place) (off mask : ℕ) where
+  module _ {n : ℕ} {held : AssignedFunction} (slot : SlotAt at n held) (low : n ≤ 31) (place : headers.Place) (off mask : ℕ) where
     abbrev r : Raise
     r = raise_of n place off mask
 

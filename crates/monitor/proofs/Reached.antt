@@ -7,9 +7,9 @@ use Rattle.model_board.specs.{Paths.{Path, path_eq, path_before}, Board.{endpoin
 use Rattle.model_guests.{specs.{Slots.slot_at, WorldNow.{WorldNow, board_state}, AgreedBoard.with_change_at, Seated.{IsSeat, IsSeatedAt, IsSeatedGuest}, Text.Text}, proofs.{GuestsByName.path_at, DeclaredRows.declared_row, Seats.seats_at, AgreedFiles.shows_file}}
 use Rattle.model_handoff.{specs.{Regions.{base_in, opens_region}, RegionLaws.{HasSlot, ReachesOver}}, proofs.{Accesses.reached_is, Keeping.keeps_board, Regions.{hit_reaches_over, region_is_claimed}}}
 use Rattle.bars.specs.Hits.{hit_in}
-use Rattle.bridge_forward.specs.{declared.bus.Located.Located, Locating.located_claim, Lending.{as_endpoint, endpoint_nth}}
+use Rattle.bridge_forward.specs.{declared.bus.BarOffset.BarOffset, Locating.located_claim, Lending.{as_endpoint, endpoint_nth}}
 use Rattle.host_bridge.{specs.{ByIndex.{file_nth, with_file_nth, with_reset_nth}, HostState.{HostState, with_functions}, Landings.{IsLanding, IsReached}}, proofs.{Lent.{HasDistinctPaths, distinct_paths}, ByIndex.found_at}}
-use Rattle.monitor.{specs.{declared.guest.{Held.Held, Guest.Guest}, Reaches.LandsIn, ByIndex.{guest_nth, lone_nth, name_nth}}, proofs.{Shown.{board_there, file_named, same_as_left, lawful_at}, Steps.{named, GuestAt, SlotAt, function_there, path_there, slot_nth}}}
+use Rattle.monitor.{specs.{declared.guest.{AssignedFunction.AssignedFunction, Guest.Guest}, Reaches.LandsIn, ByIndex.{guest_nth, lone_nth, name_nth}}, proofs.{Shown.{board_there, file_named, same_as_left, lawful_at}, Steps.{named, GuestAt, SlotAt, function_there, path_there, slot_nth}}}
 
 -- ---- paths of the board
 
@@ -39,7 +39,7 @@ module _ {w : WorldNow} {h : HostState} {names : List Text} {gs : List Guest} {i
   pub seated : IsSeatedGuest (board_at w.handoff.functions) (guest_nth w i)
   seated = each_at (IsSeatedGuest board) w.guests i (guest_nth w i) at.kept.lawful.seated.guests at.there
 
-  pub seat : {n : ℕ} {held : Held} → (slot : SlotAt at n held) → IsSeatedAt (board_at w.handoff.functions) slot.p slot.f
+  pub seat : {n : ℕ} {held : AssignedFunction} → (slot : SlotAt at n held) → IsSeatedAt (board_at w.handoff.functions) slot.p slot.f
   seat {n} slot =
       let one : IsSeat board (path_at (guest_nth w i).paths n) (slot_at (lone_nth w i).slots n) = seats_at board (guest_nth w i).paths (lone_nth w i).slots n seated.seats in
       subst (λ (q : Option Path). IsSeat board q (Some slot.f)) slot.path (subst (IsSeat board (path_at (guest_nth w i).paths n)) slot.function one)
@@ -47,7 +47,7 @@ module _ {w : WorldNow} {h : HostState} {names : List Text} {gs : List Guest} {i
   pub distinct : HasDistinctPaths functions
   distinct = board_distinct board functions at.kept.lawful.handoff.board.places (keeps_board w.handoff w.guests)
 
-  module _ {n : ℕ} {held : Held} (slot : SlotAt at n held) where
+  module _ {n : ℕ} {held : AssignedFunction} (slot : SlotAt at n held) where
     -- by the guest's name
     pub named_slot : HasSlot w.guests (name_nth w i) n slot.p slot.f
     named_slot = record { path = path_there at slot; function = function_there at slot }
@@ -136,7 +136,7 @@ module _ {w : WorldNow} {h : HostState} {names : List Text} {gs : List Guest} {i
         (named_slot lands_at) space addr (hit_in l.1 l.2) (sym (lands.decodes lands_at.f lands_at.held.own lands_at.held.regions))
 
     -- the function by its index
-    abbrev pub landed : Located
+    abbrev pub landed : BarOffset
     landed = record { index = lands.held.index; region = l.1; offset = l.2 }
 
     pub is_landing : (width : ℕ) → IsWidth width → addr % width ≡ 0 → IsLanding functions landed width

@@ -4,17 +4,17 @@ use Rattle.lists.{specs.Elements.IsIn, proofs.Indices.{found_at, index_in}}
 use Rattle.model_registers.specs.{OwnCopies.IsLawfulOwn, Declarations.Region, Decoding.{Function}}
 use Rattle.model_board.specs.{Paths.Path, State.State}
 use Rattle.model_guests.specs.{Accesses.{RaisePlace, in_config, in_region, Op, reads, writes, refused}, Slots.{slot_at, perform}, Lone.LoneGuest, Text.Text, WorldNow.WorldNow, DeviceEvents.DeviceByte}
-use Rattle.model_handoff.specs.{GuestRegions.{RegionNow, region_at, region_now}, RegionBytes.{opening, byte_opening, byte_reply, reply_there, after_there, register_of}, Changes.MachineNow}
-use Rattle.bridge_forward.specs.declared.bus.Located.{Located}
+use Rattle.model_handoff.specs.{GuestRegions.{LiveBar, region_at, region_now}, RegionBytes.{opening, byte_opening, byte_reply, reply_there, after_there, register_of}, Changes.MachineNow}
+use Rattle.bridge_forward.specs.declared.bus.BarOffset.{BarOffset}
 use Rattle.host_bridge.specs.{HostState.HostState, Landings.IsLanding}
 use Rattle.accesses.specs.Accesses.{part_of}
-use Rattle.monitor.{specs.{declared.guest.{Held.Held, Guest.Guest}, ByIndex.{lone_nth, with_lone_nth}, Counts.after_byte_nth, Keeping.IsHeld, DeviceBytes.device_byte, InSlots.{IsInSlot, IsSlotFault}}, proofs.{Steps.{GuestAt, SlotAt, slot_lent, slots_lent, with_same}, Reached.byte_landing_there, ConfigSteps.seen, Checks.low_slot, Machines.untouched}}
+use Rattle.monitor.{specs.{declared.guest.{AssignedFunction.AssignedFunction, Guest.Guest}, ByIndex.{lone_nth, with_lone_nth}, Counts.after_byte_nth, Keeping.IsHeld, DeviceBytes.device_byte, InSlots.{IsInSlot, IsSlotFault}}, proofs.{Steps.{GuestAt, SlotAt, slot_lent, slots_lent, with_same}, Reached.byte_landing_there, ConfigSteps.seen, Checks.low_slot, Machines.untouched}}
 use Rattle.headers.specs.declared.place.Place as headers
 
 -- ---- what is told of a region, and what it opens
 
-pub opening_told : (f : Function) (n off : ℕ) (o : Option RegionNow) → o ≡ option_map (region_now f.file) (region_at f n)
-    → option_map_or (λ (r : RegionNow). cond {A = Option Bool} (nat_lt off r.size) (Some r.is_open) None) o None ≡ opening f (in_region n) off
+pub opening_told : (f : Function) (n off : ℕ) (o : Option LiveBar) → o ≡ option_map (region_now f.file) (region_at f n)
+    → option_map_or (λ (r : LiveBar). cond {A = Option Bool} (nat_lt off r.size) (Some r.is_open) None) o None ≡ opening f (in_region n) off
 opening_told f n off o is = grind arith
 
 -- a region that opens, or is closed, to a byte
@@ -30,14 +30,14 @@ has_byte f (in_region n) off t is = grind (arith, found_at, index_in, nat_tests)
 
 -- ---- the checks
 
-module _ {w : WorldNow} {h : HostState} {names : List Text} {gs : List Guest} {i : ℕ} {g : Guest} (at : GuestAt w h names gs i g) {slots : List (Option Held)} (same : slots ≡ g.slots.items) (n : ℕ) (place : headers.Place) (off : ℕ) where
+module _ {w : WorldNow} {h : HostState} {names : List Text} {gs : List Guest} {i : ℕ} {g : Guest} (at : GuestAt w h names gs i g) {slots : List (Option AssignedFunction)} (same : slots ≡ g.slots.items) (n : ℕ) (place : headers.Place) (off : ℕ) where
   abbrev d : DeviceByte
   d = device_byte n place off
 
   pub slot_refused : {number : ℕ} → IsSlotFault slots n number → byte_opening (lone_nth w i) d ≡ Err number
   slot_refused {number} fault = let it = fault w.handoff _ (lone_nth w i).slots (slots_lent at same) in grind arith
 
-  module _ {held : Held} (is : IsInSlot slots n held) {o : Option Bool} (told : (s : State) (p : Path) (f : Function) → IsHeld s p f held → IsLawfulOwn held.own → o ≡ opening f (part_of place) off) where
+  module _ {held : AssignedFunction} (is : IsInSlot slots n held) {o : Option Bool} (told : (s : State) (p : Path) (f : Function) → IsHeld s p f held → IsLawfulOwn held.own → o ≡ opening f (part_of place) off) where
     abbrev slot : SlotAt at n held
     slot = slot_lent at same is.there
 
@@ -50,11 +50,11 @@ module _ {w : WorldNow} {h : HostState} {names : List Text} {gs : List Guest} {i
         ∙ ap (λ (x : Option Function). option_map_or (λ (f : Function). ok_or (opening f (part_of place) off) 303) x (Err 601)) slot.function
         ∙ ap (λ (x : Option Bool). ok_or x 303) (sym opens)
 
-    pub lands : {t : Bool} → o ≡ Some t → {r : Located} → r ≡ record { index = held.index; region = register_of (part_of place); offset = off } → IsLanding h.state.functions r 1
+    pub lands : {t : Bool} → o ≡ Some t → {r : BarOffset} → r ≡ record { index = held.index; region = register_of (part_of place); offset = off } → IsLanding h.state.functions r 1
     lands {t} some {r} found =
         let byte = has_byte slot.f (part_of place) off t (sym some ∙ opens) in
-        subst (λ (x : Located). IsLanding h.state.functions x 1)
-        (ap (λ (k : ℕ). let x : Located = record { index = held.index; region = k; offset = off } in x) byte.index ∙ sym found)
+        subst (λ (x : BarOffset). IsLanding h.state.functions x 1)
+        (ap (λ (k : ℕ). let x : BarOffset = record { index = held.index; region = k; offset = off } in x) byte.index ∙ sym found)
         (subst (λ (s : State). IsLanding s.functions (record { index = held.index; region = byte.region.index; offset = off }) 1) (sym at.kept.agrees)
         (byte_landing_there at slot byte.region byte.declared off byte.inside))
 

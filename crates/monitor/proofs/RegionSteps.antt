@@ -5,9 +5,9 @@ use Rattle.model_registers.specs.{ByteEnables.IsWidth, Registers.{block, File, w
 use Rattle.model_board.specs.{State.State, Claims.Claim, Ports.{claim_reply, after_claim_write}, Paths.Path}
 use Rattle.model_guests.{specs.{Accesses.{answered, Op, reads, writes}, Slots.{Slots, Landing, landing, landing_from, perform, effect}, Lone.{at_target, reply_at, after_access_at, Destination}, WorldNow.WorldNow, ChangeLaws.ChangesAlike, Text.Text}, proofs.{AgreedFiles.writes_alike, Seats.written_shape}}
 use Rattle.guest_functions.proofs.HeldCopies.{block_written_held}
-use Rattle.bridge_forward.specs.{declared.bus.Located.Located, Locating.located_claim}
+use Rattle.bridge_forward.specs.{declared.bus.BarOffset.BarOffset, Locating.located_claim}
 use Rattle.host_bridge.specs.{HostState.{HostState, with_functions}, Landings.IsLanding}
-use Rattle.monitor.{specs.{declared.guest.{Guest.Guest, Held.Held}, Keeping.AreSlots, ByIndex.{lone_nth, with_lone_nth, guest_nth}, Landings.landing_of, Reaches.{LandsIn, target_in}, Configs.IsHolding}, proofs.{Steps.{kept_slot, GuestAt, SlotAt, in_place, slots_lent, with_same}, Reached.{all_handed, block_shown, landed, claim_by_index, is_landing, lands_at}, Calls.{Leaves, leaves}}}
+use Rattle.monitor.{specs.{declared.guest.{Guest.Guest, AssignedFunction.AssignedFunction}, Keeping.AreSlots, ByIndex.{lone_nth, with_lone_nth, guest_nth}, Landings.landing_of, Reaches.{LandsIn, target_in}, Configs.IsHolding}, proofs.{Steps.{kept_slot, GuestAt, SlotAt, in_place, slots_lent, with_same}, Reached.{all_handed, block_shown, landed, claim_by_index, is_landing, lands_at}, Calls.{Leaves, leaves}}}
 
 -- ---- where an access lands
 
@@ -16,12 +16,12 @@ landing_in_space io addr slots = refl
 landing_in_space memory addr slots = refl
 
 -- what `landing` says of slots
-abbrev pub Lands : List (Option Held) → Space → ℕ → Option (ℕ × ℕ × ℕ) → Type 0
+abbrev pub Lands : List (Option AssignedFunction) → Space → ℕ → Option (ℕ × ℕ × ℕ) → Type 0
 Lands slots space addr o = (s : State) (qs : List (Option Path)) (fs : Slots) → AreSlots s qs fs slots → option_map landing_of o ≡ landing_from 0 space addr fs
 
 -- ---- an access of a region of the function in a slot
 
-module _ {w : WorldNow} {h : HostState} {names : List Text} {gs : List Guest} {i : ℕ} {g : Guest} (at : GuestAt w h names gs i g) {n : ℕ} {held : Held} (slot : SlotAt at n held) (k off : ℕ) {r : Located} (found : r ≡ record { index = held.index; region = k; offset = off }) (width : ℕ) where
+module _ {w : WorldNow} {h : HostState} {names : List Text} {gs : List Guest} {i : ℕ} {g : Guest} (at : GuestAt w h names gs i g) {n : ℕ} {held : AssignedFunction} (slot : SlotAt at n held) (k off : ℕ) {r : BarOffset} (found : r ≡ record { index = held.index; region = k; offset = off }) (width : ℕ) where
   abbrev there : Landing
   there = record { slot = n; place = block k off }
 
@@ -29,7 +29,7 @@ module _ {w : WorldNow} {h : HostState} {names : List Text} {gs : List Guest} {i
   claimed = record { path = slot.p; index = k; offset = off }
 
   claim_is : located_claim h.state.functions (Some r) ≡ Some claimed
-  claim_is = ap (λ (x : Located). located_claim h.state.functions (Some x)) found ∙ ap (λ (s : State). located_claim s.functions (Some (record { index = held.index; region = k; offset = off }))) at.kept.agrees ∙ claim_by_index at slot k off
+  claim_is = ap (λ (x : BarOffset). located_claim h.state.functions (Some x)) found ∙ ap (λ (s : State). located_claim s.functions (Some (record { index = held.index; region = k; offset = off }))) at.kept.agrees ∙ claim_by_index at slot k off
 
   pub read_there : {value : ℕ} → value ≡ claim_reply h.state.functions width (located_claim h.state.functions (Some r)) → answered value width ≡ perform reads width (lone_nth w i).slots (Some there)
   read_there {value} reads_it =
@@ -57,7 +57,7 @@ module _ {w : WorldNow} {h : HostState} {names : List Text} {gs : List Guest} {i
 
 -- ---- an access at a target, by what stands there
 
-module _ {w : WorldNow} {h : HostState} {names : List Text} {gs : List Guest} {i : ℕ} {g : Guest} (at : GuestAt w h names gs i g) (space : Space) (addr : ℕ) {slots : List (Option Held)} (same : slots ≡ g.slots.items) where
+module _ {w : WorldNow} {h : HostState} {names : List Text} {gs : List Guest} {i : ℕ} {g : Guest} (at : GuestAt w h names gs i g) (space : Space) (addr : ℕ) {slots : List (Option AssignedFunction)} (same : slots ≡ g.slots.items) where
   abbrev target : Destination
   target = at_target (target_in space addr)
 
@@ -75,25 +75,25 @@ module _ {w : WorldNow} {h : HostState} {names : List Text} {gs : List Guest} {i
 
   module _ {l : ℕ × ℕ × ℕ} (lands_in : LandsIn slots space addr l) where
     lands : LandsIn g.slots.items space addr l
-    lands = subst (λ (os : List (Option Held)). LandsIn os space addr l) same lands_in
+    lands = subst (λ (os : List (Option AssignedFunction)). LandsIn os space addr l) same lands_in
 
-    pub holds_landed : {others : List (Option Held)} → others ≡ g.slots.items → IsHolding others l.0
-    holds_landed is = subst (λ (os : List (Option Held)). IsHolding os l.0) (sym is) (record { held = lands.held; there = lands.there })
+    pub holds_landed : {others : List (Option AssignedFunction)} → others ≡ g.slots.items → IsHolding others l.0
+    holds_landed is = subst (λ (os : List (Option AssignedFunction)). IsHolding os l.0) (sym is) (record { held = lands.held; there = lands.there })
 
     -- what code finds
-    module _ {others : List (Option Held)} (is : others ≡ g.slots.items) {r : Located} (found : (holds : IsHolding others l.0) → r ≡ record { index = holds.held.index; region = l.1; offset = l.2 })
+    module _ {others : List (Option AssignedFunction)} (is : others ≡ g.slots.items) {r : BarOffset} (found : (holds : IsHolding others l.0) → r ≡ record { index = holds.held.index; region = l.1; offset = l.2 })
         (width : ℕ) (lands_there : Lands slots space addr (Some l)) where
       abbrev of_slot : SlotAt at l.0 lands.held
       of_slot = lands_at at lands
 
       found_here : r ≡ landed at lands
       found_here =
-          subst (λ (os : List (Option Held)). (holds : IsHolding os l.0) → r ≡ record { index = holds.held.index; region = l.1; offset = l.2 }) is found
+          subst (λ (os : List (Option AssignedFunction)). (holds : IsHolding os l.0) → r ≡ record { index = holds.held.index; region = l.1; offset = l.2 }) is found
           (record { held = lands.held; there = lands.there })
 
       pub landing_at : IsWidth width → addr % width ≡ 0 → IsLanding h.state.functions r width
       landing_at wide whole =
-          subst (λ (x : Located). IsLanding h.state.functions x width) (sym found_here)
+          subst (λ (x : BarOffset). IsLanding h.state.functions x width) (sym found_here)
           (subst (λ (s : State). IsLanding s.functions (landed at lands) width) (sym at.kept.agrees) (is_landing at lands width wide whole))
 
       pub reply_read : {value : ℕ} → value ≡ claim_reply h.state.functions width (located_claim h.state.functions (Some r)) → answered value width ≡ reply_at (lone_nth w i) reads width target

@@ -7,12 +7,12 @@ use Rattle.model_board.specs.{AtReset.board_at, State.State, Paths.Path}
 use Rattle.bars.proofs.Regions.{no_base_opened}
 use Rattle.guest_functions.proofs.ResetCopies.{closed_as_opened}
 use Rattle.host_bridge.specs.{ByIndex.with_reset_nth, HostState.{HostState, with_functions}}
-use Rattle.monitor.{specs.{declared.guest.{Held.Held, Guest.Guest}, Keeping.{IsKept, IsHeld}, ByIndex.{lone_nth, with_lone_nth, name_nth}, Moves.{reset_held, HandsOver, IsExchanged}}, proofs.{Steps.{GuestAt, SlotAt, function_there, kept_put, lone_named, path_there, with_named, with_same}, Calls.{Leaves, leaves}, Exchanges.{exchanged_twice, held_same, items_are, latch_stays}, Reached.{lawful, reset_of_held}, Checks.low_slot}}
+use Rattle.monitor.{specs.{declared.guest.{AssignedFunction.AssignedFunction, Guest.Guest}, Keeping.{IsKept, IsHeld}, ByIndex.{lone_nth, with_lone_nth, name_nth}, Moves.{reset_held, HandsOver, IsExchanged}}, proofs.{Steps.{GuestAt, SlotAt, function_there, kept_put, lone_named, path_there, with_named, with_same}, Calls.{Leaves, leaves}, Exchanges.{exchanged_twice, held_same, items_are, latch_stays}, Reached.{lawful, reset_of_held}, Checks.low_slot}}
 
 abbrev pub at_reset : Function → Function
 at_reset f = record { decl = f.decl; file = endpoint_reset f.decl false }
 
-pub held_reset : (s : State) (p : Path) (f : Function) (h : Held) → IsLawfulEndpoint f.decl → IsHeld s p f h → IsHeld s p (at_reset f) (reset_held h)
+pub held_reset : (s : State) (p : Path) (f : Function) (h : AssignedFunction) → IsLawfulEndpoint f.decl → IsHeld s p f h → IsHeld s p (at_reset f) (reset_held h)
 held_reset s p f h is_lawful held = record {
   row = held.row;
   placed = held.placed;
@@ -39,7 +39,7 @@ module _ {w : WorldNow} {h : HostState} {names : List Text} {gs : List Guest} {i
     nothing_changed =
         sym (with_same at) ∙ ap (λ (o : Option ℕ). with_lone_nth i (cond (is_some o) (lone_nth w i) (device_changed (lone_nth w i) e)) w) (sym fault) ∙ device_named e
 
-  module _ {n : ℕ} {held : Held} (slot : SlotAt at n held) where
+  module _ {n : ℕ} {held : AssignedFunction} (slot : SlotAt at n held) where
     -- the board resets the function, and nothing else
     pub board_reset : {new : HostState} → new ≡ with_functions (with_reset_nth held.index h.state.functions) h → new.state ≡ with_change_at (after_reset slot.f.decl) slot.p (board_state w)
     board_reset is_new = reset_of_held at slot is_new ∙ ap (with_change_at (after_reset slot.f.decl) slot.p) at.kept.agrees
@@ -55,7 +55,7 @@ module _ {w : WorldNow} {h : HostState} {names : List Text} {gs : List Guest} {i
       reset_left {new} {back} over =
           let same : over.held ≡ held = held_same at slot over.leaves in
           let is : IsExchanged gs i n (Some over.held) (Some (reset_held over.held)) back = exchanged_twice over.leaves over.comes in
-          let board : new ≡ with_functions (with_reset_nth held.index h.state.functions) h = over.board ∙ ap (λ (x : Held). with_functions (with_reset_nth x.index h.state.functions) h) same in
+          let board : new ≡ with_functions (with_reset_nth held.index h.state.functions) h = over.board ∙ ap (λ (x : AssignedFunction). with_functions (with_reset_nth x.index h.state.functions) h) same in
           leaves at.kept
           (subst (λ (v : WorldNow). IsKept v new names back) (device_named (resets n))
           (subst (IsKept (with_lone_nth i (after_device_event (lone_nth w i) (resets n)) w) new names) (sym is.after)
@@ -63,6 +63,6 @@ module _ {w : WorldNow} {h : HostState} {names : List Text} {gs : List Guest} {i
           (seated_after (board_at w.handoff.functions) w.guests at.kept.lawful.seated (name_nth w i) (resets n))
           (at_reset slot.f) (reset_held held) (held_reset w.handoff slot.p slot.f held (lawful at slot) slot.held)
           (reset_there (lone_nth w i) n slot.f (low_slot low) slot.function)
-          is.guest (latch_stays at is) (items_are at is ∙ ap (λ (x : Held). slice_set g.slots.items n (Some (reset_held x))) same)
+          is.guest (latch_stays at is) (items_are at is ∙ ap (λ (x : AssignedFunction). slice_set g.slots.items n (Some (reset_held x))) same)
           new (board_reset board ∙ sym (reset_reaches_board w.handoff w.guests at.kept.lawful.seated (name_nth w i) n passes slot.p slot.f (path_there at slot) (function_there at slot))))))
           refl

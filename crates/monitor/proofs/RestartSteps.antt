@@ -15,7 +15,7 @@ use Rattle.model_guests.{specs.{Text.Text, Slots.{Slots, slot_at}, Lone.{LoneGue
 use Rattle.model_images.{specs.{Images.{Image, after_restart, at_reset, function_at_reset, image_of_lone, loaded}, Requests.restarts, RequestLaws.after_request_on_machine}, proofs.Loading.lone_reset_back}
 use Rattle.model_handoff.specs.Changes.{after_change, counts_where, MachineNow}
 use Rattle.host_bridge.specs.HostState.{HostState}
-use Rattle.monitor.{specs.{declared.guest.{Held.Held, Guest.Guest}, ByIndex.{guest_nth, lone_nth, name_nth, with_lone_nth}, Counts.{counted_nth, counts_of}, Keeping.{IsKept, IsSound}, Views.machine_shown, Moves.{HandsOver, IsExchanged}, Restarts.slots_at_reset}, proofs.{Steps.{GuestAt, SlotAt, kept_latch, lone_named, nth_there, slot_empty, slots_count, with_named, with_same}, Landed.same_count, Calls.{Leaves, kept_in}, Counts.{counted_one, counts_alike}, Named.nth_stands, Checks.low_slot, Exchanges.{before_is, items_are, latch_stays}, Reached.seated, ResetSteps.{device_named, reset_left}}}
+use Rattle.monitor.{specs.{declared.guest.{AssignedFunction.AssignedFunction, Guest.Guest}, ByIndex.{guest_nth, lone_nth, name_nth, with_lone_nth}, Counts.{counted_nth, counts_of}, Keeping.{IsKept, IsSound}, Views.machine_shown, Moves.{HandsOver, IsExchanged}, Restarts.slots_at_reset}, proofs.{Steps.{GuestAt, SlotAt, kept_latch, lone_named, nth_there, slot_empty, slots_count, with_named, with_same}, Landed.same_count, Calls.{Leaves, kept_in}, Counts.{counted_one, counts_alike}, Named.nth_stands, Checks.low_slot, Exchanges.{before_is, items_are, latch_stays}, Reached.seated, ResetSteps.{device_named, reset_left}}}
 
 -- ---- slots
 
@@ -75,7 +75,7 @@ module _ (w : WorldNow) (i : ℕ) (there : slice_get w.guests i ≡ Some (guest_
 -- ---- a world that is kept
 
 module _ {w : WorldNow} {h : HostState} {names : List Text} {gs : List Guest} {i : ℕ} {g : Guest} (at : GuestAt w h names gs i g) where
-  module _ {n : ℕ} {held : Held} (slot : SlotAt at n held) (low : n ≤ 31) where
+  module _ {n : ℕ} {held : AssignedFunction} (slot : SlotAt at n held) (low : n ≤ 31) where
     reset_is : after_device w (name_nth w i) (resets n) ≡ with_lone_nth i (reset_in n (lone_nth w i)) w
     reset_is =
         sym (device_named at (resets n))
@@ -102,7 +102,7 @@ module _ {w : WorldNow} {h : HostState} {names : List Text} {gs : List Guest} {i
       world = sym (with_same at) ∙ ap (λ (o : Option Function). with_lone_nth i (option_map_or (λ (f : Function). filled n f.decl (lone_nth w i)) o (lone_nth w i)) w) (sym empty)
         where
           empty : slot_at (lone_nth w i).slots n ≡ None
-          empty = slot_empty w.handoff (guest_nth w i).paths (lone_nth w i).slots g.slots.items n at.is.slots (ap (λ (o : Option (Option Held)). unwrap_or o None) had)
+          empty = slot_empty w.handoff (guest_nth w i).paths (lone_nth w i).slots g.slots.items n at.is.slots (ap (λ (o : Option (Option AssignedFunction)). unwrap_or o None) had)
 
   pub restarted_is : with_lone_nth i (at_reset (lone_nth w i)) w ≡ after_restart (name_nth w i) w
   restarted_is =

@@ -18,7 +18,7 @@ use Rattle.model_guests.{specs.{Slots.Slots, Text.Text, Lone.LoneGuest, Guests.{
 use Rattle.model_images.specs.{Images.{Image, image_of_lone, image_of_guest}, Layouts.le_bytes, ImageBytes.{image_bytes, magic, version}, LoadedBytes.{Left, after_beginning, after_bytes, after_image, after_latch, after_slot, after_slots, at_end, fault_of, header, load_fault, then_read}}
 use Rattle.images.{specs.{declared.fault.ImageFault.ImageFault, Faults.number_of, Puts.put, Shown.{HasDeclaredPlaces, after_filled, function_bytes, seen, slot_bytes}}, proofs.{Puts.next, ComparedFunctions.filled_is, ShownValues.guest_bytes}}
 use Rattle.host_bridge.specs.HostState.{HostState}
-use Rattle.monitor.{specs.{declared.guest.{Held.Held, Guest.Guest}, Views.{guests_shown, slot_shown}, ByIndex.{guest_nth, lone_nth, name_nth}, ShownImages.{HasPlaces, HavePlaces, lone_shown, slots_image}}, proofs.{Shown.is_shown, Steps.{GuestAt, lone_named, slots_count}, Reached.seated}}
+use Rattle.monitor.{specs.{declared.guest.{AssignedFunction.AssignedFunction, Guest.Guest}, Views.{guests_shown, slot_shown}, ByIndex.{guest_nth, lone_nth, name_nth}, ShownImages.{HasPlaces, HavePlaces, lone_shown, slots_image}}, proofs.{Shown.is_shown, Steps.{GuestAt, lone_named, slots_count}, Reached.seated}}
 
 -- ---- places
 
@@ -96,16 +96,16 @@ pub empty_after : (o : Option Function) (bytes : List ℕ) → None ≡ o → af
 empty_after o bytes is = ap (λ (x : Option Function). after_slot x bytes) is
 
 module _ (fs : List BoardFunction) where
-  pub slots_go_on : (o : Option Held) (left others : List (Option Held)) (bytes rest : List ℕ) → left ≡ o ∷ others → after_slot (slot_shown fs o) bytes ≡ Ok rest
+  pub slots_go_on : (o : Option AssignedFunction) (left others : List (Option AssignedFunction)) (bytes rest : List ℕ) → left ≡ o ∷ others → after_slot (slot_shown fs o) bytes ≡ Ok rest
       → after_slots (map (slot_shown fs) others) rest ≡ after_slots (map (slot_shown fs) left) bytes
   slots_go_on o left others bytes rest first h = grind arith
 
-  pub slots_end : (o : Option Held) (left others : List (Option Held)) (bytes : List ℕ) (n : ℕ) → left ≡ o ∷ others → after_slot (slot_shown fs o) bytes ≡ Err n
+  pub slots_end : (o : Option AssignedFunction) (left others : List (Option AssignedFunction)) (bytes : List ℕ) (n : ℕ) → left ≡ o ∷ others → after_slot (slot_shown fs o) bytes ≡ Err n
       → after_slots (map (slot_shown fs) left) bytes ≡ Err n
   slots_end o left others bytes n first h = grind arith
 
-  pub slots_done : (left : List (Option Held)) (bytes : List ℕ) → left ≡ [] → at_end bytes ≡ after_slots (map (slot_shown fs) left) bytes
-  slots_done left bytes none = sym (ap (λ (xs : List (Option Held)). after_slots (map (slot_shown fs) xs) bytes) none)
+  pub slots_done : (left : List (Option AssignedFunction)) (bytes : List ℕ) → left ≡ [] → at_end bytes ≡ after_slots (map (slot_shown fs) left) bytes
+  slots_done left bytes none = sym (ap (λ (xs : List (Option AssignedFunction)). after_slots (map (slot_shown fs) xs) bytes) none)
 
 module _ (g : LoneGuest) (bytes : List ℕ) where
   pub header_ends : (n : ℕ) → after_beginning magic version bytes ≡ Err n → after_image g bytes ≡ Err n

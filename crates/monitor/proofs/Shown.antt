@@ -7,7 +7,7 @@ use Rattle.model_guests.{specs.{Accesses.answered, Grammar.HostRead, HostReads.{
 use Rattle.model_handoff.{specs.{Handoffs.{IsHandoff, HasDeclaredShape}, ViewLaws.with_seated_reset}, proofs.{Standing.{endpoint_at, found, StandsAt, stands}, Views.reset_shown}}
 use Rattle.model_images.specs.SavedLaws.{CanBeSaved}
 use Rattle.host_bridge.specs.HostState.{HostState}
-use Rattle.monitor.specs.{declared.guest.{Held.Held, Guest.Guest}, Views.{function_shown, slot_shown, path_shown, guest_shown, guests_shown, handoff_shown, world_shown}, Keeping.{IsHeld, AreSlots, AreGuests, IsKept, IsSound}}
+use Rattle.monitor.specs.{declared.guest.{AssignedFunction.AssignedFunction, Guest.Guest}, Views.{function_shown, slot_shown, path_shown, guest_shown, guests_shown, handoff_shown, world_shown}, Keeping.{IsHeld, AreSlots, AreGuests, IsKept, IsSound}}
 
 -- ---- one function
 
@@ -45,7 +45,7 @@ module _ (s : State) (handoff : IsHandoff s) (gs : GuestsNow) (p : Path) (f : Fu
   pub same_as_left : places_of f.file ≡ places_of left_file
   same_as_left = same_places f.file left_file (seat.shape ∙ sym (each_in HasDeclaredShape left s.functions handoff.shapes there.among))
 
-  pub shown_there : (h : Held) → IsHeld s p f h → file_of gs p ≡ Some f.file → function_shown (state_over s gs).functions h ≡ Some f
+  pub shown_there : (h : AssignedFunction) → IsHeld s p f h → file_of gs p ≡ Some f.file → function_shown (state_over s gs).functions h ≡ Some f
   shown_there h held file = search (rules, board_there, distinct_places, lawful, places, same_as_left, view_is_file)
 
 -- the guest's file at the path of a slot
@@ -60,7 +60,7 @@ module _ (s : State) (handoff : IsHandoff s) (gs : GuestsNow) where
   abbrev b : Board
   b = board_at s.functions
 
-  slots_shown : (qs : List (Option Path)) (fs : Slots) (os : List (Option Held)) → AreSeats b qs fs → AreSlots s qs fs os
+  slots_shown : (qs : List (Option Path)) (fs : Slots) (os : List (Option AssignedFunction)) → AreSeats b qs fs → AreSlots s qs fs os
       → ((n : ℕ) (p : Path) (f : Function) → path_at qs n ≡ Some p → slot_at fs n ≡ Some f → file_of gs p ≡ Some f.file)
       → (map (path_shown (state_over s gs).functions) os ≡ qs) × (map (slot_shown (state_over s gs).functions) os ≡ fs)
   slots_shown [] [] [] seats are files = (refl, refl)

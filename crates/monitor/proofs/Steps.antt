@@ -6,11 +6,11 @@ use Rattle.model_board.specs.{Paths.Path, Board.Board, AtReset.board_at, State.S
 use Rattle.model_guests.{specs.{Text.Text, Slots.{Slots, slot_at}, Guests.{GuestNow, GuestsNow, guest_named, path_in, with_guest, function_in, lone_of}, WorldNow.WorldNow, AgreedBoard.{with_change_at, state_over}, Seated.{IsSeatedGuest, AreSeated}, ChangeLaws.{ChangesAlike, with_slot_changed, with_latch}, Lone.{LoneGuest, reset_guest}, DeviceEvents.slot_fault}, proofs.{GuestFiles.with_file_there, GuestsByName.{Keeps, path_at, path_of}, Seats.{names_stay, guests_stay, paths_stay, with_file_seats}, Along.by_index, Changes.{changes_one_function, latch_keeps_board}}}
 use Rattle.model_handoff.proofs.{Served.served_with, Views.reset_with}
 use Rattle.host_bridge.specs.HostState.{HostState}
-use Rattle.monitor.specs.{declared.guest.{Held.Held, Guest.Guest}, Keeping.{IsHeld, AreSlots, IsGuest, AreGuests, IsKept, IsSlot}, ByIndex.{guest_nth, lone_nth, name_nth, with_lone_nth}, InSlots.IsSlotFault}
+use Rattle.monitor.specs.{declared.guest.{AssignedFunction.AssignedFunction, Guest.Guest}, Keeping.{IsHeld, AreSlots, IsGuest, AreGuests, IsKept, IsSlot}, ByIndex.{guest_nth, lone_nth, name_nth, with_lone_nth}, InSlots.IsSlotFault}
 
 -- ---- one slot
 
-pub record SlotOf (s : State) (qs : List (Option Path)) (fs : Slots) (n : ℕ) (h : Held) : Type 0 where
+pub record SlotOf (s : State) (qs : List (Option Path)) (fs : Slots) (n : ℕ) (h : AssignedFunction) : Type 0 where
   pub p : Path
   pub f : Function
   pub path : path_at qs n ≡ Some p
@@ -18,7 +18,7 @@ pub record SlotOf (s : State) (qs : List (Option Path)) (fs : Slots) (n : ℕ) (
   pub held : IsHeld s p f h
 
 module _ (s : State) where
-  pub slot_there : (qs : List (Option Path)) (fs : Slots) (os : List (Option Held)) (n : ℕ) (h : Held) → AreSlots s qs fs os → slice_get os n ≡ Some (Some h) → SlotOf s qs fs n h
+  pub slot_there : (qs : List (Option Path)) (fs : Slots) (os : List (Option AssignedFunction)) (n : ℕ) (h : AssignedFunction) → AreSlots s qs fs os → slice_get os n ≡ Some (Some h) → SlotOf s qs fs n h
   slot_there [] [] [] n h are at = cc
   slot_there (None ∷ qs) (None ∷ fs) (None ∷ os) zero h are at = cc
   slot_there (Some p ∷ qs) (Some f ∷ fs) (Some k ∷ os) zero h are at = grind arith
@@ -27,7 +27,7 @@ module _ (s : State) where
   slot_there qs fs os n h are at = absurd are
 
   -- no function is in a slot without one, nor past the last
-  pub slot_empty : (qs : List (Option Path)) (fs : Slots) (os : List (Option Held)) (n : ℕ) → AreSlots s qs fs os → unwrap_or (slice_get os n) None ≡ None → slot_at fs n ≡ None
+  pub slot_empty : (qs : List (Option Path)) (fs : Slots) (os : List (Option AssignedFunction)) (n : ℕ) → AreSlots s qs fs os → unwrap_or (slice_get os n) None ≡ None → slot_at fs n ≡ None
   slot_empty [] [] [] n are at = refl
   slot_empty p (None ∷ fs) (o ∷ os) zero are at = refl
   slot_empty (Some p ∷ qs) (Some f ∷ fs) (Some h ∷ os) zero are at = cc
@@ -35,12 +35,12 @@ module _ (s : State) where
   slot_empty (q ∷ qs) (f ∷ fs) (o ∷ os) zero are at = absurd are.0
   slot_empty qs fs os n are at = absurd are
 
-  pub slots_count : (qs : List (Option Path)) (fs : Slots) (os : List (Option Held)) → AreSlots s qs fs os → length os ≡ length qs
+  pub slots_count : (qs : List (Option Path)) (fs : Slots) (os : List (Option AssignedFunction)) → AreSlots s qs fs os → length os ≡ length qs
   slots_count [] [] [] are = refl
   slots_count (q ∷ qs) (f ∷ fs) (o ∷ os) are = ap suc (slots_count qs fs os are.1)
   slots_count qs fs os are = absurd are
 
-  pub slots_put : (qs : List (Option Path)) (fs : Slots) (os : List (Option Held)) (n : ℕ) (q : Option Path) (f : Option Function) (o : Option Held) → AreSlots s qs fs os → IsSlot s q f o
+  pub slots_put : (qs : List (Option Path)) (fs : Slots) (os : List (Option AssignedFunction)) (n : ℕ) (q : Option Path) (f : Option Function) (o : Option AssignedFunction) → AreSlots s qs fs os → IsSlot s q f o
       → AreSlots s (slice_set qs n q) (slice_set fs n f) (slice_set os n o)
   slots_put [] [] [] n q f o are is = tt
   slots_put (p ∷ qs) (g ∷ fs) (x ∷ os) zero q f o are is = (is, are.1)
@@ -111,25 +111,25 @@ with_guest_at i x w = record w { guests = slice_set w.guests i x }
 
 module _ {w : WorldNow} {h : HostState} {names : List Text} {gs : List Guest} {i : ℕ} {g : Guest} (at : GuestAt w h names gs i g) where
   -- a function in one of its slots
-  pub record SlotAt (n : ℕ) (held : Held) : Type 0 where
+  pub record SlotAt (n : ℕ) (held : AssignedFunction) : Type 0 where
     pub holds : slice_get g.slots.items n ≡ Some (Some held)
     pub of : SlotOf w.handoff (guest_nth w i).paths (lone_nth w i).slots n held
     pub open of use *
 
-  pub slot_nth : {n : ℕ} {held : Held} → slice_get g.slots.items n ≡ Some (Some held) → SlotAt n held
+  pub slot_nth : {n : ℕ} {held : AssignedFunction} → slice_get g.slots.items n ≡ Some (Some held) → SlotAt n held
   slot_nth {n} {held} holds = record { holds = holds; of = slot_there w.handoff (guest_nth w i).paths (lone_nth w i).slots g.slots.items n held at.is.slots holds }
 
   -- the slots as code lends them
-  pub slots_lent : {slots : List (Option Held)} → slots ≡ g.slots.items → AreSlots w.handoff (guest_nth w i).paths (lone_nth w i).slots slots
+  pub slots_lent : {slots : List (Option AssignedFunction)} → slots ≡ g.slots.items → AreSlots w.handoff (guest_nth w i).paths (lone_nth w i).slots slots
   slots_lent same = subst (AreSlots w.handoff (guest_nth w i).paths (lone_nth w i).slots) (sym same) at.is.slots
 
-  pub slot_lent : {slots : List (Option Held)} {n : ℕ} {held : Held} → slots ≡ g.slots.items → slice_get slots n ≡ Some (Some held) → SlotAt n held
-  slot_lent {slots} {n} {held} same there = slot_nth (ap (λ (os : List (Option Held)). slice_get os n) (sym same) ∙ there)
+  pub slot_lent : {slots : List (Option AssignedFunction)} {n : ℕ} {held : AssignedFunction} → slots ≡ g.slots.items → slice_get slots n ≡ Some (Some held) → SlotAt n held
+  slot_lent {slots} {n} {held} same there = slot_nth (ap (λ (os : List (Option AssignedFunction)). slice_get os n) (sym same) ∙ there)
 
-  pub empty_lent : {slots : List (Option Held)} (n : ℕ) → slots ≡ g.slots.items → unwrap_or (slice_get slots n) None ≡ None → slot_at (lone_nth w i).slots n ≡ None
+  pub empty_lent : {slots : List (Option AssignedFunction)} (n : ℕ) → slots ≡ g.slots.items → unwrap_or (slice_get slots n) None ≡ None → slot_at (lone_nth w i).slots n ≡ None
   empty_lent {slots} n same none = slot_empty w.handoff (guest_nth w i).paths (lone_nth w i).slots slots n (slots_lent same) none
 
-  pub fault_lent : {slots : List (Option Held)} (n : ℕ) {number : ℕ} → slots ≡ g.slots.items → IsSlotFault slots n number → slot_fault (lone_nth w i).slots n ≡ Some number
+  pub fault_lent : {slots : List (Option AssignedFunction)} (n : ℕ) {number : ℕ} → slots ≡ g.slots.items → IsSlotFault slots n number → slot_fault (lone_nth w i).slots n ≡ Some number
   fault_lent n same fault = fault w.handoff (guest_nth w i).paths (lone_nth w i).slots (slots_lent same)
 
   pub named : guest_named w.guests (name_nth w i) ≡ Some (guest_nth w i)
@@ -176,7 +176,7 @@ module _ {w : WorldNow} {h : HostState} {names : List Text} {gs : List Guest} {i
             (guests_set w.handoff names w.guests gs i (guest_nth w i) (change (guest_nth w i)) k at.kept.guests at.there is);
       })
 
-  module _ {n : ℕ} {held : Held} (slot : SlotAt n held) where
+  module _ {n : ℕ} {held : AssignedFunction} (slot : SlotAt n held) where
     pub path_there : path_in w.guests (name_nth w i) n ≡ Some slot.p
     path_there = path_named n ∙ slot.path
 
@@ -186,7 +186,7 @@ module _ {w : WorldNow} {h : HostState} {names : List Text} {gs : List Guest} {i
     -- the same where one function changes, and is kept so
     pub kept_put : (change : GuestNow → GuestNow) → Keeps change → ((t : GuestNow) → (change t).paths ≡ t.paths)
         → AreSeated (board_at w.handoff.functions) (with_guest change (name_nth w i) w.guests)
-        → (f : Function) (now : Held) → IsHeld w.handoff slot.p f now
+        → (f : Function) (now : AssignedFunction) → IsHeld w.handoff slot.p f now
         → (change (guest_nth w i)).lone ≡ record (lone_nth w i) { slots = slice_set (lone_nth w i).slots n (Some f) }
         → (k : Guest) → k.latch ≡ g.latch → k.slots.items ≡ slice_set g.slots.items n (Some now)
         → (after : HostState) → after.state ≡ state_over w.handoff (with_guest change (name_nth w i) w.guests)

@@ -3,9 +3,9 @@ use Rattle.std.{proofs.{Common.{arith, ◌≡◌, ◌<◌, ◌≤◌, ◌+◌, �
 use Rattle.model_board.specs.State.{BoardFunction}
 use Rattle.model_guests.specs.Lone.{LoneGuest}
 use Rattle.model_images.specs.{LoadedBytes.{after_slot, load_fault}, Stops.{StopsAt, slots_read}}
-use Rattle.monitor.specs.{declared.guest.Held.Held, Views.slot_shown}
+use Rattle.monitor.specs.{declared.guest.AssignedFunction.AssignedFunction, Views.slot_shown}
 
-module _ (fs : List BoardFunction) (o : Option Held) (left others : List (Option Held)) (bytes : List ℕ) (first : left ≡ o ∷ others) where
+module _ (fs : List BoardFunction) (o : Option AssignedFunction) (left others : List (Option AssignedFunction)) (bytes : List ℕ) (first : left ≡ o ∷ others) where
   pub slots_go_on : (rest : List ℕ) → after_slot (slot_shown fs o) bytes ≡ Ok rest → slots_read (map (slot_shown fs) left) bytes ≡ suc (slots_read (map (slot_shown fs) others) rest)
   slots_go_on rest h = grind arith
 

@@ -5,7 +5,7 @@ use Rattle.model_board.specs.{Paths.Path, Board.Board, AtReset.board_at, State.S
 use Rattle.model_guests.{specs.{Accesses.{done, refused}, Text.Text, World.declared, Lone.LoneGuest, Guests.{GuestsNow, function_in, path_in, with_guest, with_slot_emptied}, AgreedBoard.with_change_at, DeviceEvents.slot_fault, WorldNow.{WorldNow, board_state}}, proofs.{SeatedMoves.seat_in, Resets.taken_passes}}
 use Rattle.model_handoff.{specs.{Kept.IsLawfulOver, ViewLaws.with_seated_reset, Giving.{with_reset_at, take_fault, take_reply, taken, after_take}}, proofs.{Keeping.keeps_board, Giving.{can_take, taken_is, seated_is, board_after_taking, lawful_after_taking, shown_after_taking}, GivenSeats.declared_there}}
 use Rattle.host_bridge.specs.{ByIndex.with_reset_nth, HostState.{HostState, with_functions}}
-use Rattle.monitor.{specs.{declared.guest.{Held.Held, Guest.Guest}, Keeping.{AreGuests, IsKept}, ByIndex.{name_nth, lone_nth}, Moves.IsExchanged}, proofs.{Steps.{with_named, GuestAt, SlotAt, function_there, lone_named, path_there}, ResetSteps.board_reset, MoveSteps.left_guests, Calls.{Leaves, leaves}, Checks.low_slot}}
+use Rattle.monitor.{specs.{declared.guest.{AssignedFunction.AssignedFunction, Guest.Guest}, Keeping.{AreGuests, IsKept}, ByIndex.{name_nth, lone_nth}, Moves.IsExchanged}, proofs.{Steps.{with_named, GuestAt, SlotAt, function_there, lone_named, path_there}, ResetSteps.board_reset, MoveSteps.left_guests, Calls.{Leaves, leaves}, Checks.low_slot}}
 
 pub reset_by : (s : State) (p : Path) (d : Endpoint) → declared (board_at s.functions) p ≡ Some d → with_reset_at p s ≡ with_change_at (after_reset d) p s
 reset_by s p d declares = ap (λ (o : Option Endpoint). option_map_or (λ (e : Endpoint). with_change_at (after_reset e) p s) o s) declares
@@ -24,7 +24,7 @@ module _ {w : WorldNow} {h : HostState} {names : List Text} {gs : List Guest} {i
     pub nothing_taken : w ≡ after_take w (name_nth w i) n
     nothing_taken = sym (ap (λ (o : Option ℕ). cond (is_some o) w (taken (name_nth w i) n w)) fault_named)
 
-  module _ {held : Held} (slot : SlotAt at n held) (low : n ≤ 31) where
+  module _ {held : AssignedFunction} (slot : SlotAt at n held) (low : n ≤ 31) where
     pub may_take : take_fault w (name_nth w i) n ≡ None
     may_take = ap (λ (l : LoneGuest). slot_fault l.slots n) (lone_named at) ∙ taken_passes (lone_nth w i).slots n slot.f (low_slot low) slot.function
 
@@ -46,7 +46,7 @@ module _ {w : WorldNow} {h : HostState} {names : List Text} {gs : List Guest} {i
     is : after_take w (name_nth w i) n ≡ world
     is = taken_is w (name_nth w i) n may_take slot.p (path_there at slot)
 
-    pub take_left : {was : Option Held} {back : List Guest} {new : HostState} → IsExchanged gs i n was None back → new ≡ with_functions (with_reset_nth held.index h.state.functions) h
+    pub take_left : {was : Option AssignedFunction} {back : List Guest} {new : HostState} → IsExchanged gs i n was None back → new ≡ with_functions (with_reset_nth held.index h.state.functions) h
         → Leaves (after_take w (name_nth w i) n) h new names back
     take_left {was} {back} {new} ex is_new = leaves at.kept kept_taken (ap (λ (s : State). routing s.functions) (sym (ap (λ (v : WorldNow). v.handoff) is ∙ handoff_stays)))
       where

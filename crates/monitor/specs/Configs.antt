@@ -7,9 +7,9 @@ use Rattle.std.specs.Prelude.{ℕ, List, Bool, Option, Some, ◌≡◌, IsSome, 
 use Rattle.model_registers.specs.{Registers.{config, File, read, write}, ByteEnables.lanes, EndpointTable.opened, OwnCopies.{OwnCopies, own_file, HoldsOwn, IsLawfulOwn, handed_on}}
 use Rattle.bridge_forward.specs.Lending.{endpoint_nth}
 use Rattle.host_bridge.specs.{ByIndex.file_nth, HostState.HostState, Landings.IsReached}
-use Rattle.monitor.specs.declared.guest.{Held.Held, Guest.Guest}
+use Rattle.monitor.specs.declared.guest.{AssignedFunction.AssignedFunction, Guest.Guest}
 
-pub record IsSeen (h : HostState) (held : Held) : Type 0 where
+pub record IsSeen (h : HostState) (held : AssignedFunction) : Type 0 where
   pub file : File
   pub lawful : IsLawfulOwn held.own
   pub holds : HoldsOwn file held.own
@@ -19,13 +19,13 @@ pub record IsSeen (h : HostState) (held : Held) : Type 0 where
       → read (file_nth h.state.functions held.index) (config off) (handed_on (config off) ons)
       ≡ read file (config off) (handed_on (config off) ons)
 
-pub record IsHolding (slots : List (Option Held)) (n : ℕ) : Type 0 where
-  pub held : Held
+pub record IsHolding (slots : List (Option AssignedFunction)) (n : ℕ) : Type 0 where
+  pub held : AssignedFunction
   pub there : slice_get slots n ≡ Some (Some held)
 
 -- the enabled bytes of a word; the result is the function's index, and the enables of the bytes without a copy
-pub record WritesOwn (slots : List (Option Held)) (n : ℕ) (holds : IsHolding slots n) (word enables value : ℕ)
-    (new : List (Option Held)) (r : ℕ × ℕ) : Type 0 where
+pub record WritesOwn (slots : List (Option AssignedFunction)) (n : ℕ) (holds : IsHolding slots n) (word enables value : ℕ)
+    (new : List (Option AssignedFunction)) (r : ℕ × ℕ) : Type 0 where
   pub own : OwnCopies
   pub after : new ≡ slice_set slots n (Some (record holds.held { own = own }))
   pub written : own_file own ≡ write (lanes enables) value (config word) (own_file holds.held.own)

@@ -12,21 +12,21 @@ use Rattle.model_handoff.specs.{Kept.IsLawfulOver, ViewLaws.with_seated_reset}
 use Rattle.model_images.specs.SavedLaws.{CanBeSaved}
 use Rattle.bars.specs.Slots.{bases_from}
 use Rattle.host_bridge.specs.HostState.{HostState}
-use Rattle.monitor.specs.{declared.guest.{Held.Held, Guest.Guest}, Views.world_shown}
+use Rattle.monitor.specs.{declared.guest.{AssignedFunction.AssignedFunction, Guest.Guest}, Views.world_shown}
 
 -- for the function f of the path p
-pub record IsHeld (s : State) (p : Path) (f : Function) (h : Held) : Type 0 where
+pub record IsHeld (s : State) (p : Path) (f : Function) (h : AssignedFunction) : Type 0 where
   pub row : slice_get (board_at s.functions) h.index ≡ Some (record { path = p; decl = endpoint f.decl })
   pub placed : bases_from 0 h.placed ≡ map (base_address (file_at s.functions p)) f.decl.regions
   pub regions : map bare f.decl.regions ≡ map opened h.own.bases
   pub own : HoldsOwn f.file h.own
 
-abbrev pub IsSlot : State → Option Path → Option Function → Option Held → Type 0
+abbrev pub IsSlot : State → Option Path → Option Function → Option AssignedFunction → Type 0
 IsSlot s None None None = ⊤
 IsSlot s (Some p) (Some f) (Some h) = IsHeld s p f h
 IsSlot s q f o = ⊥
 
-abbrev pub AreSlots : State → List (Option Path) → Slots → List (Option Held) → Type 0
+abbrev pub AreSlots : State → List (Option Path) → Slots → List (Option AssignedFunction) → Type 0
 AreSlots s [] [] [] = ⊤
 AreSlots s (q ∷ qs) (f ∷ fs) (o ∷ os) = IsSlot s q f o × AreSlots s qs fs os
 AreSlots s qs fs os = ⊥

@@ -3,7 +3,7 @@
 --     own_told o      the same, from the program's words
 --     standing file n r      a region at a base address register, with the base that a file has there
 use Rattle.std.specs.Prelude.{ℕ, map}
-use Rattle.bars.specs.{declared.region.BasedRegion.BasedRegion, Slots.bases_from}
+use Rattle.bars.specs.{declared.region.BarWithBase.BarWithBase, Slots.bases_from}
 use Rattle.model_registers.specs.{Registers.File, OwnCopies.OwnCopies, Decoding.{Function, base, base_address, command_word}}
 use Rattle.monitor.specs.declared.queries.own_registers.OwnRegisters.{OwnRegisters}
 
@@ -13,5 +13,5 @@ own_now f = record { command = command_word f.file; bases = map (base_address f.
 abbrev pub own_told : OwnRegisters → OwnCopies
 own_told o = record { command = o.command; bases = bases_from 0 o.regions }
 
-abbrev pub standing : File → ℕ → BasedRegion → BasedRegion
+abbrev pub standing : File → ℕ → BarWithBase → BarWithBase
 standing file n r = record r { base = base file n r.decl.kind }

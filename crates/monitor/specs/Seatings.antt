@@ -1,6 +1,6 @@
 -- A function of the board that comes to a guest from none, as code holds it.
 --     gift_nth w p i n      the function at the path comes into slot n of guest i, by the guest's name
---     withheld_number      the number of a refusal
+--     assign_error_number      the number of a refusal
 --     fault_told      what is told of a gift, by its number
 --     IsEndpointAt      an endpoint stands at a path, and at an index
 --     has_index i gs      a slot of any guest has the function at an index
@@ -8,26 +8,26 @@
 --     ComesIn      the function at the path, at reset, as it is kept in a slot
 --     MakesGift      what a gift is told in a world that is kept, and what comes into the slot where it is not refused
 use Rattle.std.specs.{Prelude.{ℕ, List, Bool, false, ◌≡◌, not, Option, None, Some, Result, Ok, Err, slice_get, ⊤}, List.list_any, Option.option_map_or}
-use Rattle.bars.specs.declared.region.BasedRegion.{BasedRegion}
+use Rattle.bars.specs.declared.region.BarWithBase.{BarWithBase}
 use Rattle.model_registers.specs.{Declarations.Endpoint, EndpointTable.BaseAddress, Decoding.{opens_space, space_of}}
 use Rattle.model_board.specs.{Paths.Path, Board.{endpoint}, AtReset.board_at, Ports.file_at, State.{State}}
 use Rattle.model_guests.specs.{Slots.reset_function, World.declared, WorldNow.WorldNow}
 use Rattle.model_handoff.specs.Giving.{Gift, give_fault}
-use Rattle.monitor.specs.{declared.{guest.{Held.Held, Guest.Guest}, slots.assign_error.Withheld.{Withheld, TheVariants.{PastSlots, NoEndpoint, HasGuest, SlotTaken, ClosedRegion}}}, ByIndex.name_nth, InSlots.is_at, Keeping.IsSlot}
+use Rattle.monitor.specs.{declared.{guest.{AssignedFunction.AssignedFunction, Guest.Guest}, slots.assign_error.AssignError.{AssignError, TheVariants.{PastSlots, NoEndpoint, HasGuest, SlotTaken, ClosedRegion}}}, ByIndex.name_nth, InSlots.is_at, Keeping.IsSlot}
 
 abbrev pub gift_nth : WorldNow → Path → ℕ → ℕ → Gift
 gift_nth w p i n = record { path = p; to = name_nth w i; slot = n }
 
-abbrev pub withheld_number : Withheld → ℕ
-withheld_number PastSlots = 303
-withheld_number NoEndpoint = 303
-withheld_number HasGuest = 602
-withheld_number SlotTaken = 602
-withheld_number ClosedRegion = 206
+abbrev pub assign_error_number : AssignError → ℕ
+assign_error_number PastSlots = 303
+assign_error_number NoEndpoint = 303
+assign_error_number HasGuest = 602
+assign_error_number SlotTaken = 602
+assign_error_number ClosedRegion = 206
 
-abbrev pub fault_told : {A : Type 0} → Result A Withheld → Option ℕ
+abbrev pub fault_told : {A : Type 0} → Result A AssignError → Option ℕ
 fault_told {A} (Ok a) = None
-fault_told {A} (Err why) = Some (withheld_number why)
+fault_told {A} (Err why) = Some (assign_error_number why)
 
 pub record IsEndpointAt (s : State) (p : Path) (i : ℕ) : Type 0 where
   pub d : Endpoint
@@ -40,13 +40,13 @@ has_index i gs = list_any (λ (g : Guest). list_any (is_at i) g.slots.items) gs
 abbrev pub is_closed_base : ℕ → BaseAddress → Bool
 is_closed_base command b = not (opens_space command (space_of b.kind))
 
-abbrev pub is_closed_slot : ℕ → Option BasedRegion → Bool
-is_closed_slot command o = option_map_or (λ (r : BasedRegion). not (opens_space command (space_of r.decl.kind))) o false
+abbrev pub is_closed_slot : ℕ → Option BarWithBase → Bool
+is_closed_slot command o = option_map_or (λ (r : BarWithBase). not (opens_space command (space_of r.decl.kind))) o false
 
-abbrev pub ComesIn : WorldNow → Path → Result Held Withheld → Type 0
+abbrev pub ComesIn : WorldNow → Path → Result AssignedFunction AssignError → Type 0
 ComesIn w p (Ok held) = IsSlot w.handoff (Some p) (reset_function (declared (board_at w.handoff.functions) p)) (Some held)
 ComesIn w p (Err why) = ⊤
 
-pub record MakesGift (w : WorldNow) (p : Path) (i n : ℕ) (r : Result Held Withheld) : Type 0 where
+pub record MakesGift (w : WorldNow) (p : Path) (i n : ℕ) (r : Result AssignedFunction AssignError) : Type 0 where
   pub fault : fault_told r ≡ give_fault w (gift_nth w p i n)
   pub comes : ComesIn w p r

@@ -14,20 +14,20 @@ use Rattle.model_guests.specs.{Text.Text, Guests.{GuestNow, GuestsNow}, WorldNow
 use Rattle.model_handoff.specs.{ViewLaws.with_seated_reset, Changes.MachineNow}
 use Rattle.bridge_forward.specs.Lending.{endpoint_nth}
 use Rattle.host_bridge.specs.HostState.{HostState}
-use Rattle.monitor.specs.{declared.guest.{Held.Held, Guest.Guest}, Counts.counts_of}
+use Rattle.monitor.specs.{declared.guest.{AssignedFunction.AssignedFunction, Guest.Guest}, Counts.counts_of}
 
 abbrev pub texts : ArrayVec ArrayString → List Text
 texts names = map (λ n. n.bytes) names.items
 
-abbrev pub function_shown : List BoardFunction → Held → Option Function
+abbrev pub function_shown : List BoardFunction → AssignedFunction → Option Function
 function_shown fs h =
     option_map (λ (f : Function). record f { file = with_copies (own_file h.own) f.file }) (endpoint_nth fs h.index)
 
-abbrev pub slot_shown : List BoardFunction → Option Held → Option Function
+abbrev pub slot_shown : List BoardFunction → Option AssignedFunction → Option Function
 slot_shown fs o = option_map_or (function_shown fs) o None
 
-abbrev pub path_shown : List BoardFunction → Option Held → Option Path
-path_shown fs o = option_map_or (λ (h : Held). option_map (λ (f : BoardFunction). f.path) (slice_get fs h.index)) o None
+abbrev pub path_shown : List BoardFunction → Option AssignedFunction → Option Path
+path_shown fs o = option_map_or (λ (h : AssignedFunction). option_map (λ (f : BoardFunction). f.path) (slice_get fs h.index)) o None
 
 abbrev pub guest_shown : List BoardFunction → Text → Guest → GuestNow
 guest_shown fs name g = record {

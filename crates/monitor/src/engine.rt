@@ -17,9 +17,9 @@ use crate::access::decode::{landing, located};
 use crate::device::raise::{has_place, raise_on_board};
 use crate::guest::Guest;
 use crate::slots::moving::{hand_over, move_fault};
-use accesses::{Access, At, HostAccess, HostAt, Names, Op, Place, Refusal, Reply, nothing};
+use accesses::{Access, At, HostAccess, HostAt, Names, Op, Place, Refusal, Reply, master_abort};
 use bars::Space;
-use config_bytes::{enables_of, into_lanes, lowered};
+use config_bytes::{enables_of, lowered, to_lanes};
 use guest_functions::Select;
 use host_bridge::{Bdf, Host, Route};
 use paths::is_address_port;
@@ -97,7 +97,7 @@ impl<R: Route> Engine<R> {
     {
         let slots = &self.guests[guest].slots;
         let Some((slot, region, offset)) = landing(slots, space, addr) else {
-            return nothing(op, width);
+            return master_abort(op, width);
         };
         let at = located(slots, slot, region, offset);
         match op {
@@ -124,7 +124,7 @@ impl<R: Route> Engine<R> {
         ensures served { ¬ IsRefusal result }
     {
         let Some(held) = held_in(&self.guests[guest].slots, slot) else {
-            return nothing(Op::Read, width);
+            return master_abort(Op::Read, width);
         };
         Reply::Value(number_read(&mut self.host, held, off, width), width)
     }
@@ -144,7 +144,7 @@ impl<R: Route> Engine<R> {
         };
         let from = u64::from(off);
         let word = off / 4 * 4;
-        let moved = into_lanes(from, value);
+        let moved = to_lanes(from, value);
         let enables = enables_of(from, width);
         let tells = tells_regions(from, width);
         let (index, others) = write_in(&mut self.guests, guest, slot, word, enables, moved, tells);
@@ -212,7 +212,7 @@ impl<R: Route> Engine<R> {
         }
         match self.guests[guest].latch.select(at) {
             Select::Ordinary => self.region_access(guest, Space::Io, at, width, op),
-            Select::Nowhere => nothing(op, width),
+            Select::Nowhere => master_abort(op, width),
             Select::Slot(slot, off) => self.config_access(guest, usize::from(slot), off, width, op),
         }
     }

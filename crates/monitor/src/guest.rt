@@ -1,16 +1,16 @@
 //! The monitor's records of guests and their functions.
-use bars::BasedRegion;
+use bars::BarWithBase;
 use guest_functions::{Latch, VirtualFunction};
 
 /// A function in a guest's slot: the guest's copies of registers, and the function's index and
 /// regions on the board.
 #[derive(Drop)]
-pub(crate) struct Held {
+pub(crate) struct AssignedFunction {
     /// The guest's Command and base address registers.
     pub(crate) own: VirtualFunction,
     /// The regions with their bases at handoff, each at the index of its first base address
     /// register.
-    pub(crate) placed: [Option<BasedRegion>; 6],
+    pub(crate) placed: [Option<BarWithBase>; 6],
     /// The index among the functions of the host.
     pub(crate) index: usize,
 }
@@ -19,6 +19,6 @@ pub(crate) struct Held {
 #[derive(Drop)]
 pub(crate) struct Guest {
     pub(crate) latch: Latch,
-    pub(crate) slots: Vec<Option<Held>>,
+    pub(crate) slots: Vec<Option<AssignedFunction>>,
     pub(crate) changed: u64,
 }

@@ -1,7 +1,7 @@
 -- Path order on one bus: one part tells it.
 use Rattle.std.proofs.{Common.{◌≡◌, ◌+◌, ◌<◌, ◌≤◌, Bool, true, false, ◌&&◌, ◌||◌, [], ◌∷◌, ◌++◌, length, get_or, ap, sym, ◌∙◌, arith, subst}, lemmas.Bool.Decides.nat_tests}
 use Rattle.lists.proofs.Tests.{left_true, right_true, and_true, and_false}
-use Rattle.model_board.{specs.Paths.{Part, Path, part_eq, part_before, path_eq, path_before, leads_to}, proofs.PlacesLaw.part_turn}
+use Rattle.model_board.{specs.Paths.{Part, Path, part_eq, part_before, path_eq, path_before, is_ancestor_of}, proofs.PlacesLaw.part_turn}
 
 or_false : (a b : Bool) → (a || (b && false)) ≡ a
 or_false a b = grind arith
@@ -10,7 +10,7 @@ or_false a b = grind arith
 not_before : (a b : Part) → part_eq a b ≡ true → part_before b a ≡ false
 not_before a b h = grind (arith, nat_tests)
 
-pub before_on : (bus p : Path) (t d : Part) → leads_to bus p ≡ true → path_before p (bus ++ t ∷ []) ≡ part_before (get_or p (length bus) d) t
+pub before_on : (bus p : Path) (t d : Part) → is_ancestor_of bus p ≡ true → path_before p (bus ++ t ∷ []) ≡ part_before (get_or p (length bus) d) t
 before_on [] [] t d h = absurd (cc)
 before_on [] (x ∷ []) t d h = or_false (part_before x t) (part_eq x t)
 before_on [] (x ∷ y ∷ p) t d h = or_false (part_before x t) (part_eq x t)
@@ -18,14 +18,14 @@ before_on (a ∷ bus) [] t d h = absurd (cc)
 before_on (a ∷ bus) (x ∷ p) t d h = grind (arith, left_true, not_before, part_turn, right_true, before_on bus p t d)
 
 -- a path that goes on behind the part is another
-pub other_on : (bus p : Path) (t : Part) → leads_to bus p ≡ true → length bus + 1 < length p → path_eq p (bus ++ t ∷ []) ≡ false
+pub other_on : (bus p : Path) (t : Part) → is_ancestor_of bus p ≡ true → length bus + 1 < length p → path_eq p (bus ++ t ∷ []) ≡ false
 other_on [] [] t h l = absurd (cc)
 other_on [] (x ∷ []) t h l = absurd (omega arith)
 other_on [] (x ∷ y ∷ p) t h l = and_false (part_eq x t)
 other_on (a ∷ bus) [] t h l = absurd (cc)
 other_on (a ∷ bus) (x ∷ p) t h l = grind (arith, left_true, part_turn, right_true, other_on bus p t)
 
-pub same_on : (bus p : Path) (t d : Part) → leads_to bus p ≡ true → length p ≤ length bus + 1 → path_eq p (bus ++ t ∷ []) ≡ part_eq (get_or p (length bus) d) t
+pub same_on : (bus p : Path) (t d : Part) → is_ancestor_of bus p ≡ true → length p ≤ length bus + 1 → path_eq p (bus ++ t ∷ []) ≡ part_eq (get_or p (length bus) d) t
 same_on [] [] t d h l = absurd (cc)
 same_on [] (x ∷ []) t d h l = and_true (part_eq x t)
 same_on [] (x ∷ y ∷ p) t d h l = absurd (omega arith)
@@ -34,7 +34,7 @@ same_on (a ∷ bus) (x ∷ p) t d h l = grind (arith, left_true, part_turn, righ
 
 -- ---- the part that was read
 
-module _ (bus p ps : Path) (t x : Part) (leads : leads_to bus p ≡ true) (whole : ps ≡ p) (at : x ≡ get_or ps (length bus) x) where
+module _ (bus p ps : Path) (t x : Part) (leads : is_ancestor_of bus p ≡ true) (whole : ps ≡ p) (at : x ≡ get_or ps (length bus) x) where
   here : get_or p (length bus) x ≡ x
   here = sym (at ∙ ap (λ (q : Path). get_or q (length bus) x) whole)
 

@@ -1,6 +1,6 @@
 //! Paths of functions, from bus 0 down.
 ghost use Rattle.std.specs.{Prelude.{◌≡◌, ◌&&◌, not, IsTrue, ◌+◌, ◌<◌, [], ◌∷◌, ◌++◌, length, refl}, Ordering.{is_lt, is_eq, as_partial_cmp}, Cmp.{po, partial_equiv_from_equiv}};
-ghost use Rattle.model_board.specs.Paths.{part_eq, part_before, path_eq, path_before, leads_to, parent, function_zero, last_part, IsPath};
+ghost use Rattle.model_board.specs.Paths.{part_eq, part_before, path_eq, path_before, is_ancestor_of, parent, function_zero, last_part, IsPath};
 ghost use Rattle.paths.specs.{PathOrders.path_cmp, PathLaws.{paths_equal, paths_ordered, paths_tied}};
 
 use arrayvec::ArrayVec;
@@ -200,7 +200,7 @@ impl Path {
     /// prefix of this path. Comparing one part is enough, because all parts before it are those of
     /// `bus`.
     pub fn compare_on(&self, bus: &[Part], device: u8, function: u8) -> Ordering
-        requires { IsTrue (leads_to bus.now self.now) }
+        requires { IsTrue (is_ancestor_of bus.now self.now) }
         ensures less { is_lt result
             ≡ path_before self.now (bus.now
             ++ record { device = device; function = function } ∷ []) }
@@ -224,10 +224,10 @@ impl Path {
     }
 
     /// Returns whether this path is a proper prefix of `other`.
-    pub fn leads_to(&self, other: &Path) -> bool
-        ensures { result ≡ leads_to self.now other.now }
+    pub fn is_ancestor_of(&self, other: &Path) -> bool
+        ensures { result ≡ is_ancestor_of self.now other.now }
     {
-        leads_to(self.parts(), other.parts())
+        is_ancestor_of(self.parts(), other.parts())
     }
 
     /// Returns the parts of the bridge above this function. They are empty for a function on bus 0.
@@ -287,14 +287,14 @@ fn is_before(xs: &[Part], ys: &[Part]) -> bool
     }
 }
 
-fn leads_to(xs: &[Part], ys: &[Part]) -> bool
-    ensures { result ≡ leads_to xs.now ys.now }
+fn is_ancestor_of(xs: &[Part], ys: &[Part]) -> bool
+    ensures { result ≡ is_ancestor_of xs.now ys.now }
 {
     match xs {
         [] => !ys.is_empty(),
         [x, xs @ ..] => match ys {
             [] => false,
-            [y, ys @ ..] => x == y && leads_to(xs, ys),
+            [y, ys @ ..] => x == y && is_ancestor_of(xs, ys),
         },
     }
 }

@@ -5,8 +5,8 @@
 
 use command_line::{WordsFault, choose};
 use simulation::{
-    Fault, InputStream, OutputStream, Seen, bad_lines_text, board_or_hint, check_hint, fault_line,
-    perform, usage_hint,
+    Fault, InputStream, OutputStream, RunStats, bad_lines_text, board_or_hint, check_hint,
+    fault_line, perform, usage_hint,
 };
 use std::io::IsTerminal;
 use std::process::ExitCode;
@@ -52,7 +52,7 @@ fn serve(
     rt: &(impl AllocGlobal + Files + Input + Print),
     words: &[&str],
     is_terminal: bool,
-    seen: &mut Seen,
+    seen: &mut RunStats,
 ) -> Result<(), Failure> {
     let alloc = rt.alloc();
     let choice = match choose(alloc, words, is_terminal) {
@@ -85,7 +85,7 @@ fn serve(
 fn run(
     rt: &(impl Env + AllocGlobal + Files + Input + Print),
     is_terminal: bool,
-    seen: &mut Seen,
+    seen: &mut RunStats,
 ) -> Result<(), Failure> {
     let words = words_given(rt)?;
     let mut texts = Vec::new(rt.alloc());
@@ -98,7 +98,7 @@ fn run(
 }
 
 fn main(rt: HostRuntime) -> ExitCode {
-    let mut seen = Seen::none();
+    let mut seen = RunStats::none();
     let done = run(&rt, rt.stdout().is_terminal(), &mut seen);
     if let Ok(text) = bad_lines_text(rt.alloc(), &seen) {
         let _ = rt.eprint(text);

@@ -9,7 +9,7 @@ use Rattle.std.specs.{Prelude.{◌==◌, ◌-◌, ◌++◌, ℕ, List, [], ◌�
 use Rattle.model_registers.specs.{Declarations.registers_of, Decoding.space_of, EndpointTable.BaseAddress}
 use Rattle.model_board.specs.{Windows.Window, Routing.{Ranges, regions, windows}}
 use Rattle.model_guests.specs.{Text.Text, PathTexts.path_text, WorldNow.{WorldNow, board_state}}
-use Rattle.model_handoff.specs.{GuestRegions.is_prefetchable, Functions.{FunctionNow, Seat, slot_answer}}
+use Rattle.model_handoff.specs.{GuestRegions.is_prefetchable, Functions.{LiveFunction, Assignment, slot_answer}}
 use Rattle.monitor.specs.ByIndex.{name_nth}
 use Rattle.pciguest_c.specs.{InterruptsTold.interrupt_of, QueriesTold.{one_if, space_number}, declared.{interrupts.Interrupt.Interrupt, function_row.{RegionRow.RegionRow, WindowRow.WindowRow, FunctionTold.FunctionTold}}}
 
@@ -52,7 +52,7 @@ text_room = 80
 abbrev pub text_row : Text → List ℕ
 text_row t = t ++ replicate (text_room - length t) 0
 
-abbrev pub function_row : FunctionNow → Interrupt → FunctionTold
+abbrev pub function_row : LiveFunction → Interrupt → FunctionTold
 function_row f interrupt = record {
   path = text_row (path_text f.path);
   path_length = length (path_text f.path);
@@ -69,14 +69,14 @@ function_row f interrupt = record {
   regions = region_rows f.ranges;
   windows = window_rows f.ranges;
   is_given = one_if (is_some f.seat);
-  guest = option_map_or (λ (s : Seat). s.guest) f.seat 0;
-  slot = option_map_or (λ (s : Seat). s.slot) f.seat 0;
+  guest = option_map_or (λ (s : Assignment). s.guest) f.seat 0;
+  slot = option_map_or (λ (s : Assignment). s.slot) f.seat 0;
   interrupt = interrupt;
   reserved = replicate 4 0;
 }
 
-abbrev pub function_told : WorldNow → FunctionNow → FunctionTold
+abbrev pub function_told : WorldNow → LiveFunction → FunctionTold
 function_told w f = function_row f (interrupt_of w f)
 
-abbrev pub slot_asked : WorldNow → ℕ → ℕ → Result FunctionNow ℕ
+abbrev pub slot_asked : WorldNow → ℕ → ℕ → Result LiveFunction ℕ
 slot_asked w guest slot = slot_answer (board_state w) w.guests (name_nth w guest) slot

@@ -9,7 +9,7 @@ use Rattle.std.specs.{Prelude.{ℕ, ◌/◌, ◌%◌, ◌||◌, if◌then◌else
 use Rattle.model_registers.specs.{Registers.{config, number}, Decoding.{Function, command_word}}
 use Rattle.model_board.specs.{Interrupts.{root_device, root_pin}, Paths.Path, Ports.file_at}
 use Rattle.model_guests.specs.{Guests.lone_of, Slots.slot_at, WorldNow.{WorldNow, board_state}}
-use Rattle.model_handoff.specs.Functions.{FunctionNow, Seat}
+use Rattle.model_handoff.specs.Functions.{LiveFunction, Assignment}
 use Rattle.monitor.specs.ByIndex.{name_nth}
 use Rattle.pciguest_c.specs.declared.interrupts.Interrupt.{Interrupt}
 
@@ -20,16 +20,16 @@ abbrev pub pin_route : Path → ℕ → ℕ × ℕ × ℕ
 pin_route p n = if nat_lt n 1 || nat_lt 4 n then (0, 0, 0) else (n, root_device p, root_pin p n)
 
 -- a seat is one of a guest that is there
-abbrev pub own_command : WorldNow → Seat → ℕ
+abbrev pub own_command : WorldNow → Assignment → ℕ
 own_command w s =
     if nat_le (length w.guests) s.guest then 0
     else option_map_or (λ (f : Function). command_word f.file) (slot_at (lone_of w.guests (name_nth w s.guest)).slots s.slot) 0
 
-abbrev pub command_now : WorldNow → FunctionNow → ℕ
+abbrev pub command_now : WorldNow → LiveFunction → ℕ
 command_now w f = option_map_or (own_command w) f.seat (number (file_at (board_state w).functions f.path) (config 4) 2)
 
 -- Interrupt Disable is bit 10 of Command
-unfoldable pub interrupt_of : WorldNow → FunctionNow → Interrupt
+unfoldable pub interrupt_of : WorldNow → LiveFunction → Interrupt
 interrupt_of w f =
     let route = pin_route f.path (number (file_at (board_state w).functions f.path) (config 0x3d) 1) in
     record { pin = route.0; root_device = route.1; root_pin = route.2; is_disabled = command_now w f / 1024 % 2 }

@@ -7,13 +7,13 @@
 --     moved_count ps      how many of these moved
 use Rattle.std.specs.Prelude.{ℕ, ◌+◌, ◌/◌, ◌%◌, ◌==◌, ◌&&◌, Bool, not, List, [], ◌∷◌, Result, Ok, Err, count_by}
 use Rattle.model_guests.specs.WorldNow.{WorldNow}
-use Rattle.model_handoff.specs.GuestRegions.{RegionNow}
+use Rattle.model_handoff.specs.GuestRegions.{LiveBar}
 use Rattle.pciguest_c.specs.{QueriesTold.{one_if, region_asked, region_told}, declared.{querying.RegionTold.RegionTold, moves.PlaceRow.PlaceRow}}
 
 abbrev pub no_region_told : RegionTold
 no_region_told = record { first = 0; size = 0; space = 0; prefetchable = 0; is_open = 0 }
 
-abbrev pub region_or_none : Result RegionNow ℕ → RegionTold
+abbrev pub region_or_none : Result LiveBar ℕ → RegionTold
 region_or_none (Ok r) = region_told r
 region_or_none (Err n) = no_region_told
 

@@ -11,7 +11,7 @@ use Rattle.monitor.specs.ByIndex.{name_nth}
 use Rattle.pciguest_c.specs.declared.querying.{RegionTold.RegionTold, HitTold.HitTold}
 use Rattle.model_handoff.specs.GuestRegions as model
 
-abbrev pub region_asked : WorldNow → ℕ → ℕ → ℕ → Result model.RegionNow ℕ
+abbrev pub region_asked : WorldNow → ℕ → ℕ → ℕ → Result model.LiveBar ℕ
 region_asked w guest slot register = region_answer (lone_of w.guests (name_nth w guest)) slot register
 
 abbrev pub hit_asked : WorldNow → ℕ → Target → Result (Option Landing) ℕ
@@ -28,7 +28,7 @@ abbrev pub part_number : Place → ℕ
 part_number (config off) = 6
 part_number (block n off) = n
 
-abbrev pub region_told : model.RegionNow → RegionTold
+abbrev pub region_told : model.LiveBar → RegionTold
 region_told r = record {
   first = r.first;
   size = r.size;

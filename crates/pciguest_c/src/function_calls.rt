@@ -9,11 +9,11 @@ use crate::function_row::{FunctionTold, function_row};
 use crate::handle::Handle;
 use crate::interrupts::interrupt_of;
 use crate::numbers::{ARGUMENT, put_result};
-use monitor::{FunctionNow, Monitor};
+use monitor::{LiveFunction, Monitor};
 use std::alloc::Global;
 
 /// Converts a function's description, including its interrupt pin, to its C struct.
-fn told_row(machine: &Monitor, function: &FunctionNow) -> FunctionTold
+fn told_row(machine: &Monitor, function: &LiveFunction) -> FunctionTold
     ensures { result ≡ function_told machine.now.world (function_named function.now) }
 {
     function_row(function, interrupt_of(machine, function))

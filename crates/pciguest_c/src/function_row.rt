@@ -10,11 +10,11 @@ ghost use Rattle.pciguest_c.specs.{QueriesTold.one_if, FunctionsTold.{no_region,
 
 use crate::interrupts::Interrupt;
 use crate::text_calls::put;
-use bars::{BasedRegion, Kind, Space};
+use bars::{BarWithBase, Kind, Space};
 use bridge_forward::Window;
 use findings::path_text;
-use host_bridge::RangesNow;
-use monitor::{FunctionNow, Seat};
+use host_bridge::LiveRanges;
+use monitor::{Assignment, LiveFunction};
 
 /// The region of a BAR, in the layout of the C struct. `space` is 1 for I/O and 2 for memory. All
 /// fields are 0 if no region begins at the register.
@@ -83,9 +83,9 @@ fn prefetchable_of(kind: Kind) -> u32
 }
 
 /// Converts the region that begins at a register to its C struct.
-fn region_row(slot: Option<BasedRegion>) -> RegionRow
+fn region_row(slot: Option<BarWithBase>) -> RegionRow
     ensures { result
-        ≡ option_map_or (λ (r : BasedRegion). region_row (placed 0 r)) slot no_region }
+        ≡ option_map_or (λ (r : BarWithBase). region_row (placed 0 r)) slot no_region }
 {
     let Some(region) = slot else {
         return NO_REGION;
@@ -104,7 +104,7 @@ fn region_row(slot: Option<BasedRegion>) -> RegionRow
 }
 
 /// Converts the regions of six registers to an array of C structs.
-fn regions_of(slots: &[Option<BasedRegion>; 6]) -> [RegionRow; 6]
+fn regions_of(slots: &[Option<BarWithBase>; 6]) -> [RegionRow; 6]
     ensures { result ≡ region_rows (regions (bases_from 0 slots.now)) }
 {
     [
@@ -136,34 +136,34 @@ fn window_row(window: Option<Window>) -> WindowRow
 }
 
 /// Returns an endpoint's regions by register, or six empty entries for a bridge.
-fn region_rows(ranges: RangesNow) -> [RegionRow; 6]
+fn region_rows(ranges: LiveRanges) -> [RegionRow; 6]
     ensures { result ≡ region_rows (ranges_told ranges) }
 {
     match ranges {
-        RangesNow::Regions(slots) => regions_of(&slots),
-        RangesNow::Windows { .. } => [NO_REGION; 6],
+        LiveRanges::Regions(slots) => regions_of(&slots),
+        LiveRanges::Windows { .. } => [NO_REGION; 6],
     }
 }
 
 /// Returns a bridge's I/O, memory and prefetchable windows, or three empty entries for an endpoint.
-fn window_rows(ranges: RangesNow) -> [WindowRow; 3]
+fn window_rows(ranges: LiveRanges) -> [WindowRow; 3]
     ensures { result ≡ window_rows (ranges_told ranges) }
 {
     match ranges {
-        RangesNow::Regions(_) => [window_row(None); 3],
-        RangesNow::Windows { io, mem, pref } => {
+        LiveRanges::Regions(_) => [window_row(None); 3],
+        LiveRanges::Windows { io, mem, pref } => {
             [window_row(io), window_row(mem), window_row(pref)]
         }
     }
 }
 
 /// Returns 1 for a bridge, 0 for an endpoint.
-fn bridge_number(ranges: RangesNow) -> u32
+fn bridge_number(ranges: LiveRanges) -> u32
     ensures { result ≡ bridge_number (ranges_told ranges) }
 {
     match ranges {
-        RangesNow::Regions(_) => 0,
-        RangesNow::Windows { .. } => 1,
+        LiveRanges::Regions(_) => 0,
+        LiveRanges::Windows { .. } => 1,
     }
 }
 
@@ -178,12 +178,12 @@ pub fn text_row(text: &[u8]) -> [u8; 80]
 }
 
 /// Converts a function's description and its interrupt to the C struct.
-pub fn function_row(function: &FunctionNow, interrupt: Interrupt) -> FunctionTold
+pub fn function_row(function: &LiveFunction, interrupt: Interrupt) -> FunctionTold
     ensures { result ≡ function_row (function_named function.now) interrupt }
 {
     let text = path_text(&function.path);
     let identity = function.identity;
-    let seat = function.seat.unwrap_or(Seat { guest: 0, slot: 0 });
+    let seat = function.seat.unwrap_or(Assignment { guest: 0, slot: 0 });
     FunctionTold {
         path: text_row(&text),
         path_length: text.len(),

@@ -8,7 +8,7 @@ ghost use Rattle.pciguest_c.specs.InterruptsTold.{own_command, command_now, pin_
 
 use crate::asking::guest_count;
 use intx_swizzle::at_root;
-use monitor::{FunctionNow, Monitor, Seat};
+use monitor::{Assignment, LiveFunction, Monitor};
 use paths::Path;
 
 /// A function's interrupt pin, 1 to 4, and the device and pin on bus 0 to which it is routed. These
@@ -47,7 +47,7 @@ fn number_at(machine: &Monitor, path: &Path, offset: u8, width: u64) -> u32
 
 /// Returns the guest's copy of the Command register for the function in a slot, or 0 if there is no
 /// such function.
-fn own_command(machine: &Monitor, seat: Seat) -> u32
+fn own_command(machine: &Monitor, seat: Assignment) -> u32
     ensures { result ≡ own_command machine.now.world (seat_named seat) }
 {
     if seat.guest >= guest_count(machine) {
@@ -61,7 +61,7 @@ fn own_command(machine: &Monitor, seat: Seat) -> u32
 
 /// Returns a function's Command register: the guest's copy if the function is assigned, or else the
 /// register on the board.
-fn command_now(machine: &Monitor, function: &FunctionNow) -> u32
+fn command_now(machine: &Monitor, function: &LiveFunction) -> u32
     ensures { result ≡ command_now machine.now.world (function_named function.now) }
 {
     match function.seat {
@@ -84,7 +84,7 @@ fn pin_route(path: &Path, pin: u32) -> (u32, u32, u32)
 
 /// Returns the interrupt description of a function.
 #[tactic(auto, unfolding(crate::specs::InterruptsTold::interrupt_of))]
-pub fn interrupt_of(machine: &Monitor, function: &FunctionNow) -> Interrupt
+pub fn interrupt_of(machine: &Monitor, function: &LiveFunction) -> Interrupt
     ensures { result ≡ interrupt_of machine.now.world (function_named function.now) }
 {
     let pin = number_at(machine, &function.path, 0x3d, 1);

@@ -8,7 +8,7 @@ use crate::asking::{check_guest, target_for};
 use crate::handle::Handle;
 use crate::numbers::put_result;
 use accesses::Place;
-use monitor::{GuestRegion, Hit, Space};
+use monitor::{DecodedByte, GuestRegion, Space};
 use std::alloc::Global;
 
 /// A region of a guest's function, in the layout of the C struct. `space` is 1 for I/O and 2 for
@@ -60,7 +60,7 @@ pub fn region_for(region: GuestRegion) -> RegionTold
 }
 
 /// Converts the target of an access to its C struct.
-fn hit_for(hit: Option<Hit>) -> HitTold
+fn hit_for(hit: Option<DecodedByte>) -> HitTold
     ensures { result ≡ hit_told (option_map hit_named hit) }
 {
     match hit {

@@ -7,7 +7,7 @@ use crate::asking::check_guest;
 use crate::handle::Handle;
 use crate::numbers::{number_of, number_of_done};
 use board_file::path_text::path_of;
-use monitor::{Monitor, Withheld};
+use monitor::{AssignError, Monitor};
 use std::alloc::Global;
 
 /// Assigns the function at a path to a guest, or returns the error number.
@@ -21,9 +21,9 @@ fn give_at(machine: &mut Monitor, path: &[u8], guest: usize, slot: u64) -> Resul
     check_guest(machine, guest)?;
     // A text that isn't a path is reported like a path without an endpoint.
     let Some(path) = path_of(path) else {
-        return Err(u32::from(Withheld::NoEndpoint.number()));
+        return Err(u32::from(AssignError::NoEndpoint.number()));
     };
-    match machine.give(&path, guest, slot) {
+    match machine.assign(&path, guest, slot) {
         Ok(()) => Ok(()),
         Err(why) => Err(u32::from(why.number())),
     }
@@ -57,6 +57,6 @@ pub extern "C" fn pciguest_raw_take(
 {
     number_of(handle.ask_machine(alloc, |machine| {
         check_guest(machine, guest)?;
-        Ok(machine.take(guest, slot))
+        Ok(machine.unassign(guest, slot))
     }))
 }

@@ -29,7 +29,7 @@ fn answer_to(
         Question::Audit(form) => audit_in(alloc, form, &found),
         Question::Ready(form) => {
             let apertures = board.apertures();
-            let lacking = board.lacks(alloc, &apertures)?;
+            let lacking = board.readiness_issues(alloc, &apertures)?;
             ready_in(alloc, form, &found, &lacking)
         }
     }

@@ -7,36 +7,36 @@ ghost use Rattle.model_handoff.specs.{Report.{report}, FoundReport.{IsSetUpOf, c
 
 use crate::lines::{push_function, push_guest};
 use accesses::GuestDecl;
-use bus_scan::{Found, FunctionRow, FunctionTable};
+use bus_scan::{Enumerated, EnumeratedFunction, FunctionTable};
 use std::alloc::{AllocError, Global};
-use window_packing::{Plan, Setting};
+use window_packing::{FunctionProgram, Plan};
 
 /// Returns whether the function is a bridge.
-fn is_bridge(row: &FunctionRow) -> bool
+fn is_bridge(row: &EnumeratedFunction) -> bool
     ensures { result ≡ is_bridge row.now.decl }
 {
     match &row.found {
-        Found::Endpoint { .. } => false,
-        Found::Bridge { .. } => true,
+        Enumerated::Endpoint { .. } => false,
+        Enumerated::Bridge { .. } => true,
     }
 }
 
 /// Counts the endpoints.
-pub fn endpoints(rows: &[FunctionRow]) -> usize
+pub fn endpoints(rows: &[EnumeratedFunction]) -> usize
     ensures { result ≡ count_by (λ r. not (is_bridge r.decl)) rows.now }
 {
     rows.iter().filter(|row| !is_bridge(row)).count()
 }
 
 /// Counts the bridges.
-pub fn bridges(rows: &[FunctionRow]) -> usize
+pub fn bridges(rows: &[EnumeratedFunction]) -> usize
     ensures { result ≡ count_by (λ r. is_bridge r.decl) rows.now }
 {
     rows.iter().filter(|row| is_bridge(row)).count()
 }
 
 /// Appends the line with the number of endpoints and bridges.
-fn push_counts(text: &mut String, rows: &[FunctionRow]) -> Result<(), AllocError>
+fn push_counts(text: &mut String, rows: &[EnumeratedFunction]) -> Result<(), AllocError>
     ensures { OnOk result (Adds text.old text.new (ended (count_line rows.now))) }
 {
     let endpoints = endpoints(rows);
@@ -47,8 +47,8 @@ fn push_counts(text: &mut String, rows: &[FunctionRow]) -> Result<(), AllocError
 /// Appends the lines of all functions, each with the register values that set-up wrote.
 fn push_functions(
     text: &mut String,
-    rows: &[FunctionRow],
-    settings: &[Setting],
+    rows: &[EnumeratedFunction],
+    settings: &[FunctionProgram],
 ) -> Result<(), AllocError>
     ensures { OnOk result (Adds text.old text.new (functions_text rows.now settings.now)) }
 {

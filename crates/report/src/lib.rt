@@ -1,4 +1,4 @@
-//! Layer: program. Below: model_handoff, window_packing, intx_swizzle, accesses. Above: findings_told, json_texts.
+//! Layer: program. Below: model_handoff, window_packing, intx_swizzle, accesses. Above: findings_render, json_texts.
 //!
 //! The report of a board after set-up: its functions with their regions, interrupt routing and
 //! windows, and its guests.

@@ -8,15 +8,15 @@ ghost use Rattle.window_packing.specs.Plans.{writes_of};
 
 use crate::fields::{FourDigits, Numbers, ShownPath, TwoDigits, kind_text};
 use accesses::GuestDecl;
-use bars::BasedRegion;
-use bus_scan::{Found, FunctionRow};
+use bars::BarWithBase;
+use bus_scan::{Enumerated, EnumeratedFunction};
 use intx_swizzle::at_root;
 use paths::Path;
 use std::alloc::AllocError;
-use window_packing::{WindowSetting, Writes};
+use window_packing::{RegisterValues, WindowSetting};
 
 /// Appends the line of the region whose first BAR register has this index.
-fn push_region(text: &mut String, index: usize, region: &BasedRegion) -> Result<(), AllocError>
+fn push_region(text: &mut String, index: usize, region: &BarWithBase) -> Result<(), AllocError>
     ensures { OnOk result (Adds text.old text.new (ended (base_line (placed index region.now)))) }
 {
     let kind = kind_text(region.decl.kind());
@@ -26,7 +26,7 @@ fn push_region(text: &mut String, index: usize, region: &BasedRegion) -> Result<
 }
 
 /// Appends the lines of regions, which are at the indices of their first BAR registers.
-fn push_regions(text: &mut String, bases: &[Option<BasedRegion>]) -> Result<(), AllocError>
+fn push_regions(text: &mut String, bases: &[Option<BarWithBase>]) -> Result<(), AllocError>
     ensures { OnOk result (Adds text.old text.new
         (text_of_lines (map base_line (bases_from 0 bases.now)))) }
 {
@@ -89,24 +89,24 @@ fn push_window(text: &mut String, name: &str, window: &WindowSetting) -> Result<
 }
 
 /// Appends the lines of an endpoint's regions at the base addresses that set-up wrote.
-fn push_bases(text: &mut String, writes: &Writes) -> Result<(), AllocError>
+fn push_bases(text: &mut String, writes: &RegisterValues) -> Result<(), AllocError>
     ensures { OnOk result (Adds text.old text.new
         (text_of_lines (base_lines (writes_of writes.now)))) }
 {
     match writes {
-        Writes::Endpoint { bases, .. } => push_regions(text, bases),
-        Writes::Bridge { .. } => Ok(()),
+        RegisterValues::Endpoint { bases, .. } => push_regions(text, bases),
+        RegisterValues::Bridge { .. } => Ok(()),
     }
 }
 
 /// Appends the lines of a bridge's windows as set-up wrote them.
-fn push_windows(text: &mut String, writes: &Writes) -> Result<(), AllocError>
+fn push_windows(text: &mut String, writes: &RegisterValues) -> Result<(), AllocError>
     ensures { OnOk result (Adds text.old text.new
         (text_of_lines (written_windows (writes_of writes.now)))) }
 {
     match writes {
-        Writes::Endpoint { .. } => Ok(()),
-        Writes::Bridge { io, mem, pref } => {
+        RegisterValues::Endpoint { .. } => Ok(()),
+        RegisterValues::Bridge { io, mem, pref } => {
             push_window(text, "io", io)?;
             push_window(text, "mem", mem)?;
             push_window(text, "pref", pref)
@@ -130,7 +130,7 @@ fn push_buses(
 }
 
 /// Appends the BDF of a function, its path, its header type, and its Vendor ID and Device ID.
-fn push_head(text: &mut String, row: &FunctionRow, kind: &str) -> Result<(), AllocError>
+fn push_head(text: &mut String, row: &EnumeratedFunction, kind: &str) -> Result<(), AllocError>
     ensures { OnOk result (Adds text.old text.new (row_head row.now kind.now)) }
 {
     let part = row.path.last();
@@ -146,7 +146,12 @@ fn push_head(text: &mut String, row: &FunctionRow, kind: &str) -> Result<(), All
 }
 
 /// Ends the first line of an endpoint, and appends the lines of its regions and its interrupt pin.
-fn push_endpoint(text: &mut String, path: &Path, pin: u8, writes: &Writes) -> Result<(), AllocError>
+fn push_endpoint(
+    text: &mut String,
+    path: &Path,
+    pin: u8,
+    writes: &RegisterValues,
+) -> Result<(), AllocError>
     ensures { OnOk result (Adds text.old text.new
         (endpoint_text path.now pin (writes_of writes.now))) }
 {
@@ -161,7 +166,7 @@ fn push_bridge(
     bus: u8,
     secondary: u8,
     subordinate: u8,
-    writes: &Writes,
+    writes: &RegisterValues,
 ) -> Result<(), AllocError>
     ensures { OnOk result (Adds text.old text.new
         (range_text bus secondary subordinate ++ windows_text (writes_of writes.now))) }
@@ -174,17 +179,17 @@ fn push_bridge(
 /// Appends the lines of a function.
 pub(crate) fn push_function(
     text: &mut String,
-    row: &FunctionRow,
-    writes: &Writes,
+    row: &EnumeratedFunction,
+    writes: &RegisterValues,
 ) -> Result<(), AllocError>
     ensures { OnOk result (Adds text.old text.new (function_text row.now (writes_of writes.now))) }
 {
     match &row.found {
-        Found::Endpoint { pin, .. } => {
+        Enumerated::Endpoint { pin, .. } => {
             push_head(text, row, " endpoint ")?;
             push_endpoint(text, &row.path, *pin, writes)
         }
-        Found::Bridge {
+        Enumerated::Bridge {
             secondary,
             subordinate,
             ..

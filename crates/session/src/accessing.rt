@@ -11,7 +11,7 @@ ghost use Rattle.lines.specs.FirmwareLines.{host_asked};
 ghost use Rattle.session.specs.Hosts.{after_asked};
 
 use accesses::{Bdf, HostAccess, HostAt, Reply};
-use config_bytes::{enables_of, into_lanes, lowered};
+use config_bytes::{enables_of, lowered, to_lanes};
 use host_bridge::{Host, TreeWalk};
 
 /// Reads 1, 2 or 4 bytes at a configuration offset of the function at a BDF.
@@ -37,7 +37,7 @@ fn config_write(host: &mut Host, at: Bdf, off: u8, width: u64, value: u32)
 {
     let from = u64::from(off);
     let enables = enables_of(from, width);
-    host.config_write(at, off / 4 * 4, enables, into_lanes(from, value));
+    host.config_write(at, off / 4 * 4, enables, to_lanes(from, value));
 }
 
 /// Answers a read. Refuses with 302 if its width is not 1, 2 or 4 bytes, else with 301 if its

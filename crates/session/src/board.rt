@@ -2,7 +2,7 @@
 ghost use Rattle.std.specs.{Prelude.{◌≡◌, ◌≢◌, ◌≤◌, ◌++◌, ◌∷◌, [], false, not, codes, length, map, option_and_then, MatchOption, IfOk, IfErr, IfSome, string_bytes}, Bool.OnTrue};
 ghost use Rattle.model_board.specs.AtReset.{board_at};
 ghost use Rattle.model_guests.specs.{Accesses.{reads, writes}, Replies.reply_text, World.IsLawfulWorld, WorldNow.{board_state, names_now}};
-ghost use Rattle.model_findings.specs.{AuditText.audit, Problems.problems, Lacks.lack_count, ReadyText.ready_report};
+ghost use Rattle.model_findings.specs.{AuditText.audit, Problems.problems, ReadinessIssues.issue_count, ReadyText.ready_report};
 ghost use Rattle.model_handoff.specs.Changes.{BeginsIn};
 ghost use Rattle.model_lines.specs.{HostAccesses.answer, FirmwareLines.text_by, Requests.why_written, GivenLaws.IsGiven, Sessions.{at_reset, after_board_access, after_meant}};
 ghost use Rattle.accesses.specs.{Accesses.{host_target_of, reply_of}, Replies.{IsRefusal, IsShown}};
@@ -19,13 +19,13 @@ use crate::opening::begin;
 use accesses::{GuestDecl, HostAccess, HostAt, Refusal, Reply};
 use bars::Space;
 use board_file::{BoardFault, read_board};
-use findings_told::{
+use findings_render::{
     CountedText, audit_text, ready_text, why_number_text, why_port_text, why_text,
 };
 use headers::Apertures;
 use host_bridge::Host;
 use json_texts::host_why_json;
-use lines::{FirmwareWhat, LineText, WhyAsked, push_named};
+use lines::{ExplainTarget, FirmwareCommand, LineText, push_named};
 use monitor::{Monitor, Refused};
 use script::refusal_of;
 use std::alloc::{AllocError, Global};
@@ -128,7 +128,7 @@ impl Board {
 
     /// Executes a line. Returns the name to print in front of the reply, and the reply, or None if
     /// the line has no output.
-    fn reply_to(&mut self, what: FirmwareWhat) -> Option<(&'static [u8], Reply)>
+    fn reply_to(&mut self, what: FirmwareCommand) -> Option<(&'static [u8], Reply)>
         ensures text { let text = text_by self.old.state (firmware_meaning_of what) in
             MatchOption result (text ≡ []) (λ a.
             text ≡ a.0.now ++ codes ": " ++ reply_text (reply_of a.1) ++ 10 ∷ []) }
@@ -139,26 +139,26 @@ impl Board {
         ensures shown { IfSome result (λ a. IsShown a.1) }
     {
         match what {
-            FirmwareWhat::Nothing => None,
-            FirmwareWhat::Read(from) => {
+            FirmwareCommand::Nothing => None,
+            FirmwareCommand::Read(from) => {
                 let reply = self.read(from);
                 Some((b"host", reply))
             }
-            FirmwareWhat::Write(to, value) => {
+            FirmwareCommand::Write(to, value) => {
                 let reply = self.write(to, value);
                 Some((b"host", reply))
             }
-            FirmwareWhat::Asks(_) | FirmwareWhat::NoForm => {
+            FirmwareCommand::Asks(_) | FirmwareCommand::NoForm => {
                 Some((b"host", Reply::Refused(Refusal::BadLine)))
             }
-            FirmwareWhat::NotOfHost(why) => Some((b"?", Reply::Refused(why))),
+            FirmwareCommand::NotOfHost(why) => Some((b"?", Reply::Refused(why))),
         }
     }
 
     /// Executes a firmware line, and writes its output to an empty text: nothing, or one line with
     /// its line feed. Returns the number of the refusal, if the line is refused. Queries aren't
     /// handled here and count as bad lines. Allocates no memory.
-    pub(crate) fn answer(&mut self, what: FirmwareWhat, text: &mut LineText) -> Option<u16>
+    pub(crate) fn answer(&mut self, what: FirmwareCommand, text: &mut LineText) -> Option<u16>
         requires { text.old.items ≡ [] }
         ensures text { text.new.items ≡ text_by self.old.state (firmware_meaning_of what) }
         ensures refused { result ≡ refusal_by self.old.state (firmware_meaning_of what) }
@@ -228,7 +228,7 @@ impl Board {
             string_bytes r.text
             ≡ ready_report self.old.world.apertures self.old.state.functions) }
         ensures count { IfOk result (λ r.
-            r.count ≡ lack_count self.old.world.apertures self.old.state.functions) }
+            r.count ≡ issue_count self.old.world.apertures self.old.state.functions) }
         ensures after { self.new ≡ self.old }
     {
         let apertures = self.apertures();
@@ -237,15 +237,15 @@ impl Board {
 
     /// Explains why an address, an I/O port or a BDF reaches a function, or why it reaches none,
     /// with the registers as they are now. Changes nothing, even if memory is exhausted.
-    pub fn why(&mut self, alloc: Global, at: WhyAsked) -> Result<String, AllocError>
+    pub fn why(&mut self, alloc: Global, at: ExplainTarget) -> Result<String, AllocError>
         ensures text { IfOk result (λ t.
             string_bytes t ≡ why_written self.old.state (why_asked_of at)) }
         ensures after { self.new ≡ self.old }
     {
         match at {
-            WhyAsked::Mem { addr } => why_text(alloc, &self.host, Space::Mem, addr),
-            WhyAsked::Io { port } => why_port_text(alloc, &mut self.host, port),
-            WhyAsked::Config { bdf } => why_number_text(alloc, &mut self.host, bdf),
+            ExplainTarget::Mem { addr } => why_text(alloc, &self.host, Space::Mem, addr),
+            ExplainTarget::Io { port } => why_port_text(alloc, &mut self.host, port),
+            ExplainTarget::Config { bdf } => why_number_text(alloc, &mut self.host, bdf),
         }
     }
 

@@ -11,13 +11,13 @@ ghost use Rattle.session.specs.DrivenFunctions.{driven_function_named};
 use crate::board::Board;
 use findings::{address_of, identity_nth};
 use host_bridge::{Bdf, Host, Path, Space};
-use monitor::FunctionNow;
+use monitor::LiveFunction;
 
 /// A function of a board that firmware drives: its description without an assignment, whether a
 /// configuration cycle to its BDF reaches it, and which spaces its Command enables.
 #[derive(Debug, Drop)]
 pub struct DrivenFunction {
-    pub function: FunctionNow,
+    pub function: LiveFunction,
     pub is_found: bool,
     pub opens_io: bool,
     pub opens_memory: bool,
@@ -59,7 +59,7 @@ fn driven_function_nth(host: &mut Host, index: usize) -> Option<DrivenFunction>
     let at = address_of(host, &path);
     let is_found = is_found(host, at, &path);
     Some(DrivenFunction {
-        function: FunctionNow {
+        function: LiveFunction {
             path,
             at,
             identity,

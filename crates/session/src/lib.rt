@@ -1,4 +1,4 @@
-//! Layer: program. Below: script, findings_told, json_texts, board_file. Above: board_told.
+//! Layer: program. Below: script, findings_render, json_texts, board_file. Above: board_told.
 //!
 //! Sessions over a board. Firmware drives the board by lines, from reset on, and can query the
 //! audit, the readiness and the reason why an access goes where it goes. After the handover of the
@@ -42,11 +42,11 @@ pub use accesses::{Bdf, HostAccess, HostAt, Reply};
 pub use accessing::{read, write};
 pub use board::Board;
 pub use board_file::BoardFault;
-pub use findings_told::CountedText;
+pub use findings_render::CountedText;
 pub use functions::DrivenFunction;
 pub use headers::Apertures;
 pub use host_bridge::Host;
-pub use lines::{LineText, RunFault, WhyAsked};
+pub use lines::{ExplainTarget, LineText, RunFault};
 pub use monitor::{HandoverFault, Monitor, Problem, Refused};
 pub use opening::{OpenFault, open};
 pub use running::run;

@@ -1,10 +1,10 @@
 //! The audit and the readiness check of a board that firmware drives, as lists of values.
 ghost use Rattle.std.specs.Prelude.{◌≡◌, IfOk, map};
-ghost use Rattle.model_findings.specs.{Problems.problems, Lacks.lacks};
-ghost use Rattle.findings.specs.Findings.{problem_of, lack_of};
+ghost use Rattle.model_findings.specs.{Problems.problems, ReadinessIssues.readiness_issues};
+ghost use Rattle.findings.specs.Findings.{problem_of, issue_of};
 
 use crate::board::Board;
-use findings::{Lack, Problem, lacks, problems};
+use findings::{Problem, ReadinessIssue, problems, readiness_issues};
 use headers::Apertures;
 use std::alloc::{AllocError, Global};
 
@@ -21,11 +21,15 @@ impl Board {
 
     /// Returns everything left to do in the registers as they are now, given these apertures, in
     /// the order of the readiness report. Changes nothing, even if memory is exhausted.
-    pub fn lacks(&mut self, alloc: Global, apertures: &Apertures) -> Result<Vec<Lack>, AllocError>
+    pub fn readiness_issues(
+        &mut self,
+        alloc: Global,
+        apertures: &Apertures,
+    ) -> Result<Vec<ReadinessIssue>, AllocError>
         ensures told { IfOk result (λ v.
-            map lack_of v.items ≡ lacks apertures.now self.old.state.functions) }
+            map issue_of v.items ≡ readiness_issues apertures.now self.old.state.functions) }
         ensures after { self.new ≡ self.old }
     {
-        lacks(alloc, &mut self.host, apertures)
+        readiness_issues(alloc, &mut self.host, apertures)
     }
 }

@@ -1,8 +1,8 @@
 //! A session over a board.
 ghost use Rattle.std.specs.{Prelude.{◌≡◌, ◌≢◌, ◌++◌, [], ⊤, length, map, option_map, string_bytes, is_some, Ok, None, IsOk, IfOk, IfErr, IfSome, OnOk, OnErr, MatchResult, IsFalse}, Borrow.sem, Option.option_copied_mut};
 ghost use Rattle.model_guests.specs.{Text.Text, World.{World, IsLawfulWorld}};
-ghost use Rattle.model_findings.specs.{AuditText.audit, Problems.problems, Lacks.{lacks, lack_count}, ReadyText.ready_report};
-ghost use Rattle.findings.specs.Findings.{problem_of, lack_of};
+ghost use Rattle.model_findings.specs.{AuditText.audit, Problems.problems, ReadinessIssues.{readiness_issues, issue_count}, ReadyText.ready_report};
+ghost use Rattle.findings.specs.Findings.{problem_of, issue_of};
 ghost use Rattle.model_lines.specs.Sessions.{driven, given, at_reset, session_functions, session_protocol, session_output, after_session_line};
 ghost use Rattle.lines.specs.Pieces.{IsBefore, with_more};
 ghost use Rattle.board_file.specs.{declared.fault.BoardFault.TheVariants.Memory, Faults.number_of as file_number};
@@ -12,8 +12,8 @@ use crate::asking::meant;
 use crate::board::Board;
 use crate::stage::{Stage, answer_handover, hand_over};
 use board_file::BoardFault;
-use findings::{Lack, Problem};
-use findings_told::CountedText;
+use findings::{Problem, ReadinessIssue};
+use findings_render::CountedText;
 use headers::Apertures;
 use lines::{Answer, Answers, HostRequest, LineText};
 use monitor::{HandoverFault, Monitor, Names};
@@ -152,24 +152,28 @@ impl Session {
         ensures text { IfOk result (λ r.
             string_bytes r.text ≡ ready_report apertures.now (session_functions self.old)) }
         ensures count { IfOk result (λ r.
-            r.count ≡ lack_count apertures.now (session_functions self.old)) }
+            r.count ≡ issue_count apertures.now (session_functions self.old)) }
         ensures after { self.new ≡ self.old }
     {
         let found = self.problems(alloc)?;
-        let lacking = self.lacks(alloc, apertures)?;
-        CountedText::of_lacks(alloc, &found, &lacking)
+        let lacking = self.readiness_issues(alloc, apertures)?;
+        CountedText::of_issues(alloc, &found, &lacking)
     }
 
     /// Returns everything left to do given these apertures, as values. Changes nothing, even if
     /// memory is exhausted.
-    pub fn lacks(&mut self, alloc: Global, apertures: &Apertures) -> Result<Vec<Lack>, AllocError>
+    pub fn readiness_issues(
+        &mut self,
+        alloc: Global,
+        apertures: &Apertures,
+    ) -> Result<Vec<ReadinessIssue>, AllocError>
         ensures told { IfOk result (λ v.
-            map lack_of v.items ≡ lacks apertures.now (session_functions self.old)) }
+            map issue_of v.items ≡ readiness_issues apertures.now (session_functions self.old)) }
         ensures after { self.new ≡ self.old }
     {
         match &mut self.stage {
-            Stage::Driven(board) => board.lacks(alloc, apertures),
-            Stage::Given(monitor) => monitor.lacks(alloc, apertures),
+            Stage::Driven(board) => board.readiness_issues(alloc, apertures),
+            Stage::Given(monitor) => monitor.readiness_issues(alloc, apertures),
             Stage::Between => unreachable!(),
         }
     }

@@ -6,14 +6,14 @@ ghost use Rattle.model_guests.specs.Text.{ended};
 ghost use Rattle.monitor.specs.Handovers.{number_of, words_of, handoff_fault};
 ghost use Rattle.session.specs.Tellings.{cause_text};
 
-use findings::RegionNow;
-use findings_told::push_problem;
+use findings::LiveBar;
+use findings_render::push_problem;
 use monitor::HandoverFault;
 use report::ShownPath;
 use std::alloc::{AllocError, Global};
 
 /// Appends the line for a disabled region.
-fn push_closed(text: &mut String, closed: &RegionNow) -> Result<(), AllocError>
+fn push_closed(text: &mut String, closed: &LiveBar) -> Result<(), AllocError>
     ensures { OnOk result (Adds text.old text.new (ended (closed_text closed.now))) }
 {
     let path = ShownPath(&closed.path);

@@ -10,7 +10,7 @@ use Rattle.streams.specs.Ends.{AppendsPart}
 use Rattle.model_registers.specs.Apertures.{Apertures}
 use Rattle.model_guests.specs.{Text.{Text, lines}, World.{World, IsLawfulWorld}}
 use Rattle.model_lines.{specs.Sessions.{SessionNow, driven, at_reset, session_functions, session_protocol}, proofs.HandoverLines.isolated_sessions}
-use Rattle.lines.{specs.{declared.{runs.RunFault.RunFault, watching.Seen.Seen}, Refusals.{refuses, none_seen, seen_along, IsWatched}, Runs.{Ends, ends, Runs}}, proofs.Parts.{same_end, same_error}}
+use Rattle.lines.{specs.{declared.{runs.RunFault.RunFault, watching.RunStats.RunStats}, Refusals.{refuses, none_seen, seen_along, IsWatched}, Runs.{Ends, ends, Runs}}, proofs.Parts.{same_end, same_error}}
 use Rattle.session.specs.{Files.Declares, Refusals.refusal_in}
 use Rattle.board_told.specs.{declared.{fault.Fault.{Fault, TheVariants.{SetUp, Write, NotInOrder, NotReady, RefusedLine}}, telling.Question.{Question, TheVariants.{Audit, Ready}}}, Faults.of_run}
 use Rattle.simulation.{specs.{Faults.{IsOfFile, IsToldLast, OnFile}, Serving.{at_first, session_text, left_after, told, counted, last_fault, HasEnded, IsSession, IsServed, Serves, IsOfAnswer, IsOfServing}}, proofs.Begun.runs_from}
@@ -30,10 +30,10 @@ session_over board x end at r begun ran = record {
   isolated = isolated_sessions begun.0 begun.2.guests.lawful_names;
 }
 
-pub stopped : (q : Option Question) (strict : Bool) (seen : Seen) (board : Text) (x : SessionNow) (at : Ends) (e : RunFault) → IsBegun board x
+pub stopped : (q : Option Question) (strict : Bool) (seen : RunStats) (board : Text) (x : SessionNow) (at : Ends) (e : RunFault) → IsBegun board x
     → IsWatched session_protocol refusal_in x at (Err e) → Serves {T = Unit {0}} q strict seen board at (Err (of_run e))
 stopped q strict seen board x at e begun w =
-    by_fault e (session_over board x w.end at (Err e) begun (same_error (SessionNow × Seen) (Unit {0}) session_protocol x w.end at e w.runs))
+    by_fault e (session_over board x w.end at (Err e) begun (same_error (SessionNow × RunStats) (Unit {0}) session_protocol x w.end at e w.runs))
   where
     by_fault : (e : RunFault) → IsSession {T = Unit {0}} board at (Err e) → Serves {T = Unit {0}} q strict seen board at (Err (of_run e))
     by_fault run.Read s = s
@@ -42,17 +42,17 @@ stopped q strict seen board x at e begun w =
 
 -- ---- after the lines
 
-pub record IsLeft (board : Text) (at : Ends) (a : Apertures) (y : SessionNow × Seen) : Type 0 where
+pub record IsLeft (board : Text) (at : Ends) (a : Apertures) (y : SessionNow × RunStats) : Type 0 where
   pub session : HasEnded board at
   pub left : y.0 ≡ session.end
   pub apertures : a ≡ session.world.apertures
   pub refused : ForSome at.script (λ s. y.1.refused ≡ refuses session_protocol refusal_in (at_first session.world) (lines s))
   pub seen : ForSome at.script (λ s. y.1 ≡ seen_along session_protocol refusal_in (at_first session.world) (lines s) none_seen)
 
-pub left_by : (board : Text) (x : SessionNow) (at : Ends) (a : Apertures) (y : SessionNow × Seen) (begun : IsBegun board x) → a ≡ begun.0.apertures
+pub left_by : (board : Text) (x : SessionNow) (at : Ends) (a : Apertures) (y : SessionNow × RunStats) (begun : IsBegun board x) → a ≡ begun.0.apertures
     → IsWatched session_protocol refusal_in x at (Ok y) → IsLeft board at a y
 left_by board x at a y begun same w = record {
-  session = session_over board x w.end at (Ok tt) begun (same_end (SessionNow × Seen) (Unit {0}) session_protocol x w.end at y tt w.runs);
+  session = session_over board x w.end at (Ok tt) begun (same_end (SessionNow × RunStats) (Unit {0}) session_protocol x w.end at y tt w.runs);
   left = w.left;
   apertures = same;
   refused = λ s known. w.refused s known ∙ ap (λ z. refuses session_protocol refusal_in z (lines s)) begun.3;
@@ -60,11 +60,11 @@ left_by board x at a y begun same w = record {
 }
 
 -- what is told and counted of the session that was left is so of the one after the lines
-after_lines_told : {A : Type 0} (f : Apertures → SessionNow → A) {board : Text} {at : Ends} {a : Apertures} {y : SessionNow × Seen} (l : IsLeft board at a y)
+after_lines_told : {A : Type 0} (f : Apertures → SessionNow → A) {board : Text} {at : Ends} {a : Apertures} {y : SessionNow × RunStats} (l : IsLeft board at a y)
     → (s : Text) → at.script ≡ Some s → f a y.0 ≡ f l.session.world.apertures (left_after l.session.world (lines s))
 after_lines_told f l s known = ap₂ f l.apertures (l.left ∙ l.session.runs.events s known)
 
-pub is_served : (q : Option Question) (strict : Bool) (board : Text) (a : Apertures) (n : ℕ) (script unread old mid mid_flushed new flushed : Option Text) (y : SessionNow × Seen)
+pub is_served : (q : Option Question) (strict : Bool) (board : Text) (a : Apertures) (n : ℕ) (script unread old mid mid_flushed new flushed : Option Text) (y : SessionNow × RunStats)
     → IsLeft board (ends script unread old mid mid_flushed) a y → Appends mid new (told q a (session_functions y.0)) → n ≡ counted q a (session_functions y.0)
     → (mid_flushed ≡ mid → flushed ≡ new) → IsServed q strict (last_fault q strict y.1.refused n) y.1 board (ends script unread old new flushed)
 is_served q strict board a n script unread old mid mid_flushed new flushed y l appended counts all =
@@ -84,11 +84,11 @@ is_served q strict board a n script unread old mid mid_flushed new flushed y l a
       watched = l.seen;
     }
 
-pub unanswered : (q : Option Question) (strict : Bool) (seen : Seen) (board : Text) (a : Apertures) (f : Fault) (script unread old mid mid_flushed new flushed : Option Text) (y : SessionNow × Seen)
+pub unanswered : (q : Option Question) (strict : Bool) (seen : RunStats) (board : Text) (a : Apertures) (f : Fault) (script unread old mid mid_flushed new flushed : Option Text) (y : SessionNow × RunStats)
     → IsLeft board (ends script unread old mid mid_flushed) a y → IsOfAnswer f → IsTrue (is_some q)
     → (f ≡ Write → AppendsPart mid new (told q a (session_functions y.0))) → (f ≡ SetUp set_up.Memory → (new ≡ mid) × (flushed ≡ mid_flushed))
     → Serves {T = Unit {0}} q strict seen board (ends script unread old new flushed) (Err f)
-unanswered q strict seen board a Write script unread old mid mid_flushed new flushed y l of asked stops lacks =
+unanswered q strict seen board a Write script unread old mid mid_flushed new flushed y l of asked stops readiness_issues =
     let o = l.session in
     let last = stops refl in
     inr (record {
@@ -100,8 +100,8 @@ unanswered q strict seen board a Write script unread old mid mid_flushed new flu
       begins = λ s known. subst (λ (t : Text). StartsWith t last.0) (after_lines_told (λ b z. told q b (session_functions z)) l s known) last.1;
       written = λ s known. Appends-trans old mid new (session_text o.world (lines s)) last.0 (o.runs.output s known) last.2;
     })
-unanswered q strict seen board a (SetUp s) script unread old mid mid_flushed new flushed y l of asked stops lacks = grind arith
-unanswered q strict seen board a _ script unread old mid mid_flushed new flushed y l of asked stops lacks = absurd of
+unanswered q strict seen board a (SetUp s) script unread old mid mid_flushed new flushed y l of asked stops readiness_issues = grind arith
+unanswered q strict seen board a _ script unread old mid mid_flushed new flushed y l of asked stops readiness_issues = absurd of
 
 -- ---- the fault that is told last
 
@@ -111,7 +111,7 @@ told_last None strict refused n f is = grind arith
 told_last (Some (Audit form)) strict refused n f is = grind arith
 told_last (Some (Ready form)) strict refused n f is = grind arith
 
-pub served_fault : (q : Option Question) (strict refused : Bool) (n : ℕ) (seen : Seen) (board : Text) (at : Ends) (f : Fault) → last_fault q strict refused n ≡ Some f
+pub served_fault : (q : Option Question) (strict refused : Bool) (n : ℕ) (seen : RunStats) (board : Text) (at : Ends) (f : Fault) → last_fault q strict refused n ≡ Some f
     → IsServed q strict (last_fault q strict refused n) seen board at → Serves {T = Unit {0}} q strict seen board at (Err f)
 served_fault q strict refused n seen board at f is served = grind (arith, told_last)
 

@@ -12,14 +12,14 @@
 use Rattle.std.specs.{Prelude.{◌≡◌, Bool, if◌then◌else◌, None, Some, Result, Ok, Err, string_bytes, ⊤}, Io.KnownBytes.Appends}
 use Rattle.model_guests.specs.Text.{Text}
 use Rattle.streams.specs.Ends.{AppendsPart}
-use Rattle.lines.specs.{Runs.{Ends}, declared.watching.Seen.{Seen}}
+use Rattle.lines.specs.{Runs.{Ends}, declared.watching.RunStats.{RunStats}}
 use Rattle.command_line.specs.declared.choice.Choice.{Choice, TheVariants.{Help, Demo, List, Check, Run, Firmware, Audit, Ready}}
 use Rattle.diagnostics.specs.declared.style.Style.{Style, TheVariants.{Plain, WithExcerpts}}
-use Rattle.board_fit.specs.declared.warned.Warned.{Warned}
+use Rattle.board_fit.specs.declared.warning_level.WarningLevel.{WarningLevel}
 use Rattle.board_told.specs.declared.{listing.ReportForm.{ReportForm, TheVariants.{Lines, Json}}, fault.Fault.{Fault, TheVariants.{SetUp, Write}}}
 use Rattle.simulation.specs.{Demo.demo_board, Faults.{open_fault, IsRefusal, IsOfList, IsOfRun, IsOfRunAs, OnRun}, Listing.{IsListed, IsListedInPart}, Checking.{IsChecked, IsCheckedInPart}, Running.{IsRun, RunsAs}, Serving.{IsOfServing, Serves}}
 use Rattle.bus_scan.specs.declared.fault.Fault.TheVariants as set_up
-use Rattle.board_fit.specs.declared.warned.Warned.TheVariants as of
+use Rattle.board_fit.specs.declared.warning_level.WarningLevel.TheVariants as of
 use Rattle.board_told.specs.declared.telling.Question.TheVariants as question
 
 abbrev pub Prints : {T : Type 0} → Text → Ends → Result T Fault → Type 0
@@ -44,10 +44,10 @@ form_of json = if json then Json else Lines
 abbrev pub style_of : Bool → Style
 style_of plain = if plain then Plain else WithExcerpts
 
-abbrev pub warned_of : Bool → Warned
+abbrev pub warned_of : Bool → WarningLevel
 warned_of all = if all then of.All else of.Likely
 
-abbrev pub Does : {T : Type 0} → Choice → Seen → Text → Ends → Result T Fault → Type 0
+abbrev pub Does : {T : Type 0} → Choice → RunStats → Text → Ends → Result T Fault → Type 0
 Does (Help text) seen board at r = Prints (string_bytes text) at r
 Does Demo seen board at r = OnRun (IsRun demo_board at) r
 Does (List path json) seen board at r = Lists (form_of json) board at r

@@ -6,7 +6,7 @@
 use Rattle.std.specs.{Prelude.{◌≡◌, ◌&&◌, Bool, true, false, Result, Ok, Err, IsTrue}, Option.ForSome}
 use Rattle.model_guests.specs.{Text.{Text, lines}, Grammar.has_name, World.{World, names}, WorldNow.{WorldNow, world_protocol}}
 use Rattle.model_handoff.specs.AfterSetUp.{world_at_first, IsIsolated}
-use Rattle.lines.specs.{declared.{runs.RunFault.RunFault, watching.Seen.Seen}, Runs.{Ends, Runs}, Refusals.{refuses, none_seen, seen_along}}
+use Rattle.lines.specs.{declared.{runs.RunFault.RunFault, watching.RunStats.RunStats}, Runs.{Ends, Runs}, Refusals.{refuses, none_seen, seen_along}}
 use Rattle.session.specs.Files.{IsSetUp}
 use Rattle.board_told.specs.declared.fault.Fault.{Fault, TheVariants.RefusedLine}
 use Rattle.simulation.specs.Faults.{OnRun}
@@ -21,13 +21,13 @@ pub record IsRun {T : Type 0} (board : Text) (at : Ends) (result : Result T RunF
   pub runs : Runs world_protocol (world_at_first world) end at result
   pub isolated : (name script : Text) → IsTrue (has_name (names world) name) → IsIsolated world name script
 
-pub record HasRun (strict refused : Bool) (seen : Seen) (board : Text) (at : Ends) : Type 0 where
+pub record HasRun (strict refused : Bool) (seen : RunStats) (board : Text) (at : Ends) : Type 0 where
   pub run : IsRun {T = Unit {0}} board at (Ok tt)
   pub answers : ForSome at.script (λ s. (strict && refuses world_protocol refusal_in (world_at_first run.world) (lines s)) ≡ refused)
   pub watched :
       ForSome at.script (λ s. seen ≡ seen_along world_protocol refusal_in (world_at_first run.world) (lines s) none_seen)
 
-abbrev pub RunsAs : {T : Type 0} → Bool → Seen → Text → Ends → Result T Fault → Type 0
+abbrev pub RunsAs : {T : Type 0} → Bool → RunStats → Text → Ends → Result T Fault → Type 0
 RunsAs strict seen board at (Ok x) = HasRun strict false seen board at
 RunsAs strict seen board at (Err RefusedLine) = HasRun strict true seen board at
 RunsAs {T} strict seen board at (Err other) = OnRun {T = T} (IsRun board at) (Err other)

@@ -7,9 +7,9 @@
 --         isolated
 --     HasEnded board at      all lines of such a run were read, and what they write was written and flushed
 --     told q a fs, counted q a fs      the text that answers a question of some functions, by these apertures, where one is
---         asked, and how many problems and lacks it counts
+--         asked, and how many problems and readiness_issues it counts
 --     last_fault q strict refused n      the fault of who was told all, if there is one: by whether a line was refused, and
---         n problems and lacks
+--         n problems and readiness_issues
 --     IsTold q board at      all lines were read, and the texts were written and flushed
 --     IsToldInPart q board at      so was all of what the lines write, and a beginning of the text that a question asks for
 --     IsServed q strict last seen board at      all was told, this is the fault after it, if there is one, and this was seen of
@@ -22,7 +22,7 @@ use Rattle.model_registers.specs.Apertures.{Apertures}
 use Rattle.model_board.specs.State.{BoardFunction}
 use Rattle.model_guests.specs.{Text.{Text, lines}, World.World, LineRuns.{output, after_lines}}
 use Rattle.model_lines.specs.{Sessions.{SessionNow, driven, at_reset, session_protocol, session_functions}, SessionLaws.IsolatedFrom}
-use Rattle.lines.specs.{declared.{runs.RunFault.RunFault, watching.Seen.Seen}, Refusals.{refuses, none_seen, seen_along}, Runs.{Ends, Runs}}
+use Rattle.lines.specs.{declared.{runs.RunFault.RunFault, watching.RunStats.RunStats}, Refusals.{refuses, none_seen, seen_along}, Runs.{Ends, Runs}}
 use Rattle.session.specs.{Files.Declares, Refusals.refusal_in}
 use Rattle.board_told.specs.{Telling.{told_by, counted_by}, declared.{fault.Fault.{Fault, TheVariants.{SetUp, Read, Write, NotInOrder, NotReady, RefusedLine}}, telling.Question.{Question, TheVariants.{Audit, Ready}}}}
 use Rattle.simulation.specs.Faults.{IsOfSession}
@@ -94,7 +94,7 @@ pub record IsToldInPart (q : Option Question) (board : Text) (at : Ends) : Type 
   pub begins : ForSome at.script (λ s. StartsWith (told_after q world (lines s)) part)
   pub written : ForSome at.script (λ s. Appends at.before at.after (session_text world (lines s) ++ part))
 
-pub record IsServed (q : Option Question) (strict : Bool) (last : Option Fault) (seen : Seen) (board : Text) (at : Ends)
+pub record IsServed (q : Option Question) (strict : Bool) (last : Option Fault) (seen : RunStats) (board : Text) (at : Ends)
     : Type 0 where
   pub told : IsTold q board at
   pub fault : ForSome at.script (λ s. fault_after q strict told.world (lines s) ≡ last)
@@ -103,7 +103,7 @@ pub record IsServed (q : Option Question) (strict : Bool) (last : Option Fault) 
 
 -- A write or flush fails among the lines or in the text after them. Memory is out for a line, or for that text once all
 -- ran.
-abbrev pub Serves : {T : Type 0} → Option Question → Bool → Seen → Text → Ends → Result T Fault → Type 0
+abbrev pub Serves : {T : Type 0} → Option Question → Bool → RunStats → Text → Ends → Result T Fault → Type 0
 Serves q strict seen board at (Ok x) = IsServed q strict None seen board at
 Serves q strict seen board at (Err Read) = IsSession {T = Unit {0}} board at (Err run.Read)
 Serves q strict seen board at (Err Write) = IsSession {T = Unit {0}} board at (Err run.Write) ⊎ IsToldInPart q board at

@@ -2,36 +2,36 @@
 ghost use Rattle.std.specs.Prelude.{◌≡◌, [], IfOk, string_bytes};
 
 use diagnostics::Shown;
-use lines::{BadLine, Role, Seen, Speaker, Wrong};
+use lines::{ArgError, ArgKind, BadLine, Dialect, RunStats};
 use std::alloc::{AllocError, Global};
 
 /// Returns what a missing word of this kind is called, and the message about a word of another
 /// kind.
-fn words_of(role: Role) -> (&'static str, &'static str) {
+fn words_of(role: ArgKind) -> (&'static str, &'static str) {
     let number = "is no number below 2^64";
     match role {
-        Role::Verb(speaker) => {
+        ArgKind::Verb(speaker) => {
             let verbs = match speaker {
-                Speaker::Guest => "is none of cr, cw, ir, iw, mr, mw and raise",
-                Speaker::Host => "is none of cr, ir, mr and move",
-                Speaker::Firmware => {
+                Dialect::Guest => "is none of cr, cw, ir, iw, mr, mw and raise",
+                Dialect::Host => "is none of cr, ir, mr and move",
+                Dialect::Firmware => {
                     "is none of cr, cw, ir, iw, mr, mw, why, audit, ready and guests"
                 }
             };
             ("what to do", verbs)
         }
-        Role::Function => ("the function", "is no number BB:DD.F"),
-        Role::Slot => ("the slot", number),
-        Role::Offset => ("the offset", number),
-        Role::Width => ("the width", number),
-        Role::Port => ("the port", number),
-        Role::Address => ("the address", number),
-        Role::Value => ("the value", "is no number below 2^32"),
-        Role::Mask => ("the mask", "is no number below 2^8"),
-        Role::Part => ("the part", "is none of cfg and bar0 to bar5"),
-        Role::Space => ("the space", "is none of mem, io and cfg"),
-        Role::Place => ("the place", "is no place in that space"),
-        Role::Guest => ("the guest", "is no guest"),
+        ArgKind::Function => ("the function", "is no number BB:DD.F"),
+        ArgKind::Slot => ("the slot", number),
+        ArgKind::Offset => ("the offset", number),
+        ArgKind::Width => ("the width", number),
+        ArgKind::Port => ("the port", number),
+        ArgKind::Address => ("the address", number),
+        ArgKind::Value => ("the value", "is no number below 2^32"),
+        ArgKind::Mask => ("the mask", "is no number below 2^8"),
+        ArgKind::Part => ("the part", "is none of cfg and bar0 to bar5"),
+        ArgKind::Space => ("the space", "is none of mem, io and cfg"),
+        ArgKind::Place => ("the place", "is no place in that space"),
+        ArgKind::Guest => ("the guest", "is no guest"),
     }
 }
 
@@ -41,16 +41,16 @@ fn push_bad_line(text: &mut String, bad: &BadLine) -> Result<(), AllocError> {
     let word = Shown(reason.word.as_slice());
     write!(text, "pciguest: line {}: word {}", bad.line, reason.at)?;
     match reason.wrong {
-        Wrong::Missing(role) => writeln!(text, " is missing: {}", words_of(role).0),
-        Wrong::Unfit(role) => writeln!(text, ": {} {}", word, words_of(role).1),
-        Wrong::TooMany => writeln!(text, ": {} is a word too many", word),
-        Wrong::Marked => writeln!(text, " begins with a byte order mark"),
+        ArgError::Missing(role) => writeln!(text, " is missing: {}", words_of(role).0),
+        ArgError::Unfit(role) => writeln!(text, ": {} {}", word, words_of(role).1),
+        ArgError::TooMany => writeln!(text, ": {} is a word too many", word),
+        ArgError::Marked => writeln!(text, " begins with a byte order mark"),
     }
 }
 
 /// Returns the error messages about the first bad lines, and a last line with the number of the
 /// others, if there are more. The text is empty if there are no bad lines.
-pub fn bad_lines_text(alloc: Global, seen: &Seen) -> Result<String, AllocError>
+pub fn bad_lines_text(alloc: Global, seen: &RunStats) -> Result<String, AllocError>
     ensures silent { seen.now.bad ≡ 0 → IfOk result (λ t. string_bytes t ≡ []) }
 {
     let mut text = String::new(alloc);

@@ -3,7 +3,7 @@ ghost use Rattle.std.specs.Prelude.{◌≡◌, ◌≢◌, ◌+◌, ◌-◌, ◌^
 ghost use Rattle.simulation.specs.{Faults.{write_faults, open_fault, IsOfList, IsRefusal}, Checking.{IsChecked, IsCheckedInPart}};
 
 use crate::choice::print;
-use board_fit::Warned;
+use board_fit::WarningLevel;
 use board_told::{Fault, check_text};
 use diagnostics::Style;
 use session::OpenFault;
@@ -16,7 +16,7 @@ use streams::Writer;
 pub fn check<W: Writer>(
     alloc: Global,
     style: Style,
-    warned: Warned,
+    warned: WarningLevel,
     name: &str,
     board: &[u8],
     writer: &mut W,

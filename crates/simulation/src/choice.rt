@@ -9,11 +9,11 @@ use crate::demonstration::demo;
 use crate::listing::list;
 use crate::running::run_as;
 use crate::serving::serve;
-use board_fit::Warned;
+use board_fit::WarningLevel;
 use board_told::{Fault, Question, ReportForm};
 use command_line::Choice;
 use diagnostics::Style;
-use lines::Seen;
+use lines::RunStats;
 use std::alloc::Global;
 use streams::{Reader, Writer, write_and_flush};
 
@@ -40,10 +40,14 @@ fn style_of(plain: bool) -> Style
 }
 
 /// Returns which warnings a check reports: all of them if `all`, otherwise only the likely ones.
-fn warned_of(all: bool) -> Warned
+fn warned_of(all: bool) -> WarningLevel
     ensures { result ≡ warned_of all }
 {
-    if all { Warned::All } else { Warned::Likely }
+    if all {
+        WarningLevel::All
+    } else {
+        WarningLevel::Likely
+    }
 }
 
 /// Writes a text and flushes once.
@@ -69,7 +73,7 @@ pub fn perform<R: Reader, W: Writer>(
     alloc: Global,
     choice: &Choice<'_>,
     board: &[u8],
-    seen: &mut Seen,
+    seen: &mut RunStats,
     reader: &mut R,
     writer: &mut W,
 ) -> Result<(), Fault>

@@ -20,7 +20,7 @@ mod serving;
 mod standard_streams;
 
 pub use bad_lines::bad_lines_text;
-pub use board_fit::Warned;
+pub use board_fit::WarningLevel;
 pub use board_told::{Checked, Fault, Question, ReportForm, check_text, list_in};
 pub use checking::check;
 pub use choice::perform;
@@ -30,7 +30,7 @@ pub use diagnostics::Style;
 pub use fault_lines::fault_line;
 pub use files::{board_bytes, board_or_hint};
 pub use hints::{check_hint, usage_hint};
-pub use lines::Seen;
+pub use lines::RunStats;
 pub use listing::list;
 pub use model_guests::two_worlds;
 pub use monitor::Monitor;

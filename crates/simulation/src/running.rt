@@ -5,7 +5,7 @@ ghost use Rattle.simulation.specs.{Faults.{read_faults, write_faults, OnFile, On
 ghost use Rattle.session.specs.Files.{Refuses, Breaks};
 
 use board_told::Fault;
-use lines::{Seen, run_watched};
+use lines::{RunStats, run_watched};
 use monitor::Monitor;
 use script::Script;
 use session::open;
@@ -13,7 +13,7 @@ use std::alloc::Global;
 use streams::{Reader, Writer};
 
 /// Returns whether a run ends with a fault because a line was refused.
-fn is_fault(strict: bool, seen: &Seen) -> bool
+fn is_fault(strict: bool, seen: &RunStats) -> bool
     ensures { result ≡ (strict && seen.now.refused) }
 {
     strict && seen.refused
@@ -26,7 +26,7 @@ pub(crate) fn run_as<R: Reader, W: Writer>(
     alloc: Global,
     board: &[u8],
     strict: bool,
-    seen: &mut Seen,
+    seen: &mut RunStats,
     reader: &mut R,
     writer: &mut W,
 ) -> Result<(), Fault>
@@ -92,6 +92,6 @@ pub fn whole<R: Reader, W: Writer>(
     ensures reads { R.failures reader.new ≡ R.failures reader.old + read_faults result }
     ensures writes { W.failures writer.new ≡ W.failures writer.old + write_faults result }
 {
-    let mut seen = Seen::none();
+    let mut seen = RunStats::none();
     run_as(alloc, board, false, &mut seen, reader, writer)
 }

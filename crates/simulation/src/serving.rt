@@ -11,7 +11,7 @@ ghost use Rattle.simulation.specs.{Faults.{read_faults, write_faults, OnFile, Is
 
 use crate::choice::print;
 use board_told::{Fault, Question, audit_in, ready_in};
-use lines::{Seen, run_watched};
+use lines::{RunStats, run_watched};
 use session::{Apertures, Board, CountedText, Session, SessionLines};
 use std::alloc::{AllocError, Global};
 use streams::{Reader, Writer};
@@ -32,7 +32,7 @@ fn tell(
     match question {
         Question::Audit(form) => audit_in(alloc, form, &found),
         Question::Ready(form) => {
-            let lacking = session.lacks(alloc, apertures)?;
+            let lacking = session.readiness_issues(alloc, apertures)?;
             ready_in(alloc, form, &found, &lacking)
         }
     }
@@ -119,7 +119,7 @@ pub fn serve<R: Reader, W: Writer>(
     board: &[u8],
     question: Option<Question>,
     strict: bool,
-    seen: &mut Seen,
+    seen: &mut RunStats,
     reader: &mut R,
     writer: &mut W,
 ) -> Result<(), Fault>

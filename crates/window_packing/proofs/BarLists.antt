@@ -3,7 +3,7 @@ use Rattle.std.{proofs.{Common.{◌≡◌, ℕ, zero, suc, ◌+◌, ◌||◌, Li
 use Rattle.model_registers.specs.{Declarations.{Bar, Region}, Decoding.{Space, same_space, space_of}, EndpointTable.BaseAddress}
 use Rattle.lists.specs.Elements.{IsIn}
 use Rattle.model_set_up.specs.Pools.{is_io}
-use Rattle.bars.specs.{declared.region.BasedRegion.BasedRegion, Slots.bases_from}
+use Rattle.bars.specs.{declared.region.BarWithBase.BarWithBase, Slots.bases_from}
 use Rattle.window_packing.specs.{Packs.regions_from, Placed.{is_bar_in, is_port}}
 
 pub any_in_space : (space : Space) (n : ℕ) (bars : List (Option Bar)) → list_any (is_bar_in space) bars ≡ list_any (λ (r : Region). same_space (space_of r.kind) space) (regions_from n bars)
@@ -24,7 +24,7 @@ regions_push n [] o = let z : n ≡ n + 0 = omega arith in ap (λ m. regions_fro
 regions_push n (None ∷ bars) o = regions_push (n + 1) bars o ∙ ap (λ m. regions_from (n + 1) bars ++ regions_from m (o ∷ [])) (step n (length bars))
 regions_push n (Some bar ∷ bars) o = ap (λ rs. record { index = n; kind = bar.kind; size = bar.size; cells = [] } ∷ rs) (regions_push (n + 1) bars o ∙ ap (λ m. regions_from (n + 1) bars ++ regions_from m (o ∷ [])) (step n (length bars)))
 
-pub bases_push : (n : ℕ) (slots : List (Option BasedRegion)) (o : Option BasedRegion) → bases_from n (slots ++ o ∷ []) ≡ bases_from n slots ++ bases_from (n + length slots) (o ∷ [])
+pub bases_push : (n : ℕ) (slots : List (Option BarWithBase)) (o : Option BarWithBase) → bases_from n (slots ++ o ∷ []) ≡ bases_from n slots ++ bases_from (n + length slots) (o ∷ [])
 bases_push n [] o = let z : n ≡ n + 0 = omega arith in ap (λ m. bases_from m (o ∷ [])) z
 bases_push n (None ∷ slots) o = bases_push (n + 1) slots o ∙ ap (λ m. bases_from (n + 1) slots ++ bases_from m (o ∷ [])) (step n (length slots))
 bases_push n (Some x ∷ slots) o = ap (λ rs. record { index = n; kind = x.decl.kind; size = x.decl.size; base = x.base } ∷ rs) (bases_push (n + 1) slots o ∙ ap (λ m. bases_from (n + 1) slots ++ bases_from m (o ∷ [])) (step n (length slots)))
@@ -41,7 +41,7 @@ region_among n (Some b ∷ bars) (suc k) o e r m = inr (region_among (n + 1) bar
 pub take_at : {A : Type 0} (xs : List A) (i : ℕ) (x : A) → slice_get xs i ≡ Some x → take (i + 1) xs ≡ take i xs ++ x ∷ []
 take_at xs i x e = take_more xs i x (slice_get_within xs i x e) ∙ ap (λ z. take i xs ++ z ∷ []) (get_or_from_slice_get xs i x x e)
 
-pub push_told : (f : Region → BaseAddress) (bars : List (Option Bar)) (bases : List (Option BasedRegion)) (i : ℕ) (y : Option BasedRegion) (o : Option Bar) → length bases ≡ length bars → slice_get bars i ≡ Some o
+pub push_told : (f : Region → BaseAddress) (bars : List (Option Bar)) (bases : List (Option BarWithBase)) (i : ℕ) (y : Option BarWithBase) (o : Option Bar) → length bases ≡ length bars → slice_get bars i ≡ Some o
     → bases_from 0 (take i bases) ≡ map f (regions_from 0 (take i bars)) → bases_from i (y ∷ []) ≡ map f (regions_from i (o ∷ [])) → bases_from 0 (take (i + 1) (slice_set bases i y)) ≡ map f (regions_from 0 (take (i + 1) bars))
 push_told f bars bases i y o count e told one =
     ap (bases_from 0) (take_more_set bases i y in_bases) ∙ bases_push 0 (take i bases) y ∙ ap₂ (λ xs n. xs ++ bases_from n (y ∷ [])) told at_bases ∙ ap (λ xs. map f (regions_from 0 (take i bars)) ++ xs) one

@@ -1,7 +1,7 @@
 -- The buses of a board by index: the functions of a bus stand after its bridge, and no two buses are one.
 use Rattle.std.{proofs.{Common.{◌≡◌, ℕ, zero, suc, ◌+◌, ◌<◌, ◌≤◌, ◌⊎◌, inl, inr, Bool, true, false, Some, List, [], ◌∷◌, length, drop, refl, sym, ap, ◌∙◌, subst, arith}, lemmas.Bool.cases_lt}, specs.Prelude.{filter, slice_get, IsTrue}}
 use Rattle.window_packing.{proofs.BusIndex.bus_behind, specs.Buses.bus_path}
-use Rattle.model_board.{specs.{Paths.{Path, path_eq, path_before, leads_to, parent, IsPath}, Board.{Row, Board, rows_on, IsBoard}}, proofs.{PathOrder.{leads_before, path_same}, PathEnds.not_before_itself}}
+use Rattle.model_board.{specs.{Paths.{Path, path_eq, path_before, is_ancestor_of, parent, IsPath}, Board.{Row, Board, rows_on, IsBoard}}, proofs.{PathOrder.{leads_before, path_same}, PathEnds.not_before_itself}}
 use Rattle.lists.proofs.Indices.{at_below, each_at, pair_at, same_at}
 use Rattle.bridge_forward.proofs.{Nodes.parent_leads, BoardOrder.weak_order}
 
@@ -21,7 +21,7 @@ module _ (b : Board) (board : IsBoard b) where
   stands_after i j r s here there up = by_order (cases_lt i j)
     where
       before : path_before r.path s.path ≡ true
-      before = leads_before r.path s.path (subst (λ (q : Path). leads_to q s.path ≡ true) up (parent_leads s.path (some_path j s there)))
+      before = leads_before r.path s.path (subst (λ (q : Path). is_ancestor_of q s.path ≡ true) up (parent_leads s.path (some_path j s there)))
 
       less : j < i → ⊥
       less l =

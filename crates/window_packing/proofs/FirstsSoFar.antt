@@ -4,7 +4,7 @@ use Rattle.model_registers.specs.Apertures.{Apertures, IsLawfulApertures}
 use Rattle.lists.{specs.Elements.{Each, IsIn}, proofs.Indices.{read_at, same_at, index_in}}
 use Rattle.model_board.specs.{Paths.{Part, parent, last_part}, Board.{Row, Board, IsBoard}, Lawful.HasLawfulDecls}
 use Rattle.model_set_up.specs.{Pools.Pool, Placement.{a_window, is_item, spots, offset_in, fits, bus_first}}
-use Rattle.window_packing.{specs.{declared.bridges_above.Above.Above, Buses.bus_path, Packs.{BusPack, pack_of, packs_of}, Placed.{bus_paths, IsAboveAt}}, proofs.{SpotSearch.AreStrict, BusIndex.{by_bus, count_buses, bus_behind}, BusIndices.bus_before, PoolSteps.{IsAboveRow, above_row}, Gathering.{front_at, last_at}, PlacedBuses.{highest, spots_strict, window_align, next_first, first_bound}}}
+use Rattle.window_packing.{specs.{declared.upstream_windows.UpstreamWindows.UpstreamWindows, Buses.bus_path, Packs.{PackedBus, pack_of, packs_of}, Placed.{bus_paths, IsAboveAt}}, proofs.{SpotSearch.AreStrict, BusIndex.{by_bus, count_buses, bus_behind}, BusIndices.bus_before, PoolSteps.{IsAboveRow, above_row}, Gathering.{front_at, last_at}, PlacedBuses.{highest, spots_strict, window_align, next_first, first_bound}}}
 
 -- those of the buses up to an index
 pub record AreFirsts (b : Board) (a : Apertures) (pool : Pool) (i : ℕ) (xs : List ℕ) : Type 0 where
@@ -37,14 +37,14 @@ module _ (b : Board) (a : Apertures) (pool : Pool) where
 
 -- ---- the bus of a row
 
-pub pack_is : (b : Board) (a : Apertures) (pool : Pool) (packs : List BusPack) → packs ≡ packs_of b a pool → (k : ℕ) → k ≤ length b → (p : BusPack) → slice_get packs k ≡ Some p → p ≡ pack_of b a pool (bus_path b k)
-pack_is b a pool packs e k l p at = same_at (packs_of b a pool) k p (pack_of b a pool (bus_path b k)) (subst (λ (ps : List BusPack). slice_get ps k ≡ Some p) e at) (by_bus (pack_of b a pool) b k l)
+pub pack_is : (b : Board) (a : Apertures) (pool : Pool) (packs : List PackedBus) → packs ≡ packs_of b a pool → (k : ℕ) → k ≤ length b → (p : PackedBus) → slice_get packs k ≡ Some p → p ≡ pack_of b a pool (bus_path b k)
+pack_is b a pool packs e k l p at = same_at (packs_of b a pool) k p (pack_of b a pool (bus_path b k)) (subst (λ (ps : List PackedBus). slice_get ps k ≡ Some p) e at) (by_bus (pack_of b a pool) b k l)
 
-pub count_packs : (b : Board) (a : Apertures) (pool : Pool) (packs : List BusPack) → packs ≡ packs_of b a pool → length packs ≡ suc (length b)
+pub count_packs : (b : Board) (a : Apertures) (pool : Pool) (packs : List PackedBus) → packs ≡ packs_of b a pool → length packs ≡ suc (length b)
 count_packs b a pool packs e = ap length e ∙ count_buses (pack_of b a pool) b
 
 -- a row of a board whose pool fits its aperture, and what stands above it
-pub record IsFittingRow (b : Board) (a : Apertures) (pool : Pool) (i : ℕ) (r : Row) (x : Above) : Type 0 where
+pub record IsFittingRow (b : Board) (a : Apertures) (pool : Pool) (i : ℕ) (r : Row) (x : UpstreamWindows) : Type 0 where
   pub board : IsBoard b
   pub lawful : HasLawfulDecls b
   pub apertures : IsLawfulApertures a
@@ -52,7 +52,7 @@ pub record IsFittingRow (b : Board) (a : Apertures) (pool : Pool) (i : ℕ) (r :
   pub at : slice_get b i ≡ Some r
   pub above : IsAboveAt b i x
 
-module _ {b : Board} {a : Apertures} {pool : Pool} {i : ℕ} {r : Row} {x : Above} (h : IsFittingRow b a pool i r x) where
+module _ {b : Board} {a : Apertures} {pool : Pool} {i : ℕ} {r : Row} {x : UpstreamWindows} (h : IsFittingRow b a pool i r x) where
   there : IsIn r b
   there = index_in b i r h.at
 
@@ -63,11 +63,11 @@ module _ {b : Board} {a : Apertures} {pool : Pool} {i : ℕ} {r : Row} {x : Abov
   bus_low = bus_before b h.board i r x.bus h.at row.bus row.within
 
   -- the packs of its bus and of the bus behind it, as they are read
-  module _ (packs : List BusPack) (all : packs ≡ packs_of b a pool) where
-    pub own_pack : (p : BusPack) → p ≡ get_or packs x.bus p → p ≡ pack_of b a pool (parent r.path)
+  module _ (packs : List PackedBus) (all : packs ≡ packs_of b a pool) where
+    pub own_pack : (p : PackedBus) → p ≡ get_or packs x.bus p → p ≡ pack_of b a pool (parent r.path)
     own_pack p is = grind (arith, row, pack_is, read_at, count_packs)
 
-    pub behind_pack : (q : BusPack) → q ≡ get_or packs (i + 1) q → q ≡ pack_of b a pool r.path
+    pub behind_pack : (q : PackedBus) → q ≡ get_or packs (i + 1) q → q ≡ pack_of b a pool r.path
     behind_pack q is =
         let w = slice_get_within b i r h.at in
         pack_is b a pool packs all (suc i) w q (read_at packs (suc i) q (omega (arith, w, count_packs b a pool packs all)) (rw add-one at is))
@@ -77,12 +77,12 @@ module _ {b : Board} {a : Apertures} {pool : Pool} {i : ℕ} {r : Row} {x : Abov
   pub own_first : (xs : List ℕ) → AreFirsts b a pool i xs → (n : ℕ) → n ≡ get_or xs x.bus n → n ≡ bus_first b a pool (parent r.path)
   own_first xs firsts n is = grind (arith, same_at, read_at, bus_low, row)
 
-  module _ (p : BusPack) (own : p ≡ pack_of b a pool (parent r.path)) where
+  module _ (p : PackedBus) (own : p ≡ pack_of b a pool (parent r.path)) where
     pub own_strict : AreStrict p.spots
-    own_strict = subst (λ (q : BusPack). AreStrict q.spots) (sym own) (spots_strict b a pool h.board h.lawful (parent r.path))
+    own_strict = subst (λ (q : PackedBus). AreStrict q.spots) (sym own) (spots_strict b a pool h.board h.lawful (parent r.path))
 
     module _ (part : Part) (last : part ≡ last_part r.path) where
-      pub own_align : (q : BusPack) → q ≡ pack_of b a pool r.path → Each (λ s. IsTrue (is_item part a_window s.item) → s.item.align ≡ q.align) p.spots
+      pub own_align : (q : PackedBus) → q ≡ pack_of b a pool r.path → Each (λ s. IsTrue (is_item part a_window s.item) → s.item.align ≡ q.align) p.spots
       own_align q behind = rw (own, last, behind) (window_align b a pool h.board h.lawful r there)
 
       -- the bus behind it begins where its window stands

@@ -1,6 +1,6 @@
 -- Writes of words in a row.
 use Rattle.std.{proofs.{Common.{arith, ◌≡◌, ℕ, ◌≤◌, List, [], ◌∷◌, ◌++◌, length, drop, Option, refl, ap}, lemmas.List.drop_all}, specs.Prelude.flat_map}
-use Rattle.bars.specs.{declared.region.BasedRegion.BasedRegion, Slots.bases_from}
+use Rattle.bars.specs.{declared.region.BarWithBase.BarWithBase, Slots.bases_from}
 use Rattle.model_board.specs.{State.BoardFunction, Cycles.BusAddress}
 use Rattle.host_bridge.specs.HostState.{HostState}
 use Rattle.window_packing.specs.WordWrites.{WordWrite, after_word, after_words, base_words, host_after}
@@ -17,5 +17,5 @@ pub last_word : (at : BusAddress) (w : WordWrite) (vs : List WordWrite) (h befor
 last_word at w vs h before after e f = grind (arith, words_joined)
 
 -- no slot is left at the end
-pub none_left : (n : ℕ) (slots : List (Option BasedRegion)) → length slots ≤ n → flat_map base_words (bases_from n (drop n slots)) ≡ []
+pub none_left : (n : ℕ) (slots : List (Option BarWithBase)) → length slots ≤ n → flat_map base_words (bases_from n (drop n slots)) ≡ []
 none_left n slots h = ap (λ xs. flat_map base_words (bases_from n xs)) (drop_all n slots h)

@@ -3,24 +3,24 @@ use Rattle.std.{proofs.{Common.{◌≡◌, ℕ, zero, suc, ◌+◌, ◌-◌, ◌
 use Rattle.lists.{specs.Elements.{Each, EachPair, IsIn}, proofs.Members.{each_in, each_from, pair_in}}
 use Rattle.model_registers.specs.{Apertures.{Aperture, IsLawfulApertures, Apertures}, Declarations.{Endpoint, Region}}
 use Rattle.model_board.{specs.{Paths.{Part, Path, part_eq, parent, last_part, IsPath}, Board.{endpoint, is_bridge, Row, Board, IsBoard}, Lawful.{IsLawfulDecl, HasLawfulDecls}}, proofs.{PathOrder.part_same, PathEnds.{snoc, length_snoc}}}
-use Rattle.model_set_up.{specs.{Pools.{Pool, unit_of, aperture_of}, Placement.{Placed, a_region, a_window, same_placed, Item, Spot, is_item, stands_before, in_order, round_up, need, alignment, spots_from, spots, offset_in, items_on, fits, offset_on, bus_first}, Layout.{LayoutRow, bus_rows, pool_rows}, Extents.IsInside, PlacementLaws.window_row}, proofs.{Packing.unit_positive, Items.{item_of, some_end, end_below_need, items_placeable, region_of_item, Origin, origin}, ItemOrder.{Strictly, items_strict}, Nesting.{HasItems, bus_first-snoc, window_of, bridge_of_bus}, LawfulPlacement.{row_in, pool_lawful}, DeclaredRows.has_window_row}}
+use Rattle.model_set_up.{specs.{Pools.{Pool, unit_of, aperture_of}, Placement.{Placed, a_region, a_window, same_placed, PlacementItem, PlacedItem, is_item, stands_before, in_order, round_up, need, alignment, spots_from, spots, offset_in, items_on, fits, offset_on, bus_first}, Layout.{LayoutRow, bus_rows, pool_rows}, Extents.IsInside, PlacementLaws.window_row}, proofs.{Packing.unit_positive, Items.{item_of, some_end, end_below_need, items_placeable, region_of_item, Origin, origin}, ItemOrder.{Strictly, items_strict}, Nesting.{HasItems, bus_first-snoc, window_of, bridge_of_bus}, LawfulPlacement.{row_in, pool_lawful}, DeclaredRows.has_window_row}}
 use Rattle.window_packing.proofs.{BridgesAbove.{same_row, some_path}, BusItems.{items_align, alignment_bounds}, SpotSearch.AreStrict}
 
 -- ---- spots in strict order
 
-strict_each : (i : Item) (n : ℕ) (is : List Item) → Each (Strictly i) is → Each (λ (t : Spot). IsTrue (stands_before i t.item)) (spots_from n is)
+strict_each : (i : PlacementItem) (n : ℕ) (is : List PlacementItem) → Each (Strictly i) is → Each (λ (t : PlacedItem). IsTrue (stands_before i t.item)) (spots_from n is)
 strict_each i n [] h = tt
 strict_each i n (j ∷ is) h = (h.0, strict_each i (round_up j.align n + j.size) is h.1)
 
-strict_from : (n : ℕ) (is : List Item) → EachPair Strictly is → AreStrict (spots_from n is)
+strict_from : (n : ℕ) (is : List PlacementItem) → EachPair Strictly is → AreStrict (spots_from n is)
 strict_from n [] h = tt
 strict_from n (i ∷ is) h = (strict_each i (round_up i.align n + i.size) is h.0, strict_from (round_up i.align n + i.size) is h.1)
 
-abbrev Cases : ℕ → List Spot → Type 0
-Cases n ts = (n ≡ 0) ⊎ ((t : Spot) × IsIn t ts × (n ≡ t.first))
+abbrev Cases : ℕ → List PlacedItem → Type 0
+Cases n ts = (n ≡ 0) ⊎ ((t : PlacedItem) × IsIn t ts × (n ≡ t.first))
 
 -- what is found, or 0
-offset_cases : (ss : List Spot) (p : Part) (w : Placed) → (offset_in ss p w ≡ 0) ⊎ ((s : Spot) × IsIn s ss × (offset_in ss p w ≡ s.first))
+offset_cases : (ss : List PlacedItem) (p : Part) (w : Placed) → (offset_in ss p w ≡ 0) ⊎ ((s : PlacedItem) × IsIn s ss × (offset_in ss p w ≡ s.first))
 offset_cases [] p w = inl refl
 offset_cases (s ∷ ss) p w = grind (arith, offset_cases ss p w)
 
@@ -55,11 +55,11 @@ module _ (b : Board) (a : Apertures) (pool : Pool) (board : IsBoard b) (lawful :
   pub window_align : (r : Row) → IsIn r b → Each (λ s. IsTrue (is_item (last_part r.path) a_window s.item) → s.item.align ≡ alignment (unit_of pool) (items_on b a pool r.path)) (spots (items_on b a pool (parent r.path)))
   window_align r m = each_from (λ s. IsTrue (is_item (last_part r.path) a_window s.item) → s.item.align ≡ alignment (unit_of pool) (items_on b a pool r.path)) (spots (items_on b a pool (parent r.path))) (λ s k h. of_spot s k (and_parts (part_eq s.item.part (last_part r.path)) (same_placed s.item.what a_window) h))
     where
-      of_spot : (s : Spot) → IsIn s (spots (items_on b a pool (parent r.path))) → (part_eq s.item.part (last_part r.path) ≡ true) × (same_placed s.item.what a_window ≡ true) → s.item.align ≡ alignment (unit_of pool) (items_on b a pool r.path)
+      of_spot : (s : PlacedItem) → IsIn s (spots (items_on b a pool (parent r.path))) → (part_eq s.item.part (last_part r.path) ≡ true) × (same_placed s.item.what a_window ≡ true) → s.item.align ≡ alignment (unit_of pool) (items_on b a pool r.path)
       of_spot s k h =
           let w = window_of b a pool board lawful (parent r.path) s k (same_what s.item.what a_window h.1) in
           let path : parent r.path ++ s.item.part ∷ [] ≡ r.path = ap (λ (p : Part). parent r.path ++ p ∷ []) (part_same s.item.part (last_part r.path) h.0) ∙ sym (split r m) in
-          ap (λ (t : Spot). t.item.align) (sym w.1) ∙ w.0.align_is ∙ ap (λ (p : Path). alignment (unit_of pool) (items_on b a pool p)) path
+          ap (λ (t : PlacedItem). t.item.align) (sym w.1) ∙ w.0.align_is ∙ ap (λ (p : Path). alignment (unit_of pool) (items_on b a pool p)) path
 
   one_region : (d : Endpoint) → IsLawfulDecl (endpoint d) → (x y : Region) → IsIn x d.regions → IsIn y d.regions → x.index ≡ y.index → x ≡ y
   one_region d h x y m k e = grind (arith, pair_in)
@@ -69,7 +69,7 @@ module _ (b : Board) (a : Apertures) (pool : Pool) (board : IsBoard b) (lawful :
   region_align r m d decl k on = each_from (λ s. IsTrue (is_item (last_part r.path) (a_region k.index) s.item) → s.item.align ≡ k.size) (spots (items_on b a pool (parent r.path)))
       (λ s l h. of_spot s (and_parts (part_eq s.item.part (last_part r.path)) (same_placed s.item.what (a_region k.index)) h) (origin b a pool board (parent r.path) s.item (item_of s (items_on b a pool (parent r.path)) l)))
     where
-      of_spot : (s : Spot) → (part_eq s.item.part (last_part r.path) ≡ true) × (same_placed s.item.what (a_region k.index) ≡ true) → Origin b a pool (parent r.path) s.item → s.item.align ≡ k.size
+      of_spot : (s : PlacedItem) → (part_eq s.item.part (last_part r.path) ≡ true) × (same_placed s.item.what (a_region k.index) ≡ true) → Origin b a pool (parent r.path) s.item → s.item.align ≡ k.size
       of_spot s h o = grind (arith, part_same, split, same_row, region_of_item, same_what, one_region, each_in)
 
   -- ---- addresses
@@ -79,7 +79,7 @@ module _ (b : Board) (a : Apertures) (pool : Pool) (board : IsBoard b) (lawful :
     row_bound row m e = grind (arith, pool_lawful, each_in, inside_limit, limit)
 
     -- a spot ends at 2^63 or below
-    pub spot_bound : (bus : Path) (s : Spot) → IsIn s (spots (items_on b a pool bus)) → bus_first b a pool bus + s.first + s.item.size ≤ 2 ^ 63
+    pub spot_bound : (bus : Path) (s : PlacedItem) → IsIn s (spots (items_on b a pool bus)) → bus_first b a pool bus + s.first + s.item.size ≤ 2 ^ 63
     spot_bound bus s m = row_bound (record { path = bus ++ s.item.part ∷ []; what = s.item.what; pool = pool; first = bus_first b a pool bus + s.first; size = s.item.size }) (row_in b a pool board lawful bus s m) refl
 
     -- and so does a window
@@ -92,7 +92,7 @@ module _ (b : Board) (a : Apertures) (pool : Pool) (board : IsBoard b) (lawful :
     pub found_bound : (bus : Path) (p : Part) (w : Placed) → bus_first b a pool bus ≤ highest → bus_first b a pool bus + offset_on b a pool bus p w ≤ highest
     found_bound bus p w h = by_cases (offset_cases (spots (items_on b a pool bus)) p w)
       where
-        by_cases : (offset_on b a pool bus p w ≡ 0) ⊎ ((s : Spot) × IsIn s (spots (items_on b a pool bus)) × (offset_on b a pool bus p w ≡ s.first)) → bus_first b a pool bus + offset_on b a pool bus p w ≤ highest
+        by_cases : (offset_on b a pool bus p w ≡ 0) ⊎ ((s : PlacedItem) × IsIn s (spots (items_on b a pool bus)) × (offset_on b a pool bus p w ≡ s.first)) → bus_first b a pool bus + offset_on b a pool bus p w ≤ highest
         by_cases (inl e) = omega (arith, h, e)
         by_cases (inr (s, m, e)) = omega (arith, e, spot_bound bus s m)
 
@@ -117,14 +117,14 @@ module _ (b : Board) (a : Apertures) (pool : Pool) (board : IsBoard b) (lawful :
   pub none_behind : (r : Row) → IsIn r b → is_bridge r.decl ≡ false → items_on b a pool r.path ≡ []
   none_behind r m plain = by_items (items_on b a pool r.path) refl
     where
-      by_items : (is : List Item) → items_on b a pool r.path ≡ is → is ≡ []
+      by_items : (is : List PlacementItem) → items_on b a pool r.path ≡ is → is ≡ []
       by_items [] e = refl
       by_items (i ∷ is) e =
           let f = bridge_of_bus b a pool board lawful r.path (i, subst (IsIn i) (sym e) (inl refl)) (some_path b board r m) in
           let row : f.0 ≡ r = same_row b board f.0 r f.1 m f.2 in
           let clash : true ≡ false = sym f.3 ∙ ap (λ (x : Row). is_bridge x.decl) row ∙ plain in cc
 
-  pub depth : (bus : Path) (s : Spot) → IsIn s (spots (items_on b a pool bus)) → length bus < 16
+  pub depth : (bus : Path) (s : PlacedItem) → IsIn s (spots (items_on b a pool bus)) → length bus < 16
   depth bus s m =
       let o : Origin b a pool bus s.item = origin b a pool board bus s.item (item_of s (items_on b a pool bus) m) in
       let few = (each_in (λ (x : Row). IsPath x.path) o.row b board.paths o.there).few in

@@ -2,8 +2,8 @@
 use Rattle.std.{proofs.{Common.{◌≡◌, ◌+◌, ◌<◌, ◌≤◌, inl, inr, true, false, ◌&&◌, List, [], ◌∷◌, ◌++◌, refl, sym, ap, ap₂, ◌∙◌, subst, arith, append_assoc, append-nil}, lemmas.{List.map-append, Bool.ne_eqb}}, specs.Prelude.{map, count_by}}
 use Rattle.lists.{specs.Elements.{Each, EachPair, IsIn}, proofs.{Members.{each_in, each_from, any_in, in_front, in_back}, EachLemmas.{each_of_map, pairs_after}, Tests.and_true}}
 use Rattle.model_registers.{specs.{Cell.{Cell, written}, Registers.{Place, place_eq, File, cell_at, changed}, Declarations.{Bridge, Endpoint}, DeclarationRules.IsConfigBlock, BridgeTable.{BridgeValues, bridge_file}, Apertures.Apertures}, proofs.RegisterFiles.place_same}
-use Rattle.model_board.{specs.{Paths.{Path, path_eq, path_before, leads_to}, Board.{Board, Row, Decl, endpoint, bridge, is_bridge, is_bridge_at, is_multifunction}, BusNumbers.{secondary, subordinate, Enumerates}, State.{BoardFunction, State, row_at}, AtReset.board_at}, proofs.{StateRows.rows_of, PlacesLaw.before_apart, PathOrder.exclusive, PathEnds.{path_self, path_eq-sym}, BusNumbers.{bridges, at, count_three, counted}}}
-use Rattle.model_set_up.{specs.{Reach.address_of, SetUp.{first_of, set_up_file, set_up_state}, SetUpWrites.{Setting, windows_of, writes_of, Plan, planned}, Scanning.{board_numbers, numbered_file, numbered_state, IsNumbered}, UniqueClaimant.CanBePlaced}, proofs.PlacedRegions.lawful_decl}
+use Rattle.model_board.{specs.{Paths.{Path, path_eq, path_before, is_ancestor_of}, Board.{Board, Row, Decl, endpoint, bridge, is_bridge, is_bridge_at, is_multifunction}, BusNumbers.{secondary, subordinate, Enumerates}, State.{BoardFunction, State, row_at}, AtReset.board_at}, proofs.{StateRows.rows_of, PlacesLaw.before_apart, PathOrder.exclusive, PathEnds.{path_self, path_eq-sym}, BusNumbers.{bridges, at, count_three, counted}}}
+use Rattle.model_set_up.{specs.{Reach.address_of, SetUp.{first_of, set_up_file, set_up_state}, SetUpWrites.{FunctionProgram, windows_of, writes_of, Plan, planned}, Scanning.{board_numbers, numbered_file, numbered_state, IsNumbered}, UniqueClaimant.CanBePlaced}, proofs.PlacedRegions.lawful_decl}
 use Rattle.host_bridge.specs.HostState.{HostState, with_functions}
 use Rattle.window_packing.{specs.WordWrites.{WordWrite, after_words, after_settings, words_of}, proofs.{FileWrites.file_after, BridgeWrites.bridge_written, EndpointWrites.endpoint_written, PlacedBases.bases_fit, BoardWrites.{HoldsNumbers, KeepsNumbers, words_at}}}
 
@@ -31,8 +31,8 @@ record Small (b : Board) (p : Path) : Type 0 where
 
 numbers_small : (b : Board) → Enumerates b → (p : Path) → is_bridge_at b p ≡ true → Small b p
 numbers_small b few p h =
-    let parts : bridges (λ x. path_before x p) b + bridges (at p) b + bridges (λ x. leads_to p x) b ≤ bridges (λ x. true) b =
-    count_three (λ x. path_before x p) (at p) (λ x. leads_to p x) (λ x. true) (λ x. exclusive x p) b in
+    let parts : bridges (λ x. path_before x p) b + bridges (at p) b + bridges (λ x. is_ancestor_of p x) b ≤ bridges (λ x. true) b =
+    count_three (λ x. path_before x p) (at p) (λ x. is_ancestor_of p x) (λ x. true) (λ x. exclusive x p) b in
     let whole : bridges (λ x. true) b ≡ count_by (λ r. is_bridge r.decl) b = λ i. count_by (λ r. and_true (is_bridge r.decl) i) b in
     let one : 1 ≤ bridges (at p) b = counted b p h in
     record { first = omega (arith, few); last = omega (arith, few) }
@@ -53,7 +53,7 @@ module _ (b : Board) (a : Apertures) (can : CanBePlaced b a) (few : Enumerates b
   abbrev numbered : Row → BoardFunction
   numbered r = record { path = r.path; decl = r.decl; file = numbered_file b (board_numbers b) r.path r.decl }
 
-  abbrev setting : Row → Setting
+  abbrev setting : Row → FunctionProgram
   setting r = record { at = address_of b r.path; writes = writes_of b a r.path r.decl }
 
   bridge_there : (r : Row) → IsIn r b → is_bridge r.decl ≡ true → is_bridge_at b r.path ≡ true

@@ -2,7 +2,7 @@
 use Rattle.std.proofs.Common.{◌≡◌, List, [], None, map, sym, ap, ◌∙◌, subst, arith}
 use Rattle.model_registers.specs.{DeclarationRules.first_broken, Apertures.{IsLawfulApertures, Apertures}}
 use Rattle.model_board.specs.{Paths.Path, Board.{Board, IsBoard}, Lawful.HasLawfulDecls}
-use Rattle.model_set_up.{specs.{Layout.IsLawful, SetUpWrites.{Plan, Setting, planned, placement_rules, settings}, FunctionTable.{TableRow, board_in}, UniqueClaimant.CanBePlaced, Pools.Pool, Placement.items_on}, proofs.FoundBoards.{board_in_table, on_bus, placed_as_found}}
+use Rattle.model_set_up.{specs.{Layout.IsLawful, SetUpWrites.{Plan, FunctionProgram, planned, placement_rules, settings}, FunctionTable.{TableRow, board_in}, UniqueClaimant.CanBePlaced, Pools.Pool, Placement.items_on}, proofs.FoundBoards.{board_in_table, on_bus, placed_as_found}}
 use Rattle.bus_scan.specs.{declared.fault.Fault.Fault, SizedTables.IsTableOf}
 use Rattle.window_packing.{specs.{LayoutRows.{rows_of, AreListable}, Placed.{Placement, IsPlacement}, Plans.IsRefusal, Uses.{told_by, told_use}}, proofs.{LayoutRows.{layout_rows, are_listable, table_paths}, SetUps.{placeable, rows_lawful}}}
 
@@ -12,7 +12,7 @@ module _ (rows : List TableRow) (board : IsBoard (board_in rows)) (lawful : HasL
   pub listable_rows : AreListable ps pl
   listable_rows = subst (λ (qs : List Path). AreListable qs pl) (sym (paths ∙ table_paths rows)) (are_listable (board_in rows) a board lawful pl placed)
 
-  pub planned_rows : (ss : List Setting) → ss ≡ settings (board_in rows) a → (p : Plan) → p ≡ record { rows = rows_of ps pl; settings = ss } → p ≡ planned (board_in rows) a
+  pub planned_rows : (ss : List FunctionProgram) → ss ≡ settings (board_in rows) a → (p : Plan) → p ≡ record { rows = rows_of ps pl; settings = ss } → p ≡ planned (board_in rows) a
   planned_rows ss writes p e = grind (arith, table_paths, layout_rows)
 
 -- ---- the plan of a board with this table

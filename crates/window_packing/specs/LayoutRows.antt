@@ -6,13 +6,13 @@ use Rattle.std.specs.Prelude.{List, [], ◌∷◌, ◌++◌, ◌≡◌, ℕ, suc
 use Rattle.lists.specs.Elements.{Each}
 use Rattle.model_board.specs.Paths.{Path}
 use Rattle.model_set_up.specs.{Pools.{Pool, io_pool, mem_pool, pref_pool}, Layout.{LayoutRow, row_of}}
-use Rattle.window_packing.specs.{Packs.BusPack, Placed.{PlacedPool, Placement}}
+use Rattle.window_packing.specs.{Packs.PackedBus, Placed.{PlacedPool, Placement}}
 
 abbrev pub bus_at : List Path → ℕ → Path
 bus_at paths bus = unwrap_or (slice_get ([] ∷ paths) bus) []
 
 -- the buses with their first addresses and with what stands on them
-abbrev pub rows_along : Pool → List Path → List ℕ → List BusPack → List LayoutRow
+abbrev pub rows_along : Pool → List Path → List ℕ → List PackedBus → List LayoutRow
 rows_along pool (bus ∷ buses) (n ∷ ns) (p ∷ ps) = map (row_of pool bus n) p.spots ++ rows_along pool buses ns ps
 rows_along pool buses ns ps = []
 
@@ -25,9 +25,9 @@ rows_of paths p = rows_in io_pool paths p.io ++ (rows_in mem_pool paths p.mem ++
 pub record IsListable (paths : List Path) (p : PlacedPool) : Type 0 where
   pub firsts : length p.firsts ≡ suc (length paths)
   pub packs : length p.packs ≡ suc (length paths)
-  pub deep : (k : ℕ) (pack : BusPack) → slice_get p.packs k ≡ Some pack →
+  pub deep : (k : ℕ) (pack : PackedBus) → slice_get p.packs k ≡ Some pack →
       Each (λ s. length (bus_at paths k) < 16) pack.spots
-  pub room : (k n : ℕ) (pack : BusPack) → slice_get p.firsts k ≡ Some n → slice_get p.packs k ≡ Some pack →
+  pub room : (k n : ℕ) (pack : PackedBus) → slice_get p.firsts k ≡ Some n → slice_get p.packs k ≡ Some pack →
       Each (λ s. n + s.first < 2 ^ 64) pack.spots
 
 pub record AreListable (paths : List Path) (p : Placement) : Type 0 where

@@ -10,13 +10,13 @@ use Rattle.model_board.specs.Board.{Board}
 use Rattle.model_set_up.specs.{Pools.{io_pool, mem_pool, pref_pool}, Placement.{a_region, a_window}, SetUpWrites.{to_endpoint, to_bridge, placement_rules}}
 use Rattle.bars.specs.Slots.{bases_from}
 use Rattle.bus_scan.specs.{declared.fault.Fault.{Fault, TheVariants.{IoPool, MemoryPool, PrefetchablePool, Memory}}, Faults.number_of}
-use Rattle.window_packing.specs.declared.{pool.Pool.Pool, layout_row.Placed.Placed, setting.Writes.Writes}
+use Rattle.window_packing.specs.declared.{pool.Pool.Pool, layout_row.Placed.Placed, function_program.RegisterValues.RegisterValues}
 use Rattle.model_set_up.specs.Pools as pools
 use Rattle.model_set_up.specs.Placement as placement
 use Rattle.model_set_up.specs.SetUpWrites as set_up
 use Rattle.window_packing.specs.declared.pool.Pool.TheVariants as pool
 use Rattle.window_packing.specs.declared.layout_row.Placed.TheVariants as placed
-use Rattle.window_packing.specs.declared.setting.Writes.TheVariants as writes
+use Rattle.window_packing.specs.declared.function_program.RegisterValues.TheVariants as writes
 
 abbrev pub named_pool : Pool → pools.Pool
 named_pool pool.Io = io_pool
@@ -40,6 +40,6 @@ abbrev pub placed_named : placement.Placed → Placed
 placed_named (a_region index) = placed.Region index
 placed_named a_window = placed.Window
 
-abbrev pub writes_of : Writes → set_up.Writes
+abbrev pub writes_of : RegisterValues → set_up.RegisterValues
 writes_of (writes.Endpoint command bases) = to_endpoint command (bases_from 0 bases)
 writes_of (writes.Bridge io mem pref) = to_bridge (record { io = io; mem = mem; pref = pref })

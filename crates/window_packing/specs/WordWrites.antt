@@ -7,7 +7,7 @@
 use Rattle.std.specs.Prelude.{List, [], ◌∷◌, ◌++◌, ℕ, ◌+◌, ◌*◌, ◌/◌, ◌%◌, ◌^◌, ◌==◌, if◌then◌else◌, flat_map}
 use Rattle.model_registers.specs.{ByteEnables.lanes, Declarations.registers_of, EndpointTable.BaseAddress, BridgeTable.{Window, address_bits}}
 use Rattle.model_board.specs.{State.BoardFunction, Cycles.BusAddress, Ports.after_config_write}
-use Rattle.model_set_up.specs.SetUpWrites.{Windows, Writes, to_endpoint, to_bridge, Setting}
+use Rattle.model_set_up.specs.SetUpWrites.{Windows, RegisterValues, to_endpoint, to_bridge, FunctionProgram}
 use Rattle.host_bridge.specs.HostState.{HostState, with_functions, with_latch}
 
 pub record WordWrite : Type 0 where
@@ -57,11 +57,11 @@ bridge_words w =
 
 -- ---- settings
 
-abbrev pub words_of : Writes → List WordWrite
+abbrev pub words_of : RegisterValues → List WordWrite
 words_of (to_endpoint command bases) = endpoint_words command bases
 words_of (to_bridge windows) = bridge_words windows
 
-abbrev pub after_settings : List Setting → List BoardFunction → List BoardFunction
+abbrev pub after_settings : List FunctionProgram → List BoardFunction → List BoardFunction
 after_settings [] fs = fs
 after_settings (s ∷ ss) fs = after_settings ss (after_words s.at (words_of s.writes) fs)
 

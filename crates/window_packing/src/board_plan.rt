@@ -1,11 +1,11 @@
 //! The plan of a board: the addresses of its regions and windows, and the register values to write.
 ghost use Rattle.std.specs.Prelude.{◌≡◌, IfOk};
 
+use crate::function_program::FunctionProgram;
 use crate::layout_row::PlanRow;
 use crate::pool::Pool;
 use crate::pool_placement::Placement;
 use crate::rows::push_pool;
-use crate::setting::Setting;
 use host_bridge::Path;
 use std::alloc::{AllocError, Global};
 use std::marker::Model;
@@ -16,7 +16,7 @@ use std::marker::Model;
 pub struct Plan {
     paths: Vec<Path>,
     placement: Placement,
-    settings: Vec<Setting>,
+    settings: Vec<FunctionProgram>,
 }
 
 impl Model for Plan {
@@ -35,7 +35,11 @@ impl Plan {
     ghost use Rattle.window_packing.specs.LayoutRows.{rows_of, AreListable};
 
     /// Creates the plan for functions with these paths, from their placement and settings.
-    pub(crate) fn new(paths: Vec<Path>, placement: Placement, settings: Vec<Setting>) -> Plan
+    pub(crate) fn new(
+        paths: Vec<Path>,
+        placement: Placement,
+        settings: Vec<FunctionProgram>,
+    ) -> Plan
         requires { AreListable paths.items placement }
         ensures { result
             ≡ record { rows = rows_of paths.items placement; settings = settings.items } }
@@ -60,7 +64,7 @@ impl Plan {
     }
 
     /// Returns the register values to write into each function, in path order.
-    pub fn settings(&self) -> &[Setting]
+    pub fn settings(&self) -> &[FunctionProgram]
         ensures { result.now ≡ self.now.settings }
     {
         &self.settings

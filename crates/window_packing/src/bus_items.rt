@@ -5,25 +5,25 @@ ghost use Rattle.model_registers.specs.Declarations.{Bridge};
 ghost use Rattle.window_packing.specs.{Plans.named_pool, Packs.{IsOver, pool_items, regions_from, window_of, own_items}};
 ghost use Rattle.model_set_up.specs.Pools.{unit_of};
 
-use crate::bridges_above::Above;
-use crate::item::Item;
+use crate::item::PlacementItem;
 use crate::layout_row::Placed;
-use crate::pack::{BusPack, round_up};
+use crate::pack::{PackedBus, round_up};
 use crate::pool::{Pool, pool_of};
+use crate::upstream_windows::UpstreamWindows;
 use bars::BarDecl;
 use bridge_forward::Part;
-use bus_scan::{Found, FunctionRow};
+use bus_scan::{Enumerated, EnumeratedFunction};
 use headers::Apertures;
 use std::alloc::AllocError;
 
 /// Appends the region that starts at a BAR register, if there is one and it belongs to the pool.
 fn push_region(
-    into: &mut Vec<Item>,
+    into: &mut Vec<PlacementItem>,
     part: Part,
     index: u8,
     bar: Option<BarDecl>,
     pool: Pool,
-    above: &Above,
+    above: &UpstreamWindows,
     apertures: &Apertures,
 ) -> Result<(), AllocError>
     ensures { IfOk result (λ _. (ds : List Bridge) → IsOver ds above.now
@@ -34,7 +34,7 @@ fn push_region(
     if let Some(bar) = bar
         && pool_of(apertures, above, bar.kind()) == pool
     {
-        into.push(Item {
+        into.push(PlacementItem {
             part,
             what: Placed::Region(index),
             align: bar.size(),
@@ -46,11 +46,11 @@ fn push_region(
 
 /// Appends the regions of an endpoint that belong to the pool.
 fn push_regions(
-    into: &mut Vec<Item>,
+    into: &mut Vec<PlacementItem>,
     part: Part,
     bars: &[Option<BarDecl>; 6],
     pool: Pool,
-    above: &Above,
+    above: &UpstreamWindows,
     apertures: &Apertures,
 ) -> Result<(), AllocError>
     ensures { IfOk result (λ _. (ds : List Bridge) → IsOver ds above.now
@@ -75,10 +75,10 @@ fn push_regions(
 /// Appends the window of a bridge, rounded up to the window granularity, unless the bus behind the
 /// bridge is empty.
 fn push_window(
-    into: &mut Vec<Item>,
+    into: &mut Vec<PlacementItem>,
     part: Part,
     pool: Pool,
-    behind: &BusPack,
+    behind: &PackedBus,
 ) -> Result<(), AllocError>
     requires { behind.now.end ≤ 2 ^ 63 }
     ensures { IfOk result (λ _.
@@ -86,7 +86,7 @@ fn push_window(
         ++ window_of (unit_of (named_pool pool)) part behind.now behind.now.spots) }
 {
     if !behind.spots.is_empty() {
-        into.push(Item {
+        into.push(PlacementItem {
             part,
             what: Placed::Window,
             align: behind.align,
@@ -99,12 +99,12 @@ fn push_window(
 /// Appends the items of a function on its own bus: the regions of an endpoint that belong to the
 /// pool, or the window of a bridge.
 pub(crate) fn push_own(
-    into: &mut Vec<Item>,
+    into: &mut Vec<PlacementItem>,
     pool: Pool,
-    row: &FunctionRow,
-    above: &Above,
+    row: &EnumeratedFunction,
+    above: &UpstreamWindows,
     apertures: &Apertures,
-    behind: &BusPack,
+    behind: &PackedBus,
 ) -> Result<(), AllocError>
     requires { behind.now.end ≤ 2 ^ 63 }
     ensures { IfOk result (λ _. (ds : List Bridge) → IsOver ds above.now
@@ -114,8 +114,10 @@ pub(crate) fn push_own(
 {
     let part = row.path.last();
     match &row.found {
-        Found::Endpoint { pin: _, bars } => push_regions(into, part, bars, pool, above, apertures),
-        Found::Bridge {
+        Enumerated::Endpoint { pin: _, bars } => push_regions(
+            into, part, bars, pool, above, apertures,
+        ),
+        Enumerated::Bridge {
             secondary: _,
             subordinate: _,
             io: _,

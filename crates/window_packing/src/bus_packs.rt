@@ -6,17 +6,17 @@ ghost use Rattle.model_board.specs.{Board.IsBoard, Lawful.HasLawfulDecls};
 ghost use Rattle.model_set_up.specs.{FunctionTable.board_in, Placement.fits};
 ghost use Rattle.window_packing.specs.{Plans.named_pool, Buses.AreAbove, Packs.{pack_of, packs_of, IsBounded}};
 
-use crate::bridges_above::Above;
 use crate::bus_items::push_own;
-use crate::item::Item;
-use crate::pack::{BusPack, pack_bus};
+use crate::item::PlacementItem;
+use crate::pack::{PackedBus, pack_bus};
 use crate::pool::Pool;
-use bus_scan::FunctionRow;
+use crate::upstream_windows::UpstreamWindows;
+use bus_scan::EnumeratedFunction;
 use headers::Apertures;
 use std::alloc::{AllocError, Global};
 
 /// Creates empty item lists for bus 0 and `count` more buses.
-fn no_items(alloc: Global, count: usize) -> Result<Vec<Vec<Item>>, AllocError>
+fn no_items(alloc: Global, count: usize) -> Result<Vec<Vec<PlacementItem>>, AllocError>
     ensures buses { IfOk result (λ v. length v.items ≡ count + 1) }
     ensures none { IfOk result (λ v. All (λ own. own.items ≡ []) v.items) }
 {
@@ -36,10 +36,10 @@ fn no_items(alloc: Global, count: usize) -> Result<Vec<Vec<Item>>, AllocError>
 pub(crate) fn pack_pool(
     alloc: Global,
     pool: Pool,
-    rows: &[FunctionRow],
-    above: &[Above],
+    rows: &[EnumeratedFunction],
+    above: &[UpstreamWindows],
     apertures: &Apertures,
-) -> Result<Option<Vec<BusPack>>, AllocError>
+) -> Result<Option<Vec<PackedBus>>, AllocError>
     requires board { IsBoard (board_in rows.now) }
     requires declarations { HasLawfulDecls (board_in rows.now) }
     requires above { AreAbove (board_in rows.now) above.now }

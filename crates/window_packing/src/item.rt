@@ -10,18 +10,18 @@ use std::marker::Model;
 /// A region or a bridge window: the device and function number of its function, and its alignment
 /// and size in bytes.
 #[derive(Clone, Copy, Debug)]
-pub(crate) struct Item {
+pub(crate) struct PlacementItem {
     pub(crate) part: Part,
     pub(crate) what: Placed,
     pub(crate) align: u64,
     pub(crate) size: u64,
 }
 
-impl Model for Item {
-    ghost use Rattle.model_set_up.specs.Placement.{Item};
+impl Model for PlacementItem {
+    ghost use Rattle.model_set_up.specs.Placement.{PlacementItem};
     ghost use Rattle.window_packing.specs.Plans.{named_placed, placed_named};
 
-    ghost Value = { Item };
+    ghost Value = { PlacementItem };
 
     ghost view = { λ i.
         record { part = i.part; what = named_placed i.what; align = i.align; size = i.size } };
@@ -30,7 +30,7 @@ impl Model for Item {
         record { part = v.part; what = placed_named v.what; align = v.align; size = v.size } };
 }
 
-impl Item {
+impl PlacementItem {
     /// Returns the index of the region's first BAR register, which distinguishes the items of one
     /// function. Returns 0 for a window.
     fn register(&self) -> u8
@@ -44,7 +44,7 @@ impl Item {
 
     /// Returns whether this item is placed before the other: larger alignment first, then by
     /// device, function and register.
-    pub(crate) fn is_before(&self, other: &Item) -> bool
+    pub(crate) fn is_before(&self, other: &PlacementItem) -> bool
         ensures { result ≡ stands_before self.now other.now }
     {
         if self.align != other.align {
@@ -55,7 +55,7 @@ impl Item {
     }
 
     /// Compares two items by the order in which they are placed on a bus.
-    pub(crate) fn compare(&self, other: &Item) -> Ordering
+    pub(crate) fn compare(&self, other: &PlacementItem) -> Ordering
         ensures { is_lt result ≡ stands_before self.now other.now }
     {
         if self.is_before(other) {
@@ -70,15 +70,15 @@ impl Item {
 
 /// An item with its offset from the start of the bus.
 #[derive(Clone, Copy, Debug)]
-pub(crate) struct Spot {
-    pub(crate) item: Item,
+pub(crate) struct PlacedItem {
+    pub(crate) item: PlacementItem,
     pub(crate) first: u64,
 }
 
-impl Model for Spot {
-    ghost use Rattle.model_set_up.specs.Placement.{Spot};
+impl Model for PlacedItem {
+    ghost use Rattle.model_set_up.specs.Placement.{PlacedItem};
 
-    ghost Value = { Spot };
+    ghost Value = { PlacedItem };
 
     ghost view = { λ s. record { item = s.item; first = s.first } };
 

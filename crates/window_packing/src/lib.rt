@@ -20,9 +20,9 @@
 #![tactic(auto)]
 
 mod board_plan;
-mod bridges_above;
 mod bus_items;
 mod bus_packs;
+mod function_program;
 mod item;
 mod layout_row;
 mod order;
@@ -35,10 +35,11 @@ mod programming;
 mod ready;
 mod rows;
 mod search;
-mod setting;
 mod settings;
+mod upstream_windows;
 
 pub use board_plan::Plan;
+pub use function_program::{FunctionProgram, RegisterValues, WindowSetting};
 pub use layout_row::{Placed, PlanRow};
 pub use model_set_up::flat_need;
 pub use planning::plan;
@@ -46,4 +47,3 @@ pub use pool::Pool;
 pub use pool_uses::{PoolUse, pool_use};
 pub use programming::program;
 pub use ready::{Ready, enumerate, set_up};
-pub use setting::{Setting, WindowSetting, Writes};

@@ -4,7 +4,7 @@ ghost use Rattle.lists.specs.Elements.{Each};
 ghost use Rattle.model_set_up.specs.Placement.{round_up, end_from, spots_from, in_order, alignment};
 ghost use Rattle.window_packing.specs.Packs.{pack_items, IsPackable, HasLawfulAlign};
 
-use crate::item::{Item, Spot};
+use crate::item::{PlacedItem, PlacementItem};
 use crate::order::sort;
 use std::alloc::{AllocError, Global};
 use std::marker::Model;
@@ -15,16 +15,16 @@ const LIMIT: u64 = 0x8000_0000_0000_0000;
 /// A packed bus: its items with their offsets in ascending order, the alignment of the bus, and the
 /// offset at which the last item ends.
 #[derive(Debug, Drop)]
-pub(crate) struct BusPack {
-    pub(crate) spots: Vec<Spot>,
+pub(crate) struct PackedBus {
+    pub(crate) spots: Vec<PlacedItem>,
     pub(crate) align: u64,
     pub(crate) end: u64,
 }
 
-impl Model for BusPack {
-    ghost use Rattle.window_packing.specs.Packs.{BusPack};
+impl Model for PackedBus {
+    ghost use Rattle.window_packing.specs.Packs.{PackedBus};
 
-    ghost Value = { BusPack };
+    ghost Value = { PackedBus };
 
     ghost view = { λ p. record { spots = p.spots.items; align = p.align; end = p.end } };
 }
@@ -40,7 +40,7 @@ pub(crate) fn round_up(align: u64, n: u64) -> u64
 
 /// Returns the first aligned offset for the item at or after `at`, or `None` if the item would end
 /// above the limit.
-fn place(at: u64, item: &Item) -> Option<u64>
+fn place(at: u64, item: &PlacementItem) -> Option<u64>
     requires at { at ≤ 2 ^ 63 }
     requires item { HasLawfulAlign item.now }
     ensures { MatchOption result (2 ^ 63 < round_up item.now.align at + item.now.size) (λ first.
@@ -55,7 +55,10 @@ fn place(at: u64, item: &Item) -> Option<u64>
 
 /// Places the items one after another. Returns their offsets and the end of the last one, or `None`
 /// if an item would end above the limit.
-fn place_all(alloc: Global, items: &[Item]) -> Result<Option<(Vec<Spot>, u64)>, AllocError>
+fn place_all(
+    alloc: Global,
+    items: &[PlacementItem],
+) -> Result<Option<(Vec<PlacedItem>, u64)>, AllocError>
     requires { Each HasLawfulAlign items.now }
     ensures { IfOk result (λ r. MatchOption r (2 ^ 63 < end_from 0 items.now) (λ p.
         (p.0.items ≡ spots_from 0 items.now) × (p.1 ≡ end_from 0 items.now)
@@ -68,14 +71,14 @@ fn place_all(alloc: Global, items: &[Item]) -> Result<Option<(Vec<Spot>, u64)>, 
             Some(first) => first,
             None => return Ok(None),
         };
-        spots.push(Spot { item: *item, first })?;
+        spots.push(PlacedItem { item: *item, first })?;
         at = first + item.size;
     }
     Ok(Some((spots, at)))
 }
 
 /// Returns the largest alignment of the items, or the window granularity `unit` if that is larger.
-fn alignment(unit: u64, items: &[Item]) -> u64
+fn alignment(unit: u64, items: &[PlacementItem]) -> u64
     ensures { result ≡ alignment unit items.now }
 {
     let mut greatest = unit;
@@ -89,8 +92,8 @@ fn alignment(unit: u64, items: &[Item]) -> u64
 pub(crate) fn pack_bus(
     alloc: Global,
     unit: u64,
-    items: Vec<Item>,
-) -> Result<Option<BusPack>, AllocError>
+    items: Vec<PlacementItem>,
+) -> Result<Option<PackedBus>, AllocError>
     requires { IsPackable items.items }
     ensures packed { IfOk result (λ r.
         MatchOption r (2 ^ 63 < end_from 0 (in_order items.items)) (λ p.
@@ -102,7 +105,7 @@ pub(crate) fn pack_bus(
     let Some((spots, end)) = place_all(alloc, &items)? else {
         return Ok(None);
     };
-    Ok(Some(BusPack {
+    Ok(Some(PackedBus {
         spots,
         align: alignment(unit, &items),
         end,

@@ -7,13 +7,13 @@ ghost use Rattle.bus_scan.specs.SizedTables.{IsTableOf};
 ghost use Rattle.window_packing.specs.{Buses.AreAbove, Placed.{IsPlacement, is_port}, Plans.IsRefusal};
 
 use crate::board_plan::Plan;
-use crate::bridges_above::{Above, all_above};
 use crate::pool::Pool;
 use crate::pool_placement::{Placement, place_pool};
 use crate::rows::all_paths;
 use crate::settings::all_settings;
+use crate::upstream_windows::{UpstreamWindows, all_above};
 use bars::{BarDecl, Kind};
-use bus_scan::{Fault, Found, FunctionRow, FunctionTable};
+use bus_scan::{Enumerated, EnumeratedFunction, Fault, FunctionTable};
 use headers::Apertures;
 use std::alloc::Global;
 
@@ -28,12 +28,12 @@ fn has_ports(bars: &[Option<BarDecl>; 6]) -> bool
 }
 
 /// Returns whether a function has I/O regions.
-fn opens_io(row: &FunctionRow) -> bool
+fn opens_io(row: &EnumeratedFunction) -> bool
     ensures { result ≡ opens_io row.now.decl }
 {
     match &row.found {
-        Found::Endpoint { pin: _, bars } => has_ports(bars),
-        Found::Bridge {
+        Enumerated::Endpoint { pin: _, bars } => has_ports(bars),
+        Enumerated::Bridge {
             secondary: _,
             subordinate: _,
             io: _,
@@ -44,7 +44,7 @@ fn opens_io(row: &FunctionRow) -> bool
 
 /// Returns whether I/O accesses can reach the function: all bridges above it have an I/O window. A
 /// function without I/O regions needs no such path.
-fn has_io_path(row: &FunctionRow, above: &Above) -> bool
+fn has_io_path(row: &EnumeratedFunction, above: &UpstreamWindows) -> bool
     ensures { result ≡ (not (opens_io row.now.decl) || above.now.io) }
 {
     !opens_io(row) || above.io
@@ -52,7 +52,7 @@ fn has_io_path(row: &FunctionRow, above: &Above) -> bool
 
 /// Returns whether I/O accesses can reach every I/O region: all bridges above them have an I/O
 /// window.
-fn has_io_paths(rows: &[FunctionRow], above: &[Above]) -> bool
+fn has_io_paths(rows: &[EnumeratedFunction], above: &[UpstreamWindows]) -> bool
     requires { AreAbove (board_in rows.now) above.now }
     ensures { result ≡ has_io_paths (board_in rows.now) }
 {
@@ -68,8 +68,8 @@ fn has_io_paths(rows: &[FunctionRow], above: &[Above]) -> bool
 /// I/O window, or a pool doesn't fit.
 fn place_board(
     alloc: Global,
-    rows: &[FunctionRow],
-    above: &[Above],
+    rows: &[EnumeratedFunction],
+    above: &[UpstreamWindows],
     apertures: &Apertures,
 ) -> Result<Placement, Fault>
     requires board { IsBoard (board_in rows.now) }

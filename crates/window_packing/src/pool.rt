@@ -5,7 +5,7 @@ ghost use Rattle.model_set_up.specs.Pools.{unit_of, pool_of, pref_or_mem, pref_r
 ghost use Rattle.bars.specs.Kinds.{kind_of};
 ghost use Rattle.window_packing.specs.{Plans.named_pool, Packs.IsOver};
 
-use crate::bridges_above::Above;
+use crate::upstream_windows::UpstreamWindows;
 use bars::Kind;
 use headers::{Aperture, Apertures};
 
@@ -32,7 +32,7 @@ impl Pool {
 /// Returns whether the bridges above a prefetchable region can forward addresses of the
 /// prefetchable aperture. An aperture that ends below 4 GB needs prefetchable windows. Any other
 /// aperture needs 64-bit prefetchable windows and a 64-bit region.
-fn pref_reaches(aperture: &Aperture, above: &Above, wide: bool) -> bool
+fn pref_reaches(aperture: &Aperture, above: &UpstreamWindows, wide: bool) -> bool
     ensures { (ds : List Bridge) → IsOver ds above.now →
         result ≡ pref_reaches aperture.now ds wide }
 {
@@ -45,7 +45,7 @@ fn pref_reaches(aperture: &Aperture, above: &Above, wide: bool) -> bool
 
 /// Returns the pool of a prefetchable memory region, which falls back to memory if the prefetchable
 /// aperture can't be used.
-fn pref_or_mem(apertures: &Apertures, above: &Above, wide: bool) -> Pool
+fn pref_or_mem(apertures: &Apertures, above: &UpstreamWindows, wide: bool) -> Pool
     ensures { (ds : List Bridge) → IsOver ds above.now →
         named_pool result ≡ pref_or_mem apertures.now.pref ds wide }
 {
@@ -56,7 +56,7 @@ fn pref_or_mem(apertures: &Apertures, above: &Above, wide: bool) -> Pool
 }
 
 /// Returns the pool of a region of this kind behind these bridges.
-pub(crate) fn pool_of(apertures: &Apertures, above: &Above, kind: Kind) -> Pool
+pub(crate) fn pool_of(apertures: &Apertures, above: &UpstreamWindows, kind: Kind) -> Pool
     ensures { (ds : List Bridge) → IsOver ds above.now →
         named_pool result ≡ pool_of apertures.now ds (kind_of kind) }
 {

@@ -7,15 +7,15 @@ ghost use Rattle.model_set_up.specs.{FunctionTable.board_in, Pools.aperture_of, 
 ghost use Rattle.bus_scan.specs.declared.fault.Fault.{TheVariants.Memory, Fault as FaultValue};
 ghost use Rattle.window_packing.specs.{Plans.{named_pool, fault_of}, Buses.AreAbove, Packs.{pack_of, packs_of, IsBounded}, Placed.{bus_paths, IsPlaced, pool_in}};
 
-use crate::bridges_above::Above;
 use crate::bus_packs::pack_pool;
-use crate::item::Item;
+use crate::item::PlacementItem;
 use crate::layout_row::Placed;
-use crate::pack::{BusPack, round_up};
+use crate::pack::{PackedBus, round_up};
 use crate::pool::Pool;
 use crate::search::offset_of;
+use crate::upstream_windows::UpstreamWindows;
 use bridge_forward::Part;
-use bus_scan::{Fault, FunctionRow};
+use bus_scan::{EnumeratedFunction, Fault};
 use headers::{Aperture, Apertures};
 use std::alloc::{AllocError, Global};
 use std::marker::Model;
@@ -23,7 +23,7 @@ use std::marker::Model;
 /// A placed pool: bus 0 and then the bus behind each function, each with its first address.
 #[derive(Debug, Drop)]
 pub(crate) struct PlacedPool {
-    pub(crate) packs: Vec<BusPack>,
+    pub(crate) packs: Vec<PackedBus>,
     pub(crate) firsts: Vec<u64>,
 }
 
@@ -80,7 +80,7 @@ fn aperture_of(apertures: &Apertures, pool: Pool) -> Option<Aperture>
 
 /// Returns the first address of bus 0 in the pool: the start of the aperture, rounded up to the
 /// alignment of the bus.
-pub(crate) fn root_first(apertures: &Apertures, pool: Pool, root: &BusPack) -> u64
+pub(crate) fn root_first(apertures: &Apertures, pool: Pool, root: &PackedBus) -> u64
     requires some { 0 < root.now.align }
     requires align { root.now.align ≤ 2 ^ 40 }
     ensures { result
@@ -105,7 +105,7 @@ pub(crate) fn aperture_end(apertures: &Apertures, pool: Pool) -> u64
 }
 
 /// Returns whether the pool, as packed on bus 0, fits in its aperture, which ends before `end`.
-fn fits(apertures: &Apertures, pool: Pool, end: u64, root: &BusPack) -> bool
+fn fits(apertures: &Apertures, pool: Pool, end: u64, root: &PackedBus) -> bool
     requires end { end ≡ aperture_end apertures.now (named_pool pool) }
     requires some { 0 < root.now.align }
     requires align { root.now.align ≤ 2 ^ 40 }
@@ -118,13 +118,13 @@ fn fits(apertures: &Apertures, pool: Pool, end: u64, root: &BusPack) -> bool
 
 /// Returns the offset of a bridge's window on its bus, or 0 if the bridge has no window in the
 /// pool. The alignment of the bus behind the bridge speeds up the search.
-fn window_offset(pack: &BusPack, part: Part, behind: &BusPack) -> u64
+fn window_offset(pack: &PackedBus, part: Part, behind: &PackedBus) -> u64
     requires order { EachPair (λ s t. IsTrue (stands_before s.item t.item)) pack.now.spots }
     requires align { Each (λ s. IsTrue (is_item part a_window s.item)
         → s.item.align ≡ behind.now.align) pack.now.spots }
     ensures { result ≡ offset_in pack.now.spots part a_window }
 {
-    let key = Item {
+    let key = PlacementItem {
         part,
         what: Placed::Window,
         align: behind.align,
@@ -138,10 +138,10 @@ fn window_offset(pack: &BusPack, part: Part, behind: &BusPack) -> u64
 fn bus_firsts(
     alloc: Global,
     pool: Pool,
-    rows: &[FunctionRow],
-    above: &[Above],
+    rows: &[EnumeratedFunction],
+    above: &[UpstreamWindows],
     apertures: &Apertures,
-    packs: &[BusPack],
+    packs: &[PackedBus],
 ) -> Result<Vec<u64>, AllocError>
     requires board { IsBoard (board_in rows.now) }
     requires declarations { HasLawfulDecls (board_in rows.now) }
@@ -183,8 +183,8 @@ impl Pool {
 pub(crate) fn place_pool(
     alloc: Global,
     pool: Pool,
-    rows: &[FunctionRow],
-    above: &[Above],
+    rows: &[EnumeratedFunction],
+    above: &[UpstreamWindows],
     apertures: &Apertures,
 ) -> Result<PlacedPool, Fault>
     requires board { IsBoard (board_in rows.now) }

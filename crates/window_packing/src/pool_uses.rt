@@ -5,12 +5,12 @@ ghost use Rattle.model_set_up.specs.{FunctionTable.board_in, Placement.{aperture
 ghost use Rattle.bus_scan.specs.SizedTables.{IsTableOf};
 ghost use Rattle.window_packing.specs.{Buses.AreAbove, Packs.{pack_of, IsBounded}, Plans.named_pool, Uses.{pool_use, told_use}};
 
-use crate::bridges_above::{Above, all_above};
 use crate::bus_packs::pack_pool;
-use crate::pack::BusPack;
+use crate::pack::PackedBus;
 use crate::pool::Pool;
 use crate::pool_placement::{aperture_end, root_first};
-use bus_scan::{FunctionRow, FunctionTable};
+use crate::upstream_windows::{UpstreamWindows, all_above};
+use bus_scan::{EnumeratedFunction, FunctionTable};
 use headers::Apertures;
 use std::alloc::{AllocError, Global};
 
@@ -27,7 +27,7 @@ pub struct PoolUse {
 }
 
 /// Computes the space that a pool needs from its packed bus 0 and the end of its aperture.
-fn root_use(apertures: &Apertures, pool: Pool, end: u64, root: &BusPack) -> PoolUse
+fn root_use(apertures: &Apertures, pool: Pool, end: u64, root: &PackedBus) -> PoolUse
     requires end { end ≡ aperture_end apertures.now (named_pool pool) }
     requires bounded { IsBounded root.now }
     ensures { (b : Board) → root.now ≡ pack_of b apertures.now (named_pool pool) []
@@ -45,8 +45,8 @@ fn root_use(apertures: &Apertures, pool: Pool, end: u64, root: &BusPack) -> Pool
 fn rows_use(
     alloc: Global,
     pool: Pool,
-    rows: &[FunctionRow],
-    above: &[Above],
+    rows: &[EnumeratedFunction],
+    above: &[UpstreamWindows],
     apertures: &Apertures,
 ) -> Result<Option<PoolUse>, AllocError>
     requires board { IsBoard (board_in rows.now) }

@@ -7,8 +7,8 @@ ghost use Rattle.paths.specs.BusAddresses.{bus_address_of};
 ghost use Rattle.window_packing.specs.WordWrites.{word, after_word, after_words, base_words, endpoint_words, bridge_words, window_word, io_word, io_upper_word, words_of, host_after};
 
 use crate::board_plan::Plan;
-use crate::setting::{Setting, WindowSetting, Writes};
-use bars::BasedRegion;
+use crate::function_program::{FunctionProgram, RegisterValues, WindowSetting};
+use bars::BarWithBase;
 use host_bridge::{Bdf, Host};
 
 /// The offset of Command. All offsets here are those of words (PCI Local Bus 3.0, section 6.1;
@@ -51,20 +51,22 @@ pub fn program(host: &mut Host, plan: &Plan)
 }
 
 /// Writes the settings of one function.
-fn write_setting(host: &mut Host, setting: &Setting)
+fn write_setting(host: &mut Host, setting: &FunctionProgram)
     ensures { let words = words_of setting.now.writes in
         host.new ≡ host_after
         (after_words setting.now.at words host.old.state.functions) host.old }
 {
     let writes = setting.writes;
     match writes {
-        Writes::Endpoint { command, bases } => write_endpoint(host, setting.at, command, &bases),
-        Writes::Bridge { io, mem, pref } => write_bridge(host, setting.at, io, mem, pref),
+        RegisterValues::Endpoint { command, bases } => write_endpoint(
+            host, setting.at, command, &bases,
+        ),
+        RegisterValues::Bridge { io, mem, pref } => write_bridge(host, setting.at, io, mem, pref),
     }
 }
 
 /// Writes the base address of each region, and then Command.
-fn write_endpoint(host: &mut Host, at: Bdf, command: u16, bases: &[Option<BasedRegion>; 6])
+fn write_endpoint(host: &mut Host, at: Bdf, command: u16, bases: &[Option<BarWithBase>; 6])
     ensures { let words = endpoint_words command (bases_from 0 bases.now) in
         host.new ≡ host_after
         (after_words (bus_address_of at) words host.old.state.functions) host.old }
@@ -79,7 +81,7 @@ fn write_endpoint(host: &mut Host, at: Bdf, command: u16, bases: &[Option<BasedR
 
 /// Writes the base address of a region to the BAR register at an index. For a 64-bit BAR, also
 /// writes the upper half to the next register.
-fn write_base(host: &mut Host, at: Bdf, index: u8, region: BasedRegion)
+fn write_base(host: &mut Host, at: Bdf, index: u8, region: BarWithBase)
     requires { index < 6 }
     ensures { let words = base_words (placed index region) in
         host.new ≡ host_after

@@ -5,16 +5,16 @@ ghost use Rattle.model_set_up.specs.{Layout.row_of, FunctionTable.TableRow};
 ghost use Rattle.window_packing.specs.{Plans.named_pool, LayoutRows.{bus_at, rows_in, IsListable}};
 
 use crate::layout_row::PlanRow;
-use crate::pack::BusPack;
+use crate::pack::PackedBus;
 use crate::pool::Pool;
 use crate::pool_placement::PlacedPool;
 use bridge_forward::Part;
-use bus_scan::FunctionRow;
+use bus_scan::EnumeratedFunction;
 use host_bridge::Path;
 use std::alloc::{AllocError, Global};
 
 /// Copies the paths of all functions.
-pub(crate) fn all_paths(alloc: Global, rows: &[FunctionRow]) -> Result<Vec<Path>, AllocError>
+pub(crate) fn all_paths(alloc: Global, rows: &[EnumeratedFunction]) -> Result<Vec<Path>, AllocError>
     ensures { IfOk result (λ v. v.items ≡ map (λ (r : TableRow). r.path) rows.now) }
 {
     let mut paths = Vec::with_capacity(alloc, rows.len())?;
@@ -45,7 +45,7 @@ fn push_bus(
     pool: Pool,
     bus: usize,
     first: u64,
-    pack: &BusPack,
+    pack: &PackedBus,
 ) -> Result<(), AllocError>
     requires there { bus ≤ length paths.now }
     requires depth { Each (λ s. length (bus_at paths.now bus) < 16) pack.now.spots }

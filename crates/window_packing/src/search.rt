@@ -4,23 +4,23 @@ ghost use Rattle.lists.specs.Elements.{Each, EachPair};
 ghost use Rattle.model_set_up.specs.Placement.{stands_before, is_item, offset_in};
 ghost use Rattle.window_packing.specs.Searching.{IsFirstFrom};
 
-use crate::item::{Item, Spot};
-use crate::pack::BusPack;
+use crate::item::{PlacedItem, PlacementItem};
+use crate::pack::PackedBus;
 
 /// Returns whether both items are the same region, or the window of the same bridge.
-fn is_same(item: &Item, key: &Item) -> bool
+fn is_same(item: &PlacementItem, key: &PlacementItem) -> bool
     ensures { result ≡ is_item key.now.part key.now.what item.now }
 {
     item.part == key.part && item.what == key.what
 }
 
 /// Returns the index of the first spot whose item doesn't come before `key` in placement order.
-fn first_from(spots: &[Spot], key: &Item) -> usize
+fn first_from(spots: &[PlacedItem], key: &PlacementItem) -> usize
     requires { EachPair (λ s t. IsTrue (stands_before s.item t.item)) spots.now }
     ensures { IsFirstFrom spots.now key.now result }
 {
     spots.partition_point(
-        |spot: &Spot| -> bool
+        |spot: &PlacedItem| -> bool
             ensures { result ≡ stands_before spot.now.item key.entry.now }
         { spot.item.is_before(key) },
     )
@@ -28,7 +28,7 @@ fn first_from(spots: &[Spot], key: &Item) -> usize
 
 /// Returns the offset on the bus of the item with the function, register and alignment of `key`, or
 /// 0 if there is no matching item.
-pub(crate) fn offset_of(pack: &BusPack, key: &Item) -> u64
+pub(crate) fn offset_of(pack: &PackedBus, key: &PlacementItem) -> u64
     requires order { EachPair (λ s t. IsTrue (stands_before s.item t.item)) pack.now.spots }
     requires align { Each (λ s. IsTrue (is_item key.now.part key.now.what s.item)
         → s.item.align ≡ key.now.align) pack.now.spots }

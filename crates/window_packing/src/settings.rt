@@ -3,22 +3,22 @@ ghost use Rattle.std.specs.{Prelude.{◌≡◌, ◌<◌, ◌≤◌, ◌+◌, ◌
 ghost use Rattle.lists.specs.Elements.{Each, EachPair};
 ghost use Rattle.model_registers.specs.Declarations.{Endpoint as EndpointValue};
 ghost use Rattle.model_board.specs.{Board.{Row, IsBoard}, Lawful.HasLawfulDecls};
-ghost use Rattle.model_set_up.specs.{FunctionTable.{board_in, sized_table}, Pools.unit_of, Placement.{a_region, is_item, Item as ItemValue, stands_before, offset_in, round_up}, SetUp.{command_of, window_of, set_up_window}, SetUpWrites.{placed_base, writes_of, settings}};
+ghost use Rattle.model_set_up.specs.{FunctionTable.{board_in, sized_table}, Pools.unit_of, Placement.{a_region, is_item, PlacementItem as ItemValue, stands_before, offset_in, round_up}, SetUp.{command_of, window_of, set_up_window}, SetUpWrites.{placed_base, writes_of, settings}};
 ghost use Rattle.bars.specs.{Kinds.named_space, Slots.bases_from};
 ghost use Rattle.bus_scan.specs.Rows.{regions_of};
 ghost use Rattle.window_packing.specs.{Plans.{named_pool, writes_of as named_writes}, Buses.AreAbove, Packs.{pack_items, regions_from}, Placed.{IsPlaced, IsPlacement, IsAboveAt, IsRegionAt, is_bar_in}};
 
-use crate::bridges_above::Above;
-use crate::item::Item;
+use crate::function_program::{FunctionProgram, RegisterValues, WindowSetting};
+use crate::item::PlacementItem;
 use crate::layout_row::Placed;
-use crate::pack::{BusPack, round_up};
+use crate::pack::{PackedBus, round_up};
 use crate::pool::{Pool, pool_of};
 use crate::pool_placement::{PlacedPool, Placement};
 use crate::search::offset_of;
-use crate::setting::{Setting, WindowSetting, Writes};
-use bars::{BarDecl, BasedRegion, Space};
+use crate::upstream_windows::UpstreamWindows;
+use bars::{BarDecl, BarWithBase, Space};
 use bridge_forward::Part;
-use bus_scan::{Found, FunctionRow};
+use bus_scan::{Enumerated, EnumeratedFunction};
 use headers::Apertures;
 use std::alloc::{AllocError, Global};
 
@@ -50,7 +50,7 @@ fn command_of(bars: &[Option<BarDecl>; 6]) -> u16
 }
 
 /// Returns a region with its base address, on a bus that starts at `first`.
-fn based(part: Part, index: u8, bar: BarDecl, first: u64, pack: &BusPack) -> BasedRegion
+fn based(part: Part, index: u8, bar: BarDecl, first: u64, pack: &PackedBus) -> BarWithBase
     requires order { EachPair (λ s t. IsTrue (stands_before s.item t.item)) pack.now.spots }
     requires align { Each (λ s. IsTrue (is_item part (a_region index) s.item)
         → s.item.align ≡ bar.size) pack.now.spots }
@@ -59,13 +59,13 @@ fn based(part: Part, index: u8, bar: BarDecl, first: u64, pack: &BusPack) -> Bas
         ≡ record { decl = bar; base = first + offset_in pack.now.spots part (a_region index) } }
 {
     let size = bar.size();
-    let key = Item {
+    let key = PlacementItem {
         part,
         what: Placed::Region(index),
         align: size,
         size,
     };
-    BasedRegion {
+    BarWithBase {
         decl: bar,
         base: first + offset_of(pack, &key),
     }
@@ -74,14 +74,14 @@ fn based(part: Part, index: u8, bar: BarDecl, first: u64, pack: &BusPack) -> Bas
 /// Returns the region at an index of the endpoint in row `i`, with its base address, or `None` if
 /// no region starts at that register.
 fn base_of(
-    rows: &[FunctionRow],
+    rows: &[EnumeratedFunction],
     i: usize,
     index: u8,
     bar: Option<BarDecl>,
-    above: &Above,
+    above: &UpstreamWindows,
     apertures: &Apertures,
     placement: &Placement,
-) -> Option<BasedRegion>
+) -> Option<BarWithBase>
     requires board { IsBoard (board_in rows.now) }
     requires declarations { HasLawfulDecls (board_in rows.now) }
     requires placed { IsPlacement (board_in rows.now) apertures.now placement.now }
@@ -103,13 +103,13 @@ fn base_of(
 
 /// Returns the regions of the endpoint in row `i` with their base addresses.
 fn bases_of(
-    rows: &[FunctionRow],
+    rows: &[EnumeratedFunction],
     i: usize,
     bars: &[Option<BarDecl>; 6],
-    above: &Above,
+    above: &UpstreamWindows,
     apertures: &Apertures,
     placement: &Placement,
-) -> [Option<BasedRegion>; 6]
+) -> [Option<BarWithBase>; 6]
     requires board { IsBoard (board_in rows.now) }
     requires declarations { HasLawfulDecls (board_in rows.now) }
     requires placed { IsPlacement (board_in rows.now) apertures.now placement.now }
@@ -130,7 +130,7 @@ fn bases_of(
 
 /// Returns the window of a bus that starts at `first`. For a bus without items, returns a disabled
 /// window: its base register contains the highest value, `closed`, and its limit register 0.
-fn window_of(pool: Pool, closed: u64, first: u64, pack: &BusPack) -> WindowSetting
+fn window_of(pool: Pool, closed: u64, first: u64, pack: &PackedBus) -> WindowSetting
     requires closed { closed < 2 ^ 12 }
     requires some { Each (λ s. 0
         < round_up (unit_of (named_pool pool)) pack.now.end) pack.now.spots }
@@ -154,7 +154,7 @@ fn window_of(pool: Pool, closed: u64, first: u64, pack: &BusPack) -> WindowSetti
 
 /// Returns the window, in one pool, of the bus behind the function in row `i`.
 fn window_behind(
-    rows: &[FunctionRow],
+    rows: &[EnumeratedFunction],
     i: usize,
     pool: Pool,
     closed: u64,
@@ -175,12 +175,12 @@ fn window_behind(
 
 /// Returns the register values for the function in row `i`.
 fn writes_of(
-    rows: &[FunctionRow],
+    rows: &[EnumeratedFunction],
     i: usize,
-    above: &Above,
+    above: &UpstreamWindows,
     apertures: &Apertures,
     placement: &Placement,
-) -> Writes
+) -> RegisterValues
     requires board { IsBoard (board_in rows.now) }
     requires declarations { HasLawfulDecls (board_in rows.now) }
     requires placed { IsPlacement (board_in rows.now) apertures.now placement.now }
@@ -191,16 +191,16 @@ fn writes_of(
 {
     let row = &rows[i];
     match &row.found {
-        Found::Endpoint { pin: _, bars } => Writes::Endpoint {
+        Enumerated::Endpoint { pin: _, bars } => RegisterValues::Endpoint {
             command: command_of(bars),
             bases: bases_of(rows, i, bars, above, apertures, placement),
         },
-        Found::Bridge {
+        Enumerated::Bridge {
             secondary: _,
             subordinate: _,
             io: _,
             pref: _,
-        } => Writes::Bridge {
+        } => RegisterValues::Bridge {
             io: window_behind(rows, i, Pool::Io, 0xf, apertures, &placement.io),
             mem: window_behind(rows, i, Pool::Mem, 0xfff, apertures, &placement.mem),
             pref: window_behind(rows, i, Pool::Pref, 0xfff, apertures, &placement.pref),
@@ -211,11 +211,11 @@ fn writes_of(
 /// Returns the register values for each function, in path order.
 pub(crate) fn all_settings(
     alloc: Global,
-    rows: &[FunctionRow],
-    above: &[Above],
+    rows: &[EnumeratedFunction],
+    above: &[UpstreamWindows],
     apertures: &Apertures,
     placement: &Placement,
-) -> Result<Vec<Setting>, AllocError>
+) -> Result<Vec<FunctionProgram>, AllocError>
     requires board { IsBoard (board_in rows.now) }
     requires declarations { HasLawfulDecls (board_in rows.now) }
     requires numbered { rows.now ≡ sized_table (board_in rows.now) }
@@ -225,7 +225,7 @@ pub(crate) fn all_settings(
 {
     let mut list = Vec::with_capacity(alloc, rows.len())?;
     for i in 0..rows.len() {
-        list.push(Setting {
+        list.push(FunctionProgram {
             at: rows[i].address(),
             writes: writes_of(rows, i, &above[i], apertures, placement),
         })?;

@@ -5,7 +5,7 @@ ghost use Rattle.accesses.specs.Refusals.{number_of};
 ghost use Rattle.monitor.specs.{InSlots.{IsInSlot, IsSlotFault}, Counts.{counts_of, counted_nth}, Configs.{IsSeen, IsHolding, WritesOwn, HoldsAt, WritesGuest}};
 
 use crate::access::change_count::counted;
-use crate::guest::{Guest, Held};
+use crate::guest::{AssignedFunction, Guest};
 use accesses::Refusal;
 use config_bytes::{enables_of, lowered};
 use host_bridge::Host;
@@ -13,7 +13,7 @@ use host_bridge::Host;
 /// Reads 1, 2 or 4 bytes at a configuration offset of a function as its guest sees it: Command,
 /// Header Type and the base address registers from the guest's copies, and all other bytes from the
 /// board.
-pub(crate) fn number_read(host: &mut Host, held: &Held, off: u8, width: u64) -> u32
+pub(crate) fn number_read(host: &mut Host, held: &AssignedFunction, off: u8, width: u64) -> u32
     requires seen { IsSeen host.old held.now }
     requires width { IsWidth width }
     requires aligned { off % width ≡ 0 }
@@ -31,7 +31,7 @@ pub(crate) fn number_read(host: &mut Host, held: &Held, off: u8, width: u64) -> 
 }
 
 /// Returns the function in a slot.
-pub(crate) fn held_in(slots: &[Option<Held>], slot: usize) -> Option<&Held>
+pub(crate) fn held_in(slots: &[Option<AssignedFunction>], slot: usize) -> Option<&AssignedFunction>
     ensures empty { IfNone result (unwrap_or (slice_get slots.now slot) None ≡ None) }
     ensures there { IfSome result (λ r. slice_get slots.now slot ≡ Some (Some r.now)) }
 {
@@ -43,7 +43,10 @@ pub(crate) fn held_in(slots: &[Option<Held>], slot: usize) -> Option<&Held>
 
 /// Returns the function in a slot, or the reason why there is none: 303 for a slot above 31, 601
 /// for an empty slot.
-pub(crate) fn function_in(slots: &[Option<Held>], slot: u64) -> Result<&Held, Refusal>
+pub(crate) fn function_in(
+    slots: &[Option<AssignedFunction>],
+    slot: u64,
+) -> Result<&AssignedFunction, Refusal>
     ensures there { IfOk result (λ r. IsInSlot slots.now slot r.now) }
     ensures refused { IfErr result (λ why. IsSlotFault slots.now slot (number_of why)) }
 {
@@ -59,7 +62,7 @@ pub(crate) fn function_in(slots: &[Option<Held>], slot: u64) -> Result<&Held, Re
 /// Writes the guest's copies among the enabled bytes of a word, and returns the function's index on
 /// the host and the byte enables to forward to the board.
 pub(crate) fn write_own(
-    slots: &mut [Option<Held>],
+    slots: &mut [Option<AssignedFunction>],
     slot: usize,
     word: u8,
     enables: u8,

@@ -6,13 +6,17 @@ ghost use Rattle.bars.specs.Kinds.{named_space};
 ghost use Rattle.monitor.specs.{Configs.IsHolding, Keeping.AreSlots, Landings.landing_of, Reaches.LandsIn};
 
 use crate::access::config::held_in;
-use crate::guest::Held;
+use crate::guest::AssignedFunction;
 use bars::Space;
-use host_bridge::Located;
+use host_bridge::BarOffset;
 
 /// Returns the first region that decodes an address according to the guest's own registers, by slot
 /// and then by base address register: the slot, the register and the offset in the region.
-pub(crate) fn landing(slots: &[Option<Held>], space: Space, addr: u64) -> Option<(usize, u8, u64)>
+pub(crate) fn landing(
+    slots: &[Option<AssignedFunction>],
+    space: Space,
+    addr: u64,
+) -> Option<(usize, u8, u64)>
     ensures landing { (s : State) (qs : List (Option Path)) (fs : Slots)
         → AreSlots s qs fs slots.now →
         option_map landing_of result ≡ landing_from 0 (named_space space) addr fs }
@@ -29,7 +33,12 @@ pub(crate) fn landing(slots: &[Option<Held>], space: Space, addr: u64) -> Option
 }
 
 /// Returns the location on the board of an offset in a region of the function in a slot.
-pub(crate) fn located(slots: &[Option<Held>], slot: usize, region: u8, offset: u64) -> Located
+pub(crate) fn located(
+    slots: &[Option<AssignedFunction>],
+    slot: usize,
+    region: u8,
+    offset: u64,
+) -> BarOffset
     requires { IsHolding slots.now slot }
     ensures { (holds : IsHolding slots.now slot) →
         result ≡ record { index = holds.held.index; region = region; offset = offset } }
@@ -37,7 +46,7 @@ pub(crate) fn located(slots: &[Option<Held>], slot: usize, region: u8, offset: u
     let Some(held) = &slots[slot] else {
         unreachable!()
     };
-    Located {
+    BarOffset {
         index: held.index,
         region,
         offset,

@@ -9,14 +9,14 @@ ghost use Rattle.monitor.specs.{Keeping.IsHeld, ByIndex.lone_nth, Counts.after_b
 
 use crate::access::config::function_in;
 use crate::engine::Engine;
-use crate::guest::Held;
+use crate::guest::AssignedFunction;
 use crate::queries::regions::region_kept;
-use accesses::{Op, Place, Refusal, Reply, nothing};
-use host_bridge::{Located, Route};
+use accesses::{Op, Place, Refusal, Reply, master_abort};
+use host_bridge::{BarOffset, Route};
 
 /// Returns whether the guest's Command enables the region with this byte, or None if no region has
 /// the byte.
-fn opening(held: &Held, place: Place, off: u64) -> Option<bool>
+fn opening(held: &AssignedFunction, place: Place, off: u64) -> Option<bool>
     ensures { (s : State) (p : Path) (f : Function) → IsHeld s p f held.now
         → IsLawfulOwn held.now.own → result ≡ opening f (part_of place) off }
 {
@@ -34,7 +34,7 @@ fn opening(held: &Held, place: Place, off: u64) -> Option<bool>
 }
 
 /// Returns the location on the board of a byte in a region of a function.
-fn byte_at(held: &Held, place: Place, off: u64) -> Located
+fn byte_at(held: &AssignedFunction, place: Place, off: u64) -> BarOffset
     ensures { result
         ≡ record { index = held.now.index; region = register_of (part_of place); offset = off } }
 {
@@ -42,7 +42,7 @@ fn byte_at(held: &Held, place: Place, off: u64) -> Located
         Place::Bar(register) => register,
         Place::Cfg => 0,
     };
-    Located {
+    BarOffset {
         index: held.index,
         region,
         offset: off,
@@ -76,7 +76,7 @@ impl<R: Route> Engine<R> {
             return Reply::Refused(Refusal::Range);
         };
         if !opened {
-            return nothing(op, 1);
+            return master_abort(op, 1);
         }
         let at = byte_at(held, place, off);
         match op {

@@ -9,13 +9,13 @@ ghost use Rattle.host_bridge.specs.{ByIndex.with_file_nth, HostState.with_functi
 ghost use Rattle.accesses.specs.Accesses.{part_of};
 ghost use Rattle.monitor.specs.{Keeping.IsHeld, Raises.raised_beside_copies};
 
-use crate::guest::Held;
+use crate::guest::AssignedFunction;
 use accesses::Place;
 use host_bridge::Host;
 
 /// Returns whether a function in a slot has the byte: an offset in its configuration space, or one
 /// below the size of the region that begins at a base address register.
-pub(crate) fn has_place(held: &Held, place: Place, off: u64) -> bool
+pub(crate) fn has_place(held: &AssignedFunction, place: Place, off: u64) -> bool
     ensures { (s : State) (p : Path) (f : Function) → IsHeld s p f held.now
         → result ≡ is_some (raise_place f (part_of place) off) }
 {

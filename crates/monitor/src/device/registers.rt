@@ -11,7 +11,7 @@ ghost use Rattle.monitor.specs.{ByIndex.name_nth, Keeping.IsHeld, DeviceBytes.{R
 use crate::access::config::function_in;
 use crate::device::raise::has_place;
 use crate::engine::Engine;
-use crate::guest::Held;
+use crate::guest::AssignedFunction;
 use accesses::{Place, Refusal, Reply};
 use host_bridge::Route;
 
@@ -27,7 +27,7 @@ fn is_device_byte(place: Place, off: u64) -> bool
 }
 
 /// Returns whether the byte exists in the function and belongs to its device.
-fn reaches(held: &Held, place: Place, off: u64) -> bool
+fn reaches(held: &AssignedFunction, place: Place, off: u64) -> bool
     ensures place { (s : State) (p : Path) (f : Function) → IsHeld s p f held.now
         → result ≡ is_some (device_place f (part_of place) off) }
     ensures own { IsTrue result → IsTrue (is_device_byte (place_of place off)) }
@@ -37,7 +37,12 @@ fn reaches(held: &Held, place: Place, off: u64) -> bool
 
 /// Returns the index of the function in a slot if the byte belongs to its device, or the reason for
 /// a refusal.
-fn reached(slots: &[Option<Held>], slot: u64, place: Place, off: u64) -> Result<usize, Refusal>
+fn reached(
+    slots: &[Option<AssignedFunction>],
+    slot: u64,
+    place: Place,
+    off: u64,
+) -> Result<usize, Refusal>
     ensures index { IfOk result (λ i. Reaches slots.now slot place off i) }
     ensures refused { IfErr result (λ why. Refuses slots.now slot place off (number_of why)) }
 {

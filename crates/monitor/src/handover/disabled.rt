@@ -9,19 +9,19 @@ ghost use Rattle.monitor.specs.Handovers.{closed_if_given, first_closed_at};
 
 use accesses::GuestDecl;
 use bridge_forward::{Ranges, RoutingRegion, RoutingRow};
-use findings::{RegionNow, opens};
+use findings::{LiveBar, opens};
 use host_bridge::Host;
 use paths::Path;
 use std::alloc::{AllocError, Global};
 
 /// Returns the first region of a function for which Command doesn't enable decoding.
-fn closed_in(path: &Path, command: u16, regions: &[RoutingRegion]) -> Option<RegionNow>
+fn closed_in(path: &Path, command: u16, regions: &[RoutingRegion]) -> Option<LiveBar>
     ensures { result ≡ slice_get
         (filter (λ q. not (opens_space command q.space)) (map (region_now path.now) (map base_of regions.now))) 0 }
 {
     for region in regions {
         if !opens(command, region.kind.space()) {
-            return Some(RegionNow {
+            return Some(LiveBar {
                 path: path.copied(),
                 region: *region,
             });
@@ -31,7 +31,7 @@ fn closed_in(path: &Path, command: u16, regions: &[RoutingRegion]) -> Option<Reg
 }
 
 /// Returns the first disabled region of a function. A bridge has none.
-fn closed_of(row: &RoutingRow) -> Option<RegionNow>
+fn closed_of(row: &RoutingRow) -> Option<LiveBar>
     ensures { result ≡ slice_get (closed_of row.now) 0 }
 {
     match &row.ranges {
@@ -60,7 +60,7 @@ fn is_given(decls: &[GuestDecl], path: &Path) -> bool
 }
 
 /// Returns the first disabled region of a function that is to be assigned to a guest.
-fn closed_if_given(decls: &[GuestDecl], row: &RoutingRow) -> Option<RegionNow>
+fn closed_if_given(decls: &[GuestDecl], row: &RoutingRow) -> Option<LiveBar>
     ensures { let ps = flat_map (λ (g : GuestValue). g.slots) decls.now in
         result ≡ closed_if_given ps row.now }
 {
@@ -72,7 +72,7 @@ fn closed_if_given(decls: &[GuestDecl], row: &RoutingRow) -> Option<RegionNow>
 }
 
 /// Returns the first disabled region among all functions that are to be assigned to guests.
-fn first_closed_in(rows: &[RoutingRow], decls: &[GuestDecl]) -> Option<RegionNow>
+fn first_closed_in(rows: &[RoutingRow], decls: &[GuestDecl]) -> Option<LiveBar>
     ensures { let ps = flat_map (λ (g : GuestValue). g.slots) decls.now in
         result ≡ first_closed_at ps rows.now }
 {
@@ -90,7 +90,7 @@ pub(crate) fn first_closed(
     alloc: Global,
     host: &Host,
     decls: &[GuestDecl],
-) -> Result<Option<RegionNow>, AllocError>
+) -> Result<Option<LiveBar>, AllocError>
     ensures { let ps = flat_map (λ (g : GuestValue). g.slots) decls.now in
         IfOk result (λ r. r ≡ first_closed_at ps (routing host.now.state.functions)) }
 {

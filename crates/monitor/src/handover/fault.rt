@@ -7,7 +7,7 @@ ghost use Rattle.monitor.specs.{Beginnings.world_on, Handovers.{number_of, hando
 
 use crate::handover::disabled::first_closed;
 use accesses::GuestDecl;
-use findings::{Problem, RegionNow, problems};
+use findings::{LiveBar, Problem, problems};
 use host_bridge::Host;
 use std::alloc::{AllocError, Global};
 
@@ -16,7 +16,7 @@ use std::alloc::{AllocError, Global};
 #[derive(Drop)]
 pub enum HandoverFault {
     NotInOrder(Problem),
-    Closed(RegionNow),
+    Closed(LiveBar),
     Memory,
 }
 

@@ -10,16 +10,16 @@ ghost use Rattle.bridge_forward.specs.BasesNow.{bases_nth};
 ghost use Rattle.window_packing.specs.Readies.{board_below};
 ghost use Rattle.monitor.specs.{Views.texts, Counts.counts_of, Keeping.{IsHeld, IsSlot, AreGuests}, Beginnings.{world_on, declared_in, IsStanding, AreSlotsAtFirst}};
 
-use crate::guest::{Guest, Held};
+use crate::guest::{AssignedFunction, Guest};
 use accesses::{GuestDecl, Names};
-use bars::{BarDecl, BasedRegion};
+use bars::{BarDecl, BarWithBase};
 use guest_functions::{Latch, VirtualFunction};
 use host_bridge::Host;
 use paths::Path;
 use std::alloc::{AllocError, Global};
 
 /// Returns the declaration of a BAR, without its base address.
-fn decl_of(region: Option<BasedRegion>) -> Option<BarDecl>
+fn decl_of(region: Option<BarWithBase>) -> Option<BarDecl>
     ensures { result ≡ declared_in region }
 {
     match region {
@@ -29,7 +29,7 @@ fn decl_of(region: Option<BasedRegion>) -> Option<BarDecl>
 }
 
 /// Returns the declarations of a function's BARs, by base address register.
-fn decls_of(placed: &[Option<BasedRegion>; 6]) -> [Option<BarDecl>; 6]
+fn decls_of(placed: &[Option<BarWithBase>; 6]) -> [Option<BarDecl>; 6]
     ensures { result ≡ map declared_in placed.now }
 {
     [
@@ -44,14 +44,14 @@ fn decls_of(placed: &[Option<BasedRegion>; 6]) -> [Option<BarDecl>; 6]
 
 /// Returns the endpoint at an index for a guest's slot: the guest's copies are at reset, and the
 /// regions are where the host has placed them.
-pub(crate) fn held_of(host: &Host, index: usize) -> Held
+pub(crate) fn held_of(host: &Host, index: usize) -> AssignedFunction
     requires { HasLawfulRegions
         (map opened (map with_no_base (bases_nth host.now.state.functions index))) }
     ensures { (p : PathValue) (f : Function) → IsStanding host.now.state index p f →
         IsHeld host.now.state p f result }
 {
     let placed = host.placed_nth(index);
-    Held {
+    AssignedFunction {
         own: VirtualFunction::new(decls_of(&placed)),
         placed,
         index,
@@ -59,7 +59,7 @@ pub(crate) fn held_of(host: &Host, index: usize) -> Held
 }
 
 /// Returns the endpoint at a path for a guest's slot.
-fn held_at(host: &Host, path: &Path) -> Held
+fn held_at(host: &Host, path: &Path) -> AssignedFunction
     requires board { IsStateOfBoard host.now.state.functions }
     requires there { IsSome (declared (board_below host.now) path.now) }
     ensures { let b = board_below host.now in
@@ -73,7 +73,11 @@ fn held_at(host: &Host, path: &Path) -> Held
 
 /// Returns the 32 slots of a guest: the endpoints at these paths, from slot 0 on, and then empty
 /// slots.
-fn slots_of(alloc: Global, host: &Host, paths: &[Path]) -> Result<Vec<Option<Held>>, AllocError>
+fn slots_of(
+    alloc: Global,
+    host: &Host,
+    paths: &[Path],
+) -> Result<Vec<Option<AssignedFunction>>, AllocError>
     requires board { IsStateOfBoard host.now.state.functions }
     requires few { length paths.now ≤ 32 }
     requires there { Each (λ p. IsSome (declared (board_below host.now) p)) paths.now }

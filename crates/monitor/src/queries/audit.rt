@@ -1,11 +1,11 @@
 //! The audit and the readiness check of a board whose functions are assigned to guests.
 ghost use Rattle.std.specs.Prelude.{◌≡◌, [], IfOk, map};
-ghost use Rattle.model_findings.specs.{Problems.problems, Lacks.lacks};
+ghost use Rattle.model_findings.specs.{Problems.problems, ReadinessIssues.readiness_issues};
 ghost use Rattle.model_guests.specs.WorldNow.{board_state};
-ghost use Rattle.findings.specs.Findings.{problem_of, lack_of};
+ghost use Rattle.findings.specs.Findings.{problem_of, issue_of};
 
 use crate::engine::Engine;
-use findings::{Lack, Problem, lacks, problems};
+use findings::{Problem, ReadinessIssue, problems, readiness_issues};
 use headers::Apertures;
 use host_bridge::Route;
 use std::alloc::{AllocError, Global};
@@ -24,10 +24,14 @@ impl<R: Route> Engine<R> {
 
     /// Returns everything that an operating system would still have to do to the board's registers
     /// as they are now, given these apertures.
-    pub fn lacks(&self, alloc: Global, apertures: &Apertures) -> Result<Vec<Lack>, AllocError>
-        ensures told { IfOk result (λ v.
-            map lack_of v.items ≡ lacks apertures.now (board_state self.now.world).functions) }
+    pub fn readiness_issues(
+        &self,
+        alloc: Global,
+        apertures: &Apertures,
+    ) -> Result<Vec<ReadinessIssue>, AllocError>
+        ensures told { IfOk result (λ v. map issue_of v.items
+            ≡ readiness_issues apertures.now (board_state self.now.world).functions) }
     {
-        lacks(alloc, &self.host, apertures)
+        readiness_issues(alloc, &self.host, apertures)
     }
 }

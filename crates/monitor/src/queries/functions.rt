@@ -10,24 +10,24 @@ ghost use Rattle.model_board.specs.Paths as board;
 use crate::access::config::function_in;
 use crate::engine::Engine;
 use crate::guest::Guest;
-use crate::slots::assignment::{Seat, seat_from};
+use crate::slots::assignment::{Assignment, seat_from};
 use findings::{Identity, address_of, identity_nth};
-use host_bridge::{Bdf, Host, RangesNow, Route};
+use host_bridge::{Bdf, Host, LiveRanges, Route};
 use paths::Path;
 
 /// A function of the board: its path, its BDF, its identity, its regions or windows as the board's
 /// registers define them, and the slot that it is assigned to, if any.
 #[derive(Debug, Drop)]
-pub struct FunctionNow {
+pub struct LiveFunction {
     pub path: Path,
     pub at: Bdf,
     pub identity: Identity,
-    pub ranges: RangesNow,
-    pub seat: Option<Seat>,
+    pub ranges: LiveRanges,
+    pub seat: Option<Assignment>,
 }
 
 /// Returns the description of the function at an index.
-fn function_nth(host: &Host, guests: &[Guest], index: usize) -> Option<FunctionNow>
+fn function_nth(host: &Host, guests: &[Guest], index: usize) -> Option<LiveFunction>
     requires board { IsStateOfBoard host.now.state.functions }
     requires few { length guests.now < 2 ^ 63 }
     ensures { (gs : GuestsNow)
@@ -40,7 +40,7 @@ fn function_nth(host: &Host, guests: &[Guest], index: usize) -> Option<FunctionN
     let path = host.path_nth(index)?;
     let identity = identity_nth(host, index)?;
     let ranges = host.ranges_nth(index)?;
-    Some(FunctionNow {
+    Some(LiveFunction {
         at: address_of(host, &path),
         identity,
         ranges,
@@ -60,7 +60,7 @@ impl<R: Route> Engine<R> {
 
     /// Returns the description of the function at an index in path order, or None past the last
     /// one. Allocates no memory.
-    pub fn function(&self, index: usize) -> Option<FunctionNow>
+    pub fn function(&self, index: usize) -> Option<LiveFunction>
         ensures { option_map function_named result
             ≡ function_nth (board_state self.now.world) self.now.world.guests index }
     {
@@ -70,7 +70,7 @@ impl<R: Route> Engine<R> {
 
     /// Returns the description of the function in a slot of a guest. Fails with 303 if the slot is
     /// above 31, else with 601 if it is empty. Allocates no memory.
-    pub fn slot_function(&self, guest: usize, slot: u64) -> Result<FunctionNow, u16>
+    pub fn slot_function(&self, guest: usize, slot: u64) -> Result<LiveFunction, u16>
         requires { guest < length self.now.world.guests }
         ensures { result_map_both function_named (λ n. n) result
             ≡ slot_answer (board_state self.now.world) self.now.world.guests

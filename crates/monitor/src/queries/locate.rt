@@ -10,7 +10,7 @@ ghost use Rattle.monitor.specs.{Keeping.AreSlots, ByIndex.{name_nth, lone_nth}, 
 use crate::access::config::held_in;
 use crate::access::decode::landing;
 use crate::engine::Engine;
-use crate::guest::{Guest, Held};
+use crate::guest::{AssignedFunction, Guest};
 use accesses::{Access, At, Op, Place, Refusal};
 use bars::Space;
 use guest_functions::Select;
@@ -19,19 +19,19 @@ use host_bridge::Route;
 /// A byte of a function in a guest's slot: an offset in its configuration space, or in the region
 /// that begins at a base address register.
 #[derive(Clone, Copy, Debug, PartialEq, Eq)]
-pub struct Hit {
+pub struct DecodedByte {
     pub slot: usize,
     pub place: Place,
     pub offset: u64,
 }
 
 /// Returns the byte of a region that an address decodes to.
-fn region_hit(slots: &[Option<Held>], space: Space, addr: u64) -> Option<Hit>
+fn region_hit(slots: &[Option<AssignedFunction>], space: Space, addr: u64) -> Option<DecodedByte>
     ensures { (s : State) (qs : List (Option Path)) (fs : Slots) → AreSlots s qs fs slots.now
         → option_map hit_named result ≡ landing_from 0 (named_space space) addr fs }
 {
     let (slot, region, offset) = landing(slots, space, addr)?;
-    Some(Hit {
+    Some(DecodedByte {
         slot,
         place: Place::Bar(region),
         offset,
@@ -39,12 +39,12 @@ fn region_hit(slots: &[Option<Held>], space: Space, addr: u64) -> Option<Hit>
 }
 
 /// Returns the byte of configuration space at an offset, if there is a function in the slot.
-fn config_hit(slots: &[Option<Held>], slot: usize, offset: u64) -> Option<Hit>
+fn config_hit(slots: &[Option<AssignedFunction>], slot: usize, offset: u64) -> Option<DecodedByte>
     ensures { (s : State) (qs : List (Option Path)) (fs : Slots) → AreSlots s qs fs slots.now
         → option_map hit_named result ≡ landing fs (configuration slot offset) }
 {
     match held_in(slots, slot) {
-        Some(_) => Some(Hit {
+        Some(_) => Some(DecodedByte {
             slot,
             place: Place::Cfg,
             offset,
@@ -54,7 +54,7 @@ fn config_hit(slots: &[Option<Held>], slot: usize, offset: u64) -> Option<Hit>
 }
 
 /// Returns the byte that a one-byte access reaches.
-fn hit_in(guest: &Guest, at: At) -> Option<Hit>
+fn hit_in(guest: &Guest, at: At) -> Option<DecodedByte>
     ensures { (w : WorldNow) (i : ℕ) → IsGuestNth w i guest.now
         → option_map hit_named result ≡ located (lone_nth w i) (target_of at) }
 {
@@ -72,7 +72,7 @@ fn hit_in(guest: &Guest, at: At) -> Option<Hit>
 }
 
 /// Returns the byte that a one-byte access reaches, or the reason why the access is refused.
-fn locate_in(guest: &Guest, at: At) -> Result<Option<Hit>, Refusal>
+fn locate_in(guest: &Guest, at: At) -> Result<Option<DecodedByte>, Refusal>
     ensures { (w : WorldNow) (i : ℕ) → IsGuestNth w i guest.now
         → result_map_both (option_map hit_named) number_of result
         ≡ location (lone_nth w i) (target_of at) }
@@ -93,7 +93,7 @@ impl<R: Route> Engine<R> {
     /// None if the access is unclaimed. All accesses to the place reach this byte, except 4-byte
     /// accesses to CF8h, which go to the guest's CONFIG_ADDRESS. Fails like a one-byte read, with
     /// 303 for a slot above 31, an offset above 255 or a port above FFFFFFFFh. Allocates no memory.
-    pub fn locate(&self, guest: usize, at: At) -> Result<Option<Hit>, Refusal>
+    pub fn locate(&self, guest: usize, at: At) -> Result<Option<DecodedByte>, Refusal>
         requires { guest < length self.now.world.guests }
         ensures { result_map_both (option_map hit_named) number_of result
             ≡ location (lone_of self.now.world.guests (name_nth self.now.world guest))

@@ -9,9 +9,9 @@ ghost use Rattle.bars.specs.Slots as bars;
 
 use crate::access::config::held_in;
 use crate::engine::Engine;
-use crate::guest::{Guest, Held};
+use crate::guest::{AssignedFunction, Guest};
 use crate::queries::regions::base_of;
-use bars::BasedRegion;
+use bars::BarWithBase;
 use guest_functions::Latch;
 use host_bridge::Route;
 
@@ -20,11 +20,11 @@ use host_bridge::Route;
 pub struct OwnRegisters {
     pub command: u16,
     /// The regions with their bases, each at the index of its first base address register.
-    pub regions: [Option<BasedRegion>; 6],
+    pub regions: [Option<BarWithBase>; 6],
 }
 
 /// Returns the guest's Command.
-fn command_of(held: &Held) -> u16
+fn command_of(held: &AssignedFunction) -> u16
     ensures { (file : File) → HoldsOwn file held.now.own → result ≡ command_word file }
 {
     let (command, _) = held.own.config_read(4, 0b0011);
@@ -33,7 +33,7 @@ fn command_of(held: &Held) -> u16
 
 /// Returns the region that begins at a base address register, with the base from the guest's
 /// copies.
-fn region_held(held: &Held, bar: usize) -> Option<BasedRegion>
+fn region_held(held: &AssignedFunction, bar: usize) -> Option<BarWithBase>
     ensures told { (s : State) (p : Path) (f : Function) → IsHeld s p f held.now
         → IsLawfulOwn held.now.own →
         result ≡ option_map (standing f.file bar) (bars.slot_at held.now.placed bar) }
@@ -42,7 +42,7 @@ fn region_held(held: &Held, bar: usize) -> Option<BasedRegion>
     match held.placed.get(bar) {
         Some(Some(region)) => {
             let kind = region.decl.kind();
-            Some(BasedRegion {
+            Some(BarWithBase {
                 decl: region.decl,
                 base: base_of(held, bar as u16, kind),
             })
@@ -53,7 +53,7 @@ fn region_held(held: &Held, bar: usize) -> Option<BasedRegion>
 }
 
 /// Returns the guest's copies of a function's registers.
-fn registers_of(held: &Held) -> OwnRegisters
+fn registers_of(held: &AssignedFunction) -> OwnRegisters
     ensures { (s : State) (p : Path) (f : Function) → IsHeld s p f held.now
         → IsLawfulOwn held.now.own → own_told result ≡ own_now f }
 {

@@ -10,7 +10,7 @@ ghost use Rattle.monitor.specs.{Keeping.IsHeld, ByIndex.{name_nth, lone_nth}, Qu
 
 use crate::access::config::function_in;
 use crate::engine::Engine;
-use crate::guest::{Guest, Held};
+use crate::guest::{AssignedFunction, Guest};
 use accesses::Refusal;
 use bars::{Kind, Space};
 use host_bridge::Route;
@@ -38,7 +38,7 @@ fn is_prefetchable(kind: Kind) -> bool
 
 /// Returns the base address in the guest's own base address registers, from the register at an
 /// index on.
-pub(crate) fn base_of(held: &Held, bar: u16, kind: Kind) -> u64
+pub(crate) fn base_of(held: &AssignedFunction, bar: u16, kind: Kind) -> u64
     requires { bar < 6 }
     ensures { (file : File) → HoldsOwn file held.now.own →
         bar + registers_of (kind_of kind) ≤ 6
@@ -57,7 +57,7 @@ pub(crate) fn base_of(held: &Held, bar: u16, kind: Kind) -> u64
 }
 
 /// Returns whether the guest's Command enables decoding in a space.
-fn opens(held: &Held, space: Space) -> bool
+fn opens(held: &AssignedFunction, space: Space) -> bool
     ensures { (file : File) → HoldsOwn file held.now.own →
         result ≡ is_open file (named_space space) }
 {
@@ -66,7 +66,7 @@ fn opens(held: &Held, space: Space) -> bool
 }
 
 /// Returns the region that begins at a base address register of a function in a slot.
-pub(crate) fn region_kept(held: &Held, bar: usize) -> Option<GuestRegion>
+pub(crate) fn region_kept(held: &AssignedFunction, bar: usize) -> Option<GuestRegion>
     ensures { (s : State) (p : Path) (f : Function) → IsHeld s p f held.now
         → IsLawfulOwn held.now.own →
         option_map region_named result ≡ option_map (region_now f.file) (region_at f bar) }

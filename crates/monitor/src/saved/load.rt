@@ -8,7 +8,7 @@ ghost use Rattle.monitor.specs.{ByIndex.{lone_nth, name_nth, with_lone_nth}, Cou
 
 use crate::access::config_address::write_latch;
 use crate::engine::Engine;
-use crate::guest::{Guest, Held};
+use crate::guest::{AssignedFunction, Guest};
 use crate::saved::load_function::load_function;
 use crate::saved::save::{compare_image, slot_shown};
 use crate::slots::reset_guest::restart;
@@ -38,7 +38,11 @@ fn front(bytes: &[u8], count: usize) -> &[u8]
 
 /// Returns how many bytes of a slot precede its register values, and how many values there are.
 /// Returns None for an empty slot.
-fn value_span(host: &Host, slots: &[Option<Held>], slot: usize) -> Option<(usize, usize)>
+fn value_span(
+    host: &Host,
+    slots: &[Option<AssignedFunction>],
+    slot: usize,
+) -> Option<(usize, usize)>
     ensures { let fs = map (slot_shown host.now.state.functions) slots.now in
         result ≡ option_map value_span (slot_at fs slot) }
 {

@@ -11,7 +11,7 @@ ghost use Rattle.monitor.specs.{Configs.HoldsAt, Counts.counts_of, Loadings.{Kee
 use crate::access::config::{held_in, write_in};
 use crate::guest::Guest;
 use accesses::Place;
-use config_bytes::{enables_of, into_lanes};
+use config_bytes::{enables_of, to_lanes};
 use headers::register_width;
 use host_bridge::Host;
 
@@ -55,7 +55,7 @@ fn write_byte(host: &mut Host, guests: &mut [Guest], guest: usize, slot: usize, 
 {
     let from = u64::from(off);
     let word = off / 4 * 4;
-    let moved = into_lanes(from, u32::from(value));
+    let moved = to_lanes(from, u32::from(value));
     let enables = enables_of(from, 1);
     let (index, others) = write_in(guests, guest, slot, word, enables, moved, false);
     host.config_write_nth(index, word, others, moved);

@@ -6,7 +6,7 @@ ghost use Rattle.model_images.specs.{LoadedBytes.load_fault, Stops.{StopsAt, is_
 ghost use Rattle.monitor.specs.{ByIndex.name_nth, ShownImages.lone_shown, Views.slot_shown};
 
 use crate::engine::Engine;
-use crate::guest::{Guest, Held};
+use crate::guest::{AssignedFunction, Guest};
 use crate::saved::save::{after_slot, compare_image};
 use host_bridge::{Host, Route};
 use images::{after_header, after_latch};
@@ -20,7 +20,7 @@ pub struct ImageStop {
 }
 
 /// Returns the number of slots that fit before the first one that doesn't.
-fn slots_read(host: &Host, slots: &[Option<Held>], bytes: &[u8]) -> usize
+fn slots_read(host: &Host, slots: &[Option<AssignedFunction>], bytes: &[u8]) -> usize
     requires { length slots.now ≤ 32 }
     ensures { let fs = map (slot_shown host.now.state.functions) slots.now in
         result ≡ slots_read fs bytes.now }

@@ -6,7 +6,7 @@ ghost use Rattle.images.specs.{Faults.number_of, Puts.put, Shown.seen};
 ghost use Rattle.monitor.specs.{ByIndex.name_nth, Views.slot_shown, ShownImages.{HasPlaces, HavePlaces, lone_shown, slot_image, slots_image}};
 
 use crate::engine::Engine;
-use crate::guest::{Guest, Held};
+use crate::guest::{AssignedFunction, Guest};
 use bridge_forward::EndpointFn;
 use guest_functions::VirtualFunction;
 use host_bridge::{Host, Route};
@@ -19,7 +19,7 @@ use images::{
 /// copies.
 pub(crate) fn slot_shown<'a>(
     host: &'a Host,
-    slot: &'a Option<Held>,
+    slot: &'a Option<AssignedFunction>,
 ) -> Option<(&'a EndpointFn, &'a VirtualFunction)>
     ensures { option_map (λ f. seen f.0.now f.1.now) result
         ≡ slot_shown host.now.state.functions slot.now }
@@ -32,7 +32,7 @@ pub(crate) fn slot_shown<'a>(
 }
 
 /// Returns the size of a slot in a saved state, in bytes.
-fn slot_size(host: &Host, slot: &Option<Held>) -> usize
+fn slot_size(host: &Host, slot: &Option<AssignedFunction>) -> usize
     requires { HasPlaces (slot_shown host.now.state.functions slot.now) }
     ensures size { result ≡ length (slot_image host.now.state.functions slot.now) }
     ensures bound { result ≤ 246307 }
@@ -43,7 +43,7 @@ fn slot_size(host: &Host, slot: &Option<Held>) -> usize
     }
 }
 
-fn slots_size(host: &Host, slots: &[Option<Held>]) -> usize
+fn slots_size(host: &Host, slots: &[Option<AssignedFunction>]) -> usize
     requires places { HavePlaces host.now.state.functions slots.now }
     requires few { length slots.now ≤ 32 }
     ensures size { result ≡ length (slots_image host.now.state.functions slots.now) }
@@ -59,7 +59,7 @@ fn slots_size(host: &Host, slots: &[Option<Held>]) -> usize
 }
 
 /// Writes a slot into a buffer from index `at`, and returns the index after it.
-fn put_slot(host: &Host, slot: &Option<Held>, out: &mut [u8], at: usize) -> usize
+fn put_slot(host: &Host, slot: &Option<AssignedFunction>, out: &mut [u8], at: usize) -> usize
     requires places { HasPlaces (slot_shown host.now.state.functions slot.now) }
     requires room { at + length (slot_image host.now.state.functions slot.now) ≤ length out.old }
     ensures bytes { out.new
@@ -75,7 +75,7 @@ fn put_slot(host: &Host, slot: &Option<Held>, out: &mut [u8], at: usize) -> usiz
     }
 }
 
-fn put_slots(host: &Host, slots: &[Option<Held>], out: &mut [u8], at: usize) -> usize
+fn put_slots(host: &Host, slots: &[Option<AssignedFunction>], out: &mut [u8], at: usize) -> usize
     requires places { HavePlaces host.now.state.functions slots.now }
     requires room { at + length (slots_image host.now.state.functions slots.now)
         ≤ length out.old }
@@ -109,7 +109,7 @@ fn put_image(host: &Host, guest: &Guest, out: &mut [u8])
 /// value that its register can't hold, and a slot with another content.
 pub(crate) fn after_slot<'a>(
     host: &Host,
-    slot: &Option<Held>,
+    slot: &Option<AssignedFunction>,
     bytes: &'a [u8],
 ) -> Result<&'a [u8], ImageFault>
     ensures left { let f = slot_shown host.now.state.functions slot.now in
@@ -125,7 +125,11 @@ pub(crate) fn after_slot<'a>(
 
 /// Refuses bytes that aren't the saved slots of these functions. The register values don't matter,
 /// as long as the registers can hold them.
-fn compare_slots(host: &Host, slots: &[Option<Held>], bytes: &[u8]) -> Result<(), ImageFault>
+fn compare_slots(
+    host: &Host,
+    slots: &[Option<AssignedFunction>],
+    bytes: &[u8],
+) -> Result<(), ImageFault>
     ensures all { let fs = map (slot_shown host.now.state.functions) slots.now in
         IfOk result (λ _. after_slots fs bytes.now ≡ Ok []) }
     ensures refused { let fs = map (slot_shown host.now.state.functions) slots.now in

@@ -8,13 +8,13 @@ ghost use Rattle.bars.specs.Kinds.{named_space};
 ghost use Rattle.bridge_forward.specs.BasesNow.{bases_of};
 ghost use Rattle.monitor.specs.{Keeping.IsKept, InSlots.is_at, Seatings.{IsEndpointAt, MakesGift, has_index, is_closed_base, is_closed_slot}};
 
-use crate::guest::{Guest, Held};
+use crate::guest::{AssignedFunction, Guest};
 use crate::handover::guest_records::held_of;
-use crate::slots::assign_error::Withheld;
+use crate::slots::assign_error::AssignError;
 use crate::slots::assignment::is_at;
 use crate::slots::moving::is_taken;
-use bars::{BasedRegion, Space};
-use bridge_forward::RangesNow;
+use bars::{BarWithBase, Space};
+use bridge_forward::LiveRanges;
 use host_bridge::Host;
 use paths::Path;
 
@@ -27,9 +27,9 @@ fn endpoint_at(host: &Host, path: &Path) -> Option<usize>
         return None;
     };
     match host.ranges_nth(index) {
-        Some(RangesNow::Regions(_)) => Some(index),
+        Some(LiveRanges::Regions(_)) => Some(index),
         Some(
-            RangesNow::Windows {
+            LiveRanges::Windows {
                 io: _,
                 mem: _,
                 pref: _,
@@ -61,7 +61,7 @@ fn opens(command: u32, space: Space) -> bool
 }
 
 /// Returns whether Command disables the region at a base address register.
-fn is_closed(command: u32, region: &Option<BasedRegion>) -> bool
+fn is_closed(command: u32, region: &Option<BarWithBase>) -> bool
     ensures { result ≡ is_closed_slot command region.now }
 {
     match region {
@@ -71,7 +71,7 @@ fn is_closed(command: u32, region: &Option<BasedRegion>) -> bool
 }
 
 /// Returns whether Command disables any of these regions.
-fn any_closed(command: u32, placed: &[Option<BasedRegion>; 6]) -> bool
+fn any_closed(command: u32, placed: &[Option<BarWithBase>; 6]) -> bool
     ensures { result ≡ list_any (is_closed_slot command) placed.now }
 {
     placed.iter().any(|region| is_closed(command, region))
@@ -97,26 +97,26 @@ pub(crate) fn gift(
     path: &Path,
     guest: usize,
     slot: u64,
-) -> Result<Held, Withheld>
+) -> Result<AssignedFunction, AssignError>
     requires board { IsStateOfBoard host.now.state.functions }
     requires inside { guest < length guests.now }
     ensures { (w : WorldNow) (names : List Text) → IsKept w host.now names guests.now
         → MakesGift w path.now guest slot result }
 {
     if slot > 31 {
-        return Err(Withheld::PastSlots);
+        return Err(AssignError::PastSlots);
     }
     let Some(index) = endpoint_at(host, path) else {
-        return Err(Withheld::NoEndpoint);
+        return Err(AssignError::NoEndpoint);
     };
     if has_guest(guests, index) {
-        return Err(Withheld::HasGuest);
+        return Err(AssignError::HasGuest);
     }
     if is_taken(&guests[guest].slots, slot as usize) {
-        return Err(Withheld::SlotTaken);
+        return Err(AssignError::SlotTaken);
     }
     if has_closed(host, index) {
-        return Err(Withheld::ClosedRegion);
+        return Err(AssignError::ClosedRegion);
     }
     Ok(held_of(host, index))
 }

@@ -1,10 +1,10 @@
 //! Reasons to refuse the assignment of a function.
 ghost use Rattle.std.specs.Prelude.{◌≡◌};
-ghost use Rattle.monitor.specs.Seatings.{withheld_number};
+ghost use Rattle.monitor.specs.Seatings.{assign_error_number};
 
 /// The reason why a function of the board can't be assigned to a guest. Each has a number.
 #[derive(Clone, Copy, Debug, PartialEq, Eq)]
-pub enum Withheld {
+pub enum AssignError {
     /// 303: the slot is above 31.
     PastSlots,
     /// 303: there is no endpoint at the path.
@@ -17,15 +17,15 @@ pub enum Withheld {
     ClosedRegion,
 }
 
-impl Withheld {
+impl AssignError {
     /// Returns the number of the reason.
     pub fn number(self) -> u16
-        ensures { result ≡ withheld_number self }
+        ensures { result ≡ assign_error_number self }
     {
         match self {
-            Withheld::PastSlots | Withheld::NoEndpoint => 303,
-            Withheld::HasGuest | Withheld::SlotTaken => 602,
-            Withheld::ClosedRegion => 206,
+            AssignError::PastSlots | AssignError::NoEndpoint => 303,
+            AssignError::HasGuest | AssignError::SlotTaken => 602,
+            AssignError::ClosedRegion => 206,
         }
     }
 }

@@ -7,7 +7,7 @@ ghost use Rattle.monitor.specs.{ByIndex.name_nth, Seatings.{fault_told, gift_nth
 use crate::access::config::function_in;
 use crate::engine::Engine;
 use crate::slots::assign_checks::gift;
-use crate::slots::assign_error::Withheld;
+use crate::slots::assign_error::AssignError;
 use crate::slots::moving::exchange_in;
 use accesses::Reply;
 use host_bridge::Route;
@@ -21,7 +21,7 @@ impl<R: Route> Engine<R> {
     /// is above 31, else with 303 if there is no endpoint at the path, else with 602 if the
     /// function is assigned already, else with 602 if the slot is occupied, else with 206 if one of
     /// the function's regions is disabled. A refusal changes nothing. Allocates no memory.
-    pub fn give(&mut self, path: &Path, guest: usize, slot: u64) -> Result<(), Withheld>
+    pub fn assign(&mut self, path: &Path, guest: usize, slot: u64) -> Result<(), AssignError>
         requires { guest < length self.old.world.guests }
         ensures reply { fault_told result
             ≡ give_fault self.old.world (gift_nth self.old.world path.now guest slot) }
@@ -42,7 +42,7 @@ impl<R: Route> Engine<R> {
     /// Unassigns the function in a slot from its guest, and resets it on the board, except for the
     /// registers that guests have copies of. The slot is then empty. Refuses with 303 if the slot
     /// is above 31, else with 601 if it is empty. A refusal changes nothing. Allocates no memory.
-    pub fn take(&mut self, guest: usize, slot: u64) -> Reply
+    pub fn unassign(&mut self, guest: usize, slot: u64) -> Reply
         requires { guest < length self.old.world.guests }
         ensures reply { reply_of result
             ≡ take_reply self.old.world (name_nth self.old.world guest) slot }

@@ -2,17 +2,17 @@
 ghost use Rattle.std.specs.Prelude.{◌≡◌, ◌+◌, ◌<◌, ◌^◌, length, option_map, position};
 ghost use Rattle.monitor.specs.{FunctionsTold.{seat_named, seat_kept}, InSlots.is_at};
 
-use crate::guest::{Guest, Held};
+use crate::guest::{AssignedFunction, Guest};
 
 /// A slot of a guest, with the guest's index.
 #[derive(Clone, Copy, Debug, PartialEq, Eq)]
-pub struct Seat {
+pub struct Assignment {
     pub guest: usize,
     pub slot: usize,
 }
 
 /// Returns whether the function at an index is in a slot.
-pub(crate) fn is_at(slot: &Option<Held>, index: usize) -> bool
+pub(crate) fn is_at(slot: &Option<AssignedFunction>, index: usize) -> bool
     ensures { result ≡ is_at index slot.now }
 {
     match slot {
@@ -22,7 +22,7 @@ pub(crate) fn is_at(slot: &Option<Held>, index: usize) -> bool
 }
 
 /// Returns the first slot that contains the function at an index.
-fn slot_of(slots: &[Option<Held>], index: usize) -> Option<usize>
+fn slot_of(slots: &[Option<AssignedFunction>], index: usize) -> Option<usize>
     ensures { result ≡ position (is_at index) slots.now }
 {
     slots.iter().position(|slot| is_at(slot, index))
@@ -30,14 +30,14 @@ fn slot_of(slots: &[Option<Held>], index: usize) -> Option<usize>
 
 /// Returns the guest and the slot to which the function at an index is assigned. `first` is the
 /// index of the first guest in the slice.
-pub(crate) fn seat_from(guests: &[Guest], index: usize, first: usize) -> Option<Seat>
+pub(crate) fn seat_from(guests: &[Guest], index: usize, first: usize) -> Option<Assignment>
     requires { first + length guests.now < 2 ^ 63 }
     ensures { option_map seat_named result ≡ seat_kept index first guests.now }
 {
     match guests {
         [] => None,
         [guest, rest @ ..] => match slot_of(&guest.slots, index) {
-            Some(slot) => Some(Seat { guest: first, slot }),
+            Some(slot) => Some(Assignment { guest: first, slot }),
             None => seat_from(rest, index, first + 1),
         },
     }

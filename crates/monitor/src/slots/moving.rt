@@ -5,13 +5,13 @@ ghost use Rattle.monitor.specs.{Configs.HoldsAt, Counts.{counts_of, counted_both
 
 use crate::access::change_count::counted;
 use crate::access::config::held_in;
-use crate::guest::{Guest, Held};
+use crate::guest::{AssignedFunction, Guest};
 use accesses::Refusal;
 use host_bridge::Host;
 use std::mem::replace;
 
 /// Returns whether a slot is occupied.
-pub(crate) fn is_taken(slots: &[Option<Held>], slot: usize) -> bool
+pub(crate) fn is_taken(slots: &[Option<AssignedFunction>], slot: usize) -> bool
     ensures { result ≡ is_taken slots.now slot }
 {
     held_in(slots, slot).is_some()
@@ -20,9 +20,9 @@ pub(crate) fn is_taken(slots: &[Option<Held>], slot: usize) -> bool
 /// Returns the first check that a move fails: 303 if a slot is above 31, 601 if the source slot is
 /// empty, 602 if the target slot is occupied.
 pub(crate) fn move_fault(
-    from: &[Option<Held>],
+    from: &[Option<AssignedFunction>],
     slot: u64,
-    to: &[Option<Held>],
+    to: &[Option<AssignedFunction>],
     target: u64,
 ) -> Option<Refusal>
     ensures { option_map number_of result ≡ fault_between from.now slot to.now target }
@@ -39,7 +39,11 @@ pub(crate) fn move_fault(
 }
 
 /// Replaces the content of a slot, and returns the former content.
-fn exchange(slots: &mut [Option<Held>], slot: usize, held: Option<Held>) -> Option<Held>
+fn exchange(
+    slots: &mut [Option<AssignedFunction>],
+    slot: usize,
+    held: Option<AssignedFunction>,
+) -> Option<AssignedFunction>
     requires { slot < length slots.old }
     ensures slots { slots.new ≡ slice_set slots.old slot held }
     ensures was { slice_get slots.old slot ≡ Some result }
@@ -53,9 +57,9 @@ pub(crate) fn exchange_in(
     guests: &mut [Guest],
     guest: usize,
     slot: usize,
-    held: Option<Held>,
+    held: Option<AssignedFunction>,
     changes: bool,
-) -> Option<Held>
+) -> Option<AssignedFunction>
     requires { HasSlot guests.old guest slot }
     ensures exchanged { IsExchanged guests.old guest slot result held guests.new }
     ensures counts { counts_of guests.new ≡ counted_nth guest changes (counts_of guests.old) }

@@ -5,5 +5,5 @@ use Rattle.bridge_forward.proofs.places.are_apart.Given as goal
 
 abbrev pub invariant-loop-i : goal.invariant-loop-i
 invariant-loop-i g l =
-    EachPair (λ s t. IsFalse (path_eq t.path s.path)) (map g.S.Stands.standing l.places)
-    ↔ EachPair (λ s t. IsFalse (path_eq t.path s.path)) (map g.S.Stands.standing (drop l.i l.places))
+    EachPair (λ s t. IsFalse (path_eq t.path s.path)) (map g.S.HasPath.standing l.places)
+    ↔ EachPair (λ s t. IsFalse (path_eq t.path s.path)) (map g.S.HasPath.standing (drop l.i l.places))

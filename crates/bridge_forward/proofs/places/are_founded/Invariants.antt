@@ -5,5 +5,5 @@ use Rattle.bridge_forward.proofs.places.are_founded.Given as goal
 
 abbrev pub invariant-loop-place : goal.invariant-loop-place
 invariant-loop-place g l =
-    Each (IsFounded (map g.S.Stands.standing l.places)) (map g.S.Stands.standing l.places)
-    ↔ Each (IsFounded (map g.S.Stands.standing l.places)) (map g.S.Stands.standing (drop l.place-index l.places))
+    Each (IsFounded (map g.S.HasPath.standing l.places)) (map g.S.HasPath.standing l.places)
+    ↔ Each (IsFounded (map g.S.HasPath.standing l.places)) (map g.S.HasPath.standing (drop l.place-index l.places))

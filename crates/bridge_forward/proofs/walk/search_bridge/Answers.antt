@@ -11,13 +11,13 @@ returns-in_err-at-clause-none c =
     let v = c.loop-at.invariant in
     no_taker c.args.nodes.now c.requires.laid c.args.bus v.above (v.passing c.requires.laid) c.from_residual.result (c.in_err-at.ensures.none v.above v.side)
 
-pub returns-then-leads_to-clause-found : goal.returns-then-leads_to-clause-found
-returns-then-leads_to-clause-found c =
+pub returns-then-routes_to-clause-found : goal.returns-then-routes_to-clause-found
+returns-then-routes_to-clause-found c =
     let nodes = c.args.nodes.now in
     let v = c.loop-at.invariant in
     let e = read_at nodes c.in_ok-at.at c.index-nodes-at.result (omega (arith, c.in_ok-at.ensures.within, v.side.within)) c.index-nodes-at.is in
     leads_here nodes c.requires.laid c.args.bus v.above (v.passing c.requires.laid) c.in_ok-at.at c.index-nodes-at.result (c.in_ok-at.ensures.found v.above v.side) e
-    (right_true _ _ (sym c.leads_to.ensures ∙ c.if-leads_to.true))
+    (right_true _ _ (sym c.routes_to.ensures ∙ c.if-routes_to.true))
 
 pub loop-at-preserved : goal.loop-at-preserved
 loop-at-preserved c =
@@ -30,5 +30,5 @@ loop-at-preserved c =
       side = side_behind nodes c.requires.laid c.in_ok-at.at c.index-nodes-at.result e;
       passing = λ laid.
           next nodes laid c.args.bus v.above (v.passing laid) c.in_ok-at.at c.index-nodes-at.result at e
-          (leads_elsewhere nodes laid c.args.bus v.above (v.passing laid) c.in_ok-at.at c.index-nodes-at.result at e (sym c.leads_to.ensures ∙ c.if-leads_to.false));
+          (leads_elsewhere nodes laid c.args.bus v.above (v.passing laid) c.in_ok-at.at c.index-nodes-at.result at e (sym c.routes_to.ensures ∙ c.if-routes_to.false));
     }

@@ -1,5 +1,5 @@
 use Rattle.std.proofs.Common.{◌≡◌, ◌++◌, map, drop}
-use Rattle.findings.specs.{Blames.unforwarded_problem, Findings.problem_of}
+use Rattle.findings.specs.{BridgeViolations.unforwarded_problem, Findings.problem_of}
 use Rattle.findings.proofs.forwarding.add_forwarding.Given as goal
 
 abbrev pub invariant-loop-blame : goal.invariant-loop-blame

@@ -5,9 +5,9 @@ use Rattle.findings.proofs.primaries.add_primaries.Goals as goal
 pub loop-index-preserved : goal.loop-index-preserved
 loop-index-preserved c =
     let fs = c.args.host.now.state.functions in
-    elim c.match-primary_lack.branch [
+    elim c.match-primary_issue.branch [
       | in-Some+in_ok-push w ↦
-          told_step fs c.loop-index.told.items c.match-primary_lack.told.items w.in-Some.lack c.loop-index.index (ap (λ v. v.items) w.told-is ∙ w.in_ok-push.ensures.items) (grind (arith, w.in-Some.is, c.primary_lack.ensures)) ∙ c.loop-index.invariant
+          told_step fs c.loop-index.told.items c.match-primary_issue.told.items w.in-Some.issue c.loop-index.index (ap (λ v. v.items) w.told-is ∙ w.in_ok-push.ensures.items) (grind (arith, w.in-Some.is, c.primary_issue.ensures)) ∙ c.loop-index.invariant
       | in_default w ↦
-          none_step fs c.loop-index.told.items c.match-primary_lack.told.items c.loop-index.index (ap (λ v. v.items) w.told-is) (grind (arith, w.in_default, c.primary_lack.ensures)) ∙ c.loop-index.invariant
+          none_step fs c.loop-index.told.items c.match-primary_issue.told.items c.loop-index.index (ap (λ v. v.items) w.told-is) (grind (arith, w.in_default, c.primary_issue.ensures)) ∙ c.loop-index.invariant
     ]

@@ -1,6 +1,6 @@
 use Rattle.std.proofs.Common.{◌∙◌, ap, sym, arith}
 use Rattle.model_images.specs.LoadedBytes.{after_values}
-use Rattle.headers.specs.{declared.row.Row.Row, Rows.row_cells}
+use Rattle.headers.specs.{declared.config_register.ConfigRegister.ConfigRegister, Rows.row_cells}
 use Rattle.images.proofs.TakenValues.{all_taken, byte_missing, byte_refused, byte_taken}
 use Rattle.images.proofs.values.after_row.Goals as goal
 
@@ -17,7 +17,7 @@ loop-left-preserved c =
     let l = c.loop-left.left in
     record {
       row = c.above-left.ensures.row;
-      same = ap (λ (row : Row). after_values (row_cells row) c.in-Some.rest.now) c.above-left.ensures.rest
+      same = ap (λ (row : ConfigRegister). after_values (row_cells row) c.in-Some.rest.now) c.above-left.ensures.rest
           ∙ byte_taken l.off l.width l.value l.writable l.clearable c.in-Some.byte.now c.loop-left.tail.now c.in-Some.rest.now c.loop-left-test.true c.in-Some.ensures.cases.0 (sym c.can_hold.ensures ∙ c.if-not-can_hold.false)
           ∙ c.loop-left.invariant.same;
     }

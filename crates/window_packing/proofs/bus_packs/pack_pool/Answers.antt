@@ -1,7 +1,7 @@
 use Rattle.std.{proofs.{Common.{◌≡◌, ◌+◌, ◌-◌, ◌<◌, ◌≤◌, ◌^◌, length, false, Some, List, [], ◌∷◌, get_or, ◌++◌, sym, ap, ◌∙◌, subst, arith, rules}, lemmas.Option.slice_get-get_or}, specs.{Prelude.{reverse, slice_get}, List.Sorted.IsPermutation}}
-use Rattle.window_packing.{proofs.{AboveRows.length_board, BusIndex.row_in, BusIndices.bus_before, PoolEnds.too_large, BusItems.{packable, pack_is, own_is}, Gathering.{IsGathered, none_gathered, last_gathered, more_gathered}, PoolSteps.{IsAboveRow, above_count, above_row, taken, root_is, all_packed, all_bounded}}, specs.{Plans.named_pool, declared.bridges_above.Above.Above, Packs.{BusPack, IsBounded, pack_items, pack_of, own_items}}}
+use Rattle.window_packing.{proofs.{AboveRows.length_board, BusIndex.row_in, BusIndices.bus_before, PoolEnds.too_large, BusItems.{packable, pack_is, own_is}, Gathering.{IsGathered, none_gathered, last_gathered, more_gathered}, PoolSteps.{IsAboveRow, above_count, above_row, taken, root_is, all_packed, all_bounded}}, specs.{Plans.named_pool, declared.upstream_windows.UpstreamWindows.UpstreamWindows, Packs.{PackedBus, IsBounded, pack_items, pack_of, own_items}}}
 use Rattle.lists.{specs.Elements.Each, proofs.Indices.{at_below, read_at, map_at}}
-use Rattle.model_set_up.specs.{FunctionTable.board_in, Pools.{Pool, bridges_above}, Placement.{Item, items_on}}
+use Rattle.model_set_up.specs.{FunctionTable.board_in, Pools.{Pool, bridges_above}, Placement.{PlacementItem, items_on}}
 use Rattle.model_board.specs.Board.{Row, Board}
 use Rattle.window_packing.proofs.bus_packs.pack_pool.Goals as goal
 use Rattle.window_packing.proofs.bus_packs.pack_pool.Goals.{After-unwrap-behind, After-unwrap-root}
@@ -21,7 +21,7 @@ module _ (c : After-unwrap-behind) where
   abbrev pool : Pool
   pool = named_pool c.args.pool
 
-  abbrev told : Above
+  abbrev told : UpstreamWindows
   told = get_or c.args.above.now (c.rows.i - 1) (record { bus = 0; io = false; pref = false; pref64 = false })
 
   left : IsGathered b c.args.apertures.now pool (λ v. v.items) (c.rows.i - 1 + 1) (c.pop.new.self.items ++ c.unwrap-behind.result ∷ []) c.rows.packs.items
@@ -74,7 +74,7 @@ rows-preserved c =
     let within : c.in-Some.pack.end ≤ 2 ^ 63 = rw c.in-Some.is at c.in_ok-pack.ensures.within in
     let ds = bridges_above (b k) row.path in
     let pushed : c.push_own.new.into.items ≡ own.items ++ own_items a ds (pool k) row.path row.decl c.in-Some.pack = c.in_ok-push_own.ensures ds up.over in
-    let added = pushed ∙ ap (λ (p : BusPack). own.items ++ own_items a ds (pool k) row.path row.decl p) is ∙ ap (λ (is : List Item). own.items ++ is) (own_is (b k) a (pool k) row.path row.decl) in
+    let added = pushed ∙ ap (λ (p : PackedBus). own.items ++ own_items a ds (pool k) row.path row.decl p) is ∙ ap (λ (is : List PlacementItem). own.items ++ is) (own_is (b k) a (pool k) row.path row.decl) in
     let here = read_at c.pop.new.self.items (told k).bus own (own_left k (row_in row) at) c.index_mut-own.ensures.value in
     rw c.in_ok-push.ensures.items
     (more_gathered (b k) a (pool k) c.requires.board _ (c.rows.i - 1) (row_in row) _ _ _ _ _ own c.push_own.new.into at (left k).0 (left k).1 is within up.bus up.within
@@ -104,6 +104,6 @@ returns c =
     record {
       packed = turned ∙ all_packed _ _ _ c.requires.board _ c.rows.i _ _ _ c.rows-test.false c.rows.invariant is;
       large = search rules;
-      bounded = subst (λ (x : List BusPack). Each IsBounded x) (sym turned)
+      bounded = subst (λ (x : List PackedBus). Each IsBounded x) (sym turned)
           (all_bounded _ _ _ c.requires.board _ c.requires.declarations c.rows.i _ _ _ c.rows-test.false c.rows.invariant is within);
     }

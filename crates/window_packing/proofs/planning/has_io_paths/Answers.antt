@@ -3,7 +3,7 @@ use Rattle.model_registers.specs.Declarations.{Bridge}
 use Rattle.model_board.specs.Board.{Row, Board}
 use Rattle.model_set_up.specs.{Pools.{bridges_above, opens_io, has_io}, FunctionTable.board_in}
 use Rattle.lists.proofs.Indices.{read_at, map_at, fails_at}
-use Rattle.window_packing.{specs.declared.bridges_above.Above.Above, proofs.{AboveRows.{length_board, tells_at}, BusIndex.row_in, PoolSteps.above_count, RowTests.{all_more, all_rows_pass}}}
+use Rattle.window_packing.{specs.declared.upstream_windows.UpstreamWindows.UpstreamWindows, proofs.{AboveRows.{length_board, tells_at}, BusIndex.row_in, PoolSteps.above_count, RowTests.{all_more, all_rows_pass}}}
 use Rattle.window_packing.proofs.planning.has_io_paths.Goals as goal
 use Rattle.window_packing.proofs.planning.has_io_paths.Goals.{After-has_io_path}
 
@@ -19,7 +19,7 @@ module _ (c : After-has_io_path) where
 
   tested : c.has_io_path.result ≡ passes b (row_in c.index-rows-i.result)
   tested =
-      let nothing : Above = record { bus = 0; io = false; pref = false; pref64 = false } in
+      let nothing : UpstreamWindows = record { bus = 0; io = false; pref = false; pref64 = false } in
       let xs = c.args.above.now in
       let told = slice_get-get_or xs c.loop-i.i nothing (omega (arith, above_count b xs c.requires, length_board c.args.rows.now, c.loop-i-test.true)) in
       let io = (tells_at b xs c.loop-i.i (row_in c.index-rows-i.result) (get_or xs c.loop-i.i nothing) c.requires at told).io in

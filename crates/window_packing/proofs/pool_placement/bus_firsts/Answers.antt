@@ -2,11 +2,11 @@ use Rattle.std.proofs.{Common.{◌≡◌, ℕ, ◌+◌, suc, false, get_or, ap, 
 use Rattle.model_board.specs.{Paths.{parent, last_part}, Board.Board}
 use Rattle.model_set_up.specs.{Pools.Pool, Placement.{a_window, offset_in, bus_first}, FunctionTable.{TableRow, board_in}}
 use Rattle.lists.proofs.Indices.{read_at, map_at}
-use Rattle.window_packing.{specs.{declared.bridges_above.Above.Above, Buses.bus_path, Packs.pack_of, Plans.named_pool}, proofs.{AboveRows.length_board, BusIndex.row_in, PoolSteps.above_count, FirstsSoFar.{one_first, more_firsts, all_firsts, pack_is, count_packs, IsFittingRow, bus_low, own_pack, behind_pack, own_first, own_strict, own_align, behind_first, next_bound}}}
+use Rattle.window_packing.{specs.{declared.upstream_windows.UpstreamWindows.UpstreamWindows, Buses.bus_path, Packs.pack_of, Plans.named_pool}, proofs.{AboveRows.length_board, BusIndex.row_in, PoolSteps.above_count, FirstsSoFar.{one_first, more_firsts, all_firsts, pack_is, count_packs, IsFittingRow, bus_low, own_pack, behind_pack, own_first, own_strict, own_align, behind_first, next_bound}}}
 use Rattle.window_packing.proofs.pool_placement.bus_firsts.Goals as goal
 use Rattle.window_packing.proofs.pool_placement.bus_firsts.Goals.{After-index-packs-i}
 
-abbrev none : Above
+abbrev none : UpstreamWindows
 none = record { bus = 0; io = false; pref = false; pref64 = false }
 
 pub loop-i-init : goal.loop-i-init

@@ -3,11 +3,11 @@ use Rattle.lists.specs.Elements.{Each}
 use Rattle.model_board.specs.Board.{Board}
 use Rattle.model_registers.specs.Apertures.{Apertures}
 use Rattle.model_set_up.specs.{Pools.Pool, FunctionTable.board_in}
-use Rattle.window_packing.specs.{declared.pool_uses.PoolUse.PoolUse, Packs.{BusPack, IsBounded, pack_of, packs_of}, Plans.named_pool, Uses.{pool_use, told_use}}
+use Rattle.window_packing.specs.{declared.pool_uses.PoolUse.PoolUse, Packs.{PackedBus, IsBounded, pack_of, packs_of}, Plans.named_pool, Uses.{pool_use, told_use}}
 use Rattle.window_packing.proofs.pool_uses.rows_use.Goals as goal
 
 -- the first of the packs is that of bus 0
-told_first : (b : Board) (a : Apertures) (pool : Pool) (packs : List BusPack) (root : BusPack) (u : PoolUse) → packs ≡ packs_of b a pool → Each IsBounded packs
+told_first : (b : Board) (a : Apertures) (pool : Pool) (packs : List PackedBus) (root : PackedBus) (u : PoolUse) → packs ≡ packs_of b a pool → Each IsBounded packs
     → root ≡ get_or packs 0 root → (root ≡ pack_of b a pool [] → u ≡ pool_use b a pool) → Some u ≡ told_use b a pool
 told_first b a pool packs root u are bounded at told = grind (arith, le-leb)
 

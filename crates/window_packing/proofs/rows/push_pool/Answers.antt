@@ -1,6 +1,6 @@
 use Rattle.std.{proofs.Common.{◌≡◌, ℕ, ◌<◌, ◌≤◌, List, length, Some, ap, subst, arith}, specs.List.slice_get}
 use Rattle.lists.proofs.Indices.{read_at}
-use Rattle.window_packing.{specs.{Packs.BusPack, Placed.PlacedPool, Plans.named_pool}, proofs.LayoutRows.rows_more}
+use Rattle.window_packing.{specs.{Packs.PackedBus, Placed.PlacedPool, Plans.named_pool}, proofs.LayoutRows.rows_more}
 use Rattle.window_packing.proofs.rows.push_pool.Goals as goal
 
 pub loop-bus-preserved : goal.loop-bus-preserved
@@ -14,5 +14,5 @@ loop-bus-preserved c =
     let n = c.index-first.result.now in
     let p = c.index.result.now in
     let first : slice_get pl.firsts k ≡ Some n = subst (λ (xs : List ℕ). slice_get xs k ≡ Some n) firsts (read_at c.placed.inside.firsts.items k n (omega (arith, within, ap length firsts, c.requires.firsts)) c.index-first.ensures) in
-    let pack : slice_get pl.packs k ≡ Some p = subst (λ (xs : List BusPack). slice_get xs k ≡ Some p) packs (read_at c.placed.inside.packs.items k p low c.index.ensures) in
+    let pack : slice_get pl.packs k ≡ Some p = subst (λ (xs : List PackedBus). slice_get xs k ≡ Some p) packs (read_at c.placed.inside.packs.items k p low c.index.ensures) in
     rows_more (named_pool c.args.pool) c.args.paths.now pl.firsts pl.packs k within n p first pack c.args.into.now.items c.loop-bus.into.items c.push_bus.new.into.items c.loop-bus.invariant c.in_ok-push_bus.ensures

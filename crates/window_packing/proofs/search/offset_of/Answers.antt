@@ -1,5 +1,5 @@
 use Rattle.std.{proofs.{Common.{◌≡◌, List, length, true, false, sym, ap, ◌∙◌, subst, arith, Some}, lemmas.Option.slice_get_within}, specs.List.slice_get}
-use Rattle.model_set_up.specs.Placement.{Spot, is_item}
+use Rattle.model_set_up.specs.Placement.{PlacedItem, is_item}
 use Rattle.lists.proofs.Indices.{read_at, same_at}
 use Rattle.window_packing.{specs.Searching.IsFirstFrom, proofs.SpotSearch.{none_there, there}}
 use Rattle.window_packing.proofs.search.offset_of.Goals as goal
@@ -11,7 +11,7 @@ module _ (c : After-len) where
   same = cc
 
   first : IsFirstFrom c.args.pack.now.spots c.args.key.now c.first_from-at.result
-  first = subst (λ (ss : List Spot). IsFirstFrom ss c.args.key.now c.first_from-at.result) same c.first_from-at.ensures
+  first = subst (λ (ss : List PlacedItem). IsFirstFrom ss c.args.key.now c.first_from-at.result) same c.first_from-at.ensures
 
 pub returns-then-at-len : goal.returns-then-at-len
 returns-then-at-len c =
@@ -37,4 +37,4 @@ returns-else-is_same c =
     let k = goal.at.returns-else-is_same c in
     let other : is_item key.part key.what c.index-spot.result.now.item ≡ false = cc in
     sym (none_there _ _ c.requires.order c.requires.align _ (first k.After-len)
-    (λ t f. ap (λ (u : Spot). is_item key.part key.what u.item) (same_at c.args.pack.now.spots c.first_from-at.result t _ f (found k.After-is_same)) ∙ other))
+    (λ t f. ap (λ (u : PlacedItem). is_item key.part key.what u.item) (same_at c.args.pack.now.spots c.first_from-at.result t _ f (found k.After-is_same)) ∙ other))

@@ -3,7 +3,7 @@ use Rattle.lists.{specs.Elements.Each, proofs.Indices.{read_at, same_at, map_at}
 use Rattle.model_registers.specs.{Declarations.{Bar, Region}, EndpointTable.BaseAddress}
 use Rattle.model_board.specs.{Paths.last_part, Board.Row}
 use Rattle.model_set_up.specs.{Pools.{bridges_above, pool_of}, Placement.a_region, SetUpWrites.placed_base, FunctionTable.{TableRow, board_in}}
-use Rattle.bars.specs.{declared.region.BasedRegion.BasedRegion, Slots.placed}
+use Rattle.bars.specs.{declared.region.BarWithBase.BarWithBase, Slots.placed}
 use Rattle.window_packing.{specs.{Packs.regions_from, Placed.{PlacedPool, IsPlaced, IsRegionAt}, Plans.named_pool}, proofs.{BusIndex.row_in, PoolSteps.above_row, PlacedFunctions.{placed_in, region_strict, region_aligned, region_room, base_is}}}
 use Rattle.window_packing.proofs.settings.base_of.Goals as goal
 use Rattle.window_packing.proofs.settings.base_of.Goals.{After-last}
@@ -47,5 +47,5 @@ returns c = λ r there.
     let of_pool = ap (pool_of c.args.apertures.now (bridges_above b t.path)) (sym c.kind.ensures) ∙ sym (c.pool_of.ensures (bridges_above b t.path) over) in
     let base = base_is (pool_is k) c.requires.board c.requires.declarations c.args.i (at k) c.requires.above (pack k) (last k) (first k) g of_pool in
     let one : ℕ → List BaseAddress = λ m. record { index = c.args.index; kind = c.in_ok-bar.bar.kind; size = c.in_ok-bar.bar.size; base = m } ∷ [] in
-    ap (λ (x : BasedRegion). placed c.args.index x ∷ []) c.based.ensures ∙ ap one base ∙ ap (λ (s : Row). placed_base b c.args.apertures.now s.path g ∷ []) same
+    ap (λ (x : BarWithBase). placed c.args.index x ∷ []) c.based.ensures ∙ ap one base ∙ ap (λ (s : Row). placed_base b c.args.apertures.now s.path g ∷ []) same
     ∙ ap (λ (o : Option Bar). map (placed_base b c.args.apertures.now r.path) (regions_from c.args.index (o ∷ []))) (sym c.in_ok-bar.was)

@@ -1,6 +1,6 @@
 use Rattle.std.proofs.{Common.{◌≡◌, ◌+◌, ◌^◌, ◌≤◌, ◌<◌, [], ap, ap₂, ◌∙◌, arith}, lemmas.{Bool.Decides.nat_tests, List.nil_from_length}}
 use Rattle.model_set_up.{specs.{Pools.unit_of, Placement.round_up}, proofs.Packing.round_up_not_before}
-use Rattle.window_packing.{specs.{Packs.BusPack, Plans.named_pool}, proofs.{BusItems.alignment_bounds, PlacedFunctions.{holds_of_some, span_none}}}
+use Rattle.window_packing.{specs.{Packs.PackedBus, Plans.named_pool}, proofs.{BusItems.alignment_bounds, PlacedFunctions.{holds_of_some, span_none}}}
 use Rattle.window_packing.proofs.settings.window_of.Goals as goal
 use Rattle.window_packing.proofs.settings.window_of.Goals.{After-round_up, Else-is_empty}
 
@@ -24,7 +24,7 @@ round_up-requires-clause-room c =
     grind (arith, alignment_bounds, round_up_not_before)
 
 up : (c : After-round_up) → c.round_up.result ≡ round_up (unit_of (named_pool c.args.pool)) c.args.pack.now.end
-up c = c.round_up.ensures ∙ ap₂ round_up c.unit-unit.ensures (ap (λ (p : BusPack). p.end) c.pack.view_is)
+up c = c.round_up.ensures ∙ ap₂ round_up c.unit-unit.ensures (ap (λ (p : PackedBus). p.end) c.pack.view_is)
 
 pub overflow_add-result : goal.overflow_add-result
 overflow_add-result c = omega (arith, room (goal.at.overflow_add-result c).Else-is_empty, up c)

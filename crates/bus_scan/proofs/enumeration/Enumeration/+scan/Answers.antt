@@ -53,23 +53,23 @@ scan_bus-returns-clause-scanned t c = λ b on_bus at.
 
 pub scan_place-returns-in_default-clause-scanned : goal.scan_place-returns-in_default-clause-scanned
 scan_place-returns-in_default-clause-scanned t c = λ b on_bus at.
-    let sight = sighted on_bus c.args.n at c.address-at.ensures c.look.ensures.none c.look.ensures.some in
+    let sight = sighted on_bus c.args.n at c.address-at.ensures c.probe_header.ensures.none c.probe_header.ensures.some in
     past_nothing b on_bus.board c.args.bus.now c.args.n c.next_part.result _ _ _ (none_seen sight c.in_default.is) c.next_part.ensures.next
-    (after_look at (ap (λ (h : HostState). h.state) c.look.ensures.after))
+    (after_look at (ap (λ (h : HostState). h.state) c.probe_header.ensures.after))
 
 pub scan_place-returns-in_err-scan_bridge-in-Bridge-clause-scanned :
     goal.scan_place-returns-in_err-scan_bridge-in-Bridge-clause-scanned
 scan_place-returns-in_err-scan_bridge-in-Bridge-clause-scanned t c = λ b on_bus at.
     let p = err_from_is_err_and c.from_residual-in_err-scan_bridge-in-Bridge.result c.from_residual-in_err-scan_bridge-in-Bridge.ensures.1 in
-    let f = finds (sighted on_bus c.args.n at c.address-at.ensures c.look.ensures.none c.look.ensures.some) c.in-Some.is in
-    let looked = after_look at (ap (λ (h : HostState). h.state) c.look.ensures.after) in
+    let f = finds (sighted on_bus c.args.n at c.address-at.ensures c.probe_header.ensures.none c.probe_header.ensures.some) c.in-Some.is in
+    let looked = after_look at (ap (λ (h : HostState). h.state) c.probe_header.ensures.after) in
     rw (p.1, p.2) (c.in_err-scan_bridge-in-Bridge.ensures.scanned b c.args.bus.now c.args.n f.row (bridge_there_of f.found c.in-Bridge.is c.address-at.ensures)
     c.path_on-path.ensures (shows_at f.found c.path_on-path.ensures) looked)
 
 pub scan_place-returns-clause-scanned : goal.scan_place-returns-clause-scanned
 scan_place-returns-clause-scanned t c = λ b on_bus at.
-    let f = finds (sighted on_bus c.args.n at c.address-at.ensures c.look.ensures.none c.look.ensures.some) c.in-Some.is in
-    let looked = after_look at (ap (λ (h : HostState). h.state) c.look.ensures.after) in
+    let f = finds (sighted on_bus c.args.n at c.address-at.ensures c.probe_header.ensures.none c.probe_header.ensures.some) c.in-Some.is in
+    let looked = after_look at (ap (λ (h : HostState). h.state) c.probe_header.ensures.after) in
     subst (λ m. IsAt b (on c.args.bus.now m) c.match-seen.host.state c.match-seen.self.rows.items c.match-seen.self.last) (sym (f.next c.next_part-2.result c.next_part-2.ensures.next))
     (elim c.match-seen.branch [
       | scan_place-in-Endpoint+in_ok-push-in-Endpoint w ↦

@@ -21,5 +21,5 @@ returns c =
     let within = lies_in_word _ _ _ _ _ is.claimed c.requires.width lands.aligned in
     let distinct = distinct_paths _ c.endpoint_nth.ensures.in_order in
     let there = endpoint_there_nth _ _ _ _ _ is distinct (sym c.in-Some.ensures.value) in
-    let written = number_written _ _ _ _ _ is.claimed _ _ _ _ _ distinct within there c.enables_of-enables.ensures c.into_lanes-data.ensures c.write.ensures in
+    let written = number_written _ _ _ _ _ is.claimed _ _ _ _ _ distinct within there c.enables_of-enables.ensures c.to_lanes-data.ensures c.write.ensures in
     rw (lands.claim, ← c.self.view_is, with_nth is.function c.write.new.self c.self.inside.root c.args.to.index distinct is.there, written) refl

@@ -8,7 +8,7 @@ index-requires g c = omega (arith, inside_guests c.self.invariant.1 c.self.view_
 pub returns-in_default-clause-reply : goal.returns-in_default-clause-reply
 returns-in_default-clause-reply g c =
     let at = guest_in c.self.invariant.1 c.self.view_is c.args.guest c.requires.there c.index.ensures in
-    c.nothing.ensures.reply ∙ config_reads_ones at c.args.slot (empty_lent at c.args.slot c.deref.ensures.value c.in_default.ensures.empty) c.args.off c.args.width
+    c.master_abort.ensures.reply ∙ config_reads_ones at c.args.slot (empty_lent at c.args.slot c.deref.ensures.value c.in_default.ensures.empty) c.args.off c.args.width
 
 pub number_read-requires-clause-seen : goal.number_read-requires-clause-seen
 number_read-requires-clause-seen g c =

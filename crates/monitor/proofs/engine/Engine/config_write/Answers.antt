@@ -1,5 +1,5 @@
 use Rattle.std.{proofs.Common.{◌∙◌, ℕ, List, ap, sym, subst, arith}, specs.Prelude.IsSome}
-use Rattle.model_registers.specs.{ByteEnables.{enables_of, into_lanes}, Registers.config}
+use Rattle.model_registers.specs.{ByteEnables.{enables_of, to_lanes}, Registers.config}
 use Rattle.model_guests.specs.{Accesses.{configuration, writes}, Lone.at_target}
 use Rattle.model_handoff.specs.StayLaws.{any_tells}
 use Rattle.bridge_forward.specs.Lending.{endpoint_nth}
@@ -43,7 +43,7 @@ invariant_of-self g c =
     let written = written_lent c.deref_mut.ensures.value (holds_nth at slot) c.write_in-index.ensures.written in
     let left = back_in e.guests.items e.guests.len (c.write_in-index.auto.guests ∙ c.deref_mut.ensures.len)
     (config_written at slot c.args.off c.args.width c.args.value c.requires.width c.requires.aligned
-    (c.enables_of-enables.ensures ∙ ap (λ x. enables_of x c.args.width) c.from-from.ensures) (c.into_lanes-moved.ensures ∙ ap (λ x. into_lanes x c.args.value) c.from-from.ensures)
+    (c.enables_of-enables.ensures ∙ ap (λ x. enables_of x c.args.width) c.from-from.ensures) (c.to_lanes-moved.ensures ∙ ap (λ x. to_lanes x c.args.value) c.from-from.ensures)
     written c.config_write_nth.ensures) in
     (g.met.R.Route.by_routing e.route e.host c.config_write_nth.new.self left.routes c.self.invariant.0, after_access_sound c.self.invariant.1 c.self.view_is c.args.guest c.requires.there (writes c.args.value) c.args.width (at_target (configuration c.args.slot c.args.off)) left)
 
@@ -57,7 +57,7 @@ returns g c =
     accessed c.self.invariant.1 c.self.view_is c.args.guest
     (back_in e.guests.items e.guests.len count
     (config_written at slot c.args.off c.args.width c.args.value c.requires.width c.requires.aligned
-    (c.enables_of-enables.ensures ∙ ap (λ x. enables_of x c.args.width) c.from-from.ensures) (c.into_lanes-moved.ensures ∙ ap (λ x. into_lanes x c.args.value) c.from-from.ensures)
+    (c.enables_of-enables.ensures ∙ ap (λ x. enables_of x c.args.width) c.from-from.ensures) (c.to_lanes-moved.ensures ∙ ap (λ x. to_lanes x c.args.value) c.from-from.ensures)
     written c.config_write_nth.ensures))
     (counts_lent _ (counted_nth c.args.guest c.tells_regions-tells.result) c.deref_mut.ensures.value c.write_in-index.ensures.counts e.guests.len count)
     (c.tells_regions-tells.ensures ∙ ap (λ x. any_tells c.args.width (config x)) c.from-from.ensures ∙ sym (config_changes at slot c.args.off c.args.width c.args.value))

@@ -1,5 +1,5 @@
 use Rattle.std.proofs.Common.{List, Option, length, ap, sym, subst, arith}
-use Rattle.monitor.{specs.{declared.guest.Held.Held, ShownImages.{HavePlaces, slots_image}}, proofs.{Calls.{guest_in, inside_guests}, SavedImages.{few_slots, places_kept, size_now}}}
+use Rattle.monitor.{specs.{declared.guest.AssignedFunction.AssignedFunction, ShownImages.{HavePlaces, slots_image}}, proofs.{Calls.{guest_in, inside_guests}, SavedImages.{few_slots, places_kept, size_now}}}
 use Rattle.monitor.proofs.engine.Engine.image_size.Goals as goal
 
 pub index-requires : goal.index-requires
@@ -14,12 +14,12 @@ pub slots_size-requires-clause-few : goal.slots_size-requires-clause-few
 slots_size-requires-clause-few g c =
     let at = guest_in c.self.invariant.1 c.self.view_is c.args.guest c.requires c.index.ensures in
     let many = few_slots at in
-    let same = ap (λ (os : List (Option Held)). length os) c.deref.ensures.value in
+    let same = ap (λ (os : List (Option AssignedFunction)). length os) c.deref.ensures.value in
     omega arith
 
 pub returns-clause-size : goal.returns-clause-size
 returns-clause-size g c =
     let at = guest_in c.self.invariant.1 c.self.view_is c.args.guest c.requires c.index.ensures in
-    let same = ap (λ (os : List (Option Held)). length (slots_image c.self.inside.host.state.functions os)) c.deref.ensures.value in
+    let same = ap (λ (os : List (Option AssignedFunction)). length (slots_image c.self.inside.host.state.functions os)) c.deref.ensures.value in
     let whole = size_now at in
     omega (arith, c.slots_size.ensures.size)

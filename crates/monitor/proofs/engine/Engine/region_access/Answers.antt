@@ -13,7 +13,7 @@ index-requires g c = omega (arith, inside_guests c.self.invariant.1 c.self.view_
 pub returns-in_default-clause-reply : goal.returns-in_default-clause-reply
 returns-in_default-clause-reply g c =
     let at = guest_in c.self.invariant.1 c.self.view_is c.args.guest c.requires.there c.index.ensures in
-    c.nothing.ensures.reply ∙ reply_nowhere at (named_space c.args.space) c.args.addr c.deref.ensures.value c.in_default.ensures.landing (op_of c.args.op) c.args.width
+    c.master_abort.ensures.reply ∙ reply_nowhere at (named_space c.args.space) c.args.addr c.deref.ensures.value c.in_default.ensures.landing (op_of c.args.op) c.args.width
 
 pub returns-in_default-clause-after : goal.returns-in_default-clause-after
 returns-in_default-clause-after g c =

@@ -34,7 +34,7 @@ pub returns-then-not-opened-clause-reply : goal.returns-then-not-opened-clause-r
 returns-then-not-opened-clause-reply g c =
     let at = guest_in c.self.invariant.1 c.self.view_is c.args.guest c.requires c.index.ensures in
     let opening = opening_is at c.deref.ensures.value c.args.slot c.args.place c.args.off c.in-Ok.ensures.there c.in-Some.ensures in
-    c.nothing.ensures.reply ∙ (byte_closed {m = c.args.self.now} at (op_of c.args.op) (device_byte c.args.slot c.args.place c.args.off) (opening ∙ ap Ok c.if-not-opened.true)).0
+    c.master_abort.ensures.reply ∙ (byte_closed {m = c.args.self.now} at (op_of c.args.op) (device_byte c.args.slot c.args.place c.args.off) (opening ∙ ap Ok c.if-not-opened.true)).0
 
 pub returns-then-not-opened-clause-after : goal.returns-then-not-opened-clause-after
 returns-then-not-opened-clause-after g c =

@@ -1,5 +1,5 @@
 use Rattle.std.proofs.Common.{ap, ◌∙◌, arith, Err, ℕ}
-use Rattle.monitor.{specs.FunctionsTold.seat_kept, proofs.{FunctionsTold.{seats_told, slot_told, slot_withheld}, Given.board_kept, Calls.{guest_in, inside_guests, kept_in}}}
+use Rattle.monitor.{specs.FunctionsTold.seat_kept, proofs.{FunctionsTold.{seats_told, slot_told, slot_assign_error}, Given.board_kept, Calls.{guest_in, inside_guests, kept_in}}}
 use Rattle.monitor.proofs.engine.Engine.slot_function.Goals as goal
 
 pub index-requires : goal.index-requires
@@ -8,7 +8,7 @@ index-requires g c = omega (arith, inside_guests c.self.invariant.1 c.self.view_
 pub returns-in-Err : goal.returns-in-Err
 returns-in-Err g c =
     let at = guest_in c.self.invariant.1 c.self.view_is c.args.guest c.requires c.index.ensures in
-    ap (λ (n : ℕ). Err n) c.number.ensures ∙ slot_withheld at c.deref.ensures.value c.args.slot c.in-Err.ensures.refused
+    ap (λ (n : ℕ). Err n) c.number.ensures ∙ slot_assign_error at c.deref.ensures.value c.args.slot c.in-Err.ensures.refused
 
 pub function_nth-requires-clause-board : goal.function_nth-requires-clause-board
 function_nth-requires-clause-board g c = board_kept (kept_in c.self.invariant.1 c.self.view_is)

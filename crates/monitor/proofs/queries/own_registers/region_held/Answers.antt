@@ -1,6 +1,6 @@
 use Rattle.std.{proofs.Common.{◌≡◌, ◌≤◌, ◌+◌, ℕ, Some, None, sym, ap, ◌∙◌, subst}, specs.Prelude.option_map}
 use Rattle.model_registers.specs.{Declarations.{Kind, registers_of}, Decoding.base}
-use Rattle.bars.specs.{Kinds.kind_of, declared.region.BasedRegion.BasedRegion}
+use Rattle.bars.specs.{Kinds.kind_of, declared.region.BarWithBase.BarWithBase}
 use Rattle.monitor.{specs.OwnTold.standing, proofs.Queries.{a_region, slot_past, slot_read}}
 use Rattle.monitor.proofs.queries.own_registers.region_held.Goals as goal
 
@@ -12,7 +12,7 @@ returns-in-Some-Some-clause-told c = λ s p f held lawful.
     let at = slot_read c.args.held.now.placed n c.in-Some-Some.ensures.lookup.0 c.in-Some-Some.ensures.lookup.1 here in
     let its = a_region s p f c.args.held.now n x held lawful at in
     let room : n + registers_of (kind_of c.kind-kind.result) ≤ 6 = subst (λ (k : Kind). n + registers_of k ≤ 6) (its.kind ∙ sym c.kind-kind.ensures) its.room in
-    ap (λ (b : ℕ). let r : BasedRegion = record x { base = b } in Some r) (c.base_of.ensures f.file held.own room ∙ ap (base f.file n) c.kind-kind.ensures)
+    ap (λ (b : ℕ). let r : BarWithBase = record x { base = b } in Some r) (c.base_of.ensures f.file held.own room ∙ ap (base f.file n) c.kind-kind.ensures)
     ∙ ap (option_map (standing f.file n)) (sym at)
 
 pub returns-in-Some-None-clause-told : goal.returns-in-Some-None-clause-told

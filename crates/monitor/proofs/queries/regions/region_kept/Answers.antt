@@ -1,6 +1,6 @@
 use Rattle.std.{proofs.Common.{◌≡◌, Some, None, sym, ap, ◌∙◌}, specs.Prelude.option_map}
 use Rattle.model_registers.specs.Decoding.{is_open}
-use Rattle.model_handoff.specs.GuestRegions.{RegionNow, region_now}
+use Rattle.model_handoff.specs.GuestRegions.{LiveBar, region_now}
 use Rattle.bars.specs.Kinds.{kind_of}
 use Rattle.monitor.{specs.Queries.region_named, proofs.Queries.{no_region, a_region, region_told, slot_past, slot_read}}
 use Rattle.monitor.proofs.queries.regions.region_kept.Goals as goal
@@ -10,7 +10,7 @@ returns-in-Some-Some c = λ s p f held lawful.
     let here : c.in-Some-Some.field-0.now ≡ Some c.in-Some-Some.region = let i = c.in-Some-Some.is in let j = c.in-Some-Some.field-0-is in cc in
     let at = slot_read c.args.held.now.placed c.args.bar c.in-Some-Some.ensures.lookup.0 c.in-Some-Some.ensures.lookup.1 here in
     let its = a_region s p f c.args.held.now c.args.bar c.in-Some-Some.region held lawful at in
-    let v : RegionNow = region_named (record { space = c.space-space.result; first = c.base_of.result; size = c.size.result; prefetchable = c.is_prefetchable.result; is_open = c.opens.result }) in
+    let v : LiveBar = region_named (record { space = c.space-space.result; first = c.base_of.result; size = c.size.result; prefetchable = c.is_prefetchable.result; is_open = c.opens.result }) in
     region_told f c.args.bar c.in-Some-Some.region its (kind_of c.kind-kind.result) c.kind-kind.ensures v c.space-space.ensures (c.base_of.ensures f.file held.own)
     c.size.ensures.value c.is_prefetchable.ensures (c.opens.ensures f.file held.own ∙ ap (is_open f.file) c.space-space.ensures)
 

@@ -1,5 +1,5 @@
 use Rattle.std.{proofs.Common.{◌∙◌, ℕ, ap, subst, sym}, specs.Prelude.IsSome}
-use Rattle.model_registers.specs.ByteEnables.{enables_of, into_lanes}
+use Rattle.model_registers.specs.ByteEnables.{enables_of, to_lanes}
 use Rattle.bridge_forward.specs.Lending.{endpoint_nth}
 use Rattle.host_bridge.specs.Landings.{IsReached}
 use Rattle.monitor.proofs.{LoadSteps.{its_endpoint, its_guest, its_slot, wrote_one}, Reached.reached_held}
@@ -21,5 +21,5 @@ pub returns-clause-becomes : goal.returns-clause-becomes
 returns-clause-becomes c = λ k.
     wrote_one k c.args.off c.args.value
     (c.enables_of-enables.ensures ∙ ap (λ x. enables_of x 1) c.from-from.ensures)
-    (c.into_lanes-moved.ensures ∙ ap (λ x. into_lanes x c.from.result) c.from-from.ensures ∙ ap (λ v. into_lanes c.args.off v) c.from.ensures)
+    (c.to_lanes-moved.ensures ∙ ap (λ x. to_lanes x c.from.result) c.from-from.ensures ∙ ap (λ v. to_lanes c.args.off v) c.from.ensures)
     c.write_in-index.ensures.written c.config_write_nth.ensures

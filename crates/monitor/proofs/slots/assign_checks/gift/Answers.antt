@@ -1,27 +1,27 @@
 use Rattle.std.{proofs.{Common.{◌≡◌, ◌∙◌, Some, ap, sym, arith}, lemmas.Bool.le-leb}, specs.Prelude.slice_get}
 use Rattle.lists.proofs.Indices.{read_at}
-use Rattle.monitor.{specs.{declared.guest.Guest.Guest, Moves.is_taken}, proofs.GiftSteps.{past_withheld, absent_withheld, had_withheld, full_withheld, closed_withheld, made, lawful_bases}}
+use Rattle.monitor.{specs.{declared.guest.Guest.Guest, Moves.is_taken}, proofs.GiftSteps.{past_assign_error, absent_assign_error, had_assign_error, full_assign_error, closed_assign_error, made, lawful_bases}}
 use Rattle.monitor.proofs.slots.assign_checks.gift.Goals as goal
 
 pub returns-then-slot-gt31 : goal.returns-then-slot-gt31
-returns-then-slot-gt31 c = λ w names kept. past_withheld w c.args.host.now names c.args.guests.now kept c.args.path.now c.args.guest c.args.slot (le-leb 32 c.args.slot (omega (arith, c.if-slot-gt31.true)))
+returns-then-slot-gt31 c = λ w names kept. past_assign_error w c.args.host.now names c.args.guests.now kept c.args.path.now c.args.guest c.args.slot (le-leb 32 c.args.slot (omega (arith, c.if-slot-gt31.true)))
 
 pub returns-in_default : goal.returns-in_default
-returns-in_default c = λ w names kept. absent_withheld w c.args.host.now names c.args.guests.now kept c.args.path.now c.args.guest c.args.slot c.if-slot-gt31.false c.in_default.ensures.none
+returns-in_default c = λ w names kept. absent_assign_error w c.args.host.now names c.args.guests.now kept c.args.path.now c.args.guest c.args.slot c.if-slot-gt31.false c.in_default.ensures.none
 
 pub returns-then-has_guest : goal.returns-then-has_guest
 returns-then-has_guest c = λ w names kept.
-    had_withheld w c.args.host.now names c.args.guests.now kept c.args.path.now c.args.guest c.args.slot c.if-slot-gt31.false c.in-Some.index c.in-Some.ensures.there (sym c.has_guest.ensures ∙ c.if-has_guest.true)
+    had_assign_error w c.args.host.now names c.args.guests.now kept c.args.path.now c.args.guest c.args.slot c.if-slot-gt31.false c.in-Some.index c.in-Some.ensures.there (sym c.has_guest.ensures ∙ c.if-has_guest.true)
 
 pub returns-then-is_taken : goal.returns-then-is_taken
-returns-then-is_taken c = grind (arith, read_at, full_withheld)
+returns-then-is_taken c = grind (arith, read_at, full_assign_error)
 
 pub returns-then-has_closed : goal.returns-then-has_closed
 returns-then-has_closed c = λ w names kept.
     let g : Guest = c.index-guests-guest.result in
     let there : slice_get c.args.guests.now c.args.guest ≡ Some g = read_at c.args.guests.now c.args.guest g c.requires.inside c.index-guests-guest.is in
     let items : c.deref.result.now ≡ g.slots.items = c.deref.ensures.value ∙ ap (λ (x : Guest). x.slots.items) (sym c.index-guests-guest.is) in
-    closed_withheld w c.args.host.now names c.args.guests.now kept c.args.path.now c.args.guest c.args.slot c.if-slot-gt31.false c.in-Some.index c.in-Some.ensures.there (sym c.has_guest.ensures ∙ c.if-has_guest.false)
+    closed_assign_error w c.args.host.now names c.args.guests.now kept c.args.path.now c.args.guest c.args.slot c.if-slot-gt31.false c.in-Some.index c.in-Some.ensures.there (sym c.has_guest.ensures ∙ c.if-has_guest.false)
     g there (ap (λ os. is_taken os c.args.slot) (sym items) ∙ sym c.is_taken.ensures ∙ c.if-is_taken.false)
     (sym (c.has_closed.ensures _ c.in-Some.ensures.there.there) ∙ c.if-has_closed.true)
 

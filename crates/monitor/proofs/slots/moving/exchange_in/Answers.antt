@@ -1,5 +1,5 @@
 use Rattle.std.{proofs.{Common.{List, Option, ap, drop, length, refl, slice_get, slice_set, sym, ◌∙◌, rules}, lemmas.List.take_at}, specs.Prelude.slice_index_or}
-use Rattle.monitor.{specs.declared.guest.{Guest.Guest, Held.Held}, proofs.{ConfigSteps.same_at, Counts.set_counted}}
+use Rattle.monitor.{specs.declared.guest.{Guest.Guest, AssignedFunction.AssignedFunction}, proofs.{ConfigSteps.same_at, Counts.set_counted}}
 use Rattle.model_handoff.specs.Changes.{after_change}
 use Rattle.monitor.proofs.slots.moving.exchange_in.Goals as goal
 
@@ -17,11 +17,11 @@ returns-clause-exchanged c =
     record {
       before = has.guest;
       there = has.there;
-      had = ap (λ (os : List (Option Held)). slice_get os c.args.slot) (sym items) ∙ c.exchange.ensures.was;
+      had = ap (λ (os : List (Option AssignedFunction)). slice_get os c.args.slot) (sym items) ∙ c.exchange.ensures.was;
       guest = _;
       after = refl;
       latch = ap (λ (g : Guest). g.latch) here;
-      items = back ∙ c.exchange.ensures.slots ∙ ap (λ (os : List (Option Held)). slice_set os c.args.slot c.args.held) items;
+      items = back ∙ c.exchange.ensures.slots ∙ ap (λ (os : List (Option AssignedFunction)). slice_set os c.args.slot c.args.held) items;
     }
 
 pub returns-clause-counts : goal.returns-clause-counts

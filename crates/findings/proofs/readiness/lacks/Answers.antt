@@ -1,6 +1,0 @@
-use Rattle.std.proofs.{Common.arith, lemmas.Grind.common_steps}
-use Rattle.findings.proofs.{Blames.prefetching, Sorts.{all_open, all_closed}}
-use Rattle.findings.proofs.readiness.lacks.Goals as goal
-
-pub returns : goal.returns
-returns c = grind (arith, common_steps, prefetching, all_open, all_closed)

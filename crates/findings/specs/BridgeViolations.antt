@@ -1,0 +1,38 @@
+-- Bridges that do what they mustn't with a region below them, in the program's words: they keep back a byte of an open
+-- region, or prefetch one of a region that isn't prefetchable.
+--     sort_blamed c      the sort of regions of which bridges are asked
+--     address_blamed c r q      the least address of a region for which the bridge of a row is to blame
+--     blame c q r      its blame, if it is above the region
+--     blames_of c rows q, all_blames c rows      that of the first to blame for a region; for all regions of the sort
+--     unforwarded_problem, prefetched_issue      what is told of a blame
+use Rattle.std.specs.{Prelude.{List, ℕ, if◌then◌else◌, Option, None, flat_map}, Option.{option_map, option_to_list}}
+use Rattle.lists.specs.Elements.{first_some}
+use Rattle.model_board.specs.{Paths.is_ancestor_of, Routing.RoutingRow}
+use Rattle.model_set_up.specs.PlacedRegions.{PlacedRegion}
+use Rattle.model_findings.specs.{Problems.{Problem, not_forwarded, unforwarded}, ReadinessIssues.{ReadinessIssue, prefetched_by, first_prefetched}}
+use Rattle.findings.specs.{Regions.all_regions, declared.{regions.Sort.{Sort, TheVariants.{Open, Plain}}, bridge_violation.{BridgeViolation.BridgeViolation, ViolationKind.{ViolationKind, TheVariants.{NotForwarded, Prefetched}}}}}
+
+abbrev pub sort_blamed : ViolationKind → Sort
+sort_blamed NotForwarded = Open
+sort_blamed Prefetched = Plain
+
+abbrev pub address_blamed : ViolationKind → RoutingRow → PlacedRegion → Option ℕ
+address_blamed NotForwarded r q = unforwarded r q
+address_blamed Prefetched r q = first_prefetched r q
+
+abbrev pub blame : ViolationKind → PlacedRegion → RoutingRow → Option BridgeViolation
+blame c q r =
+    if is_ancestor_of r.path q.path
+    then option_map (λ n. record { region = q; bridge = r.path; address = n }) (address_blamed c r q) else None
+
+abbrev pub blames_of : ViolationKind → List RoutingRow → PlacedRegion → List BridgeViolation
+blames_of c rows q = option_to_list (first_some (blame c q) rows)
+
+abbrev pub all_blames : ViolationKind → List RoutingRow → List BridgeViolation
+all_blames c rows = flat_map (blames_of c rows) (all_regions (sort_blamed c) rows)
+
+abbrev pub unforwarded_problem : BridgeViolation → Problem
+unforwarded_problem b = not_forwarded b.region b.bridge b.address
+
+abbrev pub prefetched_issue : BridgeViolation → ReadinessIssue
+prefetched_issue b = prefetched_by b.region b.bridge b.address

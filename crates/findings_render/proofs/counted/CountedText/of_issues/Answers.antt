@@ -1,0 +1,6 @@
+use Rattle.std.proofs.Common.{arith}
+use Rattle.findings_render.proofs.AllLines.{whole_text}
+use Rattle.findings_render.proofs.counted.CountedText.of_issues.Goals as goal
+
+pub returns-clause-text : goal.returns-clause-text
+returns-clause-text c = grind (arith, whole_text)

@@ -1,0 +1,87 @@
+//! Renders unmet requirements, and the line that counts them and the problems.
+ghost use Rattle.std.specs.Prelude.{OnOk};
+ghost use Rattle.lists.specs.Texts.{Adds};
+ghost use Rattle.model_findings.specs.ReadyText.{issue_text, ready_total, ready_line};
+ghost use Rattle.findings.specs.Findings.{issue_of};
+ghost use Rattle.findings_render.specs.Lines.{issue_lines};
+ghost use Rattle.model_guests.specs.Text.{ended};
+
+use crate::counts::Counted;
+use crate::problem_lines::ProblemCount;
+use crate::region_texts::ShownRegion;
+use findings::ReadinessIssue;
+use report::{ShownPath, TwoDigits};
+use std::alloc::AllocError;
+
+/// Appends the description of an unmet requirement.
+fn push_description(text: &mut String, issue: &ReadinessIssue) -> Result<(), AllocError>
+    ensures { OnOk result (Adds text.old text.new (issue_text (issue_of issue.now))) }
+{
+    match issue {
+        ReadinessIssue::NotOpen { region } => write!(text, "{} is closed", ShownRegion(region)),
+        ReadinessIssue::OutsideApertures { region, address } => {
+            write!(text, "{}", ShownRegion(region))?;
+            write!(text, ": 0x{address:x} is outside the apertures")
+        }
+        ReadinessIssue::Prefetched {
+            region,
+            bridge,
+            address,
+        } => {
+            let bridge = ShownPath(bridge);
+            write!(text, "{}", ShownRegion(region))?;
+            write!(text, ": {bridge} prefetches 0x{address:x}")
+        }
+        ReadinessIssue::OtherPrimary { path, held, number } => {
+            let path = ShownPath(path);
+            let held = TwoDigits(*held);
+            let number = TwoDigits(*number);
+            write!(text, "{path}: Primary is {held} on bus {number}")
+        }
+    }
+}
+
+/// Appends the line of an unmet requirement.
+fn push_issue(text: &mut String, issue: &ReadinessIssue) -> Result<(), AllocError>
+    ensures { OnOk result (Adds text.old text.new
+        (ended (ready_line (issue_text (issue_of issue.now))))) }
+{
+    text.push_str("ready: ")?;
+    push_description(text, issue)?;
+    text.push('\n')
+}
+
+/// Appends the lines of all unmet requirements.
+pub(crate) fn push_issues(
+    text: &mut String,
+    readiness_issues: &[ReadinessIssue],
+) -> Result<(), AllocError>
+    ensures { OnOk result (Adds text.old text.new (issue_lines readiness_issues.now)) }
+{
+    for issue in readiness_issues {
+        push_issue(text, issue)?;
+    }
+    Ok(())
+}
+
+/// Appends the line that counts the problems and the unmet requirements.
+pub(crate) fn push_ready_count(
+    text: &mut String,
+    problems: usize,
+    readiness_issues: usize,
+) -> Result<(), AllocError>
+    ensures { OnOk result (Adds text.old text.new
+        (ended (ready_line (ready_total problems readiness_issues)))) }
+{
+    let found = ProblemCount(problems);
+    let lacking = Counted {
+        count: readiness_issues,
+        one: " lack",
+        more: " lacks",
+    };
+    match (problems, readiness_issues) {
+        (_, 0) => writeln!(text, "ready: {found}"),
+        (0, _) => writeln!(text, "ready: {lacking}"),
+        _ => writeln!(text, "ready: {found}, {lacking}"),
+    }
+}

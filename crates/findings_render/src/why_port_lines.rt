@@ -1,0 +1,62 @@
+//! Renders the role of an I/O port in the configuration mechanism.
+ghost use Rattle.std.specs.Prelude.{OnOk, Some};
+ghost use Rattle.lists.specs.Texts.{Adds};
+ghost use Rattle.model_lines.specs.WhyPorts.{port_text, latch_text};
+ghost use Rattle.findings.specs.WhyTold.{use_told};
+ghost use Rattle.findings_render.specs.WhyLines.{use_text};
+
+use crate::region_texts::numbers;
+use findings::PortUse;
+use std::alloc::AllocError;
+use std::fmt;
+
+/// Displays a port followed by a colon.
+#[derive(Clone, Copy)]
+struct ShownPort(u64);
+
+impl fmt::Display for ShownPort {
+    ghost output = { λ p. Some (port_text p.0) };
+
+    fn fmt<W: fmt::Write>(&self, f: &mut fmt::Formatter<W>) -> fmt::Result {
+        let port = self.0;
+        write!(f, "I/O 0x{port:x}: ")
+    }
+}
+
+/// Displays the value of CONFIG_ADDRESS.
+#[derive(Clone, Copy)]
+struct ShownLatch(u32);
+
+impl fmt::Display for ShownLatch {
+    ghost output = { λ l. Some (latch_text l.0) };
+
+    fn fmt<W: fmt::Write>(&self, f: &mut fmt::Formatter<W>) -> fmt::Result {
+        let latch = self.0;
+        write!(f, "the latch, 0x{latch:x}")
+    }
+}
+
+/// Appends the role of a port. Appends nothing for an ordinary port.
+pub(crate) fn push_port(
+    text: &mut String,
+    latch: u32,
+    port: u64,
+    used: &PortUse,
+) -> Result<(), AllocError>
+    ensures { OnOk result (Adds text.old text.new (use_text latch port (use_told used.now))) }
+{
+    let port = ShownPort(port);
+    let latch = ShownLatch(latch);
+    match *used {
+        PortUse::HoldsLatch => write!(text, "{port}4 bytes are {latch}"),
+        PortUse::ShowsData { at, offset } => {
+            write!(text, "{port}offset 0x{offset:x}")?;
+            write!(text, " of {} by {latch}", numbers(at))
+        }
+        PortUse::HidesData => {
+            write!(text, "{port}not enabled by ")?;
+            write!(text, "{latch}")
+        }
+        PortUse::LikeOthers => Ok(()),
+    }
+}

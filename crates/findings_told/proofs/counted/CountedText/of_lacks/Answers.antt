@@ -1,6 +1,0 @@
-use Rattle.std.proofs.Common.{arith}
-use Rattle.findings_told.proofs.AllLines.{whole_text}
-use Rattle.findings_told.proofs.counted.CountedText.of_lacks.Goals as goal
-
-pub returns-clause-text : goal.returns-clause-text
-returns-clause-text c = grind (arith, whole_text)

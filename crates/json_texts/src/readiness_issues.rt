@@ -1,0 +1,83 @@
+//! Builds the JSON values of unmet requirements.
+ghost use Rattle.std.specs.Prelude.{◌≡◌, IfOk};
+ghost use Rattle.serde_json.specs.View.{view};
+ghost use Rattle.model_findings.specs.ReadinessIssues.{outside_apertures, prefetched_by, other_primary, not_open};
+ghost use Rattle.model_findings.specs.ReadinessIssues as model;
+ghost use Rattle.findings.specs.Findings.{issue_of};
+ghost use Rattle.json_texts.specs.AuditValue.{issue_value};
+
+use crate::has_value::HasValue;
+use crate::problem_parts::{path_value, region_value};
+use findings::{LiveBar, ReadinessIssue};
+use paths::Path;
+use serde_json::{Value, json};
+use std::alloc::{AllocError, Global};
+
+/// Returns the value of a disabled BAR.
+fn not_open(alloc: Global, region: &LiveBar) -> Result<Value, AllocError>
+    ensures { IfOk result (λ v. view v ≡ issue_value (not_open region.now)) }
+{
+    let region = region_value(alloc, region)?;
+    json!(in alloc; {"region": region, "type": "closed"})
+}
+
+/// Returns the value of a BAR outside the apertures.
+fn outside(alloc: Global, region: &LiveBar, address: u64) -> Result<Value, AllocError>
+    ensures { IfOk result (λ v. view v ≡ issue_value (outside_apertures region.now address)) }
+{
+    let region = region_value(alloc, region)?;
+    json!(in alloc; {"address": address, "region": region, "type": "outside apertures"})
+}
+
+/// Returns the value of a BAR that a bridge prefetches.
+fn prefetched(
+    alloc: Global,
+    region: &LiveBar,
+    bridge: &Path,
+    address: u64,
+) -> Result<Value, AllocError>
+    ensures { IfOk result (λ v. view v
+        ≡ issue_value (prefetched_by region.now bridge.now address)) }
+{
+    let region = region_value(alloc, region)?;
+    let bridge = path_value(alloc, bridge)?;
+    json!(in alloc; {
+        "address": address,
+        "bridge": bridge,
+        "region": region,
+        "type": "prefetched"
+    })
+}
+
+/// Returns the value of a bridge with a wrong Primary Bus Number.
+fn primary(alloc: Global, path: &Path, held: u8, number: u8) -> Result<Value, AllocError>
+    ensures { IfOk result (λ v. view v ≡ issue_value (other_primary path.now held number)) }
+{
+    let path = path_value(alloc, path)?;
+    json!(in alloc; {"bus": number, "path": path, "primary": held, "type": "other primary"})
+}
+
+impl HasValue for ReadinessIssue {
+    ghost Told = { model.ReadinessIssue };
+
+    ghost told = { issue_of };
+
+    ghost shown = { issue_value };
+
+    fn value(&self, alloc: Global) -> Result<Value, AllocError> {
+        match self {
+            ReadinessIssue::NotOpen { region } => not_open(alloc, region),
+            ReadinessIssue::OutsideApertures { region, address } => outside(
+                alloc, region, *address,
+            ),
+            ReadinessIssue::Prefetched {
+                region,
+                bridge,
+                address,
+            } => prefetched(alloc, region, bridge, *address),
+            ReadinessIssue::OtherPrimary { path, held, number } => primary(
+                alloc, path, *held, *number,
+            ),
+        }
+    }
+}
