@@ -5,7 +5,7 @@
 use Rattle.std.{proofs.{Common.{◌≡◌, ℕ, zero, suc, ◌+◌, ◌<◌, List, [], ◌∷◌, Option, Some, None, length, get_or, refl, sym, ◌∙◌, arith}, lemmas.Bool.{eq-eqb, ne_eqb}}, specs.{Prelude.{find, ◌==◌}, Option.option_map_or}}
 use Rattle.model_registers.specs.EndpointTable.{BaseAddress}
 use Rattle.bars.specs.{declared.region.BarWithBase.BarWithBase, Slots.{placed, bases_from}}
-use Rattle.pciguest_c.specs.{declared.function_row.RegionRow.RegionRow, FunctionsTold.{region_row, no_region, region_row_at}}
+use Rattle.pciguest_c.specs.{declared.values.function_row.RegionRow.RegionRow, FunctionsTold.{region_row, no_region, region_row_at}}
 
 abbrev pub slot_row : Option BarWithBase → RegionRow
 slot_row slot = option_map_or (λ (r : BarWithBase). region_row (placed 0 r)) slot no_region

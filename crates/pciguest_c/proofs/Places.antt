@@ -2,7 +2,7 @@
 --     put_next      one more row is told
 use Rattle.std.{proofs.Common.{◌≡◌, ℕ, zero, suc, ◌+◌, ◌<◌, List, [], ◌∷◌, ◌++◌, length, take, drop, get_or, refl, sym, ap, ◌∙◌, arith, add-one}, specs.Prelude.slice_set}
 use Rattle.model_guests.specs.WorldNow.{WorldNow}
-use Rattle.pciguest_c.specs.{declared.{querying.RegionTold.RegionTold, moves.PlaceRow.PlaceRow}, MovesTold.{place_now, place_row, places_from}}
+use Rattle.pciguest_c.specs.{declared.{machine.regions.RegionTold.RegionTold, machine.moved_regions.PlaceRow.PlaceRow}, MovesTold.{place_now, place_row, places_from}}
 
 module _ (w : WorldNow) (guest : ℕ) where
   abbrev told : ℕ → PlaceRow → PlaceRow

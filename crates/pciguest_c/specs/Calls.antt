@@ -25,7 +25,7 @@ use Rattle.session.specs.Stages.{asks_for_more, board_in, machine_in}
 use Rattle.board_told.specs.{Telling.{told_by, counted_by}, declared.{listing.ReportForm.ReportForm, telling.Question.Question}}
 use Rattle.json_texts.specs.WhyValue.{host_why_json}
 use Rattle.monitor.specs.{ByIndex.name_nth, Moves.move_nth}
-use Rattle.pciguest_c.specs.{Told.{target_told, part_told, at_bus, host_target_told, reply_asked, after_asked, index_asked}, DevicesTold.{reply_at_device, after_at_device, wide_read, after_wide}, SeatingsTold.{gift_reply, after_gift, taking_reply, after_taking}, ImagesTold.{image_asked, after_restart}, QueriesTold.{region_asked, region_told, hit_asked, hit_told}, MovesTold.{places_from, moved_count}, FunctionsTold.{function_told, slot_asked}, DrivenTold.driven_row, WhyTold.why_asked, TextsTold.at_front, Handles.{session_of, machine_of, board_of}, declared.{asking.Side.Side, handle.Handle.Handle, querying.{RegionTold.RegionTold, HitTold.HitTold}, function_row.FunctionTold.FunctionTold, driven_calls.DrivenRow.DrivenRow, moves.PlaceRow.PlaceRow}}
+use Rattle.pciguest_c.specs.{Told.{target_told, part_told, at_bus, host_target_told, reply_asked, after_asked, index_asked}, DevicesTold.{reply_at_device, after_at_device, wide_read, after_wide}, SeatingsTold.{gift_reply, after_gift, taking_reply, after_taking}, ImagesTold.{image_asked, after_restart}, QueriesTold.{region_asked, region_told, hit_asked, hit_told}, MovesTold.{places_from, moved_count}, FunctionsTold.{function_told, slot_asked}, DrivenTold.driven_row, WhyTold.why_asked, TextsTold.at_front, Handles.{session_of, machine_of, board_of}, declared.{values.arguments.Side.Side, handle.Handle.Handle, machine.regions.{RegionTold.RegionTold, HitTold.HitTold}, values.function_row.FunctionTold.FunctionTold, board.functions.DrivenRow.DrivenRow, machine.moved_regions.PlaceRow.PlaceRow}}
 use Rattle.model_lines.specs.HostAccesses as board
 
 pub data Call : Type 0 where

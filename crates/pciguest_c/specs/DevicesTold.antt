@@ -13,7 +13,7 @@ use Rattle.std.specs.{Prelude.{ℕ, zero, suc, ◌+◌, ◌*◌, ◌/◌, ◌%�
 use Rattle.model_guests.specs.{Accesses.{Reply, answered, done, refused, reads, writes}, Guests.lone_of, WorldNow.WorldNow, Calls.at_device, DeviceEvents.{DeviceByte, DeviceEvent, device_reads, device_writes, device_answer}}
 use Rattle.model_handoff.specs.{Actions.calls, Changes.{MachineNow, after_on_machine}, RegionBytes.byte_reply}
 use Rattle.monitor.specs.{ByIndex.{name_nth, lone_nth}, Counts.after_byte_nth, DeviceBytes.device_byte}
-use Rattle.pciguest_c.specs.declared.asking.{Byte.Byte, Side.{Side, TheVariants.{Device, Guest}}}
+use Rattle.pciguest_c.specs.declared.values.arguments.{Byte.Byte, Side.{Side, TheVariants.{Device, Guest}}}
 
 abbrev pub reply_at_device : WorldNow → ℕ → DeviceEvent → Reply
 reply_at_device w guest e = device_answer (lone_of w.guests (name_nth w guest)) e

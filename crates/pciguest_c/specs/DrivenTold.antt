@@ -3,7 +3,7 @@
 --     driven_row f      all that is told of it
 use Rattle.std.specs.Prelude.{replicate}
 use Rattle.model_handoff.specs.DrivenFunctions.{DrivenFunctionNow}
-use Rattle.pciguest_c.specs.{InterruptsTold.no_interrupt, QueriesTold.one_if, FunctionsTold.function_row, declared.driven_calls.DrivenRow.DrivenRow}
+use Rattle.pciguest_c.specs.{InterruptsTold.no_interrupt, QueriesTold.one_if, FunctionsTold.function_row, declared.board.functions.DrivenRow.DrivenRow}
 
 abbrev pub driven_row : DrivenFunctionNow → DrivenRow
 driven_row f = record {

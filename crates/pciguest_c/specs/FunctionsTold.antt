@@ -11,7 +11,7 @@ use Rattle.model_board.specs.{Windows.Window, Routing.{Ranges, regions, windows}
 use Rattle.model_guests.specs.{Text.Text, PathTexts.path_text, WorldNow.{WorldNow, board_state}}
 use Rattle.model_handoff.specs.{GuestRegions.is_prefetchable, Functions.{LiveFunction, Assignment, slot_answer}}
 use Rattle.monitor.specs.ByIndex.{name_nth}
-use Rattle.pciguest_c.specs.{InterruptsTold.interrupt_of, QueriesTold.{one_if, space_number}, declared.{interrupts.Interrupt.Interrupt, function_row.{RegionRow.RegionRow, WindowRow.WindowRow, FunctionTold.FunctionTold}}}
+use Rattle.pciguest_c.specs.{InterruptsTold.interrupt_of, QueriesTold.{one_if, space_number}, declared.{values.interrupts.Interrupt.Interrupt, values.function_row.{RegionRow.RegionRow, WindowRow.WindowRow, FunctionTold.FunctionTold}}}
 
 abbrev pub no_region : RegionRow
 no_region = record { first = 0; size = 0; space = 0; prefetchable = 0; is_64_bit = 0 }

@@ -11,7 +11,7 @@ use Rattle.model_board.specs.{Interrupts.{root_device, root_pin}, Paths.Path, Po
 use Rattle.model_guests.specs.{Guests.lone_of, Slots.slot_at, WorldNow.{WorldNow, board_state}}
 use Rattle.model_handoff.specs.Functions.{LiveFunction, Assignment}
 use Rattle.monitor.specs.ByIndex.{name_nth}
-use Rattle.pciguest_c.specs.declared.interrupts.Interrupt.{Interrupt}
+use Rattle.pciguest_c.specs.declared.values.interrupts.Interrupt.{Interrupt}
 
 abbrev pub no_interrupt : Interrupt
 no_interrupt = record { pin = 0; root_device = 0; root_pin = 0; is_disabled = 0 }

@@ -2,7 +2,7 @@
 --     greatest_image      no image of a guest has more bytes: 12 and 32 slots of 246307
 --     limits      functions, guests and slots as board files may have them; registers; cells of a region and of a function
 use Rattle.std.specs.Prelude.{ℕ, replicate}
-use Rattle.pciguest_c.specs.declared.limits.LimitsRow.{LimitsRow}
+use Rattle.pciguest_c.specs.declared.machine.limits.LimitsRow.{LimitsRow}
 
 abbrev pub greatest_image : ℕ
 greatest_image = 7881836

@@ -8,7 +8,7 @@
 use Rattle.std.specs.Prelude.{ℕ, ◌+◌, ◌/◌, ◌%◌, ◌==◌, ◌&&◌, Bool, not, List, [], ◌∷◌, Result, Ok, Err, count_by}
 use Rattle.model_guests.specs.WorldNow.{WorldNow}
 use Rattle.model_handoff.specs.GuestRegions.{LiveBar}
-use Rattle.pciguest_c.specs.{QueriesTold.{one_if, region_asked, region_told}, declared.{querying.RegionTold.RegionTold, moves.PlaceRow.PlaceRow}}
+use Rattle.pciguest_c.specs.{QueriesTold.{one_if, region_asked, region_told}, declared.{machine.regions.RegionTold.RegionTold, machine.moved_regions.PlaceRow.PlaceRow}}
 
 abbrev pub no_region_told : RegionTold
 no_region_told = record { first = 0; size = 0; space = 0; prefetchable = 0; is_open = 0 }

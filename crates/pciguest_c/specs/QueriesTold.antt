@@ -8,7 +8,7 @@ use Rattle.model_registers.specs.{Registers.{Place, config, block, offset_of}, D
 use Rattle.model_guests.specs.{Accesses.Target, Slots.Landing, Guests.lone_of, WorldNow.WorldNow}
 use Rattle.model_handoff.specs.{GuestRegions.region_answer, Located.location}
 use Rattle.monitor.specs.ByIndex.{name_nth}
-use Rattle.pciguest_c.specs.declared.querying.{RegionTold.RegionTold, HitTold.HitTold}
+use Rattle.pciguest_c.specs.declared.machine.regions.{RegionTold.RegionTold, HitTold.HitTold}
 use Rattle.model_handoff.specs.GuestRegions as model
 
 abbrev pub region_asked : WorldNow → ℕ → ℕ → ℕ → Result model.LiveBar ℕ

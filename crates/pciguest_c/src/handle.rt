@@ -3,9 +3,9 @@ ghost use Rattle.std.specs.{Prelude.{◌≡◌, Some, None, IfSome, IfNone, Err,
 ghost use Rattle.model_handoff.specs.Changes.{MachineNow};
 ghost use Rattle.model_lines.specs.Sessions.{DrivenNow};
 
-use crate::numbers::NO_MACHINE;
 use crate::owner::Owner;
 use crate::unboxed::Unboxed;
+use crate::values::numbers::NO_MACHINE;
 use monitor::Monitor;
 use session::{Board, Session};
 use std::alloc::Global;

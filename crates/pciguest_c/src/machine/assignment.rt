@@ -1,0 +1,62 @@
+//! The calls that assign functions to guests and unassign them.
+ghost use Rattle.std.specs.Prelude.{◌≡◌, IfErr, IfOk};
+ghost use Rattle.model_lines.specs.Sessions.{given};
+ghost use Rattle.pciguest_c.specs.Calls.{Answers, give, take, giving, tells, refusal, nothing};
+
+use crate::handle::Handle;
+use crate::values::arguments::check_guest;
+use crate::values::numbers::{number_of, number_of_done};
+use board_file::path_text::path_of;
+use monitor::{AssignError, Monitor};
+use std::alloc::Global;
+
+/// Assigns the function at a path to a guest, or returns the error number.
+#[tactic(auto, unfolding(crate::specs::Calls::giving))]
+fn give_at(machine: &mut Monitor, path: &[u8], guest: usize, slot: u64) -> Result<(), u32>
+    ensures given { IfOk result (λ _.
+        giving machine.old path.now guest slot ≡ tells nothing (given machine.new)) }
+    ensures refused { IfErr result (λ n. giving machine.old path.now guest slot ≡ refusal n) }
+    ensures kept { IfErr result (λ _. machine.new ≡ machine.old) }
+{
+    check_guest(machine, guest)?;
+    // A text that isn't a path is reported like a path without an endpoint.
+    let Some(path) = path_of(path) else {
+        return Err(u32::from(AssignError::NoEndpoint.number()));
+    };
+    match machine.assign(&path, guest, slot) {
+        Ok(()) => Ok(()),
+        Err(why) => Err(u32::from(why.number())),
+    }
+}
+
+/// Assigns the unassigned function at a path to an empty slot of a guest. The function is then at
+/// reset, both in the slot and on the board.
+#[unsafe(no_mangle)]
+pub extern "C" fn pciguest_raw_give(
+    alloc: Global,
+    handle: &mut Handle,
+    path: &[u8],
+    guest: usize,
+    slot: u64,
+) -> u32
+    ensures { Answers (give path.now guest slot) handle.old handle.new result nothing nothing }
+{
+    number_of_done(handle.ask_machine(alloc, |machine| give_at(machine, path, guest, slot)))
+}
+
+/// Unassigns the function in a guest's slot. The slot is then empty, and the function is at reset
+/// on the board.
+#[unsafe(no_mangle)]
+pub extern "C" fn pciguest_raw_take(
+    alloc: Global,
+    handle: &mut Handle,
+    guest: usize,
+    slot: u64,
+) -> u32
+    ensures { Answers (take guest slot) handle.old handle.new result nothing nothing }
+{
+    number_of(handle.ask_machine(alloc, |machine| {
+        check_guest(machine, guest)?;
+        Ok(machine.unassign(guest, slot))
+    }))
+}

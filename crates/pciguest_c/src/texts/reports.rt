@@ -1,0 +1,129 @@
+//! The calls that write the report of a board file or check it, and functions that write a text to
+//! the caller's buffer.
+ghost use Rattle.std.specs.Prelude.{◌≡◌, ◌≢◌, ◌<◌, ◌≤◌, ◌⊎◌, length};
+ghost use Rattle.model_guests.specs.Text.{Text};
+ghost use Rattle.pciguest_c.specs.{Checks.{IsCheckOf, IsReportIn}, TextsTold.{IsTold, at_front}};
+
+use crate::texts::forms::{check_of, report_of};
+use crate::values::numbers::ARGUMENT;
+use board_told::ReportForm;
+use std::alloc::Global;
+
+/// Copies a text, or rows, to the front of a large enough buffer.
+pub fn put<T: Copy>(out: &mut [T], text: &[T])
+    requires { length text.now ≤ length out.old }
+    ensures { out.new ≡ at_front text.now out.old }
+{
+    out[..text.len()].copy_from_slice(text);
+}
+
+/// Stores the length of a text or the number of rows, and copies them to the front of a buffer.
+/// Returns 902 if the buffer is too small.
+pub fn tell<T: Copy>(text: &[T], out: &mut [T], needed: &mut usize) -> u32
+    ensures text { IsTold text.now out.old out.new result }
+    ensures needed { needed.new ≡ length text.now }
+{
+    *needed = text.len();
+    if out.len() < text.len() {
+        return ARGUMENT;
+    }
+    put(out, text);
+    0
+}
+
+/// Copies a text to the front of a buffer and stores its length, as `tell` does. Stores a count too
+/// if the text fits.
+pub fn tell_counted(
+    text: &[u8],
+    counted: usize,
+    out: &mut [u8],
+    needed: &mut usize,
+    count: &mut usize,
+) -> u32
+    ensures text { IsTold text.now out.old out.new result }
+    ensures needed { needed.new ≡ length text.now }
+    ensures count { result ≡ 0 → count.new ≡ counted }
+    ensures uncounted { result ≢ 0 → count.new ≡ count.old }
+{
+    let number = tell(text, out, needed);
+    if number == 0 {
+        *count = counted;
+    }
+    number
+}
+
+/// Writes the report of a board file in a form.
+fn tell_report(
+    alloc: Global,
+    form: ReportForm,
+    board: &[u8],
+    out: &mut [u8],
+    needed: &mut usize,
+) -> u32
+    ensures { IsReportIn form board.now out.old out.new needed.old needed.new result }
+{
+    match report_of(alloc, board, form) {
+        Ok(text) => tell(text.as_bytes(), out, needed),
+        Err(number) => number,
+    }
+}
+
+/// Writes the report of a board file to the front of `out`, and stores the length of the report
+/// even if `out` is too small.
+#[unsafe(no_mangle)]
+pub extern "C" fn pciguest_raw_report(
+    alloc: Global,
+    board: &[u8],
+    out: &mut [u8],
+    needed: &mut usize,
+) -> u32
+    ensures { let form = ReportForm.Lines in
+        IsReportIn form board.now out.old out.new needed.old needed.new result }
+{
+    tell_report(alloc, ReportForm::Lines, board, out, needed)
+}
+
+/// Writes the report of a board file to the front of `out` as a one-line JSON object, and stores
+/// the length of the report even if `out` is too small.
+#[unsafe(no_mangle)]
+pub extern "C" fn pciguest_raw_report_json(
+    alloc: Global,
+    board: &[u8],
+    out: &mut [u8],
+    needed: &mut usize,
+) -> u32
+    ensures { let form = ReportForm.Json in
+        IsReportIn form board.now out.old out.new needed.old needed.new result }
+{
+    tell_report(alloc, ReportForm::Json, board, out, needed)
+}
+
+/// Checks a board file, called `board.toml` in the text. Writes the text to the front of `out`, and
+/// stores its length even if `out` is too small.
+#[unsafe(no_mangle)]
+pub extern "C" fn pciguest_raw_check(
+    alloc: Global,
+    board: &[u8],
+    out: &mut [u8],
+    needed: &mut usize,
+) -> u32
+    ensures number { result < 299 → result ≢ 199 → IsCheckOf board.now result }
+    ensures told { result < 299 → result ≢ 199 → (text : Text)
+        × (out.new ≡ at_front text out.old) × (needed.new ≡ length text) }
+    ensures room { result ≡ 902 → length out.old < needed.new }
+    ensures numbers { (result ≤ 299) ⊎ (result ≡ 902) }
+    ensures unwritten { (result ≡ 199) ⊎ (result ≡ 299) ⊎ (result ≡ 902) →
+        out.new ≡ out.old }
+    ensures untold { (result ≡ 199) ⊎ (result ≡ 299) → needed.new ≡ needed.old }
+{
+    match check_of(alloc, board) {
+        Ok((text, number)) => {
+            if tell(text.as_bytes(), out, needed) == 0 {
+                number
+            } else {
+                ARGUMENT
+            }
+        }
+        Err(number) => number,
+    }
+}
