@@ -3,7 +3,7 @@ use Rattle.model_guests.specs.Slots.{raise_place}
 use Rattle.bars.specs.Slots.{slot_at}
 use Rattle.headers.specs.declared.place.Place.{Place}
 use Rattle.accesses.specs.Accesses.{part_of}
-use Rattle.monitor.proofs.{Queries.{slot_past, slot_read}, RaisePlaces.region_reaches}
+use Rattle.monitor.proofs.{QuerySteps.{slot_past, slot_read}, RaisePlaces.region_reaches}
 use Rattle.monitor.proofs.device.raise.has_place.Goals as goal
 
 pub returns-in-Some-Some : goal.returns-in-Some-Some

@@ -1,5 +1,5 @@
 use Rattle.std.proofs.Common.{arith}
-use Rattle.monitor.proofs.{Queries.guest_nth_is, Calls.{guest_in, inside_guests}}
+use Rattle.monitor.proofs.{QuerySteps.guest_nth_is, Calls.{guest_in, inside_guests}}
 use Rattle.monitor.proofs.engine.Engine.guest.Goals as goal
 
 pub index-requires : goal.index-requires

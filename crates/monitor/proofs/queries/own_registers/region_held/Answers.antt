@@ -1,7 +1,7 @@
 use Rattle.std.{proofs.Common.{◌≡◌, ◌≤◌, ◌+◌, ℕ, Some, None, sym, ap, ◌∙◌, subst}, specs.Prelude.option_map}
 use Rattle.model_registers.specs.{Declarations.{Kind, registers_of}, Decoding.base}
 use Rattle.bars.specs.{Kinds.kind_of, declared.region.BarWithBase.BarWithBase}
-use Rattle.monitor.{specs.OwnTold.standing, proofs.Queries.{a_region, slot_past, slot_read}}
+use Rattle.monitor.{specs.OwnTold.standing, proofs.QuerySteps.{a_region, slot_past, slot_read}}
 use Rattle.monitor.proofs.queries.own_registers.region_held.Goals as goal
 
 pub returns-in-Some-Some-clause-told : goal.returns-in-Some-Some-clause-told

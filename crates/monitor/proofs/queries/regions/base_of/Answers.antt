@@ -1,6 +1,6 @@
 use Rattle.std.proofs.Common.{ℕ, ◌+◌, ◌*◌, ◌/◌, ◌∙◌, ap, ap₂}
 use Rattle.bars.specs.Kinds.{kind_of}
-use Rattle.monitor.proofs.Queries.{IsWordRead, wide_base}
+use Rattle.monitor.proofs.QuerySteps.{IsWordRead, wide_base}
 use Rattle.monitor.proofs.queries.regions.base_of.Goals as goal
 
 pub returns-in-Mem64 : goal.returns-in-Mem64

@@ -1,4 +1,4 @@
-use Rattle.monitor.proofs.Queries.{answer_there, answer_refused}
+use Rattle.monitor.proofs.QuerySteps.{answer_there, answer_refused}
 use Rattle.monitor.proofs.queries.regions.region_in.Goals as goal
 
 pub returns-in-Err : goal.returns-in-Err

@@ -2,7 +2,7 @@ use Rattle.std.{proofs.Common.{◌≡◌, Some, None, sym, ap, ◌∙◌}, specs
 use Rattle.model_registers.specs.Decoding.{is_open}
 use Rattle.model_handoff.specs.GuestRegions.{LiveBar, region_now}
 use Rattle.bars.specs.Kinds.{kind_of}
-use Rattle.monitor.{specs.Queries.region_named, proofs.Queries.{no_region, a_region, region_told, slot_past, slot_read}}
+use Rattle.monitor.{specs.Queries.region_named, proofs.QuerySteps.{no_region, a_region, region_told, slot_past, slot_read}}
 use Rattle.monitor.proofs.queries.regions.region_kept.Goals as goal
 
 pub returns-in-Some-Some : goal.returns-in-Some-Some
