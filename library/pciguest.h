@@ -360,8 +360,8 @@ uint32_t pciguest_write_wide(struct pciguest *machine, size_t guest, uint32_t sp
  * of the guest are at the same address, this call can read either. The byte at the lowest offset is
  * the lowest byte of the value.
  * Returns 0 on success; 302 if the width isn't 1 to 8; 303 if the slot is above 31, no region
- * begins at this register, or a byte is past the end of the region; 601 if the slot is empty; 902
- * if there is no such guest, or the part is above 6. Since 0.4.0. */
+ * begins at this register (none does at part 6), or a byte is past the end of the region; 601 if
+ * the slot is empty; 902 if there is no such guest, or the part is above 6. Since 0.4.0. */
 uint32_t pciguest_region_read(struct pciguest *machine, size_t guest, uint64_t slot, uint32_t part,
                               uint64_t offset, uint32_t width, uint64_t *value);
 
@@ -371,8 +371,8 @@ uint32_t pciguest_region_read(struct pciguest *machine, size_t guest, uint64_t s
  * If two regions of the guest are at the same address, this call can write to either. The byte at
  * the lowest offset is the lowest byte of the value. If one byte is refused, no byte is written.
  * Returns 0 on success; 302 if the width isn't 1 to 8; 303 if the slot is above 31, no region
- * begins at this register, or a byte is past the end of the region; 601 if the slot is empty; 902
- * if there is no such guest, or the part is above 6. Since 0.4.0. */
+ * begins at this register (none does at part 6), or a byte is past the end of the region; 601 if
+ * the slot is empty; 902 if there is no such guest, or the part is above 6. Since 0.4.0. */
 uint32_t pciguest_region_write(struct pciguest *machine, size_t guest, uint64_t slot, uint32_t part,
                                uint64_t offset, uint32_t width, uint64_t value);
 
