@@ -1,3 +1,3 @@
-//! What a device does to the registers of its function.
+//! Device-side accesses to the registers of a function.
 pub(crate) mod raise;
 pub(crate) mod registers;
