@@ -5,7 +5,8 @@
 use Rattle.std.specs.Prelude.{ℕ, ◌≡◌, List, IsSome}
 use Rattle.model_guests.specs.{Accesses.Target, Text.Text, Guests.{guest_named, lone_of}, WorldNow.WorldNow}
 use Rattle.model_images.specs.Requests.{Request, after_requests, request_inputs}
-use Rattle.board_told.specs.{GuestFindings.lone_asked, WhyJson.guest_why_in, declared.listing.ReportForm.ReportForm}
+use Rattle.session.specs.declared.questions.ReportForm.{ReportForm}
+use Rattle.board_told.specs.{GuestFindings.lone_asked, WhyJson.guest_why_in}
 
 -- the guests at two indices of two worlds
 abbrev pub EqualGuests : Type 0

@@ -1,7 +1,6 @@
 pub mod Faults
 pub mod Listing
 pub mod Checking
-pub mod Telling
 pub mod GuestFindings
 pub mod GuestLines
 pub mod Alone

@@ -7,7 +7,7 @@ use Rattle.window_packing.specs.Readies.{ReadyBoard, IsReady}
 use Rattle.session.specs.Files.{IsSetUp}
 use Rattle.model_handoff.specs.{Report.{report}, FoundReport.{IsSetUpOf}}
 use Rattle.json_texts.specs.ReportValue.{report_json_text}
-use Rattle.board_told.specs.declared.listing.ReportForm.{ReportForm, TheVariants.{Lines, Json}}
+use Rattle.session.specs.declared.questions.ReportForm.{ReportForm, TheVariants.{Lines, Json}}
 
 abbrev pub report_in : ReportForm → World → Text
 report_in Lines w = report w

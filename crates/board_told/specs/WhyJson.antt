@@ -9,7 +9,7 @@ use Rattle.model_registers.specs.Registers.{Place, config, block, offset_of}
 use Rattle.model_guests.specs.{Accesses.{Target, configuration, port, address}, Lone.LoneGuest, Text.Text}
 use Rattle.model_lines.specs.{WhyPorts.{like_others, port_use}, WhyGuests.{ClosedRegion, Finding, answers, nobody, empty, no_slot, guest_finding, guest_why_text}}
 use Rattle.json_texts.specs.{ReportValue.array_of, AuditValue.{natural, number_value}, WhyValue.why_json}
-use Rattle.board_told.specs.declared.listing.ReportForm.{ReportForm, TheVariants.{Lines, Json}}
+use Rattle.session.specs.declared.questions.ReportForm.{ReportForm, TheVariants.{Lines, Json}}
 
 abbrev pub bar_value : Place → Data
 bar_value (config off) = null

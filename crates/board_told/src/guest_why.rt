@@ -11,7 +11,6 @@ ghost use Rattle.board_told.specs.{GuestFindings.{lone_asked, fault_at, closed_t
 use crate::closed::ClosedInSlot;
 use crate::finding::{Finding, WhyFault, find};
 use crate::finding_lines::{push_closed_of, push_head};
-use crate::listing::ReportForm;
 use accesses::{At, Place};
 use findings::{PortUse, port_use};
 use findings_render::push_use;
@@ -19,6 +18,7 @@ use json_texts::{HasValue, number_value, values, why_json};
 use monitor::Monitor;
 use paths::Latch;
 use serde_json::{Value, json};
+use session::ReportForm;
 use std::alloc::{AllocError, Global};
 
 /// Appends the line about the role of an I/O port in the configuration mechanism. Appends nothing

@@ -1,9 +1,8 @@
 //! Layer: program. Below: board_refusal, board_fit, session. Above: simulation, pciguest_c.
 //!
-//! Reports about a board, as lines or as JSON: the listing of a board file, the errors in one, and
-//! the problems and unmet requirements in the current registers. Also explains why a guest's access
-//! reaches its target, by the guest's own functions and CONFIG_ADDRESS only, and assigns numbers
-//! and messages to faults.
+//! Reports about a board, as lines or as JSON: the listing of a board file, and the errors in one.
+//! Also explains why a guest's access reaches its target, by the guest's own functions and
+//! CONFIG_ADDRESS only, and assigns numbers and messages to faults.
 #![tactic(auto)]
 
 ghost use Rattle.board_told.specs.Alone.{EqualGuests, EqualAlong};
@@ -16,7 +15,6 @@ mod finding_lines;
 mod guest_why;
 mod listing;
 mod numbered;
-mod telling;
 
 pub use board_fit::WarningLevel;
 pub use checking::{Checked, check_text};
@@ -25,9 +23,8 @@ pub use diagnostics::Style;
 pub use fault::Fault;
 pub use finding::{Finding, WhyFault, find};
 pub use guest_why::guest_why_in;
-pub use listing::{ReportForm, list_in};
+pub use listing::list_in;
 pub use monitor::{At, Monitor};
-pub use telling::{Question, audit_in, ready_in};
 
 /// Establishes that a guest's explanations depend only on the guest's own functions and
 /// CONFIG_ADDRESS. Two guests with equal state get equal explanations, on any boards and beside any

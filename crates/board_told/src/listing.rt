@@ -10,18 +10,9 @@ use accesses::GuestDecl;
 use board_file::read_board;
 use json_texts::report_json;
 use report::report_text;
-use session::OpenFault;
+use session::{OpenFault, ReportForm};
 use std::alloc::{AllocError, Global};
 use window_packing::{Ready, set_up};
-
-/// The output format of a report.
-#[derive(Clone, Copy, Debug, PartialEq, Eq)]
-pub enum ReportForm {
-    /// Lines of text.
-    Lines,
-    /// A JSON object on one line.
-    Json,
-}
 
 /// Reads a board file and sets up its board. Returns the board with its guests.
 fn ready_board(alloc: Global, board: &[u8]) -> Result<(Ready, Vec<GuestDecl>), OpenFault>

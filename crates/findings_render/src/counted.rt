@@ -1,13 +1,11 @@
 //! Renders findings as lines of text and counts them.
 ghost use Rattle.std.specs.Prelude.{◌≡◌, ◌+◌, length, map, IfOk, string_bytes};
-ghost use Rattle.model_findings.specs.{AuditText.{audit_text, audit}, Problems.problems, ReadinessIssues.issue_count, ReadyText.{ready_text, ready_report}};
+ghost use Rattle.model_findings.specs.{AuditText.audit_text, ReadyText.ready_text};
 ghost use Rattle.findings.specs.Findings.{problem_of, issue_of};
 
 use crate::issue_lines::{push_issues, push_ready_count};
 use crate::problem_lines::{push_problem_count, push_problems};
-use findings::{Problem, ReadinessIssue, problems, readiness_issues};
-use headers::Apertures;
-use host_bridge::Host;
+use findings::{Problem, ReadinessIssue};
 use std::alloc::{AllocError, Global};
 
 /// The text about a board's problems, or about its problems and unmet requirements, with their
@@ -53,33 +51,4 @@ impl CountedText {
         let count = problems.len() + readiness_issues.len();
         Ok(CountedText { text, count })
     }
-}
-
-/// Audits the current registers of a board and renders the result. Leaves the host unchanged, even
-/// if memory is exhausted.
-pub fn audit_text(alloc: Global, host: &mut Host) -> Result<CountedText, AllocError>
-    ensures text { IfOk result (λ t. string_bytes t.text ≡ audit host.old.state.functions) }
-    ensures count { IfOk result (λ t. t.count ≡ length (problems host.old.state.functions)) }
-    ensures after { host.new ≡ host.old }
-{
-    let found = problems(alloc, host)?;
-    CountedText::of_problems(alloc, &found)
-}
-
-/// Checks whether a board is ready, given its apertures, and renders the result. Leaves the host
-/// unchanged, even if memory is exhausted.
-pub fn ready_text(
-    alloc: Global,
-    host: &mut Host,
-    apertures: &Apertures,
-) -> Result<CountedText, AllocError>
-    ensures text { let fs = host.old.state.functions in
-        IfOk result (λ t. string_bytes t.text ≡ ready_report apertures.now fs) }
-    ensures count { let fs = host.old.state.functions in
-        IfOk result (λ t. t.count ≡ issue_count apertures.now fs) }
-    ensures after { host.new ≡ host.old }
-{
-    let found = problems(alloc, host)?;
-    let lacking = readiness_issues(alloc, host, apertures)?;
-    CountedText::of_issues(alloc, &found, &lacking)
 }

@@ -20,9 +20,8 @@ mod why_parts;
 mod why_port_lines;
 mod why_texts;
 
-pub use counted::{CountedText, audit_text, ready_text};
+pub use counted::CountedText;
 pub use findings::{Bdf, Problem, ReadinessIssue, Space};
-pub use headers::Apertures;
 pub use host_bridge::Host;
 pub use problem_lines::push_problem;
 pub use region_texts::numbers;

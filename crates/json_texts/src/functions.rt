@@ -1,4 +1,4 @@
-//! Builds the JSON values of functions. The members are added in small groups, because no proof was
+//! Functions as JSON. The members of an object are added in small groups, because no proof was
 //! found for all nine at once.
 ghost use Rattle.std.specs.Prelude.{◌≡◌, IfOk, OnOk, map};
 ghost use Rattle.serde_json.specs.View.{view, members_view};
@@ -45,7 +45,7 @@ fn put_identity(
     put(members, alloc, "device_id", Value::from(row.device))
 }
 
-/// Returns the value of an endpoint with this interrupt pin.
+/// Returns an endpoint with this interrupt pin as JSON.
 fn endpoint_value(
     alloc: Global,
     row: &EnumeratedFunction,
@@ -66,7 +66,7 @@ fn endpoint_value(
     Ok(Value::Object(members))
 }
 
-/// Returns the value of a bridge's Primary, Secondary and Subordinate Bus Numbers.
+/// Returns a bridge's Primary, Secondary and Subordinate Bus Numbers as JSON.
 fn buses_value(
     alloc: Global,
     primary: u8,
@@ -78,7 +78,7 @@ fn buses_value(
     json!(in alloc; {"primary": primary, "secondary": secondary, "subordinate": subordinate})
 }
 
-/// Returns the value of a bridge with these bus numbers.
+/// Returns a bridge with these bus numbers as JSON.
 fn bridge_value(
     alloc: Global,
     row: &EnumeratedFunction,
@@ -100,7 +100,7 @@ fn bridge_value(
     Ok(Value::Object(members))
 }
 
-/// Returns the value of a function with the registers written into it.
+/// Returns a function as JSON, with the registers written into it.
 fn function_value(
     alloc: Global,
     row: &EnumeratedFunction,
@@ -118,7 +118,7 @@ fn function_value(
     }
 }
 
-/// Returns the values of all functions, each with the registers written into it.
+/// Returns all functions as JSON, each with the registers written into it.
 pub(crate) fn function_values(
     alloc: Global,
     rows: &[EnumeratedFunction],

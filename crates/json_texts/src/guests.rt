@@ -1,4 +1,4 @@
-//! Builds the JSON values of guests.
+//! Guests as JSON.
 ghost use Rattle.std.specs.Prelude.{◌≡◌, IfOk, map};
 ghost use Rattle.model_guests.specs.World.{Guest};
 ghost use Rattle.serde_json.specs.View.{view};
@@ -11,7 +11,7 @@ use paths::Path;
 use serde_json::{Value, json};
 use std::alloc::{AllocError, Global};
 
-/// Returns the value of a slot with the path of its endpoint.
+/// Returns a slot as JSON, with the path of its endpoint.
 fn slot_value(alloc: Global, slot: usize, path: &Path) -> Result<Value, AllocError>
     ensures { IfOk result (λ v. view v ≡ slot_value slot path.now) }
 {
@@ -19,7 +19,7 @@ fn slot_value(alloc: Global, slot: usize, path: &Path) -> Result<Value, AllocErr
     json!(in alloc; {"slot": slot, "path": path})
 }
 
-/// Returns the values of a guest's slots, in order from slot 0.
+/// Returns a guest's slots as JSON, starting with slot 0.
 fn slot_values(alloc: Global, paths: &[Path]) -> Result<Vec<Value>, AllocError>
     ensures { IfOk result (λ v. map view v.items ≡ slot_values 0 paths.now) }
 {

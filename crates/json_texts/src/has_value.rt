@@ -1,4 +1,4 @@
-//! Converts values and lists to JSON.
+//! Conversion of values and lists to JSON.
 ghost use Rattle.std.specs.Prelude.{◌≡◌, IfOk, map};
 ghost use Rattle.serde_json.specs.{Data.Data, View.view};
 
@@ -7,8 +7,8 @@ use std::alloc::{AllocError, Global};
 
 /// A type whose values can be converted to JSON.
 pub trait HasValue {
-    /// The type that stands for `Self` in the model, the conversion to it, and the JSON value of a
-    /// model value.
+    /// The type that stands for `Self` in the model, the conversion to it, and the JSON of a model
+    /// value.
     ghost Told: { Type 0 };
 
     ghost told: { Self → Told };
@@ -19,7 +19,7 @@ pub trait HasValue {
         ensures { IfOk result (λ v. view v ≡ shown (told self.now)) };
 }
 
-/// Returns the JSON values of a list, in the same order.
+/// Converts the items of a list to JSON, in the same order.
 pub fn values<T: HasValue>(alloc: Global, all: &[T]) -> Result<Vec<Value>, AllocError>
     ensures { IfOk result (λ v. map view v.items ≡ map T.shown (map T.told all.now)) }
 {

@@ -1,4 +1,4 @@
-//! Builds the JSON values of paths, spaces, BARs, responders and BDFs.
+//! Paths, spaces, BARs, responders and BDFs as JSON.
 ghost use Rattle.std.specs.Prelude.{◌≡◌, IfOk};
 ghost use Rattle.serde_json.specs.View.{view};
 ghost use Rattle.bars.specs.Kinds.{named_space};
@@ -12,7 +12,7 @@ use report::ShownPath;
 use serde_json::{Value, json};
 use std::alloc::{AllocError, Global};
 
-/// Returns the value of a path.
+/// Returns a path as JSON.
 pub(crate) fn path_value(alloc: Global, path: &Path) -> Result<Value, AllocError>
     ensures { IfOk result (λ v. view v ≡ path_value path.now) }
 {
@@ -20,7 +20,7 @@ pub(crate) fn path_value(alloc: Global, path: &Path) -> Result<Value, AllocError
     Ok(Value::from(text))
 }
 
-/// Returns the path of the function that was reached, or `null` if none was.
+/// Returns the path of the function that was reached as JSON, or `null` if none was.
 pub(crate) fn reached_value(alloc: Global, path: &Option<Path>) -> Result<Value, AllocError>
     ensures { IfOk result (λ v. view v ≡ reached_value path.now) }
 {
@@ -40,7 +40,7 @@ pub(crate) fn space_text(space: Space) -> &'static str
     }
 }
 
-/// Returns the index of a responder's BAR, or `null` for a bridge.
+/// Returns the BAR index of a responder as JSON, or `null` for a bridge.
 fn register_value(register: Option<u8>) -> Value
     ensures { view result ≡ register_value register }
 {
@@ -50,7 +50,7 @@ fn register_value(register: Option<u8>) -> Value
     }
 }
 
-/// Returns the value of a BAR with the path of its endpoint.
+/// Returns a BAR as JSON, with the path of its endpoint.
 pub(crate) fn region_value(alloc: Global, region: &LiveBar) -> Result<Value, AllocError>
     ensures { IfOk result (λ v. view v ≡ region_value region.now) }
 {
@@ -62,7 +62,7 @@ pub(crate) fn region_value(alloc: Global, region: &LiveBar) -> Result<Value, All
     json!(in alloc; {"bar": bar, "base": base, "path": path, "size": size, "space": space})
 }
 
-/// Returns the value of a responder: its path and the index of its BAR.
+/// Returns a responder as JSON: its path and the index of its BAR.
 pub(crate) fn agent_value(alloc: Global, agent: &Agent) -> Result<Value, AllocError>
     ensures { IfOk result (λ v. view v ≡ agent_value agent.now) }
 {
@@ -71,7 +71,7 @@ pub(crate) fn agent_value(alloc: Global, agent: &Agent) -> Result<Value, AllocEr
     json!(in alloc; {"bar": bar, "path": path})
 }
 
-/// Returns the value of a BDF.
+/// Returns a BDF as JSON.
 pub fn number_value(alloc: Global, at: Bdf) -> Result<Value, AllocError>
     ensures { IfOk result (λ v. view v ≡ number_value (bus_address_of at)) }
 {

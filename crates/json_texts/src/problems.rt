@@ -1,4 +1,4 @@
-//! Builds the JSON values of problems.
+//! Problems as JSON.
 ghost use Rattle.std.specs.Prelude.{◌≡◌, IfOk};
 ghost use Rattle.serde_json.specs.View.{view};
 ghost use Rattle.paths.specs.BusAddresses.{bus_address_of};
@@ -16,7 +16,7 @@ use paths::{Bdf, Path};
 use serde_json::{Value, json};
 use std::alloc::{AllocError, Global};
 
-/// Returns the value of a BAR that a bridge doesn't forward.
+/// Returns the problem of a BAR that a bridge doesn't forward as JSON.
 fn not_forwarded(
     alloc: Global,
     region: &LiveBar,
@@ -36,7 +36,7 @@ fn not_forwarded(
     })
 }
 
-/// Returns the value of an address conflict between two responders.
+/// Returns the address conflict between two responders as JSON.
 fn contended(alloc: Global, one: &Agent, other: &Agent, address: u64) -> Result<Value, AllocError>
     ensures { IfOk result (λ v. view v ≡ problem_value (contended one.now other.now address)) }
 {
@@ -47,7 +47,7 @@ fn contended(alloc: Global, one: &Agent, other: &Agent, address: u64) -> Result<
     json!(in alloc; {"address": address, "agents": agents, "space": space, "type": "contended"})
 }
 
-/// Returns the value of a function that isn't reached by its BDF.
+/// Returns the problem of a function that isn't reached by its BDF as JSON.
 fn not_found(
     alloc: Global,
     path: &Path,

@@ -7,3 +7,4 @@ pub mod Tellings
 pub mod Lending
 pub mod DrivenFunctions
 pub mod Refusals
+pub mod Questions

@@ -2,7 +2,6 @@
 ghost use Rattle.std.specs.{Prelude.{◌≡◌, ◌≢◌, ◌≤◌, ◌++◌, ◌∷◌, [], false, not, codes, length, map, option_and_then, MatchOption, IfOk, IfErr, IfSome, string_bytes}, Bool.OnTrue};
 ghost use Rattle.model_board.specs.AtReset.{board_at};
 ghost use Rattle.model_guests.specs.{Accesses.{reads, writes}, Replies.reply_text, World.IsLawfulWorld, WorldNow.{board_state, names_now}};
-ghost use Rattle.model_findings.specs.{AuditText.audit, Problems.problems, ReadinessIssues.issue_count, ReadyText.ready_report};
 ghost use Rattle.model_handoff.specs.Changes.{BeginsIn};
 ghost use Rattle.model_lines.specs.{HostAccesses.answer, FirmwareLines.text_by, Requests.why_written, GivenLaws.IsGiven, Sessions.{at_reset, after_board_access, after_meant}};
 ghost use Rattle.accesses.specs.{Accesses.{host_target_of, reply_of}, Replies.{IsRefusal, IsShown}};
@@ -19,9 +18,7 @@ use crate::opening::begin;
 use accesses::{GuestDecl, HostAccess, HostAt, Refusal, Reply};
 use bars::Space;
 use board_file::{BoardFault, read_board};
-use findings_render::{
-    CountedText, audit_text, ready_text, why_number_text, why_port_text, why_text,
-};
+use findings_render::{why_number_text, why_port_text, why_text};
 use headers::Apertures;
 use host_bridge::Host;
 use json_texts::host_why_json;
@@ -208,31 +205,6 @@ impl Board {
                 Err(Refused { board, fault })
             }
         }
-    }
-
-    /// Returns the report of all problems in the registers as they are now, whoever wrote them.
-    /// Changes nothing, even if memory is exhausted.
-    pub fn audit(&mut self, alloc: Global) -> Result<CountedText, AllocError>
-        ensures text { IfOk result (λ a. string_bytes a.text ≡ audit self.old.state.functions) }
-        ensures count { IfOk result (λ a.
-            a.count ≡ length (problems self.old.state.functions)) }
-        ensures after { self.new ≡ self.old }
-    {
-        audit_text(alloc, &mut self.host)
-    }
-
-    /// Returns the report of all problems and of everything left to do, for the registers as they
-    /// are now and the apertures of the board file. Changes nothing, even if memory is exhausted.
-    pub fn ready(&mut self, alloc: Global) -> Result<CountedText, AllocError>
-        ensures text { IfOk result (λ r.
-            string_bytes r.text
-            ≡ ready_report self.old.world.apertures self.old.state.functions) }
-        ensures count { IfOk result (λ r.
-            r.count ≡ issue_count self.old.world.apertures self.old.state.functions) }
-        ensures after { self.new ≡ self.old }
-    {
-        let apertures = self.apertures();
-        ready_text(alloc, &mut self.host, &apertures)
     }
 
     /// Explains why an address, an I/O port or a BDF reaches a function, or why it reaches none,

@@ -23,7 +23,8 @@
 //!     .map(|board| board.write(numbers, 0x0001_0100));
 //! let mut text = LineText::new();
 //! let more = session.run_line(b"host cr 01:00.0 0 4", &mut text)?;
-//! let audit = session.audit(alloc)?;
+//! let question = Question::Audit(ReportForm::Lines);
+//! let audit = session.ask(alloc, question, &apertures)?;
 //! ```
 #![tactic(auto)]
 
@@ -32,7 +33,7 @@ mod asking;
 mod board;
 mod functions;
 mod opening;
-mod problems;
+mod questions;
 mod running;
 mod session;
 mod stage;
@@ -49,5 +50,6 @@ pub use host_bridge::Host;
 pub use lines::{ExplainTarget, LineText, RunFault};
 pub use monitor::{HandoverFault, Monitor, Problem, Refused};
 pub use opening::{OpenFault, open};
+pub use questions::{Question, ReportForm};
 pub use running::run;
 pub use session::{Session, SessionLines};

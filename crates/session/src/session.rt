@@ -1,15 +1,16 @@
 //! A session over a board.
 ghost use Rattle.std.specs.{Prelude.{◌≡◌, ◌≢◌, ◌++◌, [], ⊤, length, map, option_map, string_bytes, is_some, Ok, None, IsOk, IfOk, IfErr, IfSome, OnOk, OnErr, MatchResult, IsFalse}, Borrow.sem, Option.option_copied_mut};
 ghost use Rattle.model_guests.specs.{Text.Text, World.{World, IsLawfulWorld}};
-ghost use Rattle.model_findings.specs.{AuditText.audit, Problems.problems, ReadinessIssues.{readiness_issues, issue_count}, ReadyText.ready_report};
+ghost use Rattle.model_findings.specs.{Problems.problems, ReadinessIssues.readiness_issues};
 ghost use Rattle.findings.specs.Findings.{problem_of, issue_of};
 ghost use Rattle.model_lines.specs.Sessions.{driven, given, at_reset, session_functions, session_protocol, session_output, after_session_line};
 ghost use Rattle.lines.specs.Pieces.{IsBefore, with_more};
 ghost use Rattle.board_file.specs.{declared.fault.BoardFault.TheVariants.Memory, Faults.number_of as file_number};
-ghost use Rattle.session.specs.{Files.{Declares, Refuses}, Boards.{IsHandedOverAs, IsRefusalOf}, Refusals.refusal_in, Stages.{board_in, machine_in, asks_for_more, IsDriven, IsGiven}};
+ghost use Rattle.session.specs.{Files.{Declares, Refuses}, Boards.{IsHandedOverAs, IsRefusalOf}, Questions.{told_by, counted_by}, Refusals.refusal_in, Stages.{board_in, machine_in, asks_for_more, IsDriven, IsGiven}};
 
 use crate::asking::meant;
 use crate::board::Board;
+use crate::questions::{Question, ReportForm, audit_in, ready_in};
 use crate::stage::{Stage, answer_handover, hand_over};
 use board_file::BoardFault;
 use findings::{Problem, ReadinessIssue};
@@ -119,22 +120,33 @@ impl Session {
         hand_over(alloc, &mut self.stage)
     }
 
-    /// Returns the report of all problems in the registers as they are now, whoever wrote them.
-    /// Changes nothing, even if memory is exhausted.
-    pub fn audit(&mut self, alloc: Global) -> Result<CountedText, AllocError>
-        ensures text { IfOk result
-            (λ a. string_bytes a.text ≡ audit (session_functions self.old)) }
-        ensures count { IfOk result (λ a.
-            a.count ≡ length (problems (session_functions self.old))) }
+    /// Answers a question about the registers as they are now, whoever wrote them, given these
+    /// apertures. Changes nothing, even if memory is exhausted.
+    pub fn ask(
+        &mut self,
+        alloc: Global,
+        question: Question,
+        apertures: &Apertures,
+    ) -> Result<CountedText, AllocError>
+        ensures text { IfOk result (λ t. string_bytes t.text
+            ≡ told_by question apertures.now (session_functions self.old)) }
+        ensures count { IfOk result (λ t.
+            t.count ≡ counted_by question apertures.now (session_functions self.old)) }
         ensures after { self.new ≡ self.old }
     {
         let found = self.problems(alloc)?;
-        CountedText::of_problems(alloc, &found)
+        match question {
+            Question::Audit(form) => audit_in(alloc, form, &found),
+            Question::Ready(form) => {
+                let lacking = self.readiness_issues(alloc, apertures)?;
+                ready_in(alloc, form, &found, &lacking)
+            }
+        }
     }
 
     /// Returns all problems in the registers as they are now, as values. Changes nothing, even if
     /// memory is exhausted.
-    pub fn problems(&mut self, alloc: Global) -> Result<Vec<Problem>, AllocError>
+    fn problems(&mut self, alloc: Global) -> Result<Vec<Problem>, AllocError>
         ensures told { IfOk result (λ v.
             map problem_of v.items ≡ problems (session_functions self.old)) }
         ensures after { self.new ≡ self.old }
@@ -146,23 +158,9 @@ impl Session {
         }
     }
 
-    /// Returns the report of all problems and of everything left to do, for the registers as they
-    /// are now and these apertures. Changes nothing, even if memory is exhausted.
-    pub fn ready(&mut self, alloc: Global, apertures: &Apertures) -> Result<CountedText, AllocError>
-        ensures text { IfOk result (λ r.
-            string_bytes r.text ≡ ready_report apertures.now (session_functions self.old)) }
-        ensures count { IfOk result (λ r.
-            r.count ≡ issue_count apertures.now (session_functions self.old)) }
-        ensures after { self.new ≡ self.old }
-    {
-        let found = self.problems(alloc)?;
-        let lacking = self.readiness_issues(alloc, apertures)?;
-        CountedText::of_issues(alloc, &found, &lacking)
-    }
-
     /// Returns everything left to do given these apertures, as values. Changes nothing, even if
     /// memory is exhausted.
-    pub fn readiness_issues(
+    fn readiness_issues(
         &mut self,
         alloc: Global,
         apertures: &Apertures,
@@ -214,11 +212,11 @@ impl Session {
                         Ok(Answer::short(refused))
                     }
                     Some(HostRequest::Audit) => {
-                        let told = board.audit(self.alloc)?;
+                        let told = board.ask(self.alloc, Question::Audit(ReportForm::Lines))?;
                         Ok(Answer::text(told.text))
                     }
                     Some(HostRequest::Ready) => {
-                        let ready = board.ready(self.alloc)?;
+                        let ready = board.ask(self.alloc, Question::Ready(ReportForm::Lines))?;
                         Ok(Answer::text(ready.text))
                     }
                     Some(HostRequest::Why(at)) => {

@@ -11,8 +11,8 @@ use Rattle.model_registers.specs.Apertures.{Apertures}
 use Rattle.model_guests.specs.{Text.{Text, lines}, World.{World, IsLawfulWorld}}
 use Rattle.model_lines.{specs.Sessions.{SessionNow, driven, at_reset, session_functions, session_protocol}, proofs.HandoverLines.isolated_sessions}
 use Rattle.lines.{specs.{declared.{runs.RunFault.RunFault, watching.RunStats.RunStats}, Refusals.{refuses, none_seen, seen_along, IsWatched}, Runs.{Ends, ends, Runs}}, proofs.Parts.{same_end, same_error}}
-use Rattle.session.specs.{Files.Declares, Refusals.refusal_in}
-use Rattle.board_told.specs.{declared.{fault.Fault.{Fault, TheVariants.{SetUp, Write, NotInOrder, NotReady, RefusedLine}}, telling.Question.{Question, TheVariants.{Audit, Ready}}}, Faults.of_run}
+use Rattle.session.specs.{Files.Declares, Refusals.refusal_in, declared.questions.Question.{Question, TheVariants.{Audit, Ready}}}
+use Rattle.board_told.specs.{declared.fault.Fault.{Fault, TheVariants.{SetUp, Write, NotInOrder, NotReady, RefusedLine}}, Faults.of_run}
 use Rattle.simulation.{specs.{Faults.{IsOfFile, IsToldLast, OnFile}, Serving.{at_first, session_text, left_after, told, counted, last_fault, HasEnded, IsSession, IsServed, Serves, IsOfAnswer, IsOfServing}}, proofs.Begun.runs_from}
 use Rattle.lines.specs.declared.runs.RunFault.TheVariants as run
 use Rattle.bus_scan.specs.declared.fault.Fault.TheVariants as set_up

@@ -16,11 +16,12 @@ use Rattle.lines.specs.{Runs.{Ends}, declared.watching.RunStats.{RunStats}}
 use Rattle.command_line.specs.declared.choice.Choice.{Choice, TheVariants.{Help, Demo, List, Check, Run, Firmware, Audit, Ready}}
 use Rattle.diagnostics.specs.declared.style.Style.{Style, TheVariants.{Plain, WithExcerpts}}
 use Rattle.board_fit.specs.declared.warning_level.WarningLevel.{WarningLevel}
-use Rattle.board_told.specs.declared.{listing.ReportForm.{ReportForm, TheVariants.{Lines, Json}}, fault.Fault.{Fault, TheVariants.{SetUp, Write}}}
+use Rattle.session.specs.declared.questions.ReportForm.{ReportForm, TheVariants.{Lines, Json}}
+use Rattle.board_told.specs.declared.fault.Fault.{Fault, TheVariants.{SetUp, Write}}
 use Rattle.simulation.specs.{Demo.demo_board, Faults.{open_fault, IsRefusal, IsOfList, IsOfRun, IsOfRunAs, OnRun}, Listing.{IsListed, IsListedInPart}, Checking.{IsChecked, IsCheckedInPart}, Running.{IsRun, RunsAs}, Serving.{IsOfServing, Serves}}
 use Rattle.bus_scan.specs.declared.fault.Fault.TheVariants as set_up
 use Rattle.board_fit.specs.declared.warning_level.WarningLevel.TheVariants as of
-use Rattle.board_told.specs.declared.telling.Question.TheVariants as question
+use Rattle.session.specs.declared.questions.Question.TheVariants as question
 
 abbrev pub Prints : {T : Type 0} → Text → Ends → Result T Fault → Type 0
 Prints text at (Ok x) = Appends at.before at.after text × (at.flushed ≡ at.after)

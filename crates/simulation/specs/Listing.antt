@@ -5,8 +5,8 @@
 use Rattle.std.specs.{Prelude.Option, Io.KnownBytes.Appends}
 use Rattle.streams.specs.Ends.{AppendsPart}
 use Rattle.model_guests.specs.{Text.Text, World.World}
-use Rattle.session.specs.Files.{IsSetUp}
-use Rattle.board_told.specs.{Listing.report_in, declared.listing.ReportForm.ReportForm}
+use Rattle.session.specs.{Files.IsSetUp, declared.questions.ReportForm.ReportForm}
+use Rattle.board_told.specs.Listing.{report_in}
 
 pub record IsListed (form : ReportForm) (board : Text) (old new : Option Text) : Type 0 where
   pub world : World

@@ -23,8 +23,8 @@ use Rattle.model_board.specs.State.{BoardFunction}
 use Rattle.model_guests.specs.{Text.{Text, lines}, World.World, LineRuns.{output, after_lines}}
 use Rattle.model_lines.specs.{Sessions.{SessionNow, driven, at_reset, session_protocol, session_functions}, SessionLaws.IsolatedFrom}
 use Rattle.lines.specs.{declared.{runs.RunFault.RunFault, watching.RunStats.RunStats}, Refusals.{refuses, none_seen, seen_along}, Runs.{Ends, Runs}}
-use Rattle.session.specs.{Files.Declares, Refusals.refusal_in}
-use Rattle.board_told.specs.{Telling.{told_by, counted_by}, declared.{fault.Fault.{Fault, TheVariants.{SetUp, Read, Write, NotInOrder, NotReady, RefusedLine}}, telling.Question.{Question, TheVariants.{Audit, Ready}}}}
+use Rattle.session.specs.{Files.Declares, Questions.{told_by, counted_by}, Refusals.refusal_in, declared.questions.Question.{Question, TheVariants.{Audit, Ready}}}
+use Rattle.board_told.specs.declared.fault.Fault.{Fault, TheVariants.{SetUp, Read, Write, NotInOrder, NotReady, RefusedLine}}
 use Rattle.simulation.specs.Faults.{IsOfSession}
 use Rattle.lines.specs.declared.runs.RunFault.TheVariants as run
 use Rattle.bus_scan.specs.declared.fault.Fault.TheVariants as set_up

@@ -10,10 +10,11 @@ use crate::listing::list;
 use crate::running::run_as;
 use crate::serving::serve;
 use board_fit::WarningLevel;
-use board_told::{Fault, Question, ReportForm};
+use board_told::Fault;
 use command_line::Choice;
 use diagnostics::Style;
 use lines::RunStats;
+use session::{Question, ReportForm};
 use std::alloc::Global;
 use streams::{Reader, Writer, write_and_flush};
 

@@ -21,7 +21,7 @@ mod standard_streams;
 
 pub use bad_lines::bad_lines_text;
 pub use board_fit::WarningLevel;
-pub use board_told::{Checked, Fault, Question, ReportForm, check_text, list_in};
+pub use board_told::{Checked, Fault, check_text, list_in};
 pub use checking::check;
 pub use choice::perform;
 pub use command_line::Choice;
@@ -36,4 +36,5 @@ pub use model_guests::two_worlds;
 pub use monitor::Monitor;
 pub use running::whole;
 pub use serving::serve;
+pub use session::{Question, ReportForm};
 pub use standard_streams::{InputStream, OutputStream};

@@ -4,7 +4,8 @@ ghost use Rattle.session.specs.Files.{Refuses, Breaks};
 ghost use Rattle.simulation.specs.{Faults.{write_faults, OnFile, OnSetUp, IsOfList}, Listing.{IsListed, IsListedInPart}};
 
 use crate::choice::print;
-use board_told::{Fault, ReportForm, list_in};
+use board_told::{Fault, list_in};
+use session::ReportForm;
 use std::alloc::Global;
 use streams::Writer;
 

@@ -6,37 +6,14 @@ ghost use Rattle.streams.specs.Ends.{AppendsPart};
 ghost use Rattle.lines.specs.Runs.{ends};
 ghost use Rattle.bus_scan.specs.declared.fault.Fault.TheVariants.{Memory};
 ghost use Rattle.session.specs.Files.{Refuses};
-ghost use Rattle.board_told.specs.Telling.{told_by, counted_by};
 ghost use Rattle.simulation.specs.{Faults.{read_faults, write_faults, OnFile, IsToldLast, IsOfFile}, Serving.{told, counted, last_fault, IsOfAnswer, IsOfServing, Serves}};
 
 use crate::choice::print;
-use board_told::{Fault, Question, audit_in, ready_in};
+use board_told::Fault;
 use lines::{RunStats, run_watched};
-use session::{Apertures, Board, CountedText, Session, SessionLines};
-use std::alloc::{AllocError, Global};
+use session::{Apertures, Board, Question, Session, SessionLines};
+use std::alloc::Global;
 use streams::{Reader, Writer};
-
-/// Answers a question about the board of a session, given the host's apertures.
-fn tell(
-    alloc: Global,
-    question: Question,
-    session: &mut Session,
-    apertures: &Apertures,
-) -> Result<CountedText, AllocError>
-    ensures text { IfOk result (λ t. string_bytes t.text
-        ≡ told_by question apertures.now (session_functions session.old)) }
-    ensures count { IfOk result (λ t. t.count
-        ≡ counted_by question apertures.now (session_functions session.old)) }
-{
-    let found = session.problems(alloc)?;
-    match question {
-        Question::Audit(form) => audit_in(alloc, form, &found),
-        Question::Ready(form) => {
-            let lacking = session.readiness_issues(alloc, apertures)?;
-            ready_in(alloc, form, &found, &lacking)
-        }
-    }
-}
 
 /// Writes the answer to a question about the board of a session, given the host's apertures, and
 /// flushes once. Writes nothing if there is no question. Returns the number of reported problems
@@ -66,7 +43,7 @@ fn answer<W: Writer>(
     let Some(question) = question else {
         return Ok(0);
     };
-    let Ok(answer) = tell(alloc, question, session, apertures) else {
+    let Ok(answer) = session.ask(alloc, question, apertures) else {
         return Err(Fault::SetUp(bus_scan::Fault::Memory));
     };
     print(answer.text.as_str(), writer)?;

@@ -7,7 +7,7 @@ use accesses::{Access, At, HostAccess, HostAt, Op, Reply};
 use board_file::read_board;
 use host_bridge::{Bdf, TreeWalk};
 use monitor::{Engine, Monitor};
-use session::{LineText, Session};
+use session::{Board, LineText, Question, ReportForm, Session};
 use std::test::Fail;
 use window_packing::set_up;
 
@@ -47,7 +47,9 @@ fn cycles_and_accesses_of_a_host(rt: HostRuntime) -> Result<(), Fail> {
 #[test]
 fn a_bridge_is_numbered_by_hand(rt: HostRuntime) -> Result<(), Fail> {
     let alloc = rt.alloc();
-    let mut session = Session::open(alloc, MAIN.as_bytes())?;
+    let board = Board::open(alloc, MAIN.as_bytes())?;
+    let apertures = board.apertures();
+    let mut session = Session::over(alloc, board);
     let bridge = Bdf {
         bus: 0,
         device: 2,
@@ -63,7 +65,8 @@ fn a_bridge_is_numbered_by_hand(rt: HostRuntime) -> Result<(), Fail> {
         .map(|board| board.write(numbers, 0x0001_0100));
     let mut text = LineText::new();
     let more = session.run_line(b"host cr 01:00.0 0 4", &mut text)?;
-    let audit = session.audit(alloc)?;
+    let question = Question::Audit(ReportForm::Lines);
+    let audit = session.ask(alloc, question, &apertures)?;
     assert!(rt; numbered == Some(Reply::Done));
     assert!(rt; more.is_none());
     assert_eq!(rt; text.as_slice(), b"host: 0x00031234\n".as_slice());

@@ -8,7 +8,7 @@ use Rattle.model_board.specs.State.{BoardFunction}
 use Rattle.model_guests.specs.Text.{Text}
 use Rattle.model_findings.specs.{AuditText.audit_text, Problems.{Problem, problems}, ReadinessIssues.{ReadinessIssue, readiness_issues, issue_count}, ReadyText.ready_text}
 use Rattle.json_texts.specs.AuditValue.{problems_json, lacks_json}
-use Rattle.board_told.specs.declared.{listing.ReportForm.{ReportForm, TheVariants.{Lines, Json}}, telling.Question.{Question, TheVariants.{Audit, Ready}}}
+use Rattle.session.specs.declared.questions.{ReportForm.{ReportForm, TheVariants.{Lines, Json}}, Question.{Question, TheVariants.{Audit, Ready}}}
 
 abbrev pub audit_in : ReportForm → List Problem → Text
 audit_in Lines ps = audit_text ps

@@ -1,0 +1,124 @@
+//! Questions about the current registers of a board, and their answers as lines or as JSON.
+ghost use Rattle.std.specs.Prelude.{◌≡◌, ◌+◌, IfOk, length, map, string_bytes};
+ghost use Rattle.model_findings.specs.{Problems.problems, ReadinessIssues.readiness_issues};
+ghost use Rattle.findings.specs.Findings.{problem_of, issue_of};
+ghost use Rattle.session.specs.Questions.{audit_in, ready_in, told_by, counted_by};
+
+use crate::board::Board;
+use findings::{Problem, ReadinessIssue, problems, readiness_issues};
+use findings_render::CountedText;
+use headers::Apertures;
+use json_texts::{lacks_json, problems_json};
+use std::alloc::{AllocError, Global};
+
+/// The output format of a report.
+#[derive(Clone, Copy, Debug, PartialEq, Eq)]
+pub enum ReportForm {
+    /// Lines of text.
+    Lines,
+    /// A JSON object on one line.
+    Json,
+}
+
+/// A question about the current registers of a board.
+#[derive(Clone, Copy)]
+pub enum Question {
+    /// Lists the problems, in the given format.
+    Audit(ReportForm),
+    /// Lists the problems and the unmet requirements, in the given format.
+    Ready(ReportForm),
+}
+
+/// Renders the problems in the given format, and counts them.
+pub(crate) fn audit_in(
+    alloc: Global,
+    form: ReportForm,
+    problems: &[Problem],
+) -> Result<CountedText, AllocError>
+    ensures text { IfOk result (λ t.
+        string_bytes t.text ≡ audit_in form (map problem_of problems.now)) }
+    ensures count { IfOk result (λ t. t.count ≡ length (map problem_of problems.now)) }
+{
+    match form {
+        ReportForm::Lines => CountedText::of_problems(alloc, problems),
+        ReportForm::Json => {
+            let text = problems_json(alloc, problems)?;
+            Ok(CountedText {
+                text,
+                count: problems.len(),
+            })
+        }
+    }
+}
+
+/// Renders the problems and the unmet requirements in the given format, and counts both together.
+pub(crate) fn ready_in(
+    alloc: Global,
+    form: ReportForm,
+    problems: &[Problem],
+    readiness_issues: &[ReadinessIssue],
+) -> Result<CountedText, AllocError>
+    ensures text { let ps = map problem_of problems.now in
+        let ls = map issue_of readiness_issues.now in
+        IfOk result (λ t. string_bytes t.text ≡ ready_in form ps ls) }
+    ensures count { let ps = map problem_of problems.now in
+        let ls = map issue_of readiness_issues.now in
+        IfOk result (λ t. t.count ≡ length ps + length ls) }
+{
+    match form {
+        ReportForm::Lines => CountedText::of_issues(alloc, problems, readiness_issues),
+        ReportForm::Json => {
+            let text = lacks_json(alloc, problems, readiness_issues)?;
+            Ok(CountedText {
+                text,
+                count: problems.len() + readiness_issues.len(),
+            })
+        }
+    }
+}
+
+impl Board {
+    /// Returns all problems in the registers as they are now, in the order of the audit report.
+    /// Changes nothing, even if memory is exhausted.
+    pub(crate) fn problems(&mut self, alloc: Global) -> Result<Vec<Problem>, AllocError>
+        ensures told { IfOk result (λ v.
+            map problem_of v.items ≡ problems self.old.state.functions) }
+        ensures after { self.new ≡ self.old }
+    {
+        problems(alloc, &mut self.host)
+    }
+
+    /// Returns everything left to do in the registers as they are now, given these apertures, in
+    /// the order of the readiness report. Changes nothing, even if memory is exhausted.
+    pub(crate) fn readiness_issues(
+        &mut self,
+        alloc: Global,
+        apertures: &Apertures,
+    ) -> Result<Vec<ReadinessIssue>, AllocError>
+        ensures told { IfOk result (λ v.
+            map issue_of v.items ≡ readiness_issues apertures.now self.old.state.functions) }
+        ensures after { self.new ≡ self.old }
+    {
+        readiness_issues(alloc, &mut self.host, apertures)
+    }
+
+    /// Answers a question about the registers as they are now, given the apertures of the board
+    /// file. Changes nothing, even if memory is exhausted.
+    pub fn ask(&mut self, alloc: Global, question: Question) -> Result<CountedText, AllocError>
+        ensures text { IfOk result (λ t. string_bytes t.text
+            ≡ told_by question self.old.world.apertures self.old.state.functions) }
+        ensures count { IfOk result (λ t.
+            t.count ≡ counted_by question self.old.world.apertures self.old.state.functions) }
+        ensures after { self.new ≡ self.old }
+    {
+        let found = self.problems(alloc)?;
+        match question {
+            Question::Audit(form) => audit_in(alloc, form, &found),
+            Question::Ready(form) => {
+                let apertures = self.apertures();
+                let lacking = self.readiness_issues(alloc, &apertures)?;
+                ready_in(alloc, form, &found, &lacking)
+            }
+        }
+    }
+}
