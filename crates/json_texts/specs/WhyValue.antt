@@ -1,13 +1,14 @@
 -- Why an address, a port or a configuration number finds what it finds, as a JSON value: as lines tell it, in their order. The
 -- members of an object stand in the order of their names.
---     window_value, cause_value      a window, null where it is shut; what keeps a region from answering
+--     window_range      the addresses of a window, null where it is shut
+--     window_value, cause_value      a window; what keeps a region from answering
 --     told_value, forwarder_value, claim_value      a region with its causes, a bridge that forwards, and what answers
 --     address_value      of an address
 --     missing_value, way_value      what is missing where a cycle ends, behind a bridge or, by null, on bus 0; of a number
 --     latch_value      what the latch makes of a port, null where it makes nothing of it
 --     why_json u found      what is found beside that; its text, and a line feed
 --     port_json s n u, host_why_json s t      of a port, of which the latch makes this; and of any place
-use Rattle.std.specs.{Prelude.{[], ◌∷◌, ℕ, map, codes}, Option.option_map_or}
+use Rattle.std.specs.{Prelude.{[], ◌∷◌, ℕ, map, codes, Option}, Option.option_map_or}
 use Rattle.serde_json.specs.Data.{Data, null, string, object, member, no_members}
 use Rattle.model_registers.specs.Decoding.{io, memory}
 use Rattle.model_board.specs.{Paths.Path, State.State, Windows.Window, Claims.Claim}
@@ -22,9 +23,12 @@ name_text for_io = codes "io"
 name_text for_memory = codes "mem"
 name_text for_prefetchable = codes "prefetchable"
 
+abbrev pub window_range : Option Window → Data
+window_range w = option_map_or (λ (r : Window). range_value r.first r.last) w null
+
 abbrev pub window_value : NamedWindow → Data
 window_value w = object (
-    member (codes "range") (option_map_or (λ (r : Window). range_value r.first r.last) w.window null) (
+    member (codes "range") (window_range w.window) (
     member (codes "space") (string (name_text w.name)) no_members))
 
 abbrev pub cause_value : Cause → Data

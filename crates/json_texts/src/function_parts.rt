@@ -1,11 +1,13 @@
-//! Builds the JSON values of BARs, interrupts and windows.
-ghost use Rattle.std.specs.Prelude.{◌≡◌, ◌≤◌, IfOk, map};
+//! BARs, interrupts and windows as JSON.
+ghost use Rattle.std.specs.Prelude.{◌≡◌, ◌≤◌, IfOk, map, option_map};
 ghost use Rattle.serde_json.specs.View.{view};
 ghost use Rattle.bars.specs.Slots.{placed, bases_from};
+ghost use Rattle.bridge_forward.specs.RoutingRows.{window_of};
 ghost use Rattle.window_packing.specs.Plans.{writes_of};
-ghost use Rattle.json_texts.specs.{ReportValue.{region_value, pin_value, windows_value}, FoundValue.{known_interrupt, named_window, written_regions, written_windows}};
+ghost use Rattle.json_texts.specs.{ReportValue.{region_value, pin_value, range_value, windows_value}, WhyValue.window_range, FoundValue.{known_interrupt, named_window, written_regions, written_windows}};
 
 use bars::BarWithBase;
+use bridge_forward::Window;
 use intx_swizzle::at_root;
 use paths::Path;
 use report::{kind_text, pin_text};
@@ -13,7 +15,7 @@ use serde_json::{Value, json};
 use std::alloc::{AllocError, Global};
 use window_packing::{RegisterValues, WindowSetting};
 
-/// Returns the value of a BAR. `index` is that of its first register.
+/// Returns a BAR as JSON. `index` is that of its first register.
 fn region_value(alloc: Global, index: usize, region: &BarWithBase) -> Result<Value, AllocError>
     ensures { IfOk result (λ v. view v ≡ region_value (placed index region.now)) }
 {
@@ -23,7 +25,7 @@ fn region_value(alloc: Global, index: usize, region: &BarWithBase) -> Result<Val
     json!(in alloc; {"bar": index, "kind": kind, "base": base, "size": size})
 }
 
-/// Returns the values of a function's BARs, each with the index of its first register.
+/// Returns a function's BARs as JSON, each with the index of its first register.
 fn region_values(alloc: Global, bases: &[Option<BarWithBase>]) -> Result<Vec<Value>, AllocError>
     ensures { IfOk result (λ v. map view v.items ≡ map region_value (bases_from 0 bases.now)) }
 {
@@ -36,7 +38,7 @@ fn region_values(alloc: Global, bases: &[Option<BarWithBase>]) -> Result<Vec<Val
     Ok(values)
 }
 
-/// Returns the values of the BARs written into an endpoint. Returns none for a bridge.
+/// Returns the BARs written into an endpoint as JSON. Returns none for a bridge.
 pub(crate) fn written_regions(
     alloc: Global,
     writes: &RegisterValues,
@@ -49,7 +51,7 @@ pub(crate) fn written_regions(
     }
 }
 
-/// Returns the value of an interrupt pin, with the device and the pin on bus 0 that it reaches.
+/// Returns an interrupt pin as JSON, with the device and the pin on bus 0 that it reaches.
 fn pin_value(alloc: Global, path: &Path, pin: u8) -> Result<Value, AllocError>
     requires least { 1 ≤ pin }
     requires most { pin ≤ 4 }
@@ -61,7 +63,7 @@ fn pin_value(alloc: Global, path: &Path, pin: u8) -> Result<Value, AllocError>
     json!(in alloc; {"pin": pin, "root_device": device, "root_pin": root})
 }
 
-/// Returns the value of an interrupt pin. Returns `null` for pin 0, which means no pin, and for the
+/// Returns an interrupt pin as JSON. Returns `null` for pin 0, which means no pin, and for the
 /// invalid pins above 4.
 pub(crate) fn known_interrupt(alloc: Global, path: &Path, pin: u8) -> Result<Value, AllocError>
     ensures { IfOk result (λ v. view v ≡ known_interrupt path.now pin) }
@@ -72,7 +74,24 @@ pub(crate) fn known_interrupt(alloc: Global, path: &Path, pin: u8) -> Result<Val
     pin_value(alloc, path, pin)
 }
 
-/// Returns the value of a window, or `null` if its base is above its limit.
+/// Returns a range of addresses as JSON. `last` is inclusive.
+fn range_value(alloc: Global, first: u64, last: u64) -> Result<Value, AllocError>
+    ensures { IfOk result (λ v. view v ≡ range_value first last) }
+{
+    json!(in alloc; {"first": first, "last": last})
+}
+
+/// Returns the addresses of a window as JSON, or `null` if the window is closed.
+pub(crate) fn window_range(alloc: Global, window: Option<Window>) -> Result<Value, AllocError>
+    ensures { IfOk result (λ v. view v ≡ window_range (option_map window_of window)) }
+{
+    match window {
+        Some(Window { first, last }) => range_value(alloc, first, last),
+        None => Ok(Value::Null),
+    }
+}
+
+/// Returns a window as JSON, or `null` if its base is above its limit.
 fn named_window(alloc: Global, window: &WindowSetting) -> Result<Value, AllocError>
     ensures { IfOk result (λ v. view v ≡ named_window window.now) }
 {
@@ -81,10 +100,10 @@ fn named_window(alloc: Global, window: &WindowSetting) -> Result<Value, AllocErr
     if first > last {
         return Ok(Value::Null);
     }
-    json!(in alloc; {"first": first, "last": last})
+    range_value(alloc, first, last)
 }
 
-/// Returns the value of a bridge's windows.
+/// Returns a bridge's windows as JSON.
 fn windows_value(
     alloc: Global,
     io: &WindowSetting,
@@ -100,7 +119,7 @@ fn windows_value(
     json!(in alloc; {"io": io, "mem": mem, "pref": pref})
 }
 
-/// Returns the value of the windows written into a bridge, or `null` for an endpoint.
+/// Returns the windows written into a bridge as JSON, or `null` for an endpoint.
 pub(crate) fn written_windows(alloc: Global, writes: &RegisterValues) -> Result<Value, AllocError>
     ensures { IfOk result (λ v. view v ≡ written_windows (writes_of writes.now)) }
 {

@@ -5,17 +5,18 @@ ghost use Rattle.bars.specs.Kinds.{named_space};
 ghost use Rattle.paths.specs.BusAddresses.{bus_address_of};
 ghost use Rattle.accesses.specs.Accesses.{host_target_of};
 ghost use Rattle.model_lines.specs.{Why.why, Ways.why_number, WhyPorts.port_use};
-ghost use Rattle.findings.specs.WhyTold.{window_told, windows_told, cause_told, region_told, forwarder_told, missing_told, use_told};
+ghost use Rattle.findings.specs.WhyTold.{name_told, window_told, windows_told, cause_told, region_told, forwarder_told, missing_told, use_told};
 ghost use Rattle.model_board.specs.Paths as board;
 ghost use Rattle.model_lines.specs.Why as model;
-ghost use Rattle.json_texts.specs.{AuditValue.path_value, WhyValue.{window_value, cause_value, told_value, forwarder_value, claim_value, address_value, behind_value, missing_value, way_value, why_value, why_json, port_json, host_why_json}};
+ghost use Rattle.json_texts.specs.{AuditValue.path_value, WhyValue.{name_text, window_value, cause_value, told_value, forwarder_value, claim_value, address_value, behind_value, missing_value, way_value, latch_value, why_value, why_json, port_json, host_why_json}};
 
+use crate::function_parts::window_range;
 use crate::has_value::{HasValue, values};
 use crate::problem_parts::{number_value, path_value, reached_value, region_value};
 use crate::problems_object::line_of;
 use accesses::HostAt;
 use bars::Space;
-use bridge_forward::{Claim, Window};
+use bridge_forward::Claim;
 use findings::{
     BlockReason, Cause, Forwarder, Missing, NamedWindow, PortUse, UnansweredRegion, WindowName,
     port_use, why_address, why_number,
@@ -37,6 +38,17 @@ impl HasValue for Path {
     }
 }
 
+/// Returns the name of a window's address space.
+fn window_name(name: WindowName) -> &'static str
+    ensures { result.now ≡ name_text (name_told name) }
+{
+    match name {
+        WindowName::Io => "io",
+        WindowName::Memory => "mem",
+        WindowName::Prefetchable => "prefetchable",
+    }
+}
+
 impl HasValue for NamedWindow {
     ghost Told = { model.NamedWindow };
 
@@ -45,21 +57,12 @@ impl HasValue for NamedWindow {
     ghost shown = { window_value };
 
     fn value(&self, alloc: Global) -> Result<Value, AllocError> {
-        let space = match self.name {
-            WindowName::Io => "io",
-            WindowName::Memory => "mem",
-            WindowName::Prefetchable => "prefetchable",
-        };
-        match self.window {
-            Some(Window { first, last }) => {
-                json!(in alloc; {"range": {"first": first, "last": last}, "space": space})
-            }
-            None => json!(in alloc; {"range": null, "space": space}),
-        }
+        let range = window_range(alloc, self.window)?;
+        json!(in alloc; {"range": range, "space": window_name(self.name)})
     }
 }
 
-/// Returns the values of a bridge's windows for a space.
+/// Returns a bridge's windows for a space as JSON.
 fn window_values(
     alloc: Global,
     one: &Option<NamedWindow>,
@@ -134,7 +137,7 @@ impl HasValue for Forwarder {
     }
 }
 
-/// Returns the value of the BAR that answers, or `null` if none does.
+/// Returns the BAR that answers as JSON, or `null` if none does.
 fn answer_value(alloc: Global, answer: &Option<Claim>) -> Result<Value, AllocError>
     ensures { IfOk result (λ v. view v ≡ option_map_or claim_value answer.now null) }
 {
@@ -145,7 +148,7 @@ fn answer_value(alloc: Global, answer: &Option<Claim>) -> Result<Value, AllocErr
     json!(in alloc; {"bar": claim.region, "offset": claim.offset, "path": path})
 }
 
-/// Returns the value that explains an address.
+/// Explains an address as JSON.
 fn address_value(alloc: Global, host: &Host, space: Space, addr: u64) -> Result<Value, AllocError>
     ensures { let fs = host.now.state.functions in
         IfOk result (λ v. view v ≡ address_value (why fs (named_space space) addr)) }
@@ -162,7 +165,7 @@ fn address_value(alloc: Global, host: &Host, space: Space, addr: u64) -> Result<
     })
 }
 
-/// Returns the path of the bridge above a bus, or `null` for bus 0.
+/// Returns the path of the bridge above a bus as JSON, or `null` for bus 0.
 fn behind_value(alloc: Global, behind: &Option<Path>) -> Result<Value, AllocError>
     ensures { IfOk result (λ v. view v ≡ behind_value (unwrap_or behind.now [])) }
 {
@@ -174,8 +177,7 @@ fn behind_value(alloc: Global, behind: &Option<Path>) -> Result<Value, AllocErro
     path_value(alloc, path)
 }
 
-/// Returns the value of what is missing at the end of a configuration cycle, or `null` if nothing
-/// is.
+/// Returns what is missing at the end of a configuration cycle as JSON, or `null` if nothing is.
 fn missing_value(alloc: Global, missing: &Option<Missing>) -> Result<Value, AllocError>
     ensures { IfOk result (λ v.
         view v ≡ option_map_or missing_value (option_map missing_told missing.now) null) }
@@ -199,7 +201,7 @@ fn missing_value(alloc: Global, missing: &Option<Missing>) -> Result<Value, Allo
     }
 }
 
-/// Returns the value that explains a BDF.
+/// Explains a BDF as JSON.
 fn way_value(alloc: Global, host: &mut Host, at: Bdf) -> Result<Value, AllocError>
     ensures value { let fs = host.old.state.functions in
         IfOk result (λ v. view v ≡ way_value (why_number fs (bus_address_of at))) }
@@ -218,21 +220,27 @@ fn way_value(alloc: Global, host: &mut Host, at: Bdf) -> Result<Value, AllocErro
     })
 }
 
-/// Returns an object with the explanation and the port's role in the configuration mechanism. The
-/// role is `null` for an ordinary port.
+/// Returns the port's role in the configuration mechanism as JSON, or `null` for an ordinary port.
+fn latch_value(alloc: Global, used: PortUse) -> Result<Value, AllocError>
+    ensures { IfOk result (λ v. view v ≡ latch_value (use_told used)) }
+{
+    match used {
+        PortUse::HoldsLatch => json!(in alloc; {"type": "held"}),
+        PortUse::ShowsData { at, offset } => {
+            let number = number_value(alloc, at)?;
+            json!(in alloc; {"number": number, "offset": offset, "type": "selected"})
+        }
+        PortUse::HidesData => json!(in alloc; {"type": "not enabled"}),
+        PortUse::LikeOthers => Ok(Value::Null),
+    }
+}
+
+/// Combines an explanation with the port's role in the configuration mechanism in one JSON object.
 fn why_value(alloc: Global, used: PortUse, found: Value) -> Result<Value, AllocError>
     ensures { IfOk result (λ v. view v ≡ why_value (use_told used) (view found)) }
 {
-    match used {
-        PortUse::HoldsLatch => json!(in alloc; {"found": found, "latch": {"type": "held"}}),
-        PortUse::ShowsData { at, offset } => {
-            let number = number_value(alloc, at)?;
-            let latch = json!(in alloc; {"number": number, "offset": offset, "type": "selected"})?;
-            json!(in alloc; {"found": found, "latch": latch})
-        }
-        PortUse::HidesData => json!(in alloc; {"found": found, "latch": {"type": "not enabled"}}),
-        PortUse::LikeOthers => json!(in alloc; {"found": found, "latch": null}),
-    }
+    let latch = latch_value(alloc, used)?;
+    json!(in alloc; {"found": found, "latch": latch})
 }
 
 /// Renders an explanation and the port's role in the configuration mechanism as a JSON object on
