@@ -65,13 +65,13 @@ export class Engine {
     }
   }
 
-  // What a call writes of a board file.
-  written(call, file) { return this.with_bytes(file, (...board) => this.told((...rooms) => call(...board, ...rooms))); }
+  // What a call writes of a board file. Some calls take last whether that is JSON.
+  written(call, file, ...flags) { return this.with_bytes(file, (...board) => this.told((...rooms) => call(...board, ...rooms, ...flags))); }
 
   // The report of a board file, as lines and as JSON; nothing where it is refused.
-  report(file) { return this.written(this.exports.pciguest_raw_report, file); }
+  report(file) { return this.written(this.exports.pciguest_raw_report_in, file, 0); }
 
-  report_json(file) { return this.written(this.exports.pciguest_raw_report_json, file); }
+  report_json(file) { return this.written(this.exports.pciguest_raw_report_in, file, 1); }
 
   // What a check says of a board file, which is called board.toml there.
   check(file) { return this.written(this.exports.pciguest_raw_check, file); }
@@ -208,13 +208,13 @@ class Held {
   }
 
   // Why a guest's access finds what it finds, or nobody, as lines and as JSON. A slot is asked of configuration space alone.
-  why(asked) { return this.told_why(this.engine.exports.pciguest_raw_why, asked); }
+  why(asked) { return this.told_why(0, asked); }
 
-  why_json(asked) { return this.told_why(this.engine.exports.pciguest_raw_why_json, asked); }
+  why_json(asked) { return this.told_why(1, asked); }
 
-  told_why(call, { guest, space, slot, place }) {
+  told_why(is_json, { guest, space, slot, place }) {
     const { engine, handle } = this, at = [BigInt(this.guest(guest)), SPACE_NUMBERS[space], slot, place];
-    const { number, text } = engine.told((...rooms) => call(handle, ...at, ...rooms));
+    const { number, text } = engine.told((...rooms) => engine.exports.pciguest_raw_why_in(handle, ...at, ...rooms, is_json));
     if (number !== 0) throw new Error(`why is refused: ${number}`);
     return TO_TEXT.decode(text).trimEnd();
   }
@@ -252,20 +252,20 @@ class Driven extends Held {
   }
 
   // The text of a call that tells what its registers are like; null once the board is given to its guests: it was in order then, and stays so.
-  told_by(call) {
-    const { number, text } = this.engine.told((...rooms) => call(this.handle, ...rooms, this.written), this.room);
+  told_by(call, ...flags) {
+    const { number, text } = this.engine.told((...rooms) => call(this.handle, ...rooms, this.written, ...flags), this.room);
     if (number !== 0 && number !== NONE_THERE) throw new Error(`what the registers are like is refused: ${number}`);
     this.room = Math.max(this.room, 2 * text.length);
     return number === 0 ? TO_TEXT.decode(text) : null;
   }
 
   // What is wrong in the registers as they stand: a line for each problem, and one that counts them.
-  audit() { return this.told_by(this.engine.exports.pciguest_raw_board_audit); }
+  audit() { return this.told_by(this.engine.exports.pciguest_raw_board_survey, 0, 0); }
 
   // That and what is lacking, as lines, as JSON, and as values with their lines.
   readiness() { return this.long_reply('host ready'); }
 
-  ready_json() { return this.told_by(this.engine.exports.pciguest_raw_board_ready_json); }
+  ready_json() { return this.told_by(this.engine.exports.pciguest_raw_board_survey, 1, 1); }
 
   // Why an address, a port or a number finds what it finds, as JSON.
   board_why_json({ space, number, place }) {

@@ -2,12 +2,15 @@
 own guests."""
 from functools import lru_cache
 
+from board import Endpoint
+from guests import endpoint_cells
 from keys import WIDTHS
 from lone import KINDS
 
 MAGIC, VERSION, LATCH = 0x47494350, 1, 0x80FFFFFC
 IMAGE, OTHERS, OTHER_VERSION = 905, 906, 908
-HEADER = [*range(0x00, 0x0F), *range(0x2C, 0x30), *range(0x3C, 0x40)]
+# where the header has cells, and the header type, which a guest reads as 0
+HEADER = sorted({0x0E, *endpoint_cells(Endpoint((), {}, [], []))})
 STATUS = (0x06, 0x07)
 
 

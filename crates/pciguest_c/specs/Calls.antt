@@ -21,8 +21,7 @@ use Rattle.std.specs.Prelude.{◌≡◌, ◌≢◌, ◌==◌, ℕ, List, IfNone,
 use Rattle.model_guests.specs.{Accesses.{Op, RaisePlace, Reply, Target, answered, done, refused, Event, access, raises, reads, writes}, DeviceEvents.{DeviceByte, DeviceEvent, resets}, Text.Text, Grammar.HostTarget, Lines.host_move, WorldNow.{move_reply, host_reply, board_state, line_output}, Calls.asks}
 use Rattle.model_handoff.specs.{Actions.calls, Changes.{MachineNow, after_on_machine, after_line_on_machine}, Functions.function_nth, DrivenFunctions.driven_function_nth}
 use Rattle.model_lines.specs.{HostAccesses.HostAccess, Sessions.{DrivenNow, SessionNow, driven, given, after_board_access, session_output, after_session_line}}
-use Rattle.session.specs.Stages.{asks_for_more, board_in, machine_in}
-use Rattle.board_told.specs.{Telling.{told_by, counted_by}, declared.{listing.ReportForm.ReportForm, telling.Question.Question}}
+use Rattle.session.specs.{Questions.{told_by, counted_by}, Stages.{asks_for_more, board_in, machine_in}, declared.questions.{ReportForm.ReportForm, Question.Question}}
 use Rattle.json_texts.specs.WhyValue.{host_why_json}
 use Rattle.monitor.specs.{ByIndex.name_nth, Moves.move_nth}
 use Rattle.pciguest_c.specs.{Told.{target_told, part_told, at_bus, host_target_told, reply_asked, after_asked, index_asked}, DevicesTold.{reply_at_device, after_at_device, wide_read, after_wide}, SeatingsTold.{gift_reply, after_gift, taking_reply, after_taking}, ImagesTold.{image_asked, after_restart}, QueriesTold.{region_asked, region_told, hit_asked, hit_told}, MovesTold.{places_from, moved_count}, FunctionsTold.{function_told, slot_asked}, DrivenTold.driven_row, WhyTold.why_asked, TextsTold.at_front, Handles.{session_of, machine_of, board_of}, declared.{values.arguments.Side.Side, handle.Handle.Handle, machine.regions.{RegionTold.RegionTold, HitTold.HitTold}, values.function_row.FunctionTold.FunctionTold, board.functions.DrivenRow.DrivenRow, machine.moved_regions.PlaceRow.PlaceRow}}

@@ -4,8 +4,8 @@
 --     IsCheckOf board n      n is the number that refuses a board, or 0
 use Rattle.std.specs.{Prelude.{◌≡◌, ◌≢◌, ◌<◌, ◌≤◌, ◌⊎◌, ℕ, length, Option}, Option.option_map_or}
 use Rattle.model_guests.specs.{Text.Text, World.World}
-use Rattle.session.specs.{Files.{Refuses, Breaks, IsSetUp}, declared.opening.OpenFault.OpenFault, Faults.number_of}
-use Rattle.board_told.specs.{Checking.IsFaultOf, Listing.report_in, declared.listing.ReportForm.ReportForm}
+use Rattle.session.specs.{Files.{Refuses, Breaks, IsSetUp}, declared.{opening.OpenFault.OpenFault, questions.ReportForm.ReportForm}, Faults.number_of}
+use Rattle.board_told.specs.{Checking.IsFaultOf, Listing.report_in}
 use Rattle.pciguest_c.specs.TextsTold.{at_front}
 
 pub record IsReportIn (form : ReportForm) (board before after : Text) (old new n : ℕ) : Type 0 where

@@ -1,13 +1,36 @@
-//! The report of a board file, and the text of a check.
+//! The report of a board file, the text of a check, and the forms of texts.
 ghost use Rattle.std.specs.{Prelude.{◌≡◌, ◌≢◌, ◌⊎◌, ◌≤◌, ◌<◌, IfOk, IfErr, string_bytes}, Option.option_map_or};
 ghost use Rattle.model_guests.specs.World.{World};
 ghost use Rattle.session.specs.{Faults.number_of, Files.{Refuses, Breaks, IsSetUp}};
 ghost use Rattle.board_told.specs.Listing.{report_in};
-ghost use Rattle.pciguest_c.specs.Checks.{IsCheckOf};
+ghost use Rattle.pciguest_c.specs.{Checks.IsCheckOf, TextsTold.{form_of, question_of}};
 
-use board_told::{ReportForm, Style, WarningLevel, check_text, list_in};
-use session::OpenFault;
+use board_told::{Style, WarningLevel, check_text, list_in};
+use session::{OpenFault, Question, ReportForm};
 use std::alloc::Global;
+
+/// Returns the form of a text: JSON or lines.
+pub fn form_of(is_json: bool) -> ReportForm
+    ensures { result ≡ form_of is_json }
+{
+    if is_json {
+        ReportForm::Json
+    } else {
+        ReportForm::Lines
+    }
+}
+
+/// Returns the question whether a board is ready, or which problems its registers have.
+pub fn question_of(is_ready: bool, is_json: bool) -> Question
+    ensures { result ≡ question_of is_ready is_json }
+{
+    let form = form_of(is_json);
+    if is_ready {
+        Question::Ready(form)
+    } else {
+        Question::Audit(form)
+    }
+}
 
 /// Returns the report of a board file in a form, or the error number.
 pub fn report_of(alloc: Global, board: &[u8], form: ReportForm) -> Result<String, u32>

@@ -2,11 +2,10 @@
 //! the caller's buffer.
 ghost use Rattle.std.specs.Prelude.{◌≡◌, ◌≢◌, ◌<◌, ◌≤◌, ◌⊎◌, length};
 ghost use Rattle.model_guests.specs.Text.{Text};
-ghost use Rattle.pciguest_c.specs.{Checks.{IsCheckOf, IsReportIn}, TextsTold.{IsTold, at_front}};
+ghost use Rattle.pciguest_c.specs.{Checks.{IsCheckOf, IsReportIn}, TextsTold.{IsTold, at_front, form_of}};
 
-use crate::texts::forms::{check_of, report_of};
+use crate::texts::forms::{check_of, form_of, report_of};
 use crate::values::numbers::ARGUMENT;
-use board_told::ReportForm;
 use std::alloc::Global;
 
 /// Copies a text, or rows, to the front of a large enough buffer.
@@ -52,50 +51,23 @@ pub fn tell_counted(
     number
 }
 
-/// Writes the report of a board file in a form.
-fn tell_report(
+/// Writes the report of a board file to the front of `out`, as lines or as a one-line JSON object,
+/// and stores the length of the report even if `out` is too small.
+#[unsafe(no_mangle)]
+pub extern "C" fn pciguest_raw_report_in(
     alloc: Global,
-    form: ReportForm,
     board: &[u8],
     out: &mut [u8],
     needed: &mut usize,
+    is_json: bool,
 ) -> u32
-    ensures { IsReportIn form board.now out.old out.new needed.old needed.new result }
+    ensures { let form = form_of is_json in
+        IsReportIn form board.now out.old out.new needed.old needed.new result }
 {
-    match report_of(alloc, board, form) {
+    match report_of(alloc, board, form_of(is_json)) {
         Ok(text) => tell(text.as_bytes(), out, needed),
         Err(number) => number,
     }
-}
-
-/// Writes the report of a board file to the front of `out`, and stores the length of the report
-/// even if `out` is too small.
-#[unsafe(no_mangle)]
-pub extern "C" fn pciguest_raw_report(
-    alloc: Global,
-    board: &[u8],
-    out: &mut [u8],
-    needed: &mut usize,
-) -> u32
-    ensures { let form = ReportForm.Lines in
-        IsReportIn form board.now out.old out.new needed.old needed.new result }
-{
-    tell_report(alloc, ReportForm::Lines, board, out, needed)
-}
-
-/// Writes the report of a board file to the front of `out` as a one-line JSON object, and stores
-/// the length of the report even if `out` is too small.
-#[unsafe(no_mangle)]
-pub extern "C" fn pciguest_raw_report_json(
-    alloc: Global,
-    board: &[u8],
-    out: &mut [u8],
-    needed: &mut usize,
-) -> u32
-    ensures { let form = ReportForm.Json in
-        IsReportIn form board.now out.old out.new needed.old needed.new result }
-{
-    tell_report(alloc, ReportForm::Json, board, out, needed)
 }
 
 /// Checks a board file, called `board.toml` in the text. Writes the text to the front of `out`, and

@@ -2,16 +2,17 @@
 //! address, port or BDF on a board.
 ghost use Rattle.std.specs.Prelude.{◌≡◌, IfOk, IfErr, string_bytes};
 ghost use Rattle.model_lines.specs.Sessions.{driven, given};
-ghost use Rattle.pciguest_c.specs.{Told.{target_told, at_bus, host_target_told}, Calls.{AnswersOrRunsOut, AnswersBoardOrRunsOut, why, board_why, telling_why, explaining, text, buffer, refusal, tells, unless_out}};
+ghost use Rattle.pciguest_c.specs.{Told.{target_told, at_bus, host_target_told}, Calls.{AnswersOrRunsOut, AnswersBoardOrRunsOut, why, board_why, telling_why, explaining, text, buffer, refusal, tells, unless_out}, TextsTold.form_of};
 
 use crate::handle::Handle;
 use crate::machine::host::host_at;
+use crate::texts::forms::form_of;
 use crate::texts::reports::tell;
 use crate::values::arguments::target_for;
 use crate::values::numbers::{ARGUMENT, MEMORY};
-use board_told::{ReportForm, guest_why_in};
+use board_told::guest_why_in;
 use monitor::Monitor;
-use session::Board;
+use session::{Board, ReportForm};
 use std::alloc::Global;
 
 /// Explains the outcome of a guest's access, or returns the error number.
@@ -36,21 +37,26 @@ fn why_of(
     guest_why_in(alloc, form, machine, guest, at).map_err(|fault| u32::from(fault.number()))
 }
 
-/// Writes an explanation of a guest's access on the machine in a handle.
-fn tell_why(
+/// Writes an explanation of a guest's access to the front of `out`, as lines or as a one-line JSON
+/// object, and stores the length of the text even if `out` is too small. The text depends only on the
+/// guest's own functions and CONFIG_ADDRESS.
+#[unsafe(no_mangle)]
+pub extern "C" fn pciguest_raw_why_in(
     alloc: Global,
     handle: &mut Handle,
-    form: ReportForm,
     guest: usize,
     space: u32,
     slot: u64,
     place: u64,
     out: &mut [u8],
     needed: &mut usize,
+    is_json: bool,
 ) -> u32
-    ensures { AnswersOrRunsOut (why form guest space slot place) handle.old handle.new result
+    ensures { let form = form_of is_json in
+        AnswersOrRunsOut (why form guest space slot place) handle.old handle.new result
         (buffer out.old needed.old) (buffer out.new needed.new) }
 {
+    let form = form_of(is_json);
     let answer = handle.ask_machine(alloc, |machine| {
         why_of(alloc, form, machine, guest, space, slot, place)
     });
@@ -58,67 +64,6 @@ fn tell_why(
         Ok(text) => tell(text.as_bytes(), out, needed),
         Err(number) => number,
     }
-}
-
-/// Writes an explanation of a guest's access to the front of `out`, and stores the length of the
-/// text even if `out` is too small. The text depends only on the guest's own functions and
-/// CONFIG_ADDRESS.
-#[unsafe(no_mangle)]
-pub extern "C" fn pciguest_raw_why(
-    alloc: Global,
-    handle: &mut Handle,
-    guest: usize,
-    space: u32,
-    slot: u64,
-    place: u64,
-    out: &mut [u8],
-    needed: &mut usize,
-) -> u32
-    ensures { let form = ReportForm.Lines in
-        AnswersOrRunsOut (why form guest space slot place) handle.old handle.new result
-        (buffer out.old needed.old) (buffer out.new needed.new) }
-{
-    tell_why(
-        alloc,
-        handle,
-        ReportForm::Lines,
-        guest,
-        space,
-        slot,
-        place,
-        out,
-        needed,
-    )
-}
-
-/// Writes an explanation of a guest's access to the front of `out` as a one-line JSON object, and
-/// stores the length of the text even if `out` is too small.
-#[unsafe(no_mangle)]
-pub extern "C" fn pciguest_raw_why_json(
-    alloc: Global,
-    handle: &mut Handle,
-    guest: usize,
-    space: u32,
-    slot: u64,
-    place: u64,
-    out: &mut [u8],
-    needed: &mut usize,
-) -> u32
-    ensures { let form = ReportForm.Json in
-        AnswersOrRunsOut (why form guest space slot place) handle.old handle.new result
-        (buffer out.old needed.old) (buffer out.new needed.new) }
-{
-    tell_why(
-        alloc,
-        handle,
-        ReportForm::Json,
-        guest,
-        space,
-        slot,
-        place,
-        out,
-        needed,
-    )
 }
 
 /// Explains which function responds to an address, port or BDF, as JSON. Returns 902 if there is no
