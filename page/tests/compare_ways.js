@@ -28,6 +28,7 @@ export function ways_astray(engine, board, made) {
   const bridges = functions.filter(one => one.kind === 'bridge'), decodes = new Map(bridges.map(one => [one.path, decodes_of(machine, one.place)]));
   machine.close();
   const now = new AtReset(made, functions, decodes);
+  now.look();
   return now.given ? [] : places_of(now.functions).filter(place => {
     const { line, at } = question_at(...place.split(' ')), sent = sent_by(line, () => 0n), ends = sent && way_of(sent, now.functions).ends;
     const { answer, reached } = read_json(made.board_why_json(at)).found, told = answer?.path ?? reached ?? null;
