@@ -114,6 +114,7 @@ export class Watch {
 
   ends(line, reply) {
     if (!is_remark(line)) this.ran.push({ line, reply });
+    if (/: refused /.test(reply)) this.written = null;
     if (this.written !== null) this.written.after = this.read(this.written.line);
   }
 

@@ -20,8 +20,9 @@ function function_in(words, { functions, owners }) {
   return functions.find(one => owners.get(one.path)?.guest === words[0].word && BigInt(owners.get(one.path).slot) === number_of(words[2].word));
 }
 
-const registers_in = kind => registers_of(kind)
-  .map(({ name, title, offset, width }) => offer(`${hex(offset)} ${width}`, `${name}: ${title}`, name, two_digits(offset)));
+// Registers are also found by any part of their names, and those of a bridge's windows as such.
+const registers_in = kind => registers_of(kind).map(({ name, title, offset, width }) => ({
+  ...offer(`${hex(offset)} ${width}`, `${name}: ${title}`, name, two_digits(offset)), parts: `${name} ${title}${/_(base|limit)/.test(name) ? ' window' : ''}`.toLowerCase() }));
 
 // Where regions stand: on the board, or in a guest's own view.
 const regions_in = (space, { places }, who) => places(who).filter(one => one.space === space).map(({ first, told, names }) => offer(hex(first), told, ...names));
@@ -59,6 +60,7 @@ export function completions(line, board) {
   const words = words_in(line), typed = /[ \t\r]$/.test(line) || words.length === 0 ? null : words[words.length - 1];
   const before = typed ? words.slice(0, -1) : words, begun = (typed?.word ?? '').toLowerCase();
   if (before[0]?.word.startsWith('#') || begun.startsWith('#')) return { from: line.length, offers: [] };
-  const fits = one => one.names.some(name => name.toLowerCase().startsWith(begun)) && one.text.toLowerCase() !== begun;
-  return { from: typed?.at ?? line.length, offers: offers_at(before.length, before, board).filter(fits) };
+  const is_begun = one => one.names.some(name => name.toLowerCase().startsWith(begun)), all = offers_at(before.length, before, board).filter(one => one.text.toLowerCase() !== begun);
+  const has_part = one => /^[a-z]/.test(begun) && one.parts?.includes(begun) && !is_begun(one);
+  return { from: typed?.at ?? line.length, offers: [...all.filter(is_begun), ...all.filter(has_part)] };
 }

@@ -5,7 +5,7 @@ import { asked_of } from './asked.js';
 import { make, make_button } from './marks.js';
 import { with_numbers } from './names.js';
 import { why_bad, why_refused } from './reasons.js';
-import { explained } from './meant.js';
+import { checked, explained } from './meant.js';
 import { question_after } from './why.js';
 import { HANDS_OVER, move_in } from './replay.js';
 
@@ -80,7 +80,7 @@ export class Console {
     this.ran(line, this.tell(line, this.machine(), row));
   }
 
-  // The reply of a line, beside it, and why it is refused below it.
+  // The reply of a line, beside it, and below it why it is refused, or what is wrong with its numbers.
   tell(line, machine, row) {
     const reply = asked_of(machine, line);
     if (reply === '') return reply;
@@ -89,7 +89,7 @@ export class Console {
     row.append(' ', one);
     if (this.marks.has(who)) one.style.setProperty('--hue', this.marks.get(who).hue);
     one.classList.toggle('refused', reply.includes(': refused '));
-    const { as, guests, functions } = this.whose(), why = why_refused(line, reply, guests, as);
+    const { as, guests, functions } = this.whose(), numbers = / refused (?!30[12] )/.test(reply) ? null : checked(line, guests, as), why = numbers ?? why_refused(line, reply, guests, as);
     if (why !== null) {
       const bad = / refused 40[123] /.test(reply) ? why_bad(line, guests, as) : null;
       this.put('why', bad === null ? why : explained(bad, functions));

@@ -39,14 +39,14 @@ export class LessonView {
     else this.parts.editor.after(this.parts.desk);
   }
 
-  // The numbers of the lessons, with those that are done.
+  // The numbers of the lessons, with those that are done. The one that is open leads to its text.
   draw_steps(lessons) {
     const done = this.tasks.filter(one => lessons.is_done(one)).length;
     const kept = lessons.progress.keeps ? '' : '. This browser keeps nothing: what is done counts until the page is closed';
     this.parts.progress.textContent = `${done} of ${this.tasks.length} done${kept}`;
     this.parts.steps.replaceChildren(...this.tasks.map((task, nth) => {
       const item = make('li', ''), is_done = lessons.is_done(task);
-      const button = make_button(`${nth + 1}`, () => this.acts.begin(nth), '', `Lesson ${nth + 1}: ${task.title}${is_done ? ', done' : ''}`);
+      const button = make_button(`${nth + 1}`, () => (task === lessons.task ? this.show() : this.acts.begin(nth)), '', `Lesson ${nth + 1}: ${task.title}${is_done ? ', done' : ''}`);
       button.append(make('span', 'title', ` ${task.title}`), is_done ? ' ✓' : '');
       button.title = task.title;
       if (task === lessons.task) button.setAttribute('aria-current', 'step');
@@ -91,11 +91,23 @@ export class LessonView {
     const { lacks } = lessons.goals, more = lacks.length > LACKS_SHOWN ? [`${lacks.length - LACKS_SHOWN} more`] : [];
     this.parts.lacks.replaceChildren(...[...lacks.slice(0, LACKS_SHOWN), ...more].map(one => make('li', '', one)));
     this.parts.lacks.hidden = !lessons.goals.wants_ready;
+    this.draw_marks(rows);
     const state = done ? 'Done.' : `${rows.filter(one => one.met).length} of ${count_in_words(rows.length, 'condition')} met`;
     put_text(this.parts.task_state, state);
     for (const one of [this.parts.task, this.parts.dock]) one.classList.toggle('done', done);
     if (done) this.draw_steps(lessons);
     this.offer_next(lessons, done);
+  }
+
+  // Beside the line box, once a condition is met: a mark for each one in the order of the list, and the first that isn't met.
+  draw_marks(rows) {
+    const open = rows.find(one => !one.met);
+    this.parts.met.hidden = !rows.some(one => one.met);
+    this.parts.met.replaceChildren(...rows.map(({ words, met }) => {
+      const [mark] = sign(met ? '✓' : '○', '');
+      mark.classList.toggle('met', met);
+      return Object.assign(mark, { title: words });
+    }), open ? `Not yet: ${open.words}` : '');
   }
 
   // The next part that isn't done, or the next lesson.

@@ -32,6 +32,7 @@ import { with_numbers } from './names.js';
 import { asked_of, keeping_latch } from './asked.js';
 import { texts_of_changes } from './changes.js';
 import { HANDS_OVER, owners_in, path_in } from './replay.js';
+import { reveal } from './reveal.js';
 import { Moments } from './moments.js';
 import { FileView } from './file_view.js';
 import { sent_by, sent_by_guest, way_of } from './way.js';
@@ -53,7 +54,7 @@ const speaking = () => (given() ? 'guests' : as);
 const guests = () => (speaking() === 'firmware' ? [] : [...marks.keys()]);
 // What is asked of firmware's board, or of a guest: why something finds what it finds.
 const question = new Question(part.heard, { light, choose, path_in: (guest, slot) => path_in(owners, { guest, slot }), held: answers, driven: () => (speaking() === 'firmware' ? firmware.driven : null), functions: () => functions_now(),
-  changed: () => { if (as !== 'firmware') question.look(); draw(); } });
+  reveal: one => reveal(one, part), changed: () => { if (as !== 'firmware') question.look(); draw(); } });
 const board = new Board({ tree: part.tree, told: part.told, table: part.functions }, light, choose, ask_of_lost);
 const addresses = new Addresses(part.addresses, light, question);
 const maps = new GuestMaps(part.maps, light, question, part.asked_there);

@@ -18,7 +18,8 @@ export function explained(bad, functions) {
   const meant = meant_by(bad, functions), is_path = bad.name === 'the function' && functions.some(one => one.path === bad.word?.word);
   if (is_path && meant === null) return `the function, '${bad.word.word}', is a path, and no number leads to that function yet`;
   if (is_path) return `the function, '${bad.word.word}', is a path: did you mean its number, ${meant}?`;
-  return meant === null ? bad.why : `${bad.name}, '${bad.word.word}': did you mean ${meant}?`;
+  if (meant !== null) return `${bad.name}, '${bad.word.word}': did you mean ${meant}?`;
+  return bad.is_number && bad.name === 'the offset' && /^c[rw]$/.test(bad.verb) ? `${bad.why}; or type part of a register's name, such as command, and choose it from the list` : bad.why;
 }
 
 // The numbers of a line, by what they are in its form.
@@ -36,6 +37,6 @@ export function checked(line, guests, as) {
   if (width === undefined) return null;
   if (!WIDTHS.includes(width)) return `the width is 1, 2 or 4 bytes, not ${width}`;
   if (place !== undefined && place[1] % width !== 0n) return `${place[0]}, ${hex(place[1])}, isn't a multiple of the width, ${width}`;
-  if (value !== undefined && value >> 8n * width !== 0n) return `the value, ${hex(value)}, is too large for ${width} ${width === 1n ? 'byte' : 'bytes'}: its upper bits are dropped`;
+  if (value !== undefined && value >> 8n * width !== 0n) return `the value, ${hex(value)}, is too large for ${width} ${width === 1n ? 'byte' : 'bytes'}: the line writes ${hex(BigInt.asUintN(8 * Number(width), value))}`;
   return null;
 }

@@ -11,11 +11,14 @@ const UNASKED = { asked: null, place: null, back: () => null, reply: null, lines
 
 export class Question {
   // `heard` is told each reply; `driven` gives what answers firmware's questions, or null where none can be asked, and `held` what answers
-  // those of guests; `path_in` gives the function in a guest's slot, and `functions` all of them; `changed` lets the question look, and draws what is marked.
-  constructor(heard, { driven, held, path_in, light, choose, changed, functions }) {
-    Object.assign(this, { heard, driven, held, path_in, changed, functions, ...UNASKED });
+  // those of guests; `path_in` gives the function in a guest's slot, and `functions` all of them; `changed` lets the question look, and draws what is marked;
+  // `reveal` brings an element into view.
+  constructor(heard, { driven, held, path_in, light, choose, changed, functions, reveal }) {
+    Object.assign(this, { heard, driven, held, path_in, changed, functions, reveal, ...UNASKED });
     const head = make('div', 'line'), line = make('code', ''), list = make('ul', '');
-    head.append(line, make_button('×', () => this.close(), 'fold', 'Close the question'));
+    const now = make('span', '', 'now: ');
+    now.append(line);
+    head.append(now, make_button('×', () => this.close(), 'fold', 'Close the question'));
     this.about = make('p', 'about');
     this.box = make('div', 'question');
     for (const [name, value] of [['role', 'group'], ['aria-label', 'Why'], ['aria-live', 'off']]) this.box.setAttribute(name, value);
@@ -34,7 +37,7 @@ export class Question {
     if (place instanceof Element) place.append(this.box);
     this.changed();
     this.unfold(true);
-    this.box.scrollIntoView({ block: 'nearest' });
+    this.reveal(this.box);
   }
 
   // What asked this question last closes it. Two functions may be looked for at one number.

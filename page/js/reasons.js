@@ -69,7 +69,7 @@ function wrong_word(words, form) {
   for (const [nth, { name, wrong, begun }] of form.entries()) {
     if (nth === rest.length) return { why: `${name} is missing: ${shape}`, word: null, begun: true };
     const why = wrong(rest[nth].word);
-    if (why !== null) return { why: `${name}, '${rest[nth].word}', ${why}`, word: rest[nth], begun: begun(rest[nth].word), name, is_number: why.startsWith("isn't a number") };
+    if (why !== null) return { why: `${name}, '${rest[nth].word}', ${why}`, word: rest[nth], begun: begun(rest[nth].word), name, verb: texts[1], is_number: why.startsWith("isn't a number") };
   }
   return rest.length > form.length ? { why: `one word too many, '${rest[form.length].word}': ${shape}`, word: rest[form.length], begun: false } : null;
 }

@@ -22,11 +22,11 @@ export class ScriptBox {
     const board = this.board(), text = this.line.value, ends = this.line.selectionStart === text.length;
     if (board === null || text === '') { this.tell('', false); this.show([]); return; }
     const bad = why_bad(text, board.guests, board.as), { from, offers } = ends ? this.offered(bad, text, board) : { from: 0, offers: [] };
-    // a word that begins what is offered in its place is a name, and not wrong
+    // a word by which something is offered in its place is a name, and not wrong
     const is_name = offers.length > 0 && bad?.word?.at === from, check = bad === null || bad.begun || is_name ? checked(text, board.guests, board.as) : null;
     if (check !== null) this.tell(check, true);
     else if (bad !== null && (bad.is_number || !is_name) && meant_by(bad, board.functions) !== null) this.tell(explained(bad, board.functions), true);
-    else if (is_name) this.tell(bad.is_number ? `${bad.name}: ${bad.word.word} begins what is offered` : '', false);
+    else if (is_name) this.tell(bad.is_number ? `${bad.name}: choose what '${bad.word.word}' means from the list` : '', false);
     else this.tell(bad === null ? '' : explained(bad, board.functions), bad !== null && !bad.begun);
     Object.assign(this, { from, at: -1 });
     this.show(offers.slice(0, OFFERS_SHOWN));

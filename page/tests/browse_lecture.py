@@ -209,7 +209,7 @@ def refusals_have_reasons(browser, page):
     holds('the word for which a line is refused is marked', marked == '0xg' and "isn't a number" in said_last(browser, 'why'), marked)
     browser.run("(() => { const one = document.getElementById('line'); one.value = ''; one.focus(); })()")
     browser.insert('host cr 00:02.0 mem')
-    holds('a name that is typed is not told to be no number', text_of(browser, 'why') == 'the offset: mem begins what is offered', text_of(browser, 'why'))
+    holds('a name that is typed is not told to be no number', text_of(browser, 'why') == "the offset: choose what 'mem' means from the list", text_of(browser, 'why'))
     edge = "getComputedStyle(document.getElementById('verdict')).borderLeftColor"
     fine = browser.run("(() => { const one = document.createElement('i'); one.style.color = 'var(--fine)'; document.body.append(one); return getComputedStyle(one).color; })()")
     holds('no green edge stands beside problems', browser.run(edge) != fine and text_of(browser, 'total') == '2 problems', browser.run(edge))

@@ -116,6 +116,8 @@ def a_lesson_leads_on(browser, page):
         type_line(browser, line)
     met = browser.run(MET)
     holds('what is met is marked', met == ['met', 'met', '', ''], met)
+    browser.run("document.querySelector('#steps button').click()")
+    holds('its number leads to its text, and begins nothing', browser.run(STATE) == '2 of 4 conditions met' and browser.run('document.activeElement.id') == 'task_title', browser.run(STATE))
     browser.open(page)
     holds('a lesson that was begun comes back', text_of(browser, 'task_title') == 'Lesson 1: Read a board' and browser.run(STATE) == '2 of 4 conditions met', browser.run(STATE))
     for line in SOLUTIONS['read'][2:]:
@@ -201,7 +203,9 @@ def lines_are_explained(browser, page):
         found = browser.run("[document.getElementById('why').textContent, document.getElementById('line').getAttribute('aria-invalid')]")
         holds(f'{text} is explained while it is typed', found == [why, str(wrong).lower()], found)
     for text, wanted in [('a', []), ('host c', ['cr']), ('host cr 2.0', ['00:02.0', '01:00.0', '01:01.0']), ('host cr 00:02.0 sec', ['0x19 1', '0x1b 1', '0x1e 2']),
-                         ('a cw 0 comm', ['0x4 2']), ('a cr ', ['0', '1']), ('host move ', ['a', 'b']), ('host mr 1.0', ['0xc0100000']), ('', [])]:
+                         ('a cw 0 comm', ['0x4 2']), ('host cr 00:02.0 bus', ['0x18 1', '0x19 1', '0x1a 1']),
+                         ('host cr 00:02.0 window', ['0x1c 1', '0x1d 1', '0x20 2', '0x22 2', '0x24 2', '0x26 2', '0x28 4', '0x2c 4', '0x30 2', '0x32 2']),
+                         ('host cr 00:02.0 limit', ['0x1d 1', '0x22 2', '0x26 2', '0x2c 4', '0x32 2']), ('host cr 01:00.0 5', []), ('a cr ', ['0', '1']), ('host move ', ['a', 'b']), ('host mr 1.0', ['0xc0100000']), ('', [])]:
         fill(browser, text)
         holds(f'after {text!r} is offered what fits', browser.run(OFFERS) == wanted, browser.run(OFFERS))
     fill(browser, 'host cr 2.0')
@@ -217,6 +221,8 @@ def lines_are_explained(browser, page):
     holds('Tab takes what was begun', browser.run("document.getElementById('line').value") == 'host cr 01:00.0 0x0 2 ', browser.run("document.getElementById('line').value"))
     fill(browser, 'host cr 01:00.0 ven')
     holds('a name that is offered is not wrong', browser.run("document.getElementById('line').getAttribute('aria-invalid')") == 'false')
+    fill(browser, 'host cr 01:00.0 wxyz')
+    holds('one that is not says what may be typed', text_of(browser, 'why').endswith("type part of a register's name, such as command, and choose it from the list"), text_of(browser, 'why'))
     fill(browser, 'host cr 01:00.0 0x0 2')
     browser.press('Escape')
     browser.press('Enter')
@@ -227,7 +233,7 @@ def lines_are_explained(browser, page):
     browser.press('Tab')
     holds('Tab leaves the box where nothing was begun', browser.run("document.activeElement.textContent") == 'Run')
     type_line(browser, 'a mr 1 4')
-    holds('why a reply refuses is told', said_last(browser, 'why') == "the address, port or offset isn't a multiple of the width", text_of(browser, 'transcript'))
+    holds('why a reply refuses is told', said_last(browser, 'why') == "the address, 0x1, isn't a multiple of the width, 4", text_of(browser, 'transcript'))
     browser.open(f'{page}#board=main&as=firmware')
     fill(browser, 'host cw 2')
     holds('firmware is offered what cycles find', browser.run(OFFERS) == ['00:02.0'], browser.run(OFFERS))

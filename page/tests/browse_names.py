@@ -60,13 +60,20 @@ def a_wrong_word_is_understood(browser, page):
 
 def numbers_are_checked_while_typed(browser, page):
     browser.open(f'{page}#lesson=window', 1280, 720)
-    for text, wanted in [('host cw 00:02.0 0x19 1 0x100', 'the value, 0x100, is too large for 1 byte: its upper bits are dropped'),
+    for text, wanted in [('host cw 00:02.0 0x19 1 0x100', 'the value, 0x100, is too large for 1 byte: the line writes 0x0'),
                          ('host cr 00:02.0 0x18 3', 'the width is 1, 2 or 4 bytes, not 3'), ('host cw 00:02.0 0x19 2', "the offset, 0x19, isn't a multiple of the width, 2"),
                          ('host mr 0xc0000001 4', "the address, 0xc0000001, isn't a multiple of the width, 4"), ('host cw 00:02.0 0x20 4 0xc000c000', ''),
                          ('host ir 0x1001 2', "the port, 0x1001, isn't a multiple of the width, 2"), ('host why mem 0xc0000001', '')]:
         fill(browser, text)
         found = [text_of(browser, 'why'), browser.run("document.getElementById('why').classList.contains('wrong')")]
         holds(f'the numbers of {text} are checked', found == [wanted, wanted != ''], found)
+    fill(browser, '')
+    for line, reply, why in [('host cw 00:02.0 0x22 2 0xc00fffff', 'host: ok', 'the value, 0xc00fffff, is too large for 2 bytes: the line writes 0xffff'),
+                             ('host cr 00:02.0 0x22 2', 'host: 0xfff0', None), ('host cw 00:02.0 0x22 3 0', 'host: refused 302 width', 'the width is 1, 2 or 4 bytes, not 3'),
+                             ('host cw 00:02.0 0x21 2 0', 'host: refused 301 misaligned', "the offset, 0x21, isn't a multiple of the width, 2")]:
+        type_line(browser, line)
+        holds(f'at {line} its numbers are checked too', said_last(browser, 'reply') == reply and why in (None, said_last(browser, 'why')), text_of(browser, 'transcript'))
+    holds('a line that is refused changed no register', text_of(browser, 'changes') == 'It changed no register.', text_of(browser, 'changes'))
     browser.open(f'{page}#board=main', 1280, 720)
     fill(browser, 'a cw 0 4 2 0x10000')
     holds("so are a guest's", text_of(browser, 'why').startswith('the value, 0x10000, is too large for 2 bytes'), text_of(browser, 'why'))

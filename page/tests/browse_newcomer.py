@@ -147,4 +147,14 @@ def all_lessons_are_done(browser, page):
         browser.run('localStorage.clear()')
 
 
-ALL = [all_lessons_are_done]
+# What a reader has to know of each lesson's registers, without the hint.
+NEEDED = [['0x18', '0x20', '0x10'], ['0x19', '0x1a'], ['0x10', '0x14', '0x24'], ['0x20', '0x22', '0x1c', '0x1d', 'offset 4', 'bit 0 enables I/O', 'upper bits']]
+
+
+def texts_say_what_lines_need(browser, page):
+    for name, needed in zip(['read', 'number', 'size', 'window'], NEEDED):
+        browser.open(f'{page}#lesson={name}', 1280, 720)
+        holds(f'the text of {name} says what its lines need', all(one in text_of(browser, 'task_text') for one in needed), text_of(browser, 'task_text'))
+
+
+ALL = [all_lessons_are_done, texts_say_what_lines_need]

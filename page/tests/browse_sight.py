@@ -13,7 +13,12 @@ SCROLLS = """[...document.querySelectorAll('#work, #work *')].filter(one => one.
 TOPS = """['#tree', '[data-space=io]', '[data-space=mem]', '[data-space=pref]'].map(find => document.querySelector(`#shown ${find}`)).filter(one => one !== null)
   .map(one => Math.round(one.getBoundingClientRect().top + scrollY + document.getElementById('shown').scrollTop))"""
 DRAWN = "document.querySelectorAll('#addresses .bars :is(.ghost, .region, .window)').length"
+WHERE = "['.question', '#dock'].map(find => { const { top, bottom } = document.querySelector(find).getBoundingClientRect(); return [top, bottom]; })"
+SETTLED = 'new Promise(done => requestAnimationFrame(() => requestAnimationFrame(() => done(0))))'
 BARS = "document.getElementById('addresses').innerHTML"
+# Whether the marks beside the line box are those of the list, with the first condition that isn't met.
+MARKS = """(() => { const rows = [...document.querySelectorAll('#goals li')], marks = [...document.querySelectorAll('#met .mark')], open = rows.find(one => !one.matches('.met'));
+  return rows.length === marks.length && rows.every((one, nth) => one.matches('.met') === marks[nth].matches('.met')) && document.getElementById('met').textContent.endsWith(open?.lastChild.textContent ?? '✓'); })()"""
 
 
 def is_write(line):
@@ -30,6 +35,7 @@ def success_is_in_view(browser, page, lessons):
             holds(f'the count of {where} is in view', seen(browser, '#task_state') and 'met' in browser.run(STATE), browser.run(STATE))
             for line in lines:
                 type_line(browser, line)
+                holds(f'what is met in {where} after {line} is in view', browser.run(MARKS) and (seen(browser, '#met') or browser.run(STATE).startswith('0')), text_of(browser, 'met'))
             holds(f'"Done." of {where} is in view', seen(browser, '#task_state') and browser.run(STATE) == 'Done.', browser.run(STATE))
             holds(f'the line box of {where} is in view', seen(browser, '#line'))
             if nth + 1 == len(lessons):
@@ -37,10 +43,22 @@ def success_is_in_view(browser, page, lessons):
             holds(f'"Next" of {where} is in view', seen(browser, '#next'))
             browser.run("document.getElementById('next').focus()")
             browser.press('Enter')
-            browser.run('new Promise(done => requestAnimationFrame(() => requestAnimationFrame(() => done(0))))')
+            browser.run(SETTLED)
             holds(f'by the keyboard the title behind {where} is in view', seen(browser, '#task_title') and browser.run('document.activeElement.id') == 'task_title',
                   browser.run("document.getElementById('task_title').getBoundingClientRect().top"))
         browser.run('localStorage.clear()')
+
+
+def an_answer_is_in_view(browser, page):
+    for width, height in SIZES:
+        for link in ['lesson=window', 'lesson=number', 'board=main&as=firmware']:
+            browser.open(f'{page}#{link}', width, height)
+            for line in ['host cr 00:02.0 0 4', 'host mr 0xc0000000 4'] * 3:
+                type_line(browser, line)
+                browser.run(SETTLED)
+            for nth in [-1, 1]:
+                browser.run(f"document.querySelectorAll('#transcript .row')[{nth} + 6 * ({nth} < 0)].querySelector('button').click()")
+                holds(f'the answer to "why?" in {link} is in view at {width} by {height}', seen(browser, '#transcript .question'), browser.run(WHERE))
 
 
 def one_area_scrolls(browser, page, lessons):
@@ -147,6 +165,7 @@ def names_of_lessons(tasks, solutions):
 def all_is_seen(browser, page, tasks, solutions):
     lessons = names_of_lessons(tasks, solutions)
     success_is_in_view(browser, page, lessons)
+    an_answer_is_in_view(browser, page)
     one_area_scrolls(browser, page, [one for one in lessons if one[0] in ('read', 'window', 'ready', 'neighbour', 'wide')])
     every_line_moves_something(browser, page, lessons)
     what_is_disabled_is_dashed(browser, page)

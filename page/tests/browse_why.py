@@ -46,6 +46,7 @@ def a_reply_is_asked(browser, page):
     count = browser.run("document.querySelectorAll('#transcript .row').length")
     for line in ['host cw 00:02.0 0x20 4 0xc000c000', 'host cw 00:02.0 4 2 3']:
         type_line(browser, line)
+    holds('it says that it answers as registers are now', browser.run("document.querySelector('.question .line').textContent").startswith('now: host why mem 0xc0000000'))
     holds('it follows what is written', browser.run(LINES) == ['memory 0xc0000000: 2.0/0.0 bar0 offset 0x0 answers', '2.0 forwards it to bus 01'], browser.run(LINES))
     holds('and what is marked with it', [browser.run(SIGNS), browser.run(BARS)] == [[], [0, 1, 1]], browser.run(BARS))
     holds('what is asked is none of the lines', browser.run("document.querySelectorAll('#transcript .row').length") == count + 2)
