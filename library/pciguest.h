@@ -81,7 +81,7 @@ struct pciguest_region {
     uint64_t size;
     uint32_t space;        /* PCIGUEST_IO or PCIGUEST_MEMORY */
     uint32_t prefetchable; /* 1 or 0 */
-    uint32_t is_open;      /* 1 or 0: whether the guest's Command enables the space */
+    uint32_t is_open;      /* 1 if the guest's Command enables the space, otherwise 0 */
 };
 
 /* Describes where a region of a guest is now, and where it was when this row was last updated.
@@ -89,7 +89,7 @@ struct pciguest_region {
 struct pciguest_place {
     struct pciguest_region now;
     struct pciguest_region before;
-    uint32_t has_moved; /* 1 or 0: whether `now` and `before` differ */
+    uint32_t has_moved; /* 1 if `now` and `before` differ, otherwise 0 */
     uint32_t reserved;  /* 0 */
 };
 
@@ -103,7 +103,7 @@ struct pciguest_hit {
     uint64_t slot;
     uint64_t offset; /* in the region, or in configuration space */
     uint32_t part;
-    uint32_t found; /* 1 or 0: whether the access reaches anything */
+    uint32_t found; /* 1 if the access reaches anything, otherwise 0 */
 };
 
 /* Array sizes. PCIGUEST_PATH: bytes for the text of a path, which uses at most 79 of them.
@@ -120,7 +120,7 @@ struct pciguest_bar {
     uint64_t size;
     uint32_t space;        /* PCIGUEST_IO or PCIGUEST_MEMORY */
     uint32_t prefetchable; /* 1 or 0 */
-    uint32_t is_64_bit;    /* 1 or 0: whether the next register holds the high half */
+    uint32_t is_64_bit;    /* 1 if the next register holds the high half, otherwise 0 */
 };
 
 /* Describes a window of a bridge, as the bridge's registers on the board define it: the addresses
@@ -164,7 +164,7 @@ struct pciguest_function {
     struct pciguest_window windows[PCIGUEST_WINDOWS]; /* by kind; all 0 for an endpoint */
     size_t guest;                        /* the index of its guest if `is_given` is 1, else 0 */
     uint64_t slot;                       /* its slot in that guest if `is_given` is 1, else 0 */
-    uint32_t is_given;                   /* 1 or 0: whether it is assigned to a guest */
+    uint32_t is_given;                   /* 1 if it is assigned to a guest, otherwise 0 */
     struct pciguest_interrupt interrupt; /* all 0 in struct pciguest_board_function */
     uint64_t reserved[PCIGUEST_ROOM];    /* 0 */
 };
@@ -174,9 +174,9 @@ struct pciguest_function {
  * itself. */
 struct pciguest_board_function {
     struct pciguest_function function; /* its bus is the bridge's current Secondary Bus Number */
-    uint32_t is_found;                 /* 1 or 0: whether an access to its BDF reaches it */
-    uint32_t opens_io;                 /* 1 or 0: whether its Command enables I/O space */
-    uint32_t opens_memory;             /* 1 or 0: whether its Command enables memory space */
+    uint32_t is_found;                 /* 1 if an access to its BDF reaches it, otherwise 0 */
+    uint32_t opens_io;                 /* 1 if its Command enables I/O space, otherwise 0 */
+    uint32_t opens_memory;             /* 1 if its Command enables memory space, otherwise 0 */
     uint64_t reserved[PCIGUEST_ROOM];  /* 0 */
 };
 
@@ -428,7 +428,7 @@ uint32_t pciguest_save(struct pciguest *machine, size_t guest, void *image, size
  * another board. Other guests can't observe the load. The count that pciguest_changed stores
  * increases by one. Allocates no memory. No script line does this.
  * Returns 0 on success; 906 if the image has other slots filled than the guest, or a function is
- * declared differently; 908 if the image has another version of the format; 905 if the bytes are
+ * declared differently; 908 if the image has an unsupported format version; 905 if the bytes are
  * not an image, for example because a register can't hold its value; 902 if there is no such guest.
  * The first byte that fails decides between 905, 906 and 908. Since 0.4.0. */
 uint32_t pciguest_load(struct pciguest *machine, size_t guest, const void *image, size_t length);
@@ -462,19 +462,19 @@ uint32_t pciguest_save_all(struct pciguest *machine, void *image, size_t room, s
  * same places, set up in the same way, and the guests must have the same names in the same order. It
  * doesn't matter where the guests' functions are now, or what the guests hold. The call takes every
  * function from its guest, as pciguest_take does, and then assigns and loads, as pciguest_give and
- * pciguest_load do; before that, it does the same on a second machine, which it frees at the end. So
+ * pciguest_load do; before that, it tries this on a second machine, which it frees at the end. So
  * an image that is refused changes nothing. The count that pciguest_changed stores increases for
  * each guest. No script line does this.
  * Returns 0 on success; 907 if the board, its guests or its set-up differ; 906 if a slot would get
  * something that can't be assigned to it, or a function is declared differently; 908 if the image,
- * or a guest's image in it, has another version of the format; 905 if the bytes are not the image
+ * or a guest's image in it, has an unsupported format version; 905 if the bytes are not the image
  * of a machine; 299 if memory runs out. docs/image-format.md says which of these is checked first.
  * Since 0.4.0. */
 uint32_t pciguest_load_all(struct pciguest *machine, const void *image, size_t length);
 
 /* Assigns a function of the board that no guest has to an empty slot of a guest. The function is
- * then at reset, both in the slot and on the board, with one exception: the registers of which
- * guests have their own copies keep their values on the board. The path is a text, as in board
+ * then at reset, both in the slot and on the board, with one exception: the registers that guests
+ * have their own copies of keep their values on the board. The path is a text, as in board
  * files and in struct pciguest_function. No script line does this.
  * Returns 0 on success; 303 if the slot is above 31, or there is no endpoint at the path; 602 if a
  * guest already has the function, or the slot is taken; 206 if one of the function's regions is
@@ -483,8 +483,8 @@ uint32_t pciguest_give(struct pciguest *machine, const char *path, size_t length
                        uint64_t slot);
 
 /* Takes the function in a guest's slot away from the guest. The slot is then empty, and no guest
- * has the function. The function is at reset on the board, with one exception: the registers of
- * which guests have their own copies keep their values there. No script line does this.
+ * has the function. The function is at reset on the board, with one exception: the registers that
+ * guests have their own copies of keep their values there. No script line does this.
  * Returns 0 on success; 303 if the slot is above 31; 601 if the slot is empty; 902 if there is no
  * such guest. Since 0.4.0. */
 uint32_t pciguest_take(struct pciguest *machine, size_t guest, uint64_t slot);
@@ -545,7 +545,7 @@ uint32_t pciguest_changed(struct pciguest *machine, size_t guest, uint64_t *coun
 uint32_t pciguest_moved(struct pciguest *machine, size_t guest, struct pciguest_place *places,
                         size_t room, size_t *count);
 
-/* Finds the byte that an access of a guest reaches at a slot and offset, a port, or an address: a
+/* Finds the byte that a guest access to a slot and offset, to a port, or to an address reaches: a
  * byte of a function in one of the guest's slots, or nothing. Every access there begins at this
  * byte, except a 4-byte access to port CF8h, which reaches the guest's own CONFIG_ADDRESS.
  * Allocates no memory and changes nothing.
@@ -563,7 +563,7 @@ uint32_t pciguest_locate(struct pciguest *machine, size_t guest, uint32_t space,
  * If nothing answers at a port or an address, one more line follows for each region of the guest's
  * functions that contains it but whose space Command doesn't enable (6.2.5), ordered by slot and
  * then by register. The text depends only on the guest's own functions and CONFIG_ADDRESS: two
- * guests that hold the same get the same text. Changes nothing.
+ * guests in which these are equal get the same text. Changes nothing.
  * Returns 0 on success; 303 if the slot, offset or port is out of range; 902 if there is no such
  * guest or space, or if the buffer is too small (only the length is stored); 299 if memory runs
  * out. Since 0.4.0. */
@@ -715,31 +715,31 @@ uint32_t pciguest_board_audit(struct pciguest_board *board, char *text, size_t r
 
 /* Reports what is wrong in the registers of a board as a JSON object on one line, as
  * `pciguest audit --json` does. The object contains every problem that pciguest_board_audit
- * reports, with everything that its line says, in the same order. Stores the length of the text in
- * `needed` and the number of problems in `count`. The text isn't terminated by a 0. The board stays
- * unchanged.
+ * reports, in the same order, with all the information in its line. Stores the length of the text
+ * in `needed` and the number of problems in `count`. The text isn't terminated by a 0. The board
+ * stays unchanged.
  * Returns 0 on success; 902 if the buffer is too small (only the length is stored); 299 if memory
  * runs out. Since 0.4.0. */
 uint32_t pciguest_board_audit_json(struct pciguest_board *board, char *text, size_t room,
                                    size_t *needed, size_t *count);
 
 /* Reports what is wrong in the registers of a board as they are now, and what is left to do: writes
- * the lines of pciguest_board_audit except the last, then one line for each lack, then a last line,
- * `ready: ok` or counts such as `ready: 1 problem, 2 lacks`. A lack is a region that is closed,
- * that is outside the apertures, or that is prefetched although it isn't prefetchable, or a bridge
- * whose Primary Bus Number isn't the number of its bus. Stores the length of the text in `needed`,
- * and in `count` the number of problems and lacks, which is 0 if the board is ready. The text isn't
- * terminated by a 0. The board stays unchanged.
+ * the lines of pciguest_board_audit except the last, then one line for each readiness issue, then a
+ * last line, `ready: ok` or counts such as `ready: 1 problem, 2 lacks`. A readiness issue, or lack,
+ * is a region that is closed, that is outside the apertures, or that is prefetched although it isn't
+ * prefetchable, or a bridge whose Primary Bus Number isn't the number of its bus. Stores the length
+ * of the text in `needed`, and in `count` the number of problems and readiness issues, which is 0 if
+ * the board is ready. The text isn't terminated by a 0. The board stays unchanged.
  * Returns 0 on success; 902 if the buffer is too small (only the length is stored); 299 if memory
  * runs out. Since 0.4.0. */
 uint32_t pciguest_board_ready(struct pciguest_board *board, char *text, size_t room, size_t *needed,
                               size_t *count);
 
 /* Reports what is wrong in the registers of a board and what is left to do as a JSON object on one
- * line, as `pciguest ready --json` does. The object contains every problem and lack that
- * pciguest_board_ready reports, with everything that its line says, in the same order. Stores the
- * length of the text in `needed`, and in `count` the number of problems and lacks, which is 0 if
- * the board is ready. The text isn't terminated by a 0. The board stays unchanged.
+ * line, as `pciguest ready --json` does. The object contains every problem and readiness issue that
+ * pciguest_board_ready reports, in the same order, with all the information in its line. Stores the
+ * length of the text in `needed`, and in `count` the number of problems and readiness issues, which
+ * is 0 if the board is ready. The text isn't terminated by a 0. The board stays unchanged.
  * Returns 0 on success; 902 if the buffer is too small (only the length is stored); 299 if memory
  * runs out. Since 0.4.0. */
 uint32_t pciguest_board_ready_json(struct pciguest_board *board, char *text, size_t room,
@@ -768,8 +768,8 @@ uint32_t pciguest_set_up(struct pciguest_board *board, struct pciguest *machine)
 /* Assigns the functions of a board to the guests that its file declares. The board is used as it is
  * now, no matter who set it up. The audit of the board must find no problem, and every region of
  * the functions to be assigned must be open. The board then belongs to the machine, and the board's
- * struct is empty. Each assigned function is reset, except for the registers of which guests have
- * their own copies, and the board's CONFIG_ADDRESS is cleared. If a line has already handed the
+ * struct is empty. Each assigned function is reset, except for the registers that guests have their
+ * own copies of, and the board's CONFIG_ADDRESS is cleared. If a line has already handed the
  * board over, `machine` receives the machine that resulted, in its current state. If the call
  * fails, both structs stay unchanged.
  * Returns 0 on success; 901 if there is no board; 903 if the machine's struct already holds a
