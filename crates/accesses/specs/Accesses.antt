@@ -1,8 +1,8 @@
--- Accesses, replies and reads by the host, in the words of guests' definitions.
+-- Converts accesses, replies and reads by the host to the terms of the formal model.
 --     target_of, op_of, access_of      a guest's access
---     part_of      where a raise goes
+--     part_of      the target of a raise
 --     host_target_of, host_access_of      a read by the host
---     reply_of      an answer
+--     reply_of      a reply
 use Rattle.paths.specs.BusAddresses.{bus_address_of}
 use Rattle.model_guests.specs.Grammar.{HostRead, HostTarget, host_configuration, host_port, host_address}
 use Rattle.accesses.specs.{declared.access.{Access.Access, At.At, Reply.Reply, HostAccess.HostAccess, HostAt.HostAt}, Refusals.number_of}

@@ -1,4 +1,4 @@
--- Why events and lines are refused, by numbers.
+-- The refusals of events and lines, by number.
 --     number_of      the number of a refusal
 use Rattle.std.specs.Prelude.{ℕ}
 use Rattle.accesses.specs.declared.refusal.Refusal.{Refusal, TheVariants.{Misaligned, Width, Range, BadLine, UnknownGuest, LongLine, EmptySlot, SlotTaken}}

@@ -1,4 +1,4 @@
--- Which replies a line of output can have.
+-- The replies that a line of output can show.
 --     IsShown      a value of at most four bytes, done, or a refusal
 --     IsRefusal      a refusal
 use Rattle.std.specs.Prelude.{◌≤◌, ⊤}

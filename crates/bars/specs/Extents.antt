@@ -1,8 +1,8 @@
--- Between which addresses a function's regions lie.
---     IsOutside e a      an address is below the least or above the greatest address of an extent
---     IsExtent space first last slots e      of the addresses from first to last, none outside the extent lies in a region
---                                            of the space
---     AreExtents slots e      the same of all ports and of all memory, and of the memory below 4 GB and from there on
+-- Bounds on the addresses of a function's regions.
+--     IsOutside e a      the address is below the least or above the greatest address of an extent
+--     IsExtent space first last slots e      every address from first to last that is in a region of the space
+--                                            is in the extent
+--     AreExtents slots e      the extents of all ports, of all memory, of memory below 4 GB, and of memory from 4 GB on
 use Rattle.std.specs.Prelude.{◌≡◌, ℕ, ◌<◌, ◌≤◌, ◌^◌, ◌-◌, ◌⊎◌, List, Option, None}
 use Rattle.model_registers.specs.Decoding.{Space, io, memory}
 use Rattle.bars.specs.{declared.{region.BarWithBase.BarWithBase, extent.{Extent.Extent, Extents.Extents}}, Hits.hit_from}

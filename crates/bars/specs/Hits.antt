@@ -1,7 +1,7 @@
--- Where an address lands, in the program's words: the index of a region's first register, and the offset in the region.
---     offset_in      the offset of an address in a region, if it lies there
---     hit_from      where the first region that holds an address stands
---     named_hit      the index and the offset, in the words of the definitions
+-- The target of an address: the index of the region's first register, and the offset in the region.
+--     offset_in      the offset of an address in a region, or `None` if the address isn't in the region
+--     hit_from      the first region that contains the address, from index n on
+--     named_hit      the index and the offset, in the terms of the formal model
 use Rattle.std.specs.Prelude.{List, [], ◌∷◌, ℕ, ◌+◌, ◌-◌, ◌&&◌, nat_le, nat_lt, if◌then◌else◌, Option, Some, None, option_map}
 use Rattle.lists.specs.Elements.{first_of_two}
 use Rattle.model_registers.specs.Decoding.{Space, same_space, space_of, Hit}
@@ -15,7 +15,7 @@ offset_in space a r =
 abbrev pub hit_in : ℕ → ℕ → Hit
 hit_in n off = record { index = n; offset = off }
 
--- the first region of slots, of which the first is that at index n
+-- the first of the slots, which start at index n, whose region contains the address
 abbrev pub hit_from : Space → ℕ → ℕ → List (Option BarWithBase) → Option Hit
 hit_from space a n [] = None
 hit_from space a n (None ∷ slots) = hit_from space a (n + 1) slots

@@ -1,7 +1,7 @@
--- The words of the program and of the definitions for one thing.
---     kind_of, named_kind      a kind of region, from the program's word and back
+-- Converts kinds and spaces between the program's types and the formal model.
+--     kind_of, named_kind      a kind of region, from the program's type and back
 --     named_bar      a kind with a size
---     named_space      a space, from the program's word
+--     named_space      a space, from the program's type
 use Rattle.std.specs.Prelude.{ℕ}
 use Rattle.model_registers.specs.Declarations.{io_kind, mem32, mem64}
 use Rattle.bars.specs.declared.decl.{Kind.Kind, Space.Space}

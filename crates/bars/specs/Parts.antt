@@ -1,6 +1,6 @@
--- Which part of which region a register of four bytes shows.
---     IsPartAt slots reg p      the register at the index reg shows the part p
---     IsUnused slots reg      no region has a register at the index reg
+-- The part of a region's BAR that a four-byte register holds.
+--     IsPartAt slots reg p      register reg holds the part p
+--     IsUnused slots reg      register reg belongs to no region
 use Rattle.std.specs.Prelude.{◌≡◌, ℕ, ◌+◌, List, Option, Some, None, ◌⊎◌}
 use Rattle.model_registers.specs.Declarations.{registers_of}
 use Rattle.bars.specs.{declared.{region.BarWithBase.BarWithBase, base_registers.ShownPart.ShownPart}, Slots.slot_at}

@@ -1,6 +1,6 @@
--- Declared registers, and what they hold at reset.
---     at_reset      the base address registers of declarations by index, each with base 0
---     with_no_base      a register with base 0
+-- Declared BARs and their values at reset.
+--     at_reset      the BARs for declarations by index, each with base 0
+--     with_no_base      a BAR with base 0
 use Rattle.std.specs.Prelude.{ℕ, ◌+◌, List, [], ◌∷◌, Option, Some, None}
 use Rattle.model_registers.specs.{Declarations.Bar, EndpointTable.BaseAddress}
 

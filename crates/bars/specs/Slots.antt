@@ -1,8 +1,8 @@
--- The six registers of a function, as the program keeps them: at the index of each region's first register, the region.
+-- The six BAR registers of a function as the program stores them: each region is at the index of its first register.
 --     placed      a region at the index of its first register
 --     with_no_base_in      a slot whose region has base 0
 --     slot_at      the region at an index
---     bases_from      the base address registers of slots, from the index of the first one on
+--     bases_from      the BARs of the slots, whose first index is given
 use Rattle.std.specs.Prelude.{ℕ, ◌+◌, List, [], ◌∷◌, Option, Some, None, unwrap_or, option_map, slice_get}
 use Rattle.model_registers.specs.EndpointTable.{BaseAddress}
 use Rattle.bars.specs.declared.region.BarWithBase.{BarWithBase}

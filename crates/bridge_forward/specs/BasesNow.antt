@@ -1,6 +1,6 @@
--- Where the regions of one function stand by its registers as they are now: PCI Local Bus 3.0, chapter 6.2.5.
---     bases_of      those of an endpoint, by register; a bridge has none
---     bases_nth      those of the function at an index of the list
+-- The current addresses of one function's regions: PCI Local Bus 3.0, chapter 6.2.5.
+--     bases_of      the regions of an endpoint, by register; a bridge has none
+--     bases_nth      the regions of the function at an index of the list
 use Rattle.std.specs.{Prelude.{List, [], ℕ, map, slice_get}, Option.option_map_or}
 use Rattle.model_registers.specs.{Registers.File, EndpointTable.BaseAddress, Decoding.base_address}
 use Rattle.model_board.specs.{Board.{Decl, endpoint, bridge}, State.BoardFunction}

@@ -1,6 +1,6 @@
--- What is declared of a bridge of the board.
---     declared_bridge      of a function, if it is one
---     declared_bridge_nth      of the one at an index of the list
+-- The declarations of a board's bridges.
+--     declared_bridge      the declaration of a function, if it is a bridge
+--     declared_bridge_nth      the declaration of the bridge at an index of the list
 use Rattle.std.specs.{Prelude.{List, ℕ, Option, Some, None, slice_get}, Option.option_map_or}
 use Rattle.model_registers.specs.Declarations.{Bridge}
 use Rattle.model_board.specs.{Board.{Decl, endpoint, bridge}, State.BoardFunction}

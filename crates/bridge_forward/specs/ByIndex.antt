@@ -1,6 +1,6 @@
--- What is told of a function by its index, in the words of the definitions.
---     ranges_told      the regions of six registers, or the windows of a bridge
---     ranges_nth fs i      those of the function at an index of the list
+-- The address ranges of the function at an index, in the terms of the formal model.
+--     ranges_told      the regions of the six registers, or the windows of a bridge
+--     ranges_nth fs i      the regions or windows of the function at an index of the list
 use Rattle.std.specs.Prelude.{List, ℕ, Option, option_map, slice_get}
 use Rattle.model_board.specs.{State.BoardFunction, Routing.{Ranges, regions, windows, ranges_of}}
 use Rattle.bars.specs.Slots.{bases_from}

@@ -1,4 +1,4 @@
--- What is declared of a function, in the words of the definitions.
+-- The declaration of a function, in the terms of the formal model.
 use Rattle.model_board.specs.Board.{Decl, endpoint, bridge}
 use Rattle.bridge_forward.specs.declared.decl.Declared.{Declared, TheVariants.{Endpoint, Bridge}}
 

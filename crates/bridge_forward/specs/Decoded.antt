@@ -1,6 +1,6 @@
--- What the registers of a bridge say, as the numbers that are kept beside its cells: PCI-to-PCI Bridge Architecture
+-- The decoded registers of a bridge, as the numbers stored next to its cells: PCI-to-PCI Bridge Architecture
 -- 1.2, chapter 3.2.5.
---     IsDecoded d file n      the numbers are what these cells of the bridge say
+--     IsDecoded d file n      the numbers are the decoded values of these cells of the bridge
 use Rattle.std.specs.Prelude.{◌≡◌, option_map}
 use Rattle.model_registers.specs.{Registers.{config, File, number}, Declarations.Bridge, Windows.{io_window, mem_window, pref_window}}
 use Rattle.model_board.specs.Cycles.{secondary_register, subordinate_register}

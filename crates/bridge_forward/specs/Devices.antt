@@ -1,5 +1,5 @@
--- Devices with more functions than function 0.
---     is_extra_function      a function that is no function 0
+-- Devices with functions other than function 0.
+--     is_extra_function      the function number isn't 0
 --     shared_devices      the path of function 0 in the device of each such function
 use Rattle.std.specs.Prelude.{Bool, not, List, map, filter, ◌==◌}
 use Rattle.model_board.specs.{Paths.{Path, last_part, function_zero}, Board.Board}

@@ -1,8 +1,8 @@
--- One function of the tree, in the words of the definitions.
---     decl_of, file_of      what is declared of a function, and its cells
+-- One function of the tree, in the terms of the formal model.
+--     decl_of, file_of      the declaration of a function, and its cells
 --     with_cells      the function with other cells
 --     reset_cells      the cells of a declared function at reset
---     endpoint_in      the endpoint, if the function is one
+--     endpoint_in      the endpoint, if the function is an endpoint
 use Rattle.std.specs.{Prelude.{Bool, Option, Some, None}, Borrow.{LendsIf, MutBor, Fml}}
 use Rattle.model_registers.specs.{Registers.File, EndpointTable.endpoint_reset, BridgeTable.bridge_reset}
 use Rattle.model_board.specs.Board.{Decl, endpoint, bridge}
@@ -31,6 +31,6 @@ abbrev pub endpoint_in : Function → Option decoding.Function
 endpoint_in (Endpoint e) = Some e
 endpoint_in (Bridge b) = None
 
--- an endpoint ends as it was left behind r, and a bridge stays
+-- an endpoint ends in the state that the borrow r leaves, and a bridge doesn't change
 abbrev pub LendsLeaf : MutBor Function → Option (MutBor decoding.Function) → Fml
 LendsLeaf f r = LendsIf function.the_row endpoint_fn.the_row f r Endpoint f.now

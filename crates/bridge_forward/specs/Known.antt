@@ -1,7 +1,7 @@
--- Bridges that are known for bus numbers, each with the time at which it was found. One of an earlier time counts for
--- nothing.
---     known_now time es      what is known now
---     AreKept time es      an entry for each bus number, and none of a time to come
+-- The cached bridges for bus numbers, each with the generation in which it was found. An entry of an earlier generation is
+-- invalid.
+--     known_now time es      the valid entries
+--     AreKept time es      one entry for each bus number, and none of a later generation
 use Rattle.std.specs.Prelude.{◌≡◌, ℕ, ◌≤◌, ◌==◌, List, length, map, Option, Some, None, if◌then◌else◌}
 use Rattle.lists.specs.Elements.{Each}
 

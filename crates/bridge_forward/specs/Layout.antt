@@ -1,8 +1,8 @@
--- A tree as one list in path order.
+-- A tree stored as one list in path order.
 --     function_of, functions_of      nodes as functions of the board
 --     AreInOrder      path order, each path on bus 0 or behind another
---     EndsAt      where that ends which stands behind a path
---     IsLaidOut      nodes in order, each with the end of what stands behind it
+--     EndsAt      the end of the subtree behind a path
+--     IsLaidOut      nodes in order, each with the end of its subtree
 use Rattle.std.specs.{Prelude.{List, [], ◌≡◌, ◌⊎◌, ℕ, ◌<◌, ◌≤◌, ◌&&◌, nat_lt, Some, map, length, slice_get, IsTrue}, List.list_any}
 use Rattle.lists.specs.Elements.{Each, EachPair}
 use Rattle.model_board.specs.{Paths.{Path, path_eq, path_before, is_ancestor_of, parent, IsPath}, State.BoardFunction}
@@ -26,7 +26,7 @@ pub record AreInOrder (ps : List Path) : Type 0 where
   pub in_order : EachPair (λ p q. IsTrue (path_before p q)) ps
   pub founded : Each (λ p. (parent p ≡ []) ⊎ IsTrue (list_any (λ q. path_eq q (parent p)) ps)) ps
 
--- what stands behind the path at index i stands after it and before `end`, and nothing else stands there
+-- the nodes behind the path at index i are exactly those after i and before `end`
 pub record EndsAt (ps : List Path) (i end : ℕ) : Type 0 where
   pub after : i < end
   pub within : end ≤ length ps

@@ -1,9 +1,9 @@
--- Which bridge leads to a bus: PCI-to-PCI Bridge Architecture 1.2, chapter 3.1.2.
---     LeadsTo nodes n i      cycles for bus n reach just what stands on the bus behind the bridge at index i
+-- The bridge that leads to a bus: PCI-to-PCI Bridge Architecture 1.2, chapter 3.1.2.
+--     LeadsTo nodes n i      cycles for bus n reach exactly the functions on the bus behind the bridge at index i
 --     LeadsNowhere nodes n      cycles for bus n reach nothing
---     AreUnknown known      no bridge is known for any bus number
---     AreRoutes nodes known      where a bridge is known for a bus number, it leads there
---     IsBus nodes known      a tree with such bridges
+--     AreUnknown known      no bridge is cached for any bus number
+--     AreRoutes nodes known      each cached bridge leads to its bus number
+--     IsBus nodes known      a tree with such a cache
 use Rattle.std.specs.Prelude.{List, [], ◌∷◌, ◌++◌, ◌≡◌, ℕ, ◌&&◌, ◌<◌, Option, Some, None, length, get_or, slice_get}
 use Rattle.model_board.specs.{Paths.{Part, Path, path_eq}, Cycles.{ends_in, is_route, reached_type1}}
 use Rattle.bridge_forward.specs.{declared.bus.Node.Node, Layout.functions_of, Skips.IsTree}

@@ -1,9 +1,9 @@
--- What is lent of a tree.
---     endpoint_at fs p      the endpoint at a path, if one stands there
+-- Mutable borrows of a tree's endpoints.
+--     endpoint_at fs p      the endpoint at a path, if there is one
 --     with_endpoint p e fs      the functions with this endpoint at the path
---     endpoint_nth fs i      the endpoint at an index of the list, if one stands there
---     with_endpoint_reset p fs      the functions with the endpoint at a path reset, alone
---     with_endpoint_nth i e fs      the functions with this endpoint there, at the path that stands there
+--     endpoint_nth fs i      the endpoint at an index of the list, if there is one
+--     with_endpoint_reset p fs      the functions with only the endpoint at a path reset
+--     with_endpoint_nth i e fs      the functions with this endpoint at the index, keeping its path
 use Rattle.std.specs.{Prelude.{List, ℕ, if◌then◌else◌, Option, Some, None, map, find, slice_get, slice_set}, Option.option_map_or, Borrow.{LendsIf, MutBor, Fml}}
 use Rattle.model_registers.specs.{Decoding.Function, CopiedFiles.after_reset}
 use Rattle.model_board.specs.{Paths.{Path, path_eq}, Board.{endpoint, bridge}, State.{BoardFunction, with_file}}
@@ -16,7 +16,7 @@ as_endpoint f = elim f.decl [ endpoint d ↦ Some (record { decl = d; file = f.f
 abbrev pub endpoint_at : List BoardFunction → Path → Option Function
 endpoint_at fs p = option_map_or as_endpoint (find (λ f. path_eq f.path p) fs) None
 
--- all others stay
+-- all other functions stay the same
 abbrev pub with_endpoint : Path → Function → List BoardFunction → List BoardFunction
 with_endpoint p e fs =
     map (λ (f : BoardFunction).
@@ -25,7 +25,7 @@ with_endpoint p e fs =
 abbrev pub with_endpoint_reset : Path → List BoardFunction → List BoardFunction
 with_endpoint_reset p fs = option_map_or (λ (e : Function). with_file (after_reset e.decl) p fs) (endpoint_at fs p) fs
 
--- the functions end with the endpoint at the path as it was left behind r
+-- in the end the endpoint at the path has the state that the borrow r leaves
 abbrev pub LendsEndpoint : MutBor (List BoardFunction) → Path → Option (MutBor Function) → Fml
 LendsEndpoint b p r = LendsIf bus.the_row endpoint_fn.the_row b r (λ e. with_endpoint p e b.now) b.now
 
@@ -38,6 +38,6 @@ with_endpoint_nth i e fs =
     (λ (f : BoardFunction). slice_set fs i (record { path = f.path; decl = endpoint e.decl; file = e.file }))
     (slice_get fs i) fs
 
--- the functions end with the endpoint at the index as it was left behind r
+-- in the end the endpoint at the index has the state that the borrow r leaves
 abbrev pub LendsEndpointNth : MutBor (List BoardFunction) → ℕ → Option (MutBor Function) → Fml
 LendsEndpointNth b i r = LendsIf bus.the_row endpoint_fn.the_row b r (λ e. with_endpoint_nth i e b.now) b.now

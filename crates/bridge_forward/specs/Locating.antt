@@ -1,5 +1,5 @@
--- Where an address lands, by the index of its endpoint in the list of functions.
---     located_claim fs o      the claim at that index
+-- The target of an address, given by the index of its endpoint in the list of functions.
+--     located_claim fs o      the claim, with the index replaced by the path
 use Rattle.std.specs.{Prelude.{List, Option, None, option_map, slice_get}, Option.option_map_or}
 use Rattle.model_board.specs.{State.BoardFunction, Claims.{Claim, claim_at}}
 use Rattle.bridge_forward.specs.declared.bus.BarOffset.{BarOffset}

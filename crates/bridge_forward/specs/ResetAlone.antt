@@ -1,5 +1,5 @@
--- One function that is reset alone, as a guest gets it: PCI Local Bus 3.0, chapter 6.2.
---     after_leaf_reset d file      the cells of an endpoint afterwards; a bridge stays
+-- Resetting a single function, as when a guest gets it: PCI Local Bus 3.0, chapter 6.2.
+--     after_leaf_reset d file      the cells of an endpoint afterwards; a bridge doesn't change
 use Rattle.model_registers.specs.{Registers.File, CopiedFiles.after_reset}
 use Rattle.model_board.specs.Board.{Decl, endpoint, bridge}
 

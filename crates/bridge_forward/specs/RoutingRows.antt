@@ -1,9 +1,9 @@
--- The routing registers of a function, in the words of the definitions: PCI Local Bus 3.0, chapter 6.2.5; PCI-to-PCI
+-- The routing registers of a function, in the terms of the formal model: PCI Local Bus 3.0, chapter 6.2.5; PCI-to-PCI
 -- Bridge Architecture 1.2, chapter 4.
 --     window_of, base_of      a window, and a region with its base
 --     named_ranges      the regions of an endpoint, or the windows of a bridge
---     secondary_of, secondary_nth      the Secondary Bus Number of a bridge; of the one at an index of the list
---     primary_of, primary_nth      the Primary Bus Number, as well
+--     secondary_of, secondary_nth      the Secondary Bus Number of a bridge; of the bridge at an index of the list
+--     primary_of, primary_nth      the Primary Bus Number of a bridge; of the bridge at an index of the list
 use Rattle.std.specs.{Prelude.{List, ℕ, Option, Some, None, map, option_map, slice_get}, Option.option_map_or}
 use Rattle.model_registers.specs.{Registers.{config, File, number}, EndpointTable.BaseAddress}
 use Rattle.model_board.specs.{Board.{Decl, endpoint, bridge}, State.BoardFunction, Cycles.secondary_register}

@@ -1,8 +1,8 @@
--- Where a search for a bridge goes on: it passes functions that are no bridges, with nothing behind them.
---     is_passed n i      the node at index i is such a function
---     first_bridge n i next      where the next bridge stands from index i on, if after index i that is at `next`
---     AreSkipped nodes i b      from index i up to b stand such functions alone
---     IsTree      a list that is laid out, in which each node says where the next bridge stands
+-- The node at which a search for a bridge continues: it skips endpoints, which have nothing behind them.
+--     is_passed n i      the node at index i is such an endpoint
+--     first_bridge n i next      the next bridge from index i on, given `next`, the first bridge after index i
+--     AreSkipped nodes i b      the nodes from index i up to b are all such endpoints
+--     IsTree      a list in layout order in which each node stores the index of the next bridge
 use Rattle.std.specs.Prelude.{List, ◌≡◌, ℕ, ◌+◌, ◌≤◌, ◌<◌, Bool, false, not, ◌&&◌, ◌==◌, if◌then◌else◌, Some, slice_get}
 use Rattle.model_board.specs.Board.{is_bridge}
 use Rattle.bridge_forward.specs.{declared.bus.Node.Node, Functions.decl_of, Layout.IsLaidOut}

@@ -1,6 +1,6 @@
--- Why set-up refuses a board (this project's own numbers).
+-- The reasons why set-up refuses a board (this project's own numbers).
 --     number_of      the number of a refusal
---     fault_words      what is said of it
+--     fault_words      the message of a refusal
 use Rattle.std.specs.Prelude.{ℕ, List, codes}
 use Rattle.bus_scan.specs.declared.fault.Fault.{Fault, TheVariants.{Buses, NoIoWindow, IoPool, MemoryPool, PrefetchablePool, Memory}}
 

@@ -1,9 +1,9 @@
--- What software sees of a register by writing all ones to it: PCI Local Bus 3.0, chapter 6.2.5.1; PCI-to-PCI Bridge
+-- The value that software reads after writing all ones to a register: PCI Local Bus 3.0, chapter 6.2.5.1; PCI-to-PCI Bridge
 -- Architecture 1.2, chapters 3.2.5.6 and 3.2.5.9.
 --     mask_shown      the enabled bytes of a register after all ones are written to them
---     TakesBack      a write of what was read before leaves all registers as they were
---     decl_reached, IsEndpointReached, IsBridgeReached      the declaration of the function that a number reaches
---     regions_reached, io_reached, pref_reached      its regions, or the decode of its windows
+--     TakesBack      writing back the value read before restores all registers
+--     decl_reached, IsEndpointReached, IsBridgeReached      the declaration of the function that a BDF reaches
+--     regions_reached, io_reached, pref_reached      its regions, or the decode modes of its windows
 use Rattle.std.specs.{Prelude.{◌≡◌, List, [], ℕ, Bool, Option, Some, option_map}, Option.option_map_or}
 use Rattle.model_registers.specs.Declarations.{Region, Endpoint, Bridge, IoDecode, no_io, PrefDecode, no_pref}
 use Rattle.model_board.specs.{Board.{Decl, endpoint, bridge}, State.{BoardFunction, State}, Cycles.{BusAddress, reached}, Ports.{config_reply, after_config_write}}

@@ -1,6 +1,6 @@
--- A row of the program's table, in the words of the definitions: PCI Local Bus 3.0, chapters 6.2.1 and 6.2.5.
+-- A row of the program's table, in the terms of the formal model: PCI Local Bus 3.0, chapters 6.2.1 and 6.2.5.
 --     regions_of      the regions at base address registers, without their cells
---     decl_of      what was found of a declaration
+--     decl_of      the parts of a declaration that were found
 --     range_of, ended      the buses behind a bridge; the same with another last number
 use Rattle.std.specs.Prelude.{List, [], ℕ, Option, Some, None, map}
 use Rattle.model_registers.specs.{Declarations.{Bar, Region, Endpoint, plain_endpoint}, EndpointTable.opened}

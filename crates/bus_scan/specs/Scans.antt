@@ -1,10 +1,10 @@
--- A scan as it runs: PCI-to-PCI Bridge Architecture 1.2, chapter 3.2.5.
---     IsAt b here s rows last      what it holds when it comes to a path
---     ComesTo b here h e      the same of a host and the program's record
+-- The state of a running scan: PCI-to-PCI Bridge Architecture 1.2, chapter 3.2.5.
+--     IsAt b here s rows last      the scan's state when it gets to a path
+--     ComesTo b here h e      the same for a host and the program's record
 --     OnBus b bus number      the bus that is scanned
---     IsFound b bus number n r seen      a function at a place, and what it shows
---     IsBridgeThere b bus number n r at      a bridge at a place, and its address
---     IsRefused b f s      why it stops before the end, and what it leaves
+--     IsFound b bus number n r seen      a function at a BDF, and its identification
+--     IsBridgeThere b bus number n r at      a bridge at a BDF, and the BDF
+--     IsRefused b f s      the reason why the scan stops early, and the state that it leaves
 use Rattle.std.specs.Prelude.{List, ◌≡◌, ℕ, ◌+◌, ◌<◌, ◌⊎◌, Option, Some, None, map, if◌then◌else◌, IsTrue}
 use Rattle.lists.specs.Elements.{IsIn}
 use Rattle.model_board.specs.{Paths.{Path, path_eq}, Board.{Decl, endpoint, bridge, is_bridge, Row, Board, is_multifunction, IsBoard}, BusNumbers.{secondary, bus_behind, bus_of, Enumerates}, State.State, Cycles.BusAddress, Lawful.HasLawfulDecls}
@@ -12,7 +12,7 @@ use Rattle.model_set_up.specs.{FunctionTable.{BusRange, TableRow, met_decl}, Sca
 use Rattle.host_bridge.specs.HostState.{HostState}
 use Rattle.bus_scan.specs.{declared.{enumeration.Enumeration.Enumeration, fault.Fault.{Fault, TheVariants.{Buses, Memory}}, probed_header.ProbedHeader.ProbedHeader}, Sights.seen_of}
 
--- a bridge whose side is being scanned has the numbers that its registers hold
+-- a bridge whose secondary side is being scanned has the numbers in its registers
 abbrev pub range_of_numbers : BusNumbers → Decl → Option BusRange
 range_of_numbers n (endpoint d) = None
 range_of_numbers n (bridge d) = Some (record { first = n.secondary; last = n.subordinate })
@@ -59,6 +59,6 @@ pub record IsRefused (b : Board) (f : Fault) (s : State) : Type 0 where
   pub cause : (f ≡ Memory) ⊎ ((f ≡ Buses) × (Enumerates b → ⊥))
   pub registers : HasOwnNumbers b s
 
--- the same numbers but for those of one bridge
+-- the same numbers, except for those of one bridge
 abbrev pub given : Path → BusNumbers → (Path → BusNumbers) → Path → BusNumbers
 given p n numbers q = if path_eq q p then n else numbers q

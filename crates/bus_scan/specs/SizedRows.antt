@@ -1,10 +1,10 @@
 -- Regions by the index of their first register, and rows of the table before and after sizing: PCI Local Bus 3.0,
 -- chapter 6.2.5.1.
---     bar_at      what begins at a register
---     is_upper_half, is_after_wide      the register is the upper half of a base of 64 bits, by all regions, and by
---         what begins before it
---     bars_of      what begins at each of the six registers
---     IsScannedRow, SizesRow      a row as a scan leaves it; and as sizing leaves it then
+--     bar_at      the region that starts at a register
+--     is_upper_half, is_after_wide      the register is the upper half of a 64-bit base, judged by all regions, and by
+--         what starts before it
+--     bars_of      the regions that start at the six registers
+--     IsScannedRow, SizesRow      a row after a scan, and after sizing
 use Rattle.std.specs.{Prelude.{◌≡◌, List, [], ◌∷◌, ℕ, zero, suc, ◌+◌, Bool, false, ◌&&◌, ◌||◌, ◌==◌, if◌then◌else◌, Option, Some, None, map, slice_get, unwrap_or}, Option.option_map_or}
 use Rattle.model_registers.specs.Declarations.{Bar, Region, registers_of}
 use Rattle.lists.specs.Elements.{IsIn}

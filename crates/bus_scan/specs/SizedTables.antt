@@ -1,5 +1,5 @@
--- The table of a board as sizing leaves it: PCI Local Bus 3.0, chapter 6.2.5.1.
---     IsTableOf b t      b is a lawful board that enumerates, and t tells what software finds of it
+-- The table of a board after sizing: PCI Local Bus 3.0, chapter 6.2.5.1.
+--     IsTableOf b t      b is a lawful board that can be enumerated, and t describes everything that software finds of it
 use Rattle.std.specs.Prelude.{List, ◌≡◌}
 use Rattle.model_board.specs.{Board.{Board, IsBoard}, BusNumbers.Enumerates, Lawful.HasLawfulDecls}
 use Rattle.model_set_up.specs.FunctionTable.{TableRow, sized_table}

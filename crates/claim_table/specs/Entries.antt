@@ -1,9 +1,9 @@
--- The open regions of one space, as the program keeps them: PCI Local Bus 3.0, chapter 6.2.5.
---     open_bases space r      those of a function
---     open_entries space i rows      those of the functions from index i on, in path order
---     lies_in n e      an address lies in a region
---     AreApart es      by address, each region ends before the next begins
---     by_space      the list of a space
+-- The enabled regions of one space, as the program stores them: PCI Local Bus 3.0, chapter 6.2.5.
+--     open_bases space r      the enabled regions of a function
+--     open_entries space i rows      the enabled regions of the functions from index i on, in path order
+--     lies_in n e      an address is in a region
+--     AreApart es      each region ends before the next one starts
+--     by_space      the list for a space
 --     table_entry, table_of      entries with their space and the paths of their functions
 use Rattle.std.specs.Prelude.{List, [], ◌∷◌, ◌++◌, ℕ, ◌+◌, ◌<◌, ◌≤◌, Bool, ◌&&◌, nat_le, nat_lt, if◌then◌else◌, map, filter, length, unwrap_or, slice_get}
 use Rattle.lists.specs.Elements.{Each, EachPair}
@@ -40,7 +40,7 @@ abbrev pub by_space : Space → List RegionEntry → List RegionEntry → List R
 by_space io ports memories = ports
 by_space memory ports memories = memories
 
--- apart, and each of a function that has a path
+-- no two overlap, and each belongs to a function that has a path
 pub record AreEntries (ps : List Path) (es : List RegionEntry) : Type 0 where
   pub apart : AreApart es
   pub known : Each (λ (e : RegionEntry). e.function < length ps) es

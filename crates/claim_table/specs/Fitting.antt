@@ -1,4 +1,4 @@
--- A table fits by the routing registers alone.
+-- Whether a table fits a host depends on the routing registers only.
 use Rattle.std.{proofs.{Common.{◌≡◌, ℕ, List, sym, ap, ◌∙◌}, lemmas.{Option.slice_get-map, Simd.map-map}}, specs.{Prelude.{map, slice_get}, Option.option_map}}
 use Rattle.lists.proofs.EachLemmas.{each_map}
 use Rattle.model_board.{specs.{Paths.Path, State.BoardFunction, Routing.{RoutingRow, routing}}, proofs.Routing.same_claims}

@@ -1,11 +1,11 @@
--- A file of cells by configuration offset.
---     CellFile      the cells as they are, and as they were made
---     file_of cs      offsets with cells, as a register file
---     HasDistinctOffsets cs, differ c d      no two cells stand at one offset; a test of two
---     KeepsPlaces f      the cells stand where they stood when they were made
---     reset_outside first last initial now      a file whose cells are those of another one, but at offsets in a range
---     offsets_from a cs      cells at the offsets from a on
---     IsTable      a table by offset shows the cells of a file: no access looks at all of them
+-- A register file stored as cells by configuration offset.
+--     CellFile      the current cells, and the cells given at creation
+--     file_of cs      the register file of a list of offsets with cells
+--     HasDistinctOffsets cs, differ c d      all offsets are distinct; a test of two cells
+--     KeepsPlaces f      the current cells have the same offsets as the cells given at creation
+--     reset_outside first last initial now      the current cells, with those at all offsets outside a range reset
+--     offsets_from a cs      cells at consecutive offsets, starting at a
+--     IsTable      a table indexed by offset holds the cells of a file, so that no access searches them
 use Rattle.std.specs.Prelude.{
   ◌≡◌,
   ◌≢◌,
@@ -57,11 +57,11 @@ file_of (c ∷ cs) = record { place = config c.0; cell = c.1 } ∷ file_of cs
 abbrev pub HasDistinctOffsets : List (ℕ × Cell) → Type 0
 HasDistinctOffsets cs = EachPair (λ c d. c.0 ≢ d.0) cs
 
--- the same as a test
+-- `HasDistinctOffsets` as a test
 abbrev pub differ : ℕ × Cell → ℕ × Cell → Bool
 differ c d = not (c.0 == d.0)
 
--- cells one after the other, from an offset on
+-- cells at consecutive offsets
 abbrev pub offsets_from : ℕ → List Cell → List (ℕ × Cell)
 offsets_from a [] = []
 offsets_from a (c ∷ cs) = (a, c) ∷ offsets_from (a + 1) cs
@@ -70,23 +70,23 @@ offsets_from a (c ∷ cs) = (a, c) ∷ offsets_from (a + 1) cs
 abbrev pub table_at : List Cell → ℕ → Cell
 table_at table off = slice_index_or table off no_cell
 
--- the table's cells, at the offsets and in the order of a list
+-- the table's cells at the offsets of a list, in the order of the list
 abbrev pub file_from : List Cell → List (ℕ × Cell) → File
 file_from table [] = []
 file_from table (c ∷ cs) = record { place = config c.0; cell = table_at table c.0 } ∷ file_from table cs
 
--- a table after each cell of a list is put at its offset
+-- a table after each cell of a list is stored at its offset
 abbrev pub placed : List (ℕ × Cell) → List Cell → List Cell
 placed [] table = table
 placed (c ∷ cs) table = placed cs (slice_set table c.0 c.1)
 
--- a table after each cell of a list but those at the offsets from first to last is put at its offset
+-- a table after each cell of a list is stored at its offset, except at the offsets from first to last
 abbrev pub placed_outside : ℕ → ℕ → List (ℕ × Cell) → List Cell → List Cell
 placed_outside first last [] table = table
 placed_outside first last (c ∷ cs) table =
     placed_outside first last cs (if nat_le first c.0 && nat_le c.0 last then table else slice_set table c.0 c.1)
 
--- the table has room for the offsets of the list, and shows their file at every offset
+-- the table is long enough for the offsets of the list, and agrees with their file at every offset
 pub record IsTable (table : List Cell) (cs : List (ℕ × Cell)) : Type 0 where
   pub distinct : HasDistinctOffsets cs
   pub room : Each (λ c. c.0 < length table) cs

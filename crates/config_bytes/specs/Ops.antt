@@ -1,5 +1,5 @@
--- What is done at a place: a read, or a write.
---     is_write      whether it is a write
+-- The operation of an access: a read or a write.
+--     is_write      whether the operation is a write
 use Rattle.std.specs.Prelude.{Bool, true, false}
 use Rattle.config_bytes.specs.declared.op.Op.{Op, TheVariants.{Read, Write}}
 

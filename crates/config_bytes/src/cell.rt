@@ -119,7 +119,7 @@ impl Cell {
     }
 }
 
-/// Establishes that the value and both masks of each cell are below 256.
+/// Proves that the value and both masks of each cell are below 256.
 pub fn are_cells(cells: &[Cell])
     ensures { Each IsCell cells.now }
 {

@@ -1,7 +1,7 @@
 //! The operations of an access.
 
-/// A read, or a write of the enabled bytes of a value. A configuration cycle's byte enables select
-/// the bytes of the value. Any other access writes its lowest bytes, according to the access width.
+/// A read, or a write of some bytes of a value. In a configuration cycle, the byte enables select
+/// these bytes. Any other access writes the lowest bytes, as many as the access is wide.
 #[derive(Clone, Copy, Debug, PartialEq, Eq)]
 pub enum Op {
     Read,

@@ -1,10 +1,10 @@
--- The words of configuration space, by what a guest has of them.
+-- The words of configuration space, by the copied registers that they contain.
 --     IsAt off w      the word at an offset is w
---     own_lanes w      the byte enables of its own copies
+--     own_lanes w      the byte enables of the copied bytes
 use Rattle.std.specs.Prelude.{◌≡◌, ◌≤◌, ◌<◌, ℕ, ◌+◌, ◌*◌, ◌⊎◌}
 use Rattle.guest_functions.specs.declared.word.Word.{Word, TheVariants.{Command, HeaderType, Base, Other}}
 
--- the words without own copies: below Command, between Status and the header type's word, above the base address
+-- the words without copied bytes: below Command, between Status and the header type's word, above the base address
 -- registers
 abbrev pub IsOther : ℕ → Type 0
 IsOther off = (off ≡ 0) ⊎ ((off ≡ 8) ⊎ (0x28 ≤ off))

@@ -1,6 +1,6 @@
--- The words of the program and of the definitions for the decode of a bridge's windows.
---     io_decode_of, named_io_decode      of the I/O window, from the program's word and back
---     pref_decode_of, named_pref_decode      of the prefetchable window
+-- Converts the decode modes of a bridge's windows between the program's types and the formal model.
+--     io_decode_of, named_io_decode      for the I/O window, from the program's type and back
+--     pref_decode_of, named_pref_decode      for the prefetchable window
 --     bridge_of      a bridge with these declared values
 use Rattle.std.specs.Prelude.{ℕ}
 use Rattle.model_registers.specs.Declarations.{no_io, io16, io32, no_pref, pref32, pref64}

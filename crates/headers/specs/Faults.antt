@@ -1,4 +1,4 @@
--- The numbers of refused declarations.
+-- The error numbers of refused declarations.
 use Rattle.std.specs.Prelude.{ℕ}
 use Rattle.headers.specs.declared.fault.DeclFault.{DeclFault, TheVariants.{Number, Register, Size, CellMasks}}
 

@@ -1,4 +1,4 @@
--- What an endpoint's declared values are as a declaration of the definitions.
+-- Converts an endpoint's declared values to a declaration of the formal model.
 use Rattle.model_registers.specs.Declarations.{Endpoint}
 use Rattle.headers.specs.declared.endpoint_decl.EndpointValues.TheInside.{Inside}
 

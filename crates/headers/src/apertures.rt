@@ -63,8 +63,8 @@ impl Aperture {
         self.first <= self.last && self.first % unit == 0 && self.last % unit == unit - 1
     }
 
-    /// Checks that the aperture is nonempty and consists of whole units of `unit` bytes. A part of
-    /// a unit is `fault`.
+    /// Checks that the aperture is nonempty and consists of whole units of `unit` bytes. Fails with
+    /// `fault` if it starts or ends inside a unit.
     fn check_units(&self, unit: u64, fault: ApertureFault) -> Result<(), ApertureFault>
         requires { 0 < unit }
         ensures { is_ok result ≡ is_of_units unit self.now }

@@ -1,7 +1,7 @@
--- A function of the board by its index, as it is changed.
---     file_nth fs i      its cells; none past the last
---     with_file_nth g i fs      the functions with its cells changed, and no other's
---     with_reset_nth i fs      the functions with the endpoint there reset, alone
+-- Changes of the function at an index.
+--     file_nth fs i      its cells; none past the last function
+--     with_file_nth g i fs      the functions with only this one's cells changed
+--     with_reset_nth i fs      the functions with only the endpoint at this index reset
 use Rattle.std.specs.{Prelude.{List, [], ℕ, slice_get}, Option.option_map_or}
 use Rattle.model_registers.specs.{Registers.File, Decoding.Function, CopiedFiles.after_reset}
 use Rattle.model_board.specs.State.{BoardFunction, with_file}

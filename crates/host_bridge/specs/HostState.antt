@@ -1,6 +1,6 @@
--- The host bridge, as contracts see it.
---     HostState      the registers of the whole board with the address latch, and the apertures
---     with_functions fs h, with_latch n h      the host with other registers, and with another latch
+-- The state of the host bridge, as contracts see it.
+--     HostState      the registers of the whole board with CONFIG_ADDRESS, and the apertures
+--     with_functions fs h, with_latch n h      the host with other registers, and with another CONFIG_ADDRESS
 use Rattle.std.specs.Prelude.{List, ℕ}
 use Rattle.model_board.specs.State.{BoardFunction, State}
 use Rattle.model_registers.specs.Apertures.{Apertures}

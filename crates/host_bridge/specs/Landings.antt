@@ -1,6 +1,6 @@
--- What the board itself would answer by, told by the index of an endpoint.
+-- The board's own routing, with endpoints identified by their index.
 --     IsLanding fs l width      the first claim of an address that is a multiple of the width
---     IsReached fs i      configuration cycles for some bus, device and function number reach the function there
+--     IsReached fs i      configuration cycles to some BDF reach the function at this index
 use Rattle.std.specs.Prelude.{ℕ, List, Some, ◌≡◌, ◌<◌, ◌%◌, length, slice_get}
 use Rattle.model_registers.specs.Decoding.{Space}
 use Rattle.model_board.specs.{State.BoardFunction, Cycles.{BusAddress, reached}, Claims.first_claim}

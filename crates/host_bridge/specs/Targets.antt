@@ -1,4 +1,4 @@
--- Where an access at a port goes, from the program's word.
+-- The target of a port access, from the program's type.
 use Rattle.std.specs.Prelude.{ℕ, ◌+◌, ◌-◌}
 use Rattle.model_board.specs.Ports.{PortTarget, config_address, config_data, ordinary, selected, selected_register}
 use Rattle.host_bridge.specs.declared.latch.Target.{Target}

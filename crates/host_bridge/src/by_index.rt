@@ -62,7 +62,7 @@ impl Host {
 
     /// Reads the enabled bytes of the configuration word at `off`, a multiple of 4, of the endpoint
     /// at an index. Disabled bytes read 0. The endpoint must be reachable by configuration cycles;
-    /// the index spares the search by bus number.
+    /// the index avoids a search by bus number.
     pub fn config_read_nth(&mut self, index: usize, off: u8, enables: u8) -> u32
         requires there { IsSome (endpoint_nth self.old.state.functions index) }
         requires reached { IsReached self.old.state.functions index }

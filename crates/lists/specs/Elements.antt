@@ -1,29 +1,29 @@
--- Facts on lists, by recursion: proofs by induction take them apart.
+-- Predicates on lists, defined by recursion so that proofs by induction can unfold them.
 --     IsIn x xs      x is an element of the list
---     Each P xs, EachPair R xs      P of each element; R of each element and each later one
---     first_some f xs      the first that f gives of an element
+--     Each P xs, EachPair R xs      P holds for each element; R holds for each element and each later one
+--     first_some f xs      the first value that f returns for an element
 use Rattle.std.specs.{Prelude.{List, [], ◌∷◌, ◌≡◌, ◌⊎◌, ⊤, Bool, true, ◌&&◌, Option, Some, None}, List.list_all}
 
 abbrev pub IsIn : {A : Type 0} → A → List A → Type 0
 IsIn x [] = ⊥
 IsIn x (y ∷ ys) = (x ≡ y) ⊎ IsIn x ys
 
--- P of each element
+-- P holds for each element
 abbrev pub Each : {A : Type 0} → (A → Type 0) → List A → Type 0
 Each P [] = ⊤
 Each P (x ∷ xs) = P x × Each P xs
 
--- R of each element and each later one
+-- R holds for each element and each later one
 abbrev pub EachPair : {A : Type 0} → (A → A → Type 0) → List A → Type 0
 EachPair R [] = ⊤
 EachPair R (x ∷ xs) = Each (R x) xs × EachPair R xs
 
--- the same as a test
+-- `EachPair` as a test
 abbrev pub all_pairs : {A : Type 0} → (A → A → Bool) → List A → Bool
 all_pairs test [] = true
 all_pairs test (x ∷ xs) = list_all (test x) xs && all_pairs test xs
 
--- the first that is there
+-- the first option that isn't `None`
 abbrev pub first_of_two : {A : Type 0} → Option A → Option A → Option A
 first_of_two None y = y
 first_of_two (Some x) y = Some x

@@ -1,8 +1,8 @@
 -- A whole board at reset.
 --     reset_file      the cells of a function at reset
 --     reset_state      the state of a whole board at reset
---     board_at      the board whose functions hold these cells
---     IsAtReset      a lawful board, all cells at reset and the latch clear
+--     board_at      the board whose functions have these cells
+--     IsAtReset      a lawful board with all cells at reset and CONFIG_ADDRESS 0
 use Rattle.std.specs.Prelude.{List, ◌≡◌, map}
 use Rattle.model_registers.specs.{Registers.File, EndpointTable.endpoint_reset, BridgeTable.bridge_reset}
 use Rattle.model_board.specs.{Paths.Path, Board.{Decl, endpoint, bridge, Board, is_multifunction, IsBoard}, State.{BoardFunction, State, row_at, state_of}, Lawful.HasLawfulDecls}

@@ -1,8 +1,8 @@
--- A board: the functions that stand at its paths.
---     Decl      what is declared at a path: an endpoint or a bridge
+-- A board: its functions and their paths.
+--     Decl      the declaration at a path: an endpoint or a bridge
 --     Row, Board      a path with its declaration; rows in path order
---     rows_on, is_multifunction      the functions of one bus; another function stands in the same device
---     IsBoard      no path twice, each path behind a bridge or on bus 0, and a function 0 in each device
+--     rows_on, is_multifunction      the functions on one bus; another function is in the same device
+--     IsBoard      unique paths, each behind a bridge or on bus 0, and a function 0 in each device
 use Rattle.std.specs.{Prelude.{List, [], ◌≡◌, Bool, true, false, ◌&&◌, not, filter, IsTrue, ◌⊎◌}, List.list_any}
 use Rattle.lists.specs.Elements.{Each, EachPair}
 use Rattle.model_registers.specs.Declarations.{Endpoint, Bridge}
@@ -23,7 +23,7 @@ pub record Row : Type 0 where
 abbrev pub Board : Type 0
 Board = List Row
 
--- the rows of the bus behind a bridge; [] names bus 0
+-- the rows on the bus behind a bridge; [] means bus 0
 abbrev pub rows_on : Board → Path → Board
 rows_on b bus = filter (λ r. path_eq (parent r.path) bus) b
 
@@ -33,11 +33,11 @@ stands_at b p = list_any (λ r. path_eq r.path p) b
 abbrev pub is_bridge_at : Board → Path → Bool
 is_bridge_at b p = list_any (λ r. is_bridge r.decl && path_eq r.path p) b
 
--- another function stands in the device
+-- the device has another function
 abbrev pub is_multifunction : Board → Path → Bool
 is_multifunction b p = list_any (λ r. same_device r.path p && not (path_eq r.path p)) b
 
--- lawful places: no path twice, each path behind a bridge of the board or on bus 0, and a function 0 in each device
+-- lawful places: unique paths, each behind a bridge of the board or on bus 0, and a function 0 in each device
 pub record IsBoard (b : Board) : Type 0 where
   pub paths : Each (λ r. IsPath r.path) b
   pub in_order : EachPair (λ r s. IsTrue (path_before r.path s.path)) b

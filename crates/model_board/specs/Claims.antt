@@ -1,6 +1,6 @@
--- Which region an address finds, in any register state: PCI-to-PCI Bridge Architecture 1.2, chapter 4.
---     Claim      a function's path, a region's register and an offset in the region
---     is_forwarded      each bridge of the path forwards the address
+-- The region that an address reaches, in any register state: PCI-to-PCI Bridge Architecture 1.2, chapter 4.
+--     Claim      a function's path, the index of a region's register, and an offset in the region
+--     is_forwarded      each bridge on the path forwards the address
 --     claims      all claims, in path order, then by register
 --     first_claim      the first claim in path order, then by register
 use Rattle.std.specs.{Prelude.{List, [], ℕ, Bool, if◌then◌else◌, not, ◌||◌, Option, Some, None, map, flat_map}, List.list_all, Option.{option_map_or, option_to_list}}
@@ -19,7 +19,7 @@ is_forwarded fs p space a = list_all (λ f. not (is_ancestor_of f.path p) || for
 abbrev pub claim_at : Path → Hit → Claim
 claim_at p h = record { path = p; index = h.index; offset = h.offset }
 
--- the regions of an endpoint that decode the address, each with the offset in it
+-- the regions of an endpoint that decode the address, each with the offset in the region
 abbrev pub endpoint_hits : BoardFunction → Space → ℕ → List Hit
 endpoint_hits f space a = elim f.decl [
   | endpoint d ↦ flat_map (λ r. option_to_list (hit_of f.file space a r)) d.regions
@@ -33,7 +33,7 @@ claims_of fs space a f = if is_forwarded fs f.path space a then map (claim_at f.
 abbrev pub claims : List BoardFunction → Space → ℕ → List Claim
 claims fs space a = flat_map (claims_of fs space a) fs
 
--- an endpoint's claim by its own registers, where each bridge of its path forwards the address
+-- an endpoint's claim by its own registers, if each bridge on its path forwards the address
 abbrev pub endpoint_hit : BoardFunction → Space → ℕ → Option Hit
 endpoint_hit f space a = elim f.decl [
   | endpoint d ↦ lone_claim (record { decl = d; file = f.file }) space a
@@ -45,6 +45,6 @@ claim_of fs space a f =
     if is_forwarded fs f.path space a
     then option_map_or (λ (h : Hit). Some (claim_at f.path h)) (endpoint_hit f space a) None else None
 
--- the first in path order, and then by register
+-- the first in path order, then by register
 abbrev pub first_claim : List BoardFunction → Space → ℕ → Option Claim
 first_claim fs space a = first_some (claim_of fs space a) fs

@@ -1,5 +1,5 @@
--- Boards and apertures of the worked examples.
---     main_board, main_apertures      two endpoints behind a bridge, and one beside it
+-- The boards and apertures of the worked examples.
+--     main_board, main_apertures      two endpoints behind a bridge, and one endpoint on bus 0
 --     many_bridges      255 bridges
 use Rattle.std.specs.Prelude.{List, [], ◌∷◌, ℕ, zero, suc, ◌/◌, ◌%◌, true, false, replicate, ◌^◌, ◌++◌, Some}
 use Rattle.model_registers.specs.{Cell.Cell, Declarations.{Kind, io_kind, mem32, mem64, Region, Endpoint, plain_endpoint, no_io, io16, no_pref, pref64, Bridge}, Apertures.{Aperture, Apertures}}
@@ -44,7 +44,7 @@ abbrev pub third_endpoint : Endpoint
 third_endpoint = plain 4 0 1 (
     record { index = 0; kind = mem64 true; size = 0x1000000; cells = replicate 16 (constant_cell 0xa5) } ∷ [])
 
--- the main board with another bridge
+-- the main board with a different bridge
 abbrev pub main_board_with : Bridge → Board
 main_board_with d =
     function_at (part 1 0 ∷ []) (endpoint first_endpoint)
@@ -64,11 +64,11 @@ main_apertures = record {
 
 -- ---- further boards
 
--- a bridge that forwards memory alone
+-- a bridge that forwards memory only
 abbrev pub memory_bridge : Bridge
 memory_bridge = record { vendor = 0x1234; device = 5; revision = 0; io = no_io; pref = no_pref }
 
--- 128 bridges on bus 0, and one behind each but the last
+-- 128 bridges on bus 0, and one behind each of them except the last
 abbrev pub many_pairs : ℕ → Board
 many_pairs zero = []
 many_pairs (suc n) = many_pairs n ++

@@ -1,5 +1,5 @@
--- What the declarations of a board keep.
---     HasLawfulDecls      each declaration keeps its rules
+-- The rules for a board's declarations.
+--     HasLawfulDecls      each declaration follows its rules
 use Rattle.lists.specs.Elements.{Each}
 use Rattle.model_registers.specs.DeclarationRules.{IsLawfulEndpoint, IsLawfulBridge}
 use Rattle.model_board.specs.Board.{Decl, endpoint, bridge, Board}

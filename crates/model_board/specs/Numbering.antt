@@ -1,7 +1,7 @@
--- Bus numbers as counts say where a bridge stands: the numbers behind a bridge are those of the bridges that it leads
--- to. PCI-to-PCI Bridge Architecture 1.2, chapter 3.2.5.
---     NumbersLead b r q      how the numbers of two bridges lie, by where the bridges stand
---     Numbering      they lie so for all bridges of a board
+-- The numbers of two bridges show how their paths relate: the bus numbers behind a bridge are those of the bridges below
+-- it. PCI-to-PCI Bridge Architecture 1.2, chapter 3.2.5.
+--     NumbersLead b r q      how the numbers of two bridges relate, given their paths
+--     Numbering      this relation holds for all bridges of a board
 use Rattle.std.specs.Prelude.{◌<◌, ◌≤◌, IsTrue, IsFalse}
 use Rattle.model_board.specs.{Paths.{Path, path_before, is_ancestor_of}, Board.{Board, is_bridge_at, IsBoard}, BusNumbers.{secondary, subordinate}}
 

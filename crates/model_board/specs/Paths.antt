@@ -1,8 +1,8 @@
--- Where a function stands: the devices and functions from bus 0 down.
---     Part, Path      a device and function of one bus; the parts from bus 0 down
---     path_before, is_ancestor_of      path order; a path is a proper beginning of another
+-- The location of a function: the devices and functions from bus 0 down.
+--     Part, Path      a device and function number on one bus; the parts from bus 0 down
+--     path_before, is_ancestor_of      path order; one path is a proper prefix of another
 --     parent, last_part      the bridge above; the device and function on its own bus
---     same_device, function_zero      two functions stand in one device; the first function of a device
+--     same_device, function_zero      two functions are in one device; function 0 of a device
 --     IsPart, IsPath      16 devices of 8 functions on a bus; at most 16 buses down
 use Rattle.std.specs.Prelude.{List, [], ◌∷◌, ℕ, ◌<◌, Bool, true, false, ◌&&◌, ◌==◌, ◌≤◌, length, ◌||◌, nat_lt}
 use Rattle.lists.specs.Elements.{Each}
@@ -26,14 +26,14 @@ path_eq [] (q ∷ qs) = false
 path_eq (p ∷ ps) [] = false
 path_eq (p ∷ ps) (q ∷ qs) = part_eq p q && path_eq ps qs
 
--- path order: part by part, and a path before its extensions
+-- path order: part by part, with each path before its extensions
 abbrev pub path_before : Path → Path → Bool
 path_before [] [] = false
 path_before [] (q ∷ qs) = true
 path_before (p ∷ ps) [] = false
 path_before (p ∷ ps) (q ∷ qs) = part_before p q || (part_eq p q && path_before ps qs)
 
--- the first path is a proper beginning of the second
+-- the first path is a proper prefix of the second
 abbrev pub is_ancestor_of : Path → Path → Bool
 is_ancestor_of [] [] = false
 is_ancestor_of [] (q ∷ qs) = true

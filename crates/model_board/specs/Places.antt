@@ -1,6 +1,6 @@
--- The functions of a board in any order, as a board file declares them.
---     Standing      a path, and whether a bridge stands there
---     IsFounded, AreLawfulPlaces      no path twice, each behind a bridge or on bus 0, a function 0 in each device
+-- A board's functions in any order, as a board file declares them.
+--     Standing      a path, and whether it has a bridge
+--     IsFounded, AreLawfulPlaces      unique paths, each behind a bridge or on bus 0, and a function 0 in each device
 --     board_of      the rows in path order
 use Rattle.std.specs.{Prelude.{List, [], ◌∷◌, ◌≡◌, ◌⊎◌, Bool, ◌&&◌, if◌then◌else◌, map, IsTrue, IsFalse, ◌↔◌}, List.list_any}
 use Rattle.lists.specs.Elements.{Each, EachPair}
@@ -37,6 +37,6 @@ abbrev pub board_of : List Row → Board
 board_of [] = []
 board_of (r ∷ rs) = row_inserted r (board_of rs)
 
--- lawful places are exactly those whose rows in path order are a board
+-- the places are lawful if and only if the rows in path order form a board
 abbrev pub LawfulPlacesAreBoards : Type 0
 LawfulPlacesAreBoards = (rs : List Row) → AreLawfulPlaces (map standing rs) ↔ IsBoard (board_of rs)

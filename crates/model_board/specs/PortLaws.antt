@@ -1,7 +1,7 @@
 -- Laws of accesses of 1, 2 or 4 bytes at a multiple of their width: PCI Local Bus 3.0, chapters 3.2.2 and 3.2.2.3.2.
---     ConfigReadByLanes, ConfigWriteByLanes      such an access to a function is one of enabled bytes of a word
---     ClaimsKeepLanes      a region takes an access in the byte lanes of its address
---     PortsWhileNotEnabled      without the enable bit only the latch itself is no ordinary port
+--     ConfigReadByLanes, ConfigWriteByLanes      such an access to a function accesses the enabled bytes of one word
+--     ClaimsKeepLanes      a region receives an access in the byte lanes of its address
+--     PortsWhileNotEnabled      without the enable bit, every port except CONFIG_ADDRESS is an ordinary port
 use Rattle.std.specs.Prelude.{List, ◌≡◌, ℕ, ◌*◌, ◌/◌, ◌%◌, ◌^◌, false, ◌&&◌, ◌==◌, if◌then◌else◌, Some}
 use Rattle.model_registers.specs.{Registers.all_bytes, ByteEnables.{IsWidth, lanes, enables_of, to_lanes}, Decoding.Space}
 use Rattle.model_board.specs.{State.BoardFunction, Claims.{Claim, first_claim}, Cycles.BusAddress, Ports.{config_reply, after_config_write, is_enabled, config_address, ordinary, port_target}}

@@ -3,7 +3,7 @@
 --     Ranges      the regions of an endpoint, or the three windows of a bridge
 --     RoutingRow      a function's path, Command and ranges
 --     routing fs      the routing registers of all functions
---     is_routed, routed_claims, routed_claim      forwarding, claims and the first claim, by routing registers alone
+--     is_routed, routed_claims, routed_claim      forwarding, claims and the first claim, given only the routing registers
 use Rattle.std.specs.Prelude.{
   List,
   [],

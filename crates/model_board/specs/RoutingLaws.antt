@@ -1,9 +1,9 @@
 -- Routing registers alone decide where an address goes: PCI Local Bus 3.0, chapter 6.2.5; PCI-to-PCI Bridge
 -- Architecture 1.2, chapter 4.
 --     SameRouting      two states whose routing registers hold the same bytes
---     ForwardedByRouting, ClaimsByRouting, FirstByRouting      forwarding and claims are those by routing registers
---     SameClaims      the same routing has the same claims
---     RoutingOfCells, RoutingOfChange      the same bytes are the same routing, so a change of other cells keeps it
+--     ForwardedByRouting, ClaimsByRouting, FirstByRouting      the routing registers alone decide forwarding and claims
+--     SameClaims      equal routing registers give equal claims
+--     RoutingOfCells, RoutingOfChange      equal bytes give equal routing, so changing other cells keeps it
 use Rattle.std.specs.Prelude.{List, [], ◌∷◌, ◌≡◌, ℕ, ◌+◌, Bool, ◌&&◌, ◌||◌, nat_lt, nat_le, ⊤, IsTrue, map}
 use Rattle.lists.specs.Elements.{Each}
 use Rattle.model_registers.specs.{Registers.{config, cell_at}, Decoding.Space}
@@ -12,7 +12,7 @@ use Rattle.model_board.specs.{Paths.Path, Board.{Decl, endpoint, bridge}, State.
 abbrev pub is_within : ℕ → ℕ → ℕ → Bool
 is_within first count n = nat_le first n && nat_lt n (first + count)
 
--- Command and the base registers of an endpoint, Command and the window registers of a bridge
+-- the Command and base address registers of an endpoint, or the Command and window registers of a bridge
 abbrev pub is_routing_register : Decl → ℕ → Bool
 is_routing_register (endpoint d) n = is_within 0x04 2 n || is_within 0x10 24 n
 is_routing_register (bridge d) n = is_within 0x04 2 n || is_within 0x1c 2 n || is_within 0x20 20 n

@@ -1,10 +1,10 @@
--- Who may answer addresses on a bus, in any register state: an open region, or a bridge by what it forwards. PCI Local
+-- The agents that answer addresses on a bus, in any register state: an enabled region, or a bridge that forwards. PCI Local
 -- Bus 3.0, chapter 6.2.5; PCI-to-PCI Bridge Architecture 1.2, chapter 4.
---     Extent      addresses from a first one on, below an end
---     forwarded_extents space r      what a bridge forwards of a space
---     Agent, agents      an open region, or a bridge in one of the spaces
+--     Extent      addresses from a first one up to, but not including, an end
+--     forwarded_extents space r      the addresses of a space that a bridge forwards
+--     Agent, agents      an enabled region, or a bridge in one of the spaces
 --     answers space n a      the agent answers the address
---     on_one_bus a b      both stand on one bus
+--     on_one_bus a b      both are on one bus
 use Rattle.std.specs.{Prelude.{List, [], ◌∷◌, ◌++◌, ℕ, ◌+◌, Bool, ◌&&◌, nat_le, nat_lt, if◌then◌else◌, Option, Some, None, map, flat_map}, List.list_any}
 use Rattle.model_registers.specs.Decoding.{Space, io, memory, same_space, opens_space}
 use Rattle.model_board.specs.{Paths.{Path, path_eq, parent}, Windows.Window, Routing.{RoutingRow, regions, windows}}
@@ -26,7 +26,7 @@ abbrev pub window_extents : Option Window → Option Window → Option Window �
 window_extents wio wmem wpref io = window_extent wio
 window_extents wio wmem wpref memory = window_extent wmem ++ window_extent wpref
 
--- nothing, unless its Command opens the space
+-- no addresses, unless its Command enables the space
 abbrev pub forwarded_extents : Space → RoutingRow → List Extent
 forwarded_extents space r = elim r.ranges [
   | regions bs ↦ []
@@ -35,7 +35,7 @@ forwarded_extents space r = elim r.ranges [
 
 -- ---- agents
 
--- a region has a register; a bridge has none, and its two memory windows may overlap, since one agent answers
+-- a region has a register; a bridge has none, and its two memory windows may overlap because one agent answers
 pub record Agent : Type 0 where
   pub path : Path
   pub register : Option ℕ

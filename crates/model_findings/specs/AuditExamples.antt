@@ -1,4 +1,4 @@
--- Worked examples: register states as firmware might leave them, and what is wrong in them.
+-- Worked examples: register states that firmware might leave, and their problems.
 --     between first last      a window
 --     one_card, two_bridges      a bridge with a card of 1 MB behind it; the same behind each of two bridges
 --     renumbered n      the main board after set-up, with another Secondary Bus Number in its bridge
@@ -12,7 +12,7 @@ use Rattle.model_findings.specs.{OpenRegions.{region_now, closed_regions}, Agent
 abbrev pub between : ℕ → ℕ → Option Window
 between first last = Some (record { first = first; last = last })
 
--- a bridge in device d with two memory windows, open for memory
+-- a bridge in device d with two memory windows, and memory enabled
 abbrev pub bridge_row : ℕ → Option Window → Option Window → RoutingRow
 bridge_row d wmem wpref = record { path = part d 0 ∷ []; command = 2; ranges = windows None wmem wpref }
 
@@ -38,7 +38,7 @@ two_bridges w v =
 abbrev pub card_at : Path → ℕ → PlacedRegion
 card_at p first = region_now p (megabyte first)
 
--- a card two bridges down, each with its window
+-- a card two bridges down, with a window in each bridge
 abbrev pub two_deep : Option Window → Option Window → List RoutingRow
 two_deep w v =
     bridge_row 2 w None
@@ -54,30 +54,30 @@ abbrev pub at_bus : ℕ → ℕ → BusAddress
 at_bus bus d = record { bus = bus; part = part d 0 }
 
 pub record WorkedExamples : Type 0 where
-  -- a card in the window of its bridge
+  -- a card inside its bridge's window
   pub orderly : routing_problems (one_card (between 0xc0000000 0xc00fffff) None 2 0xc0000000) ≡ []
-  -- the window ends one unit short, and the first byte after it is told
+  -- the window ends one unit short, and the first byte after it is reported
   pub straddles :
       routing_problems (one_card (between 0xc0000000 0xc00fffff) None 2 0xc0080000)
       ≡ not_forwarded (card_at (behind 2 0) 0xc0080000) (on_root 2) 0xc0100000 ∷ []
-  -- it goes on in the prefetchable window
+  -- the rest is in the prefetchable window
   pub goes_on :
       routing_problems (one_card (between 0xc0000000 0xc00fffff) (between 0xc0100000 0xc01fffff) 2 0xc0080000) ≡ []
   -- the two windows of a bridge overlap: one agent
   pub one_agent :
       routing_problems (one_card (between 0xc0000000 0xc01fffff) (between 0xc0100000 0xc02fffff) 2 0xc0180000) ≡ []
-  -- a hole between them
+  -- a gap between them
   pub hole :
       routing_problems (one_card (between 0xc0000000 0xc00fffff) (between 0xc0180000 0xc01fffff) 2 0xc0080000)
       ≡ not_forwarded (card_at (behind 2 0) 0xc0080000) (on_root 2) 0xc0100000 ∷ []
-  -- neither bridge forwards the card, and the upper one is told; where it does, the lower one is
+  -- neither bridge forwards the card, so the upper one is reported; if it does, the lower one is
   pub upper :
       routing_problems (two_deep None None)
       ≡ not_forwarded (card_at (part 2 0 ∷ part 0 0 ∷ part 1 0 ∷ []) 0xc0000000) (on_root 2) 0xc0000000 ∷ []
   pub lower :
       routing_problems (two_deep (between 0xc0000000 0xc00fffff) None)
       ≡ not_forwarded (card_at (part 2 0 ∷ part 0 0 ∷ part 1 0 ∷ []) 0xc0000000) (behind 2 0) 0xc0000000 ∷ []
-  -- a card that is closed is in no one's way, and is told for information
+  -- a disabled card conflicts with nothing, and is reported for information
   pub closed : routing_problems (one_card (between 0xc0000000 0xc00fffff) None 0 0xd0000000) ≡ []
   pub told :
       closed_regions (one_card (between 0xc0000000 0xc00fffff) None 0 0xd0000000)
@@ -85,28 +85,28 @@ pub record WorkedExamples : Type 0 where
   pub opens_on_nothing :
       notes (one_card (between 0xc0000000 0xc00fffff) None 0 0xd0000000)
       ≡ idle (on_root 2) memory (record { first = 0xc0000000; end = 0xc0100000 }) ∷ []
-  -- two bridges of one bus whose windows share a unit, though no region lies there
+  -- two bridges on one bus with windows that share a unit, although no region is there
   pub overlap :
       routing_problems (two_bridges (between 0xc0000000 0xc02fffff) (between 0xc0200000 0xc03fffff))
       ≡ contended (bridge_agent (bridge_row 2 (between 0xc0000000 0xc02fffff) None) memory)
       (bridge_agent (bridge_row 3 (between 0xc0200000 0xc03fffff) None) memory) 0xc0200000 ∷ []
   pub apart : routing_problems (two_bridges (between 0xc0000000 0xc00fffff) (between 0xc0300000 0xc03fffff)) ≡ []
-  -- two cards of bus 0 at one address
+  -- two cards on bus 0 at one address
   pub same_place :
       routing_problems (card (on_root 1) 2 0xc0000000 ∷ card (on_root 2) 2 0xc0000000 ∷ [])
       ≡ contended (region_agent (card_at (on_root 1) 0xc0000000)) (region_agent (card_at (on_root 2) 0xc0000000))
       0xc0000000 ∷ []
-  -- a board that is set up has no problem
+  -- a board after set-up has no problem
   pub set_up : problems (set_up_state main_board main_apertures).functions ≡ []
   pub nothing_told : notes (routing (set_up_state main_board main_apertures).functions) ≡ []
-  -- at reset its bridge names bus 0, so what stands behind it is looked for there
+  -- at reset the bridge's Secondary Bus Number is 0, so the functions behind it are looked for on bus 0
   pub lost :
       problems (reset_state main_board).functions
       ≡ not_found (behind 2 0) (at_bus 0 0) None ∷ not_found (behind 2 1) (at_bus 0 1) (Some (on_root 1)) ∷ []
-  -- a Secondary above the Subordinate: no cycle for that bus is taken
+  -- a Secondary Bus Number above the Subordinate: no cycle for that bus is claimed
   pub beyond :
       problems (renumbered 2) ≡ not_found (behind 2 0) (at_bus 2 0) None ∷ not_found (behind 2 1) (at_bus 2 1) None ∷ []
-  -- what is said of them
+  -- the text of the audit
   pub text_of_none : audit (set_up_state main_board main_apertures).functions ≡ text_of_lines (codes "audit: ok" ∷ [])
   pub text_of_lost :
       audit (reset_state main_board).functions

@@ -1,7 +1,7 @@
--- The text of an audit: a line for each problem, in the order of the problems, and a last line that counts them.
---     region_text, agent_text      a region by its path, register and place; an agent by its path, and its register
+-- The text of an audit: a line for each problem, in the order of the problems, and a last line with their number.
+--     region_text, agent_text      a region by its path, register and address; an agent by its path, and its register
 --     space_text      the name of a space
---     number_text at      BB:DD.F, by which configuration cycles look for a function
+--     number_text at      BB:DD.F, the BDF of the configuration cycles that look for a function
 --     problem_text      a problem with its witness
 --     total_text n      how many problems there are
 --     audit_text ps, audit fs      the whole text of some problems, and of a register state

@@ -1,13 +1,13 @@
--- Whether configuration cycles find each function by the bus numbers that the bridges hold, in any register state:
+-- Whether configuration cycles find each function with the bus numbers in the bridges, in any register state:
 -- PCI-to-PCI Bridge Architecture 1.2, chapter 3.
 --     is_bridge_at bus f      the bridge above the bus
 --     bus_now fs bus      the number of a bus: the Secondary Bus Number of that bridge, and 0 for bus 0
---     address_now fs p      the number of the function's bus, and its device and function
---     path_reached fs p      what a cycle for that address reaches
---     IsNumbered fs      each function is reached by its address
---     IsFoundOnce fs f, FoundOnce      then it is reached by that address alone
---     scanned fs, ScanFindsAll      what cycles for all addresses reach, in scan order: all functions
---     NumbersOfBoard      a board that holds its own numbers is numbered, and its addresses are those of the board
+--     address_now fs p      the BDF of the function: its bus's number, and its device and function number
+--     path_reached fs p      the path that a cycle to that BDF reaches
+--     IsNumbered fs      each function is reached by its BDF
+--     IsFoundOnce fs f, FoundOnce      then it is reached by that BDF only
+--     scanned fs, ScanFindsAll      the functions that cycles to all BDFs reach, in scan order: all functions
+--     NumbersOfBoard      a board that holds its own numbers is numbered, and its BDFs are those of the board
 use Rattle.std.specs.{Prelude.{List, [], ◌∷◌, ◌≡◌, ℕ, ◌<◌, ◌/◌, ◌%◌, Bool, ◌&&◌, Option, Some, find, flat_map, map}, Option.{option_map, option_map_or, option_to_list}, List.range_with_len}
 use Rattle.lists.specs.Elements.{Each, IsIn}
 use Rattle.model_board.specs.{Paths.{Path, path_eq, parent, last_part}, Board.{is_bridge, Board, IsBoard}, State.BoardFunction, Cycles.{secondary_register, BusAddress, reached}}
@@ -17,7 +17,7 @@ use Rattle.model_findings.specs.Orderly.{IsStateOfBoard}
 abbrev pub is_bridge_at : Path → BoardFunction → Bool
 is_bridge_at bus f = is_bridge f.decl && path_eq f.path bus
 
--- [] names bus 0
+-- [] means bus 0
 abbrev pub bus_now : List BoardFunction → Path → ℕ
 bus_now fs [] = 0
 bus_now fs (p ∷ ps) =
@@ -49,7 +49,7 @@ scan_order = flat_map (λ bus. map (address_at bus) (range_with_len 0 128)) (ran
 abbrev pub scanned : List BoardFunction → List BoardFunction
 scanned fs = flat_map (λ at. option_to_list (reached fs at)) scan_order
 
--- bus numbers are bytes
+-- bus numbers are below 256
 abbrev pub ScanFindsAll : Type 0
 ScanFindsAll = (fs : List BoardFunction) → IsStateOfBoard fs → IsNumbered fs
     → Each (λ f. secondary_register f.file < 256) fs → Each (λ f. IsIn f (scanned fs)) fs

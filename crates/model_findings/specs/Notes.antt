@@ -1,6 +1,6 @@
--- What is told of a register state for information, and keeps nobody from anything: PCI-to-PCI Bridge Architecture 1.2,
+-- Facts about a register state that are reported for information and aren't problems: PCI-to-PCI Bridge Architecture 1.2,
 -- chapter 4.
---     Note      a window that opens on nothing
+--     Note      a window with no enabled region behind it
 --     notes rows      all of them, in path order
 use Rattle.std.specs.{Prelude.{List, [], ◌∷◌, ◌++◌, ◌+◌, Bool, ◌&&◌, nat_lt, if◌then◌else◌, flat_map}, List.list_any}
 use Rattle.model_registers.specs.Decoding.{Space, io, memory, same_space}
@@ -9,10 +9,10 @@ use Rattle.model_set_up.specs.PlacedRegions.{PlacedRegion}
 use Rattle.model_findings.specs.{OpenRegions.open_regions, Agents.{Extent, forwarded_extents}}
 
 pub data Note : Type 0 where
-  -- an open window of a bridge, in which no open region behind it has an address
+  -- an enabled window of a bridge that contains no address of an enabled region behind the bridge
   idle : Path → Space → Extent → Note
 
--- a region behind the bridge has an address among these
+-- a region behind the bridge has one of these addresses
 abbrev pub is_behind : Path → Space → Extent → PlacedRegion → Bool
 is_behind bridge space e q =
     is_ancestor_of bridge q.path && same_space q.space space && nat_lt q.first e.end && nat_lt e.first (q.first + q.size)

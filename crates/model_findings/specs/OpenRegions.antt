@@ -1,14 +1,14 @@
--- Where regions stand by their registers as they are now, in any register state: PCI Local Bus 3.0, chapter 6.2.5.
+-- The current addresses of regions, in any register state: PCI Local Bus 3.0, chapter 6.2.5.
 --     region_now p b      the region of a base address register of the function at p
---     open_regions, closed_regions      regions whose space Command opens, or doesn't, in path order, then by register
---     open_claim      the claim of the first open region that holds an address
+--     open_regions, closed_regions      regions whose space Command enables, or disables, in path order, then by register
+--     open_claim      the claim of the first enabled region that contains an address
 use Rattle.std.specs.Prelude.{List, [], ℕ, not, Option, map, filter, flat_map}
 use Rattle.lists.specs.Elements.{first_some}
 use Rattle.model_registers.specs.{EndpointTable.BaseAddress, Decoding.{Space, space_of, opens_space}}
 use Rattle.model_board.specs.{Paths.Path, Claims.Claim, Routing.{RoutingRow, regions, windows}}
 use Rattle.model_set_up.specs.PlacedRegions.{PlacedRegion, claim_in}
 
--- a region where its register says now
+-- a region at the address in its register
 abbrev pub region_now : Path → BaseAddress → PlacedRegion
 region_now p b = record { path = p; index = b.index; space = space_of b.kind; first = b.base; size = b.size }
 
@@ -24,7 +24,7 @@ closed_of r = filter (λ q. not (opens_space r.command q.space)) (regions_of r)
 abbrev pub open_regions : List RoutingRow → List PlacedRegion
 open_regions rows = flat_map open_of rows
 
--- nothing answers there
+-- no region there answers
 abbrev pub closed_regions : List RoutingRow → List PlacedRegion
 closed_regions rows = flat_map closed_of rows
 

@@ -1,11 +1,11 @@
--- Whether the windows route each address to one place, in any register state: PCI-to-PCI Bridge Architecture 1.2,
+-- Whether the windows route each address to one target, in any register state: PCI-to-PCI Bridge Architecture 1.2,
 -- chapter 4.
 --     IsForwarded rows q      each bridge above forwards each byte of the region
---     AreAlone a b      if they stand on one bus, no address is answered by both agents
---     IsOrderly rows      each open region is forwarded, and the agents are alone
+--     AreAlone a b      if both agents are on one bus, no address is answered by both
+--     IsOrderly rows      each enabled region is forwarded, and no two agents conflict
 --     IsStateOfBoard fs      lawful declarations at lawful places, whatever the registers hold
---     HasClaimsOfRegions fs      the claims are those of the open regions, and each address has one at most
---     OrderlyClaims      so it is in each orderly state
+--     HasClaimsOfRegions fs      the claims are those of the enabled regions, and each address has at most one
+--     OrderlyClaims      this holds in each consistent state
 use Rattle.std.specs.{Prelude.{List, ◌≡◌, ℕ, ◌<◌, IsTrue, IsFalse, map}, Option.option_to_list}
 use Rattle.lists.specs.Elements.{Each, EachPair}
 use Rattle.model_registers.specs.Decoding.{Space}
@@ -28,9 +28,9 @@ pub record IsStateOfBoard (fs : List BoardFunction) : Type 0 where
   pub places : IsBoard (map row_at fs)
   pub declarations : HasLawfulDecls (map row_at fs)
 
--- as HasUniqueClaims is after set-up, in any state
+-- HasUniqueClaims for any state, not only after set-up
 pub record HasClaimsOfRegions (fs : List BoardFunction) : Type 0 where
-  -- an address has the claim of the open region that holds it, and no other
+  -- an address is claimed by the enabled region that contains it, and by no other
   pub only : (space : Space) (n : ℕ) → claims fs space n ≡ option_to_list (open_claim (routing fs) space n)
   pub first : (space : Space) (n : ℕ) → first_claim fs space n ≡ open_claim (routing fs) space n
   -- through every bridge above

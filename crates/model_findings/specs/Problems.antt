@@ -1,11 +1,11 @@
--- What is wrong in a register state, problem by problem: PCI Local Bus 3.0, chapter 6.2.5; PCI-to-PCI Bridge
+-- The problems of a register state: PCI Local Bus 3.0, chapter 6.2.5; PCI-to-PCI Bridge
 -- Architecture 1.2, chapters 3 and 4.
---     least ns      the least of some numbers
+--     least ns      the smallest of some numbers
 --     unforwarded r q      the least byte of a region that a bridge doesn't forward
---     shared a b      the least address that two agents both answer
+--     shared a b      the least address that both agents answer
 --     Problem      not forwarded, contended or not found, each with a witness
---     routing_problems rows      those of the first two kinds: region by region, then pair by pair of agents
---     numbering_problems fs      those of the third, function by function
+--     routing_problems rows      the problems of the first two kinds: region by region, then pair by pair of agents
+--     numbering_problems fs      the problems of the third kind, function by function
 --     problems fs      all of them
 use Rattle.std.specs.{Prelude.{List, [], ◌∷◌, ◌++◌, ℕ, false, ◌&&◌, not, min, if◌then◌else◌, Option, Some, None, map, filter, flat_map}, Option.{option_map, option_map_or, option_to_list}}
 use Rattle.lists.specs.Elements.{first_some}
@@ -23,17 +23,17 @@ unforwarded r q =
     least (filter (λ n. holds q.space n q && not (row_forwards q.space n r))
     (q.first ∷ map (λ e. e.end) (forwarded_extents q.space r)))
 
--- addresses that two agents share begin where an extent of one of them begins
+-- addresses that two agents share begin at the start of an extent of one of them
 abbrev pub shared : Agent → Agent → Option ℕ
 shared a b =
     least (filter (λ n. answers a.space n a && answers a.space n b) (map (λ e. e.first) (a.extents ++ b.extents)))
 
 pub data Problem : Type 0 where
-  -- an open region, the first bridge above it that doesn't forward all of it, and the least byte that it doesn't
+  -- an enabled region, the first bridge above it that doesn't forward all of it, and the least byte not forwarded
   not_forwarded : PlacedRegion → Path → ℕ → Problem
-  -- two agents of one bus, and the least address that both answer
+  -- two agents on one bus, and the least address that both answer
   contended : Agent → Agent → ℕ → Problem
-  -- a function, its address, and what a cycle for that address reaches in its place
+  -- a function, its BDF, and the function that a cycle to this BDF reaches instead, if any
   not_found : Path → BusAddress → Option Path → Problem
 
 abbrev pub blame : PlacedRegion → RoutingRow → Option Problem

@@ -1,16 +1,16 @@
--- Whether a register state is ready to be driven: no problem, and nothing that an operating system has yet to do. PCI
+-- Whether a board in some register state is ready for use: no problems, and nothing left for an operating system to do. PCI
 -- Local Bus 3.0, chapter 6.2.5; PCI-to-PCI Bridge Architecture 1.2, chapters 3.2.5 and 4.
---     aperture_extents, is_in_apertures      the addresses of a space that may be given out
---     plain_regions      open memory regions that are not prefetchable
---     prefetches n r      a bridge forwards an address by its prefetchable window alone
---     least_held test edges q      the least address of a region that passes a test, where that begins at these edges
+--     aperture_extents, is_in_apertures      the addresses of a space that may be assigned
+--     plain_regions      enabled memory regions that aren't prefetchable
+--     prefetches n r      a bridge forwards an address through its prefetchable window only
+--     least_held test edges q      the least address of a region that passes a test whose result changes only at these edges
 --     first_outside, first_prefetched      the least address outside the apertures, or that a bridge prefetches
---     ReadinessIssue      a region that is not open, outside the apertures or prefetched, or another Primary; with a witness
+--     ReadinessIssue      a region that is disabled, outside the apertures or prefetched, or a wrong Primary Bus Number; with a witness
 --     primary_register file      the Primary Bus Number of a bridge
---     routing_issues a rows      what is lacking of regions: those that are closed, outside or prefetched
---     readiness_issues a fs      all lacks, kind by kind, in path order, then by register
---     issue_count a fs      how many problems and lacks there are
---     is_ready, IsReady      neither problems nor lacks
+--     routing_issues a rows      the readiness issues of regions: those that are disabled, outside or prefetched
+--     readiness_issues a fs      all readiness issues, kind by kind, in path order, then by register
+--     issue_count a fs      how many problems and readiness issues there are
+--     is_ready, IsReady      no problems and no readiness issues
 use Rattle.std.specs.{Prelude.{List, [], ◌∷◌, ◌++◌, ◌≡◌, ℕ, ◌+◌, Bool, false, ◌&&◌, ◌==◌, not, if◌then◌else◌, Option, None, map, filter, flat_map, length}, List.list_any, Option.{option_map, option_to_list}}
 use Rattle.lists.specs.Elements.{first_some}
 use Rattle.model_registers.specs.{Registers.{config, File, number}, Apertures.{Aperture, Apertures}, Declarations.{Kind, io_kind, mem32, mem64}, Decoding.{Space, io, memory, opens_space}, EndpointTable.BaseAddress}
@@ -23,7 +23,7 @@ use Rattle.model_findings.specs.{OpenRegions.{region_now, open_regions, closed_r
 abbrev pub aperture_extent : Aperture → Extent
 aperture_extent a = record { first = a.first; end = a.last + 1 }
 
--- memory has two, where the board has a prefetchable aperture
+-- memory has two apertures if the board has a prefetchable aperture
 abbrev pub aperture_extents : Apertures → Space → List Extent
 aperture_extents a io = aperture_extent a.io ∷ []
 aperture_extents a memory = aperture_extent a.mem ∷ option_to_list (option_map aperture_extent a.pref)
@@ -49,7 +49,7 @@ plain_of r = elim r.ranges [
 abbrev pub plain_regions : List RoutingRow → List PlacedRegion
 plain_regions rows = flat_map plain_of rows
 
--- by the prefetchable window, and not by the memory window
+-- by the prefetchable window and not by the memory window
 abbrev pub prefetches : ℕ → RoutingRow → Bool
 prefetches n r = elim r.ranges [
   | regions bs ↦ false
@@ -58,16 +58,16 @@ prefetches n r = elim r.ranges [
 
 -- ---- witnesses
 
--- where what is so begins at the region's first byte or at one of these
+-- such addresses begin at the region's first byte or at one of these
 abbrev pub least_held : (ℕ → Bool) → List ℕ → PlacedRegion → Option ℕ
 least_held test edges q = least (filter (λ n. holds q.space n q && test n) (q.first ∷ edges))
 
--- addresses outside the apertures begin where an aperture ends
+-- addresses outside the apertures begin at the end of an aperture
 abbrev pub first_outside : Apertures → PlacedRegion → Option ℕ
 first_outside a q =
     least_held (λ n. not (is_in_apertures a q.space n)) (map (λ (e : Extent). e.end) (aperture_extents a q.space)) q
 
--- addresses that are prefetched begin where the prefetchable window does, or where the memory window ends
+-- prefetched addresses begin at the prefetchable window's base, or after the memory window's limit
 abbrev pub prefetch_edges : RoutingRow → List ℕ
 prefetch_edges r = elim r.ranges [
   | regions bs ↦ []
@@ -78,17 +78,17 @@ prefetch_edges r = elim r.ranges [
 abbrev pub first_prefetched : RoutingRow → PlacedRegion → Option ℕ
 first_prefetched r q = least_held (λ n. prefetches n r) (prefetch_edges r) q
 
--- ---- lacks
+-- ---- readiness issues
 
 pub data ReadinessIssue : Type 0 where
-  -- Command doesn't open the region's space
+  -- Command disables the region's space
   not_open : PlacedRegion → ReadinessIssue
-  -- an open region, and its least address that no aperture of its space has
+  -- an enabled region, and its least address outside the apertures of its space
   outside_apertures : PlacedRegion → ℕ → ReadinessIssue
-  -- an open memory region that isn't prefetchable, the first bridge above it that prefetches some of it, and the
-  -- least address that it does
+  -- an enabled memory region that isn't prefetchable, the first bridge above it that prefetches some of it, and the
+  -- least address that it prefetches
   prefetched_by : PlacedRegion → Path → ℕ → ReadinessIssue
-  -- a bridge, the Primary Bus Number that it holds, and the number of the bus that it stands on
+  -- a bridge, its Primary Bus Number register, and the number of the bus that it is on
   other_primary : Path → ℕ → ℕ → ReadinessIssue
 
 abbrev pub outside_issue : Apertures → PlacedRegion → List ReadinessIssue
@@ -109,7 +109,7 @@ primary_issue fs f =
     if is_bridge f.decl && not (primary_register f.file == bus_now fs (parent f.path))
     then other_primary f.path (primary_register f.file) (bus_now fs (parent f.path)) ∷ [] else []
 
--- those that routing registers show
+-- the issues that routing registers show
 abbrev pub routing_issues : Apertures → List RoutingRow → List ReadinessIssue
 routing_issues a rows =
     map not_open (closed_regions rows) ++ flat_map (outside_issue a) (open_regions rows)

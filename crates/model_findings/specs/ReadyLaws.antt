@@ -1,14 +1,14 @@
--- What it says of a register state that it is ready: PCI Local Bus 3.0, chapter 6.2.5; PCI-to-PCI Bridge Architecture
+-- The properties of a ready register state: PCI Local Bus 3.0, chapter 6.2.5; PCI-to-PCI Bridge Architecture
 -- 1.2, chapters 3.2.5 and 4.
---     IsWithinApertures, PrefetchesNone      each address of a region lies in an aperture; a bridge prefetches none
---     IsClosed, IsOutside, IsPrefetched, HasOtherPrimary      what a lack of each kind says
---     IsRealLack, LacksAreReal      each lack of a state is so
---     LacksNothing, LacksDecide      no lacks where and only where nothing is lacking
---     ReadyDecides      ready, as a test and as a fact, is in order and without lacks
+--     IsWithinApertures, PrefetchesNone      each address of a region is in an aperture; a bridge prefetches none of them
+--     IsClosed, IsOutside, IsPrefetched, HasOtherPrimary      the meaning of an issue of each kind
+--     IsRealLack, LacksAreReal      each reported issue is real
+--     LacksNothing, LacksDecide      a state has no issues if and only if nothing is missing
+--     ReadyDecides      ready, as a test and as a proposition, means consistent and without issues
 --     IsUsable, ReadyIsUsable      each byte of each endpoint's regions is claimed, within the apertures
---     ReadyIsFound      and each function is reached by its number alone
---     SetUpIsReady      what set-up leaves is ready
---     HasPrimaries, ReadyAsSetUp      and each state with its routing registers and bus numbers is
+--     ReadyIsFound      and each function is reached by its own BDF only
+--     SetUpIsReady      the state that set-up leaves is ready
+--     HasPrimaries, ReadyAsSetUp      so is each state with the same routing registers and bus numbers
 use Rattle.std.specs.Prelude.{List, [], ◌∷◌, ◌++◌, ◌≡◌, ℕ, ◌≤◌, ◌<◌, IsTrue, IsFalse, ◌↔◌}
 use Rattle.lists.specs.Elements.{IsIn, Each}
 use Rattle.model_registers.specs.{Apertures.Apertures, Declarations.{Region, Endpoint}, Decoding.{opens_space, is_open, space_of, base_address}}
@@ -22,7 +22,7 @@ IsWithinApertures a q = (n : ℕ) → IsTrue (holds q.space n q) → IsTrue (is_
 abbrev pub PrefetchesNone : PlacedRegion → RoutingRow → Type 0
 PrefetchesNone q r = IsTrue (is_ancestor_of r.path q.path) → (n : ℕ) → IsTrue (holds q.space n q) → IsFalse (prefetches n r)
 
--- ---- each lack is real
+-- ---- each readiness issue is real
 
 pub record IsClosed (rows : List RoutingRow) (q : PlacedRegion) : Type 0 where
   pub row : RoutingRow
@@ -85,12 +85,12 @@ ReadyDecides = (a : Apertures) (fs : List BoardFunction)
 
 -- ---- a ready state can be used
 
--- a region that an endpoint declares, where its register says
+-- a region that an endpoint declares, at the address in its register
 pub record IsUsable (a : Apertures) (fs : List BoardFunction) (f : BoardFunction) (g : Region) : Type 0 where
   pub opened : IsTrue (is_open f.file (space_of g.kind))
   pub each_byte : (k : ℕ) → k < g.size → IsClaimed fs (region_now f.path (base_address f.file g)) k
   pub within : IsWithinApertures a (region_now f.path (base_address f.file g))
-  -- no bridge above prefetches what isn't prefetchable
+  -- no bridge above prefetches a region that isn't prefetchable
   pub unprefetched : IsTrue (is_plain g.kind)
       → Each (PrefetchesNone (region_now f.path (base_address f.file g))) (routing fs)
 
@@ -107,7 +107,7 @@ ReadyIsFound = (a : Apertures) (fs : List BoardFunction) → IsStateOfBoard fs �
 abbrev pub SetUpIsReady : Type 0
 SetUpIsReady = (b : Board) (a : Apertures) → Enumerates b → CanBePlaced b a → IsReady a (set_up_state b a).functions
 
--- each bridge holds the number of the bus that it stands on
+-- the Primary Bus Number of each bridge is the number of the bus that it is on
 abbrev pub HasPrimaries : Board → List BoardFunction → Type 0
 HasPrimaries b fs = Each (λ f. IsTrue (is_bridge f.decl) → primary_register f.file ≡ bus_of b f.path) fs
 

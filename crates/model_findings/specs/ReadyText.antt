@@ -1,9 +1,9 @@
--- The text of what a register state lacks: a line for each problem and each lack, and a last line that counts problems and
--- lacks apart.
---     issue_text      a lack with its witness
---     issues_text n      so many lacks
---     ready_total m n      how many problems and how many lacks there are
---     ready_text ps ls, ready_report a fs      the whole text of some problems and lacks, and of a register state
+-- The text of a readiness report: a line for each problem and each readiness issue, and a last line that counts problems and
+-- readiness issues separately.
+--     issue_text      a readiness issue with its witness
+--     issues_text n      n readiness issues
+--     ready_total m n      how many problems and how many readiness issues there are
+--     ready_text ps ls, ready_report a fs      the whole text of some problems and readiness issues, and of a register state
 use Rattle.std.specs.Prelude.{List, [], ◌∷◌, ◌++◌, ℕ, ◌==◌, if◌then◌else◌, map, length, codes, decimal}
 use Rattle.model_registers.specs.Apertures.{Apertures}
 use Rattle.model_board.specs.State.{BoardFunction}

@@ -1,7 +1,7 @@
--- What set-up leaves has no problem: PCI Local Bus 3.0, chapter 6.2.5; PCI-to-PCI Bridge Architecture 1.2, chapters 3
+-- The state that set-up leaves has no problems: PCI Local Bus 3.0, chapter 6.2.5; PCI-to-PCI Bridge Architecture 1.2, chapters 3
 -- and 4.
---     SetUpPasses      so it is on every board that set-up takes
---     RoutedAsSetUp      and as long as routing registers and bus numbers are those that set-up left
+--     SetUpPasses      this holds for every board that set-up accepts
+--     RoutedAsSetUp      and for every state with the routing registers and bus numbers that set-up left
 use Rattle.std.specs.Prelude.{List, [], ◌≡◌}
 use Rattle.model_board.specs.{Board.Board, BusNumbers.Enumerates, State.BoardFunction, Routing.routing}
 use Rattle.model_registers.specs.Apertures.{Apertures}

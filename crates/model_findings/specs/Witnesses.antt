@@ -1,10 +1,10 @@
--- Each problem is real, as its witness shows, and a state without problems is in order: PCI-to-PCI Bridge Architecture
+-- Each problem is real, as its witness shows, and a state without problems is consistent: PCI-to-PCI Bridge Architecture
 -- 1.2, chapters 3 and 4.
 --     ForwardsAll q r      the bridge forwards each byte of the region
---     IsNotForwarded, IsContended, IsNotFound      what a problem of each kind says
---     IsReal, ProblemsAreReal      each problem of a state is so
---     IsInOrder fs      orderly, and each function is found
---     RoutingDecides, NumberingDecides, ProblemsDecide      no problems where and only where it is so
+--     IsNotForwarded, IsContended, IsNotFound      the meaning of a problem of each kind
+--     IsReal, ProblemsAreReal      each reported problem is real
+--     IsInOrder fs      consistent windows, and each function is found
+--     RoutingDecides, NumberingDecides, ProblemsDecide      there are no problems if and only if this holds
 use Rattle.std.specs.{Prelude.{List, [], ◌∷◌, ◌++◌, ◌≡◌, ℕ, ◌≤◌, Option, Some, IsTrue, IsFalse, ◌↔◌, ◌⊎◌}, Option.option_map}
 use Rattle.lists.specs.Elements.{IsIn, Each}
 use Rattle.model_board.specs.{Paths.{Path, is_ancestor_of}, State.BoardFunction, Cycles.{BusAddress, reached}, Routing.{RoutingRow, routing, row_forwards}}
@@ -28,7 +28,7 @@ pub record IsNotForwarded (rows : List RoutingRow) (q : PlacedRegion) (bridge : 
   pub lost : IsFalse (row_forwards q.space n row)
   pub least : (m : ℕ) → IsTrue (holds q.space m q) → IsFalse (row_forwards q.space m row) → n ≤ m
 
--- two elements of a list, the first of them before the other
+-- two elements of a list, the first one before the second
 abbrev pub IsBefore : {A : Type 0} → A → A → List A → Type 0
 IsBefore x y [] = ⊥
 IsBefore x y (z ∷ zs) = ((x ≡ z) × IsIn y zs) ⊎ IsBefore x y zs

@@ -47,8 +47,8 @@ pub fn set_up_passes()
     ensures later { RoutedAsSetUp }
 {}
 
-/// Proves that each reported lack is real, as its witness shows, and that a state has no lacks if
-/// and only if nothing is missing.
+/// Proves that each reported readiness issue is real, as its witness shows, and that a state has no
+/// readiness issues if and only if nothing is missing.
 pub fn lacks_decide()
     ensures real { LacksAreReal }
     ensures decide { LacksDecide }

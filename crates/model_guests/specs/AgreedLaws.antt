@@ -1,22 +1,22 @@
--- What it is that a state of the board agrees with the guests as they are now.
---     HoldsFile, AgreesAt, AgreesAtEach, Agrees      said cell by cell, without building the state
---     ShowsFile      of the bytes of which a guest has no copy, the board shows the guest's
---     CopiesNeverRise      no device raises bits of the registers of which a guest has a copy
---     FileOfSeat      what a path finds is the file of the slot with the path
+-- When a state of the board agrees with the current guests.
+--     HoldsFile, AgreesAt, AgreesAtEach, Agrees      the definition cell by cell, without constructing the state
+--     ShowsFile      for each byte that a guest has no copy of, the board holds the guest's value
+--     CopiesNeverRise      no device raises bits in the registers that a guest has copies of
+--     FileOfSeat      the file found for a path is that of the slot with the path
 use Rattle.std.specs.Prelude.{List, [], ◌∷◌, ◌≡◌, ℕ, Bool, Option, Some, ⊤, IsTrue, IsFalse, MatchOption}
 use Rattle.model_registers.specs.{Registers.{Place, File, cell_at, read, raise}, OwnCopies.{is_own, handed_on}, Decoding.Function, CopiedFiles.{places_of, agreed_file}}
 use Rattle.model_board.specs.{Paths.Path, Board.Board, Lawful.HasLawfulDecls, State.{BoardFunction, State}}
 use Rattle.model_guests.specs.{Text.Text, Guests.{GuestsNow, path_in, function_in, file_of}, Seated.AreSeated}
 
--- a function in a slot, which was handed over with the first file, where the guest has the second, and the board now has
--- the third: the registers of which the guest has a copy are as they were handed over, and every other place is as in the
--- guest's file
+-- a function in a slot: the first file is the handoff's, the second the guest's, and the third the board's. The registers
+-- that the guest has copies of are those of the handoff, and every other place is as in the guest's
+-- file
 pub record HoldsFile (left own now : File) : Type 0 where
   pub places : places_of now ≡ places_of left
   pub kept : (p : Place) → IsTrue (is_own p) → cell_at now p ≡ cell_at left p
   pub common : (p : Place) → IsFalse (is_own p) → cell_at now p ≡ cell_at own p
 
--- a function that was handed over as the first and is now the second; in no slot it is as it was handed over
+-- a function that is the first in the handoff and the second now; in no slot it is unchanged
 pub record AgreesAt (left : BoardFunction) (own : Option File) (now : BoardFunction) : Type 0 where
   pub path : now.path ≡ left.path
   pub decl : now.decl ≡ left.decl
@@ -29,17 +29,17 @@ AgreesAtEach files [] (n ∷ ns) = ⊥
 AgreesAtEach files (l ∷ ls) [] = ⊥
 AgreesAtEach files (l ∷ ls) (n ∷ ns) = AgreesAt l (files l.path) n × AgreesAtEach files ls ns
 
--- the board was handed over as the first state, and is now the second
+-- the handoff is the first state, and the board is now the second
 pub record Agrees (s : State) (gs : GuestsNow) (now : State) : Type 0 where
   pub functions : AgreesAtEach (file_of gs) s.functions now.functions
   pub latch : now.latch ≡ s.latch
 
--- a file with the places of what was handed over
+-- a file with the places of the handoff's file
 abbrev pub ShowsFile : Type 0
 ShowsFile = (left own : File) → places_of own ≡ places_of left → (p : Place) (enables : List Bool)
     → read (agreed_file left own) p (handed_on p enables) ≡ read own p (handed_on p enables)
 
--- a raise of a register of which the guest has a copy changes nothing in the guest's file either
+-- raising bits in a register that the guest has a copy of doesn't change the guest's file either
 abbrev pub CopiesNeverRise : Type 0
 CopiesNeverRise = (b : Board) → HasLawfulDecls b → (gs : GuestsNow) → AreSeated b gs
     → (name : Text) (n : ℕ) (f : Function)

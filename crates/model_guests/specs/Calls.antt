@@ -1,11 +1,11 @@
--- Calls: lines and events at devices. What a guest is told of one, and what it holds then, is told by what is its own of
--- it: its own events, those at its devices and the moves that touch it.
---     Call      what a line means, or an event at the device of a guest's function
---     after_call      the world after it
---     told      what a guest is told
---     CallInput, inputs_of_call      what is a guest's own of a call
---     alone_told, after_own_call      what such an input comes to over the guest alone
---     all_alone_told, after_own_calls      and what such inputs do, one after the other
+-- Calls: lines and events at devices. A guest's inputs from a call decide its reply to the call and its state afterwards:
+-- the guest's own events, the events at its devices and the moves that involve it.
+--     Call      the meaning of a line, or an event at the device of a guest's function
+--     after_call      the world after the call
+--     told      the reply to a guest
+--     CallInput, inputs_of_call      the parts of a call that concern a guest
+--     alone_told, after_own_call      the effect of such an input on the guest alone
+--     all_alone_told, after_own_calls      the effects of several such inputs, one after the other
 use Rattle.std.specs.{Prelude.{List, [], ◌∷◌, ◌++◌, ℕ, if◌then◌else◌, map}, Str.bytes_eq}
 use Rattle.model_guests.specs.{Accesses.{Event, Reply, refused}, Text.Text, Grammar.{guest, host, nobody}, Lone.{LoneGuest, answer, after_event}, Guests.{GuestsNow, lone_of}, Lines.{Meaning, nothing, guest_event, host_read, host_move, bad}, WorldNow.{WorldNow, after_meaning}, Inputs.{Input, inputs_of_meaning, after_input}, DeviceEvents.{DeviceEvent, device_answer, after_device_event, after_device}}
 
@@ -28,7 +28,7 @@ told name w (asks (bad host k)) = []
 told name w (asks (bad nobody k)) = []
 told name w (at_device n e) = if bytes_eq n name then device_answer (lone_of w.guests n) e ∷ [] else []
 
--- ---- what is the guest's own
+-- ---- the guest's inputs
 
 pub data CallInput : Type 0 where
   own_event : Event → CallInput
@@ -46,7 +46,7 @@ inputs_of_call name gs (asks (bad host k)) = []
 inputs_of_call name gs (asks (bad nobody k)) = []
 inputs_of_call name gs (at_device n e) = if bytes_eq n name then own_device e ∷ [] else []
 
--- ---- over the guest alone
+-- ---- for the guest alone
 
 abbrev pub alone_told : LoneGuest → CallInput → List Reply
 alone_told g (own_event e) = answer g e ∷ []

@@ -1,10 +1,10 @@
--- How a change of what guests hold changes the board.
---     ChangesAlike      when a guest's file changes by the first, the board's changes by the second
---     WritesAlike, RaisesAlike, ResetsAlike      a write, a raise and a reset reach it by the bytes without a copy
+-- How a change of a guest's functions changes the board.
+--     ChangesAlike      if a guest's file changes by the first function, the board's changes by the second
+--     WritesAlike, RaisesAlike, ResetsAlike      a write, a raise and a reset reach it through the bytes that aren't copied
 --     OverSeated      over any state, whatever guests are seated on its board
---     OneFile, ChangesOneFunction, LatchKeepsBoard      a guest's change of a function changes the board there alone
---     MoveResetsOneFunction      a move resets the function, but for what its guests have copies of
---     lands, EventReachesBoard      where an event changes a function, and what it does there to the board
+--     OneFile, ChangesOneFunction, LatchKeepsBoard      a guest's change of a function changes the board in that function only
+--     MoveResetsOneFunction      a move resets the function, except for the bytes that guests have copies of
+--     lands, EventReachesBoard      the function that an event changes, and its effect on the board's function
 use Rattle.std.specs.{Prelude.{List, ◌≡◌, ℕ, Bool, false, if◌then◌else◌, Option, Some, None, option_map, is_some, IsFalse, IsSome}, Option.option_map_or}
 use Rattle.model_registers.specs.{Registers.{Place, File, write, raise, all_bytes}, Declarations.Endpoint, Decoding.Function, EndpointTable.endpoint_reset, OwnCopies.{is_own, handed_on}, CopiedFiles.{agreed_file, after_reset}}
 use Rattle.model_board.specs.{Paths.{Path, path_eq}, AtReset.board_at, State.State}
@@ -14,26 +14,26 @@ abbrev pub ChangesAlike : (File → File) → (File → File) → Type 0
 ChangesAlike own_change board_change = (left own : File)
     → agreed_file left (own_change own) ≡ board_change (agreed_file left own)
 
--- a write reaches the board by the bytes of which the guest has no copy
+-- a write reaches the board through the bytes that the guest has no copies of
 abbrev pub WritesAlike : Type 0
 WritesAlike = (enables : List Bool) (v : ℕ) (p : Place)
     → ChangesAlike (write enables v p) (write (handed_on p enables) v p)
 
--- a raise reaches the board but for the guest's copies
+-- a raise reaches the board, except for the guest's copies
 abbrev pub RaisesAlike : Type 0
 RaisesAlike = (m : ℕ) (p : Place) → ChangesAlike (raise m p) (λ file. if is_own p then file else raise m p file)
 
 abbrev pub ResetsAlike : Type 0
 ResetsAlike = (d : Endpoint) → ChangesAlike (λ own. endpoint_reset d false) (after_reset d)
 
--- whatever tells the files: where it changes at one path, the board changes there alone
+-- for any mapping to files: if it changes at one path, the board changes in that function only
 abbrev pub OneFile : Type 0
 OneFile = (own_change board_change : File → File) → ChangesAlike own_change board_change
     → (old new : Path → Option File) (p : Path) (own : File) → old p ≡ Some own → new p ≡ Some (own_change own)
     → ((q : Path) → IsFalse (path_eq p q) → new q ≡ old q)
     → (s : State) → with_files new s ≡ with_change_at board_change p (with_files old s)
 
--- the file in a slot, and the latch, as they are changed in a guest
+-- a guest's change of the file in a slot and of its CONFIG_ADDRESS
 abbrev pub with_slot_changed : (File → File) → ℕ → GuestNow → GuestNow
 with_slot_changed change n g = record g { lone = record g.lone { slots = with_file change n g.lone.slots } }
 
@@ -60,7 +60,7 @@ MoveResetsOneFunction = OverSeated (λ s gs. (m : Move) → IsSome (guest_named 
 
 -- ---- any event
 
--- a read and a write of the latch change no function
+-- reading and writing CONFIG_ADDRESS changes no function
 abbrev pub landing_at : LoneGuest → Op → Destination → Option Landing
 landing_at g reads d = None
 landing_at g (writes v) own_latch = None
@@ -72,7 +72,7 @@ landing_of g (access a) = landing_at g a.op (destination g.latch a.width a.targe
 landing_of g (raises r) = option_map (λ (p : Place). record { slot = r.slot; place = p })
     (raise_landing (slot_at g.slots r.slot) r)
 
--- a refused event lands nowhere
+-- a refused event changes no function
 abbrev pub lands : LoneGuest → Event → Option Landing
 lands g e = if is_some (event_fault g.slots e) then None else landing_of g e
 
@@ -80,7 +80,7 @@ abbrev pub own_write : Op → ℕ → Place → File → File
 own_write reads w p file = file
 own_write (writes v) w p file = write (all_bytes w) v p file
 
--- what an event does to the guest's file where it lands
+-- the effect of an event on the guest's file
 abbrev pub own_effect : Event → Place → File → File
 own_effect (access a) p file = own_write a.op a.width p file
 own_effect (raises r) p file = raise r.mask p file
@@ -89,7 +89,7 @@ abbrev pub board_write : Op → ℕ → Place → File → File
 board_write reads w p file = file
 board_write (writes v) w p file = write (handed_on p (all_bytes w)) v p file
 
--- and to the board's: the bytes of which the guest has no copy
+-- the effect on the board's file: the bytes that the guest has no copies of
 abbrev pub board_effect : Event → Place → File → File
 board_effect (access a) p file = board_write a.op a.width p file
 board_effect (raises r) p file = if is_own p then file else raise r.mask p file
@@ -99,7 +99,7 @@ board_after gs name e None now = now
 board_after gs name e (Some l) now =
     option_map_or (λ (p : Path). with_change_at (board_effect e l.place) p now) (path_in gs name l.slot) now
 
--- the board changes in the function of that slot, and nowhere else
+-- the board changes in the function of that slot only
 abbrev pub EventReachesBoard : Type 0
 EventReachesBoard = OverSeated (λ s gs. (name : Text) (e : Event)
     → state_over s (after_guest_event name e gs)

@@ -1,8 +1,8 @@
--- Laws of what a device reads and writes of its function's registers.
+-- Laws of a device's reads and writes of its function's registers.
 --     ReadsLeaveGuests      a read changes no guest
---     ReadsWritten      where a cell stands, a read tells what was written
---     byte_change own v p      where a guest's file has a cell at a place, the byte of another file there; else nothing
---     WriteReachesBoard      a write changes the board in the function of that slot alone, by that byte
+--     ReadsWritten      a read of an existing cell returns the written value
+--     byte_change own v p      copies the byte at a place from another file, if the guest's file has a cell there
+--     WriteReachesBoard      a write changes the board in that byte of the slot's function only
 use Rattle.std.specs.Prelude.{◌≡◌, ◌%◌, ℕ, if◌then◌else◌, Some, None, IsTrue}
 use Rattle.model_registers.specs.{Registers.{Place, File}, FileLaws.has_place, DeviceBytes.set_value, Decoding.Function}
 use Rattle.model_board.specs.Paths.{Path}

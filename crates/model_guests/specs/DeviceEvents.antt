@@ -1,11 +1,11 @@
--- What happens to a function in a guest's slot at its device, beside raises. No line of a script says it.
+-- Events that a device causes in a guest's slot, other than raises. No line of a script requests them.
 -- PCI Local Bus 3.0, chapters 2.2.1 (RST#) and 6.1 (a device's own registers).
---     DeviceByte      a byte of the function in a slot, named as a raise names its cell
---     DeviceEvent      the function in a slot is reset, or its device reads or writes one of its bytes
---     device_place f part off      the place of such a byte, where its device reaches one
---     device_fault      the checks, in their order
---     reset_in n      the function in slot n is at reset, as one that comes into the slot
---     byte_in, with_byte      what the cell holds, whatever its masks; the slots with another value in it
+--     DeviceByte      a byte of the function in a slot, given like the byte of a raise
+--     DeviceEvent      the function in the slot is reset, or its device reads or writes one of its bytes
+--     device_place f part off      the place of such a byte, if the device may access it
+--     device_fault      the checks, in order
+--     reset_in n      the function in slot n is at reset, as if it had just been moved there
+--     byte_in, with_byte      the cell's value, whatever its masks; the slots with another value in the cell
 --     device_answer, after_device_event      the reply, and the guest after it
 --     after_guest_device, after_device      all guests after it, and the world
 use Rattle.std.specs.{Prelude.{ℕ, not, nat_le, if◌then◌else◌, is_some, Option, Some, None}, Option.option_map_or}
@@ -17,7 +17,7 @@ pub record DeviceByte : Type 0 where
   pub part : RaisePlace
   pub offset : ℕ
 
--- a write has a value, of which the byte takes the low one
+-- a write has a value, whose low byte is written
 pub data DeviceEvent : Type 0 where
   resets : ℕ → DeviceEvent
   device_reads : DeviceByte → DeviceEvent
@@ -55,12 +55,12 @@ device_fault slots (device_writes d v) = byte_fault slots d
 abbrev pub reset_in : ℕ → LoneGuest → LoneGuest
 reset_in n g = option_map_or (λ (f : Function). filled n f.decl g) (slot_at g.slots n) g
 
--- where no cell stands, 0
+-- 0 if there is no cell
 abbrev pub byte_in : Slots → DeviceByte → ℕ
 byte_in slots d =
     option_map_or (λ (p : Place). (cell_at (file_at slots d.slot) p).value) (byte_landing (slot_at slots d.slot) d) 0
 
--- where no cell stands, nothing changes
+-- nothing changes if there is no cell
 abbrev pub with_byte : DeviceByte → ℕ → Slots → Slots
 with_byte d v slots =
     option_map_or (λ (p : Place). with_file (set_value v p) d.slot slots) (byte_landing (slot_at slots d.slot) d) slots

@@ -1,8 +1,8 @@
--- Worked example: a device that counts in a register that its driver only reads.
---     counting, counting_guest      an endpoint whose driver writes one register and only reads the next; its guest
+-- Worked example: a device that counts in a register that is read-only to its driver.
+--     counting, counting_guest      an endpoint with one register that its driver writes and one that it only reads; its guest
 --     byte_of part off      a byte of the function in slot 0
 --     counted      the guest after the device wrote 200 to the second register
---     CountingDevice      what the device reads and writes, what the driver reads then, and what is refused
+--     CountingDevice      the device's reads and writes, the driver's reads afterwards, and the refusals
 use Rattle.std.specs.Prelude.{[], ◌∷◌, ◌≡◌, ℕ, Some, false}
 use Rattle.model_registers.specs.Declarations.{mem32, Endpoint}
 use Rattle.model_board.specs.Examples.{plain, writable_cell, constant_cell}
@@ -28,7 +28,7 @@ pub record CountingDevice : Type 0 where
   pub beside : device_answer counted (device_reads (byte_of (in_region 0) 0)) ≡ answered 0 1
   -- the register after it has no cell
   pub no_cell : after_device_event counted (device_writes (byte_of (in_region 0) 2) 1) ≡ counted
-  -- its driver reads Status as the device wrote it
+  -- the driver reads Status as the device wrote it
   pub status :
       answer (after_device_event counting_guest (device_writes (byte_of in_config 6) 8))
       (access (record { target = configuration 0 6; width = 1; op = reads }))

@@ -1,6 +1,6 @@
--- Boards with guests at which the definitions are computed.
+-- Boards with guests, for worked examples.
 --     main_world      the main board with two guests
---     second_world      the functions of the first guest at other places, beside other functions
+--     second_world      the functions of the first guest at other places, with other functions around them
 --     demo_world      one endpoint without regions, and one guest
 --     wide_world      an endpoint with a region of each kind and each field of the header declared, and one guest
 use Rattle.std.specs.Prelude.{List, [], ◌∷◌, ℕ, true, false, ◌^◌, ◌++◌, Some, None, codes}
@@ -21,7 +21,7 @@ main_guests =
     record { name = codes "a"; slots = on_bus_0 1 ∷ behind 2 1 ∷ [] }
     ∷ record { name = codes "b"; slots = behind 2 0 ∷ [] } ∷ []
 
--- with another bridge and other apertures
+-- with a different bridge and different apertures
 abbrev pub main_world_with : Bridge → Apertures → World
 main_world_with d a = record { board = main_board_with d; apertures = a; guests = main_guests }
 
@@ -52,7 +52,7 @@ demo_world = record {
 abbrev pub writable_byte : Cell
 writable_byte = record { value = 0; writable = 0xff; clearable = 0 }
 
--- at 40h two registers of the device: one that is read and written in part, and one that the device raises
+-- two device-specific registers at 40h: one partly writable, and one that the device raises
 abbrev pub wide_endpoint : Endpoint
 wide_endpoint = record (plain_endpoint 0x1af4 0x1041 0x020080) {
   revision = 0x5a;

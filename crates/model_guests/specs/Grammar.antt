@@ -1,15 +1,15 @@
--- The words of a script's lines: what a guest asks, and what the host reads.
---     event_of      the words of a guest's line after its name
---     HostRead, host_read_of      a read by the host; the words of its line after `host`
---     Who      under whose name a line is answered
---     is_comment, is_long      the line makes no output; it is refused whatever stands in it
+-- The grammar of a script's lines: the accesses of guests, and the reads of the host.
+--     event_of      parses the words of a guest's line after its name
+--     HostRead, host_read_of      a read by the host; parses the words of its line after `host`
+--     Who      the name under which a line is answered
+--     is_comment, is_long      the line produces no output; the line is refused whatever its words are
 --     own_lines      the lines that begin with a guest's name
 use Rattle.std.specs.{Prelude.{List, [], ◌∷◌, ℕ, Bool, false, ◌&&◌, ◌==◌, if◌then◌else◌, length, ◌^◌, not, nat_lt, Option, Some, None, filter, codes, option_and_then}, List.list_any, Str.bytes_eq}
 use Rattle.lists.specs.Elements.{first_of_two}
 use Rattle.model_board.specs.Cycles.{BusAddress}
 use Rattle.model_guests.specs.{Accesses.{Target, configuration, port, address, Op, reads, writes, RaisePlace, in_config, in_region, Event, access, raises}, Text.{Text, words}, Numbers.{below, digits_in, number_of}}
 
--- what is made of a number, if it is one
+-- applies a function to a number, if there is one
 abbrev pub given : {A : Type 0} → Option ℕ → (ℕ → Option A) → Option A
 given o f = option_and_then f o
 
@@ -93,7 +93,7 @@ host_read_of (op ∷ a ∷ b ∷ w ∷ []) = on_word op (codes "cr")
     (option_and_then (λ (at : BusAddress). host_at (host_configuration at) b w) (bus_address a))
 host_read_of _ = None
 
--- under whose name a line answers
+-- the name under which a line is answered
 pub data Who : Type 0 where
   guest : Text → Who
   host : Who

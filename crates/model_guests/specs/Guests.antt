@@ -1,18 +1,18 @@
--- All guests as they are now: which function of the board stands in each slot, and what the guest alone holds.
---     GuestNow, GuestsNow      a guest: the path of the function in each slot, and the guest alone; all of them
+-- The current state of all guests: the function in each slot, and each guest's own state.
+--     GuestNow, GuestsNow      a guest: the path of the function in each slot, and its own state; all guests
 --     guests_at_first      the guests of a world before any event
---     guest_named, lone_of, with_guest      a guest by its name; what it holds; the guests with this one changed
+--     guest_named, lone_of, with_guest      a guest by its name; its state; the guests with this one changed
 --     guest_after, after_guest_event      a guest after an event of its own; all guests after it
---     path_in, function_in      which path has a slot of a guest, and what stands there
---     Move, move_fault, after_move      a function handed to a slot; the checks, in their order; all guests after it
---     file_of      the guest's file of the function at a path, wherever it is now
+--     path_in, function_in      the path in a slot of a guest, and the function there
+--     Move, move_fault, after_move      moves a function to another slot; the checks, in order; all guests after the move
+--     file_of      the guest's file of the function at a path, whichever guest has it
 use Rattle.std.specs.{Prelude.{List, [], ◌∷◌, ℕ, ◌-◌, ◌++◌, ◌||◌, not, if◌then◌else◌, nat_le, Option, Some, None, unwrap_or, slice_get, slice_set, map, find, length, replicate, is_some, option_map, option_and_then}, Option.option_map_or, Str.bytes_eq}
 use Rattle.lists.specs.Elements.{first_some}
 use Rattle.model_registers.specs.{Registers.File, Declarations.Endpoint, Decoding.Function}
 use Rattle.model_board.specs.Paths.{Path, path_eq}
 use Rattle.model_guests.specs.{Accesses.Event, Slots.{Slots, slot_at}, Text.Text, World.{Guest, World, declared}, Lone.{LoneGuest, after_event, reset_guest, filled, emptied}}
 
--- a slot has a path just where it has a function
+-- a slot has a path if and only if it has a function
 pub record GuestNow : Type 0 where
   pub name : Text
   pub paths : List (Option Path)
@@ -34,7 +34,7 @@ guests_at_first w = map (guest_at_first w) w.guests
 abbrev pub guest_named : GuestsNow → Text → Option GuestNow
 guest_named gs name = find (λ (g : GuestNow). bytes_eq g.name name) gs
 
--- a guest that is not there has no slot with a function
+-- a guest that doesn't exist has no functions
 abbrev pub lone_of : GuestsNow → Text → LoneGuest
 lone_of gs name = option_map_or (λ (g : GuestNow). g.lone) (guest_named gs name) (reset_guest [])
 
@@ -62,7 +62,7 @@ pub record Move : Type 0 where
   pub to : Text
   pub target : ℕ
 
--- a slot's number; a source without a function; a target with one
+-- the slots' numbers; a source without a function; a target with one
 abbrev pub move_fault : GuestsNow → Move → Option ℕ
 move_fault gs m =
     if nat_le 32 m.slot || nat_le 32 m.target then Some 303
@@ -75,7 +75,7 @@ with_slot_emptied n g = record g { paths = slice_set g.paths n None; lone = empt
 abbrev pub with_slot_filled : ℕ → Option Path → Endpoint → GuestNow → GuestNow
 with_slot_filled n p d g = record g { paths = slice_set g.paths n p; lone = filled n d g.lone }
 
--- nothing is carried over: in its new slot the function is at reset
+-- no state is carried over: in its new slot the function is at reset
 abbrev pub handed_over : Move → Option Path → Option Function → GuestsNow → GuestsNow
 handed_over m p None gs = gs
 handed_over m p (Some f) gs =

@@ -1,8 +1,8 @@
--- What the host reads from the board itself, by the reach and claims of the board: PCI Local Bus 3.0, chapter 3.2.2.3.2
+-- The host's reads of the board itself, routed and claimed by the board: PCI Local Bus 3.0, chapter 3.2.2.3.2
 -- (CONFIG_ADDRESS).
 --     host_fault      the checks of a host read
---     shown      what stands at a bus address, a port or a memory address
---     host_answer      the reply: a refusal, or what is shown
+--     shown      the value at a BDF, a port or a memory address
+--     host_answer      the reply: a refusal, or the value
 use Rattle.std.specs.{Prelude.{ℕ, Bool, false, ◌^◌, nat_le, Option}, Option.option_map_or}
 use Rattle.model_registers.specs.Registers.{all_bytes}
 use Rattle.model_board.specs.{State.State, Ports.{config_reply, port_reply, memory_reply}}
@@ -18,7 +18,7 @@ is_out_of_host_range (host_configuration at off) = nat_le 256 off
 is_out_of_host_range (host_port a) = nat_le (2 ^ 32) a
 is_out_of_host_range (host_address a) = false
 
--- 4 bytes at port CF8h show the address latch; as it is 0 between events, the ports behind it are like any others
+-- 4 bytes at port CF8h read CONFIG_ADDRESS; because it is 0 between events, CFCh to CFFh are ordinary ports
 abbrev pub shown : State → ℕ → HostTarget → ℕ
 shown s w (host_configuration at off) = config_reply s.functions at off (all_bytes w)
 shown s w (host_port a) = port_reply s a w

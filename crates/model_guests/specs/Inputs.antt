@@ -1,12 +1,12 @@
--- What decides a guest's replies: its own lines, and the moves that touch it.
---     Input, inputs gs name lines      an own line, or a done move out of or into a slot; those of lines, in their order
+-- The inputs that decide a guest's replies: its own lines, and the moves that involve it.
+--     Input, inputs gs name lines      an own line, or a successful move out of or into a slot; the inputs among some lines, in order
 --     lone_event, lone_reply      the event of an own line, and the reply to it
---     after_input, lone_output, after_inputs      what inputs write and leave over the guest alone
+--     after_input, lone_output, after_inputs      the output of inputs and the state after them, for the guest alone
 use Rattle.std.specs.{Prelude.{List, [], ◌∷◌, ℕ, if◌then◌else◌, ◌++◌, Option, Some, None, is_some, drop}, Str.bytes_eq}
 use Rattle.model_registers.specs.{Declarations.Endpoint, Decoding.Function}
 use Rattle.model_guests.specs.{Accesses.{Event, Reply, refused}, Text.{Text, words}, Grammar.{event_of, guest, is_own_line}, Replies.line_text, Lone.{LoneGuest, answer, after_event, filled, emptied}, Guests.{GuestsNow, Move, move_fault, function_in}, Lines.{Meaning, nothing, guest_event, host_read, host_move, bad, meaning}, WorldNow.{names_of, guests_after}}
 
--- a slot that loses its function, and a slot that gets one
+-- a slot loses its function, or gets one
 pub data Input : Type 0 where
   own_line : Text → Input
   loses : ℕ → Input
@@ -18,7 +18,7 @@ inputs_of_move name m (Some f) =
     (if bytes_eq m.from name then loses m.slot ∷ [] else [])
     ++ (if bytes_eq m.to name then gets m.target f.decl ∷ [] else [])
 
--- a refused move touches no one
+-- a refused move involves no guest
 abbrev pub inputs_of_meaning : Text → GuestsNow → Meaning → List Input
 inputs_of_meaning name gs nothing = []
 inputs_of_meaning name gs (guest_event n e) = []
@@ -31,18 +31,18 @@ abbrev pub inputs_of_line : GuestsNow → Text → Text → List Input
 inputs_of_line gs name line =
     if is_own_line name line then own_line line ∷ [] else inputs_of_meaning name gs (meaning (names_of gs) line)
 
--- neither the handoff nor what the host reads is among them
+-- neither the handoff nor the host's reads are inputs
 abbrev pub inputs : GuestsNow → Text → List Text → List Input
 inputs gs name [] = []
 inputs gs name (line ∷ more) =
     inputs_of_line gs name line ++ inputs (guests_after gs (meaning (names_of gs) line)) name more
 
--- ---- over the guest alone
+-- ---- for the guest alone
 
 abbrev pub lone_event : Text → Option Event
 lone_event line = event_of (drop 1 (words line))
 
--- an own line that is no event is a bad line
+-- an own line that isn't an event is a bad line
 abbrev pub lone_reply : LoneGuest → Option Event → Reply
 lone_reply g None = refused 401
 lone_reply g (Some e) = answer g e

@@ -1,10 +1,10 @@
--- Isolation: what a guest is told, and what it holds, depends on its own functions, its own lines and the moves that
--- touch it alone.
---     IsDecidedBy      a guest of a world is told what inputs write over its own functions, and holds what they leave
---     Isolated      over any handoff each guest's replies, and what it holds, are those of its own inputs
---     AgreeOn, TwoWorlds      worlds and scripts that agree on a guest's functions and inputs give it equal reply lines
+-- Isolation: a guest's replies and state depend only on its own functions, its own lines and the moves that
+-- involve it.
+--     IsDecidedBy      a guest's replies and state are those that its inputs give on its own functions
+--     Isolated      over any handoff, each guest's own inputs decide its replies and state
+--     AgreeOn, TwoWorlds      worlds and scripts that agree on a guest's functions and inputs give it the same reply lines
 --     HasNoMove, OwnLinesAlone      in a script without moves the inputs are the own lines
---     IsolatedByOwnLines, TwoWorldsByOwnLines      so there a guest's own lines alone decide
+--     IsolatedByOwnLines, TwoWorldsByOwnLines      so the guest's own lines alone decide
 use Rattle.std.specs.Prelude.{List, ◌≡◌, Bool, true, false, map, IsTrue, IsFalse}
 use Rattle.lists.specs.Elements.{Each}
 use Rattle.model_board.specs.State.{State}
@@ -26,7 +26,7 @@ pub record AgreeOn (name : Text) (v w : World) (s t : Text) : Type 0 where
   pub declarations : declarations v name ≡ declarations w name
   pub inputs : inputs (guests_at_first v) name (lines s) ≡ inputs (guests_at_first w) name (lines t)
 
--- whatever firmware handed over
+-- whatever handoff firmware left
 abbrev pub TwoWorlds : Type 0
 TwoWorlds = (name : Text) (v w : World) (one other : Text) → HasLawfulNames v → HasLawfulNames w
     → AgreeOn name v w one other → (s t : State)
@@ -53,7 +53,7 @@ IsolatedByOwnLines = (w : World) → HasLawfulNames w → (s : State) (name scri
     → IsTrue (has_name (names w) name) → HasNoMove w script
     → IsDecidedBy (map own_line (own_lines name (lines script))) w (world_over w s) name script
 
--- the same of two scripts whose own lines of the guest are equal
+-- the same for two scripts in which the guest's own lines are equal
 pub record AgreeOnOwnLines (name : Text) (v w : World) (s t : Text) : Type 0 where
   pub in_first : IsTrue (has_name (names v) name)
   pub in_second : IsTrue (has_name (names w) name)

@@ -1,11 +1,11 @@
--- Runs of lines over anything that answers one line at a time, in pieces as they are read.
---     Protocol      what a line writes, and what there is after it
+-- Runs of lines through anything that answers one line at a time, in the pieces in which they are read.
+--     Protocol      the output of a line, and the state after it
 --     output, after_lines      the same along lines
 --     IsCut      a failed read ended the run
 --     IsStopped      a failed write or flush ended it
---     CutIsBeginning, StoppedIsBeginning      either way a beginning of the output was written
---     OutputAlong, AfterAlong      what pieces write and leave, one after the other
---     LinesOfPieces      whole lines before more text are its first lines
+--     CutIsBeginning, StoppedIsBeginning      in either case a prefix of the output was written
+--     OutputAlong, AfterAlong      the output of pieces and the state after them, one after the other
+--     LinesOfPieces      complete lines before more text are its first lines
 use Rattle.std.specs.{Prelude.{◌≡◌, ◌++◌, List, [], ◌∷◌, Option, take, IsFalse}, List.list_any, Io.{StartsWith, KnownBytes.{Appends, Consumes}}}
 use Rattle.lists.specs.Elements.{Each}
 use Rattle.model_guests.specs.Text.{Text, ends_line, lines, text_of_lines}
@@ -25,7 +25,7 @@ after_lines p s (line ∷ more) = after_lines p (p.next s line) more
 abbrev pub HasNoEnd : Text → Type 0
 HasNoEnd line = IsFalse (list_any ends_line line)
 
--- the lines that were read up to their LF ran, and their output was written whole; of the next line a part was read
+-- the lines read up to their LF ran, and their whole output was written; the next line was read only in part
 pub record IsCut {S : Type 0} (p : Protocol S) (s : S) (old_rest new_rest old new : Option Text) (end : S)
     : Type 0 where
   pub whole : List Text
@@ -40,7 +40,7 @@ abbrev pub first_output : {S : Type 0} → Protocol S → S → List Text → Te
 first_output p s [] = []
 first_output p s (line ∷ more) = p.writes s line
 
--- the outputs of the lines `whole` were written whole, and of the next line's a beginning;
+-- the outputs of the lines `whole` were written completely, and that of the next line in part;
 -- the events of these lines and of that next one ran
 pub record IsStopped {S : Type 0} (p : Protocol S) (s : S) (lines : List Text) (old new : Option Text) (end : S)
     : Type 0 where
@@ -52,7 +52,7 @@ pub record IsStopped {S : Type 0} (p : Protocol S) (s : S) (lines : List Text) (
   pub written : Appends old new (output p s whole ++ part)
   pub events : end ≡ after_lines p s (whole ++ take 1 rest)
 
--- ---- what was written
+-- ---- the written output
 
 pub record WritesBeginning {S : Type 0} (p : Protocol S) (s : S) (lines : List Text) (old new : Option Text)
     : Type 0 where
@@ -65,7 +65,7 @@ StoppedIsBeginning {S} p = (s : S) (ls : List Text) (old new : Option Text) (end
     → IsStopped p s ls old new end
     → WritesBeginning p s ls old new
 
--- of the output of what was read
+-- of the output of the part that was read
 abbrev pub CutIsBeginning : {S : Type 0} → Protocol S → Type 0
 CutIsBeginning {S} p = (s : S) (old_rest new_rest old new : Option Text) (end : S)
     → IsCut p s old_rest new_rest old new end

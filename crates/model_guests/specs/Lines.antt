@@ -1,5 +1,5 @@
--- What the lines of a script mean.
---     move_of names ws      the words of a host's line: a move between guests that are there
+-- The meaning of a script's lines.
+--     move_of names ws      parses a move from the words of a host's line; both guests exist
 --     Meaning, meaning names line      an event of a guest, a read or a move by the host, a refusal, or nothing
 use Rattle.std.specs.{Prelude.{List, [], ◌∷◌, ℕ, ◌&&◌, if◌then◌else◌, Option, Some, None, codes}, Str.bytes_eq}
 use Rattle.model_guests.specs.{Accesses.Event, Text.{Text, words}, Numbers.number_of, Grammar.{given, on_word, event_of, HostRead, host_read_of, Who, guest, host, nobody, has_name, is_comment, is_long}, Guests.Move}
@@ -38,6 +38,6 @@ meaning_of_words names (w ∷ ws) =
     else (if bytes_eq w (codes "host") then read_or_move (host_read_of ws) (move_of names ws)
     else (if has_name names w then event_or_bad w (event_of ws) else bad nobody 402))
 
--- a long line is bad whatever stands in it
+-- a long line is bad, whatever its words are
 abbrev pub meaning : List Text → Text → Meaning
 meaning names line = if is_long line then bad nobody 403 else meaning_of_words names (words line)

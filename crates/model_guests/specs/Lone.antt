@@ -1,10 +1,10 @@
--- What one guest does when nothing else exists: 32 slots, and an address latch of its own.
+-- The behavior of one guest by itself: 32 slots, and its own CONFIG_ADDRESS.
 -- PCI Local Bus 3.0, chapter 3.2.2.3.2 (CONFIG_ADDRESS and CONFIG_DATA).
---     LoneGuest      the slots and the latch as they are now
---     Select, select_at latch a      what port a is by the latch: an ordinary one, or CONFIG_DATA of none or of a slot
---     Destination, destination      where an access goes: the latch, no function, or a slot, a port or an address
+--     LoneGuest      the current slots and CONFIG_ADDRESS
+--     Select, select_at latch a      the target of port a: an ordinary port, or CONFIG_DATA of a slot or of no function
+--     Destination, destination      the target of an access: CONFIG_ADDRESS, no function, or a slot, a port or an address
 --     answer, after_event      the reply to an event, and the guest after it
---     filled n d, emptied n      a function comes into slot n, at reset, or leaves it
+--     filled n d, emptied n      a function arrives in slot n, at reset, or leaves it
 --     reset_guest      the guest at reset
 use Rattle.std.specs.{Prelude.{List, ℕ, ◌&&◌, ◌==◌, if◌then◌else◌, not, Option, None, Some, slice_set, is_some}, Option.option_map_or}
 use Rattle.model_registers.specs.{Declarations.Endpoint, ConfigAddress.{latched, is_enabled, selected_bus, selected_device, selected_function, is_address_port, is_data_port, selected_offset}}
@@ -14,13 +14,13 @@ pub record LoneGuest : Type 0 where
   pub slots : Slots
   pub latch : ℕ
 
--- a slot at an offset of its configuration space
+-- an offset in the configuration space of a slot
 pub data Select : Type 0 where
   ordinary : Select
   nowhere : Select
   in_slot : ℕ → ℕ → Select
 
--- the guest sees its slots as the devices of bus 0, each with function 0 alone
+-- the guest sees its slots as the devices of bus 0, each with function 0 only
 abbrev pub select_at : ℕ → ℕ → Select
 select_at latch a =
     if not (is_enabled latch && is_data_port a) then ordinary
@@ -37,7 +37,7 @@ by_select t ordinary = at_target t
 by_select t nowhere = no_function
 by_select t (in_slot n off) = at_target (configuration n off)
 
--- CONFIG_ADDRESS and CONFIG_DATA come before the guest's regions
+-- CONFIG_ADDRESS and CONFIG_DATA take precedence over the guest's regions
 abbrev pub destination : ℕ → ℕ → Target → Destination
 destination latch w (configuration slot off) = at_target (configuration slot off)
 destination latch w (port a) = if is_address_port a w then own_latch else by_select (port a) (select_at latch a)
@@ -63,7 +63,7 @@ abbrev pub changed_by : LoneGuest → Event → LoneGuest
 changed_by g (access a) = after_access_at g a.op a.width (destination g.latch a.width a.target)
 changed_by g (raises r) = record g { slots = affected g.slots (raises r) }
 
--- the reply to an event: a refusal, or what it does; the checks come first
+-- the reply to an event: a refusal, or the result; the checks come first
 abbrev pub answer : LoneGuest → Event → Reply
 answer g e = option_map_or refused (event_fault g.slots e) (performed g e)
 

@@ -1,15 +1,15 @@
--- What a move does to the guests, by their indices.
---     MoveWithin      within one guest: its slot is emptied, then its other slot filled
+-- The effect of a move on the guests, by their indices.
+--     MoveWithin      within one guest: its source slot is emptied, then its target slot filled
 --     MoveBetween      from one guest to another: a slot of the first is emptied, and one of the second filled
---     InputsWithin      a guest that hands a function to itself loses it, then gets it
---     MovedFunction      afterwards the target slot has the function of the path, at reset, and the source none
+--     InputsWithin      a guest that moves a function within itself loses it, then gets it
+--     MovedFunction      afterwards the target slot has the function at the path, at reset, and the source slot is empty
 use Rattle.std.specs.{Prelude.{[], ◌∷◌, ◌≡◌, ℕ, false, Some, None, IsFalse, IsSome, slice_get, slice_set}, Str.bytes_eq}
 use Rattle.lists.specs.Elements.{EachPair}
 use Rattle.model_registers.specs.{Decoding.Function, EndpointTable.endpoint_reset}
 use Rattle.model_board.specs.{Paths.Path, Board.Board}
 use Rattle.model_guests.specs.{Guests.{GuestNow, GuestsNow, guest_named, path_in, function_in, Move, move_fault, with_slot_emptied, with_slot_filled, after_move}, Inputs.{loses, gets, inputs_of_move}, Seated.AreSeated}
 
--- a move that is not refused, of this function at this path, from this guest
+-- an accepted move of this function at this path, from this guest
 pub record IsDone (gs : GuestsNow) (m : Move) (p : Path) (f : Function) (i : ℕ) (g : GuestNow) : Type 0 where
   pub names_apart : EachPair (λ (g h : GuestNow). IsFalse (bytes_eq g.name h.name)) gs
   pub not_refused : move_fault gs m ≡ None

@@ -13,7 +13,7 @@ digit_of c =
 abbrev pub below : ℕ → Option ℕ → Option ℕ
 below limit n = option_and_then (λ (k : ℕ). if nat_lt k limit then Some k else None) n
 
--- the number that the digits so far make, followed by these
+-- the number that the digits so far encode, followed by these
 abbrev pub digits_from : ℕ → ℕ → Text → Option ℕ
 digits_from base n [] = Some n
 digits_from base n (c ∷ cs) = option_and_then (λ (d : ℕ). digits_from base (n * base + d) cs) (below base (digit_of c))

@@ -1,6 +1,6 @@
--- Numbers and paths as they are written.
---     hexadecimal      a number, from its first digit on
---     part_text, path_text      a device and a function; these from bus 0 down, parted by slashes
+-- The texts of numbers and paths.
+--     hexadecimal      0x and a number's hexadecimal digits, without leading zeros
+--     part_text, path_text      a device and a function; these from bus 0 down, separated by slashes
 use Rattle.std.specs.{Prelude.{ℕ, false, ◌++◌, map, codes, decimal}, Fmt.digits, List.join_with_byte}
 use Rattle.model_board.specs.Paths.{Part, Path}
 use Rattle.model_guests.specs.Text.{Text}

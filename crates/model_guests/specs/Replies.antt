@@ -1,8 +1,8 @@
 -- Replies as text.
---     hex_digits      a number in a fixed count of lower-case digits
---     refusal_words      what each number of a refusal says
---     reply_text, line_text      a reply; a reply under the name of who is told
---     reply_lines      the lines of a text that speak to a guest
+--     hex_digits      a number in a fixed number of lower-case digits
+--     refusal_words      the message of each refusal
+--     reply_text, line_text      a reply; a reply with the name of its receiver
+--     reply_lines      the lines of a text that answer a guest
 use Rattle.std.specs.{Prelude.{List, [], ◌∷◌, ℕ, zero, suc, ◌*◌, ◌/◌, ◌%◌, false, ◌==◌, if◌then◌else◌, ◌++◌, filter, codes, decimal}, Fmt.digit_glyph, List.starts_with}
 use Rattle.model_guests.specs.{Accesses.{Reply, answered, done, refused}, Text.{Text, lines}, Grammar.{Who, guest, host, nobody}}
 

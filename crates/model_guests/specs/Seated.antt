@@ -1,7 +1,7 @@
--- Where guests' functions stand on the board, whatever events and moves there were.
---     IsSeatedAt, IsSeat, AreSeats      a slot has a function just where it has a path, and it is the endpoint there
---     IsSeatedGuest, AreSeated      32 such slots each, and no name and no path twice
---     SeatedAtFirst, SeatedAfterEvents, SeatedAfterMoves, SeatedAlong      so it is at first, and so it stays
+-- The guests' functions are on the board, whatever events and moves occurred.
+--     IsSeatedAt, IsSeat, AreSeats      a slot has a function if and only if it has a path, and it is the endpoint there
+--     IsSeatedGuest, AreSeated      32 such slots in each guest, with unique names and paths
+--     SeatedAtFirst, SeatedAfterEvents, SeatedAfterMoves, SeatedAlong      this holds at first, and is preserved
 --     ByIndex      a guest by its index
 use Rattle.std.specs.{Prelude.{List, [], ◌∷◌, ◌≡◌, ℕ, false, Option, Some, None, ⊤, IsFalse, length, slice_get, slice_set}, Str.bytes_eq}
 use Rattle.lists.specs.Elements.{Each, EachPair}
@@ -51,7 +51,7 @@ abbrev pub SeatedAlong : Type 0
 SeatedAlong = (b : Board) (w : WorldNow) → AreSeated b w.guests → (ls : List Text)
     → AreSeated b (after_lines w ls).guests
 
--- where no name stands twice, the guest at an index is the guest of its name
+-- if names are unique, the guest at an index is the guest with its name
 abbrev pub ByIndex : Type 0
 ByIndex = (gs : GuestsNow) → EachPair (λ (g h : GuestNow). IsFalse (bytes_eq g.name h.name)) gs
     → (i : ℕ) (g : GuestNow) → slice_get gs i ≡ Some g

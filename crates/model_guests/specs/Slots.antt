@@ -1,16 +1,16 @@
--- What the functions in one guest's slots do by themselves: no bus, no bridge, no physical address.
---     fault_of, raise_fault, event_fault      the checks of an access, of a raise and of either
+-- The functions in one guest's slots by themselves: no bus, no bridge, no physical address.
+--     fault_of, raise_fault, event_fault      the checks of an access, of a raise, and of either
 --     Slots      32 slots, each empty or with a function: its declaration and its register file
---     landing      where an access lands; regions decode by their own registers, as in PCI Local Bus 3.0, chapter 6.2.5
---     perform, effect      what an access that landed there replies, and the slots after it
---     raise_landing, affected      where a raise sets bits; the slots after an event that no check refused
+--     landing      the target of an access; regions decode by their own registers, as in PCI Local Bus 3.0, chapter 6.2.5
+--     perform, effect      the reply to an access at this target, and the slots after it
+--     raise_landing, affected      the byte in which a raise sets bits; the slots after an accepted event
 --     reset_slots      the slots at reset
 use Rattle.std.specs.{Prelude.{List, [], ◌∷◌, ℕ, ◌-◌, ◌+◌, ◌%◌, Bool, false, ◌&&◌, ◌==◌, if◌then◌else◌, replicate, length, ◌^◌, ◌++◌, not, ◌||◌, nat_lt, nat_le, Option, Some, None, map, slice_get, slice_set, unwrap_or, is_some, option_map}, List.list_any, Option.option_map_or}
 use Rattle.lists.specs.Elements.{first_of_two}
 use Rattle.model_registers.specs.{Registers.{Place, config, block, File, write, raise, all_bytes, number, all_ones}, Declarations.Endpoint, EndpointTable.endpoint_reset, Decoding.{Space, io, memory, Function, Hit, lone_claim}}
 use Rattle.model_guests.specs.Accesses.{Target, configuration, port, address, Op, reads, writes, Access, RaisePlace, in_config, in_region, Raise, Event, access, raises, Reply, answered, done}
 
--- the three checks of any access, in their order: the width, the alignment of its place, the range
+-- the three checks of any access, in order: its width, its alignment, its range
 abbrev pub access_fault : ℕ → ℕ → Bool → Option ℕ
 access_fault width at out_of_range =
     if not (width == 1 || width == 2 || width == 4) then Some 302
@@ -36,7 +36,7 @@ Slots = List (Option Function)
 abbrev pub slot_at : Slots → ℕ → Option Function
 slot_at slots n = unwrap_or (slice_get slots n) None
 
--- where an access lands: a slot and a place in its function's file
+-- the target of an access: a slot and a place in its function's file
 pub record Landing : Type 0 where
   pub slot : ℕ
   pub place : Place
@@ -75,7 +75,7 @@ effect reads w slots l = slots
 effect (writes v) w slots None = slots
 effect (writes v) w slots (Some l) = with_file (write (all_bytes w) v l.place) l.slot slots
 
--- the place that a raise names in a function, unless its offset lies past the end
+-- the place that a raise names in a function, or `None` if its offset is past the end
 abbrev pub raise_place : Function → RaisePlace → ℕ → Option Place
 raise_place f in_config off = if nat_lt off 256 then Some (config off) else None
 raise_place f (in_region n) off =
@@ -85,7 +85,7 @@ abbrev pub raise_landing : Option Function → Raise → Option Place
 raise_landing None r = None
 raise_landing (Some f) r = raise_place f r.part r.offset
 
--- the checks of a raise, in their order: the slot's number, the slot's function, the place in it
+-- the checks of a raise, in order: the slot's number, the slot's function, the place in it
 abbrev pub raise_fault : Slots → Raise → Option ℕ
 raise_fault slots r =
     if nat_le 32 r.slot then Some 303
@@ -101,7 +101,7 @@ affected slots (access a) = effect a.op a.width slots (landing slots a.target)
 affected slots (raises r) = option_map_or (λ (p : Place). with_file (raise r.mask p) r.slot slots)
     (raise_landing (slot_at slots r.slot) r) slots
 
--- the 32 slots at reset; the header type never tells what else the device holds
+-- the 32 slots at reset; the header type never shows that the device has other functions
 abbrev pub reset_function : Option Endpoint → Option Function
 reset_function None = None
 reset_function (Some d) = Some (record { decl = d; file = endpoint_reset d false })

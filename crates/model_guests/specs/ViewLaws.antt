@@ -1,5 +1,5 @@
--- A guest's file is the board's with the guest's copies put in: a monitor keeps the copies alone.
---     ViewIsFile      of a board that agrees with the guest's file, the view is that file
+-- A guest's file is the board's file with the guest's copies inserted: a monitor stores only the copies.
+--     ViewIsFile      on a board that agrees with the guest's file, the view is that file
 --     ViewAgrees      the board agrees with its own view, whatever the copies hold
 use Rattle.std.specs.Prelude.{◌≡◌, IsTrue, IsFalse}
 use Rattle.model_registers.specs.{Registers.{Place, place_eq, File, cell_at}, OwnCopies.is_own, CopiedFiles.{places_of, agreed_file, with_copies}}

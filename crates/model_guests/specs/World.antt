@@ -1,7 +1,7 @@
 -- A board with its apertures and guests.
 --     Guest, World      a name with the paths of its slots; a board, its apertures and guests
---     paths_of, declarations      the paths of a guest's slots, and what stands there
---     HasLawfulNames, HasLawfulGuests, IsLawfulWorld      what holds of any board and guests that a board file gives
+--     paths_of, declarations      the paths of a guest's slots, and the declarations there
+--     HasLawfulNames, HasLawfulGuests, IsLawfulWorld      the properties of every board and guests that a board file defines
 use Rattle.std.specs.{Prelude.{List, [], ◌∷◌, ℕ, Bool, false, ◌&&◌, ◌||◌, ◌≤◌, length, not, nat_le, Option, Some, None, map, find, flat_map, codes, IsTrue, IsFalse, IsSome}, List.list_all, Option.option_map_or, Str.bytes_eq}
 use Rattle.lists.specs.Elements.{Each, EachPair}
 use Rattle.model_registers.specs.{Declarations.Endpoint, Apertures.Apertures}
@@ -24,7 +24,7 @@ names w = map (λ g. g.name) w.guests
 abbrev pub endpoint_of : Row → Option Endpoint
 endpoint_of r = elim r.decl [ endpoint d ↦ Some d | bridge d ↦ None ]
 
--- the endpoint that stands at a path
+-- the endpoint at a path
 abbrev pub declared : Board → Path → Option Endpoint
 declared b p = option_map_or endpoint_of (find (λ r. path_eq r.path p) b) None
 
@@ -32,7 +32,7 @@ declared b p = option_map_or endpoint_of (find (λ r. path_eq r.path p) b) None
 abbrev pub paths_of : World → Text → List Path
 paths_of w name = option_map_or (λ (g : Guest). g.slots) (find (λ g. bytes_eq g.name name) w.guests) []
 
--- what stands there
+-- the declarations there
 abbrev pub declarations : World → Text → List (Option Endpoint)
 declarations w name = map (declared w.board) (paths_of w name)
 
@@ -51,12 +51,12 @@ is_name (c ∷ cs) = is_letter c && list_all is_name_byte cs && nat_le (length c
 abbrev pub HasLawfulNames : World → Type 0
 HasLawfulNames w = Each (λ n. IsTrue (is_name n)) (names w)
 
--- the paths in all slots, guest after guest
+-- the paths in all slots, guest by guest
 abbrev pub given_paths : World → List Path
 given_paths w = flat_map (λ g. g.slots) w.guests
 
--- at most 32 guests with lawful names, none twice; at most 32 slots each, each with an endpoint of the board,
--- and none in two slots
+-- at most 32 guests with distinct lawful names; at most 32 slots each, each with an endpoint of the board,
+-- and no endpoint in two slots
 pub record HasLawfulGuests (w : World) : Type 0 where
   pub few_guests : length w.guests ≤ 32
   pub lawful_names : HasLawfulNames w

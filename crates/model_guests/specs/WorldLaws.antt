@@ -1,7 +1,7 @@
--- Laws of what lines do to a world.
+-- Laws of the effect of lines on a world.
 --     NamesStay, NamesAlong      no guest's name changes
---     HandoffStays      nor does the handoff
---     LongLinesAlike      a line of more than 200 bytes writes the same whatever stands in it, and changes nothing
+--     HandoffStays      the handoff doesn't change
+--     LongLinesAlike      a line of more than 200 bytes has the same output whatever its words are, and changes nothing
 use Rattle.std.specs.Prelude.{◌≡◌, List, IsTrue}
 use Rattle.model_board.specs.State.{State}
 use Rattle.model_guests.specs.{Text.Text, Grammar.is_long, World.{World, names}, WorldNow.{WorldNow, world_over, names_now, line_output, after_line, after_lines}}

@@ -1,17 +1,17 @@
--- A world as it is now, and what a script does to it line by line.
---     WorldNow      the state in which the board was handed over, and the guests as they are now
+-- The current state of a world, and the effect of a script on it, line by line.
+--     WorldNow      the handoff of the board, and the current guests
 --     world_over w s      a world before any line, over a handoff
 --     names_now, board_state      the guests' names; the state of the board
---     host_reply, move_reply      what the host is told
---     line_output, after_line      what a line writes, and the world after it
---     world_protocol      the two as a protocol
+--     host_reply, move_reply      the reply to the host
+--     line_output, after_line      the output of a line, and the world after it
+--     world_protocol      both as a protocol
 --     output, after_lines      the same along lines
 use Rattle.std.specs.{Prelude.{List, [], ◌∷◌, map}, Option.option_map_or}
 use Rattle.model_board.specs.State.{State}
 use Rattle.model_guests.specs.{Accesses.{Reply, done, refused}, Text.{Text, text_of_lines}, Grammar.{HostRead, guest, host}, World.World, HostReads.host_answer, Replies.line_text, Lone.answer, Guests.{GuestNow, GuestsNow, guests_at_first, lone_of, after_guest_event, Move, move_fault, after_move}, AgreedBoard.state_over, Lines.{Meaning, nothing, guest_event, host_read, host_move, bad, meaning}, LineRuns.Protocol}
 use Rattle.model_guests.specs.LineRuns as runs
 
--- the board's registers stand nowhere here: the guests and the handoff tell them
+-- the board's registers aren't stored here: the guests and the handoff determine them
 pub record WorldNow : Type 0 where
   pub handoff : State
   pub guests : GuestsNow

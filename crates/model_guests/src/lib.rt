@@ -42,8 +42,7 @@ pub fn guests_stay_seated()
 {}
 
 /// Proves that an event in a guest's function changes the board in that function only. A write, a
-/// raise or a reset reaches the board through the bytes that the guest has no copies of, and
-/// through no others.
+/// raise or a reset changes on the board only bytes that the guest has no copies of.
 pub fn agreement_follows()
     ensures writes { WritesAlike }
     ensures raises { RaisesAlike }

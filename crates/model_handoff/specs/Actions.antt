@@ -1,10 +1,10 @@
--- Isolation along calls, gifts and takings, in any order. What a guest is told, and what it holds then, depends on its own
--- functions, its own events, those at its devices, and the moves, gifts and takings that touch it alone.
---     Action      a call, or a function that is given or taken
---     after_action, after_actions      the world after it, and after actions
---     told_by, all_told_by      what a guest is told
---     inputs_of_action, action_inputs      what is a guest's own of it, in the words of calls
---     IsolatedByActions      they decide
+-- Isolation along any sequence of calls, assignments and unassignments. A guest's replies and state depend only on its own
+-- functions, its own events, the events at its devices, and the moves, assignments and unassignments that involve it.
+--     Action      a call, or assigning or unassigning a function
+--     after_action, after_actions      the world after one action, and after several
+--     told_by, all_told_by      the replies to a guest
+--     inputs_of_action, action_inputs      the parts of an action that concern a guest, as inputs of calls
+--     IsolatedByActions      these inputs decide the guest's replies and state
 use Rattle.std.specs.{Prelude.{ℕ, ◌≡◌, List, [], ◌∷◌, ◌++◌, if◌then◌else◌, is_some, Option, Some, None, IsSome}, Str.bytes_eq}
 use Rattle.model_registers.specs.Declarations.{Endpoint}
 use Rattle.model_board.specs.AtReset.{board_at}
@@ -25,7 +25,7 @@ abbrev pub after_actions : WorldNow → List Action → WorldNow
 after_actions w [] = w
 after_actions w (a ∷ more) = after_actions (after_action w a) more
 
--- of a gift and of a taking the host is told, as of a move
+-- the host gets the reply to assigning and unassigning, as to a move
 abbrev pub told_by : Text → WorldNow → Action → List Reply
 told_by name w (calls c) = told name w c
 told_by name w (gives g) = []
@@ -35,13 +35,13 @@ abbrev pub all_told_by : Text → WorldNow → List Action → List Reply
 all_told_by name w [] = []
 all_told_by name w (a ∷ more) = told_by name w a ++ all_told_by name (after_action w a) more
 
--- ---- what is the guest's own
+-- ---- the guest's inputs
 
 abbrev pub inputs_of_gift : Text → Gift → Option Endpoint → List CallInput
 inputs_of_gift name g None = []
 inputs_of_gift name g (Some d) = if bytes_eq g.to name then moved (gets g.slot d) ∷ [] else []
 
--- what is refused touches no one
+-- a refused action involves no guest
 abbrev pub inputs_of_action : Text → WorldNow → Action → List CallInput
 inputs_of_action name w (calls c) = inputs_of_call name w.guests c
 inputs_of_action name w (gives g) =
@@ -57,7 +57,7 @@ pub record AreDecidedBy (is : List CallInput) (w : WorldNow) (name : Text) (acti
   pub replies : all_told_by name w actions ≡ all_alone_told (lone_of w.guests name) is
   pub holds : lone_of (after_actions w actions).guests name ≡ after_own_calls (lone_of w.guests name) is
 
--- in any world as it is now
+-- in any current world
 abbrev pub IsolatedByActions : Type 0
 IsolatedByActions = (w : WorldNow) (name : Text) → IsSome (guest_named w.guests name) → (actions : List Action)
     → AreDecidedBy (action_inputs name w actions) w name actions

@@ -1,7 +1,7 @@
--- Guests on a board that is set up: what set-up leaves is one handoff among all.
---     world_at_first w      a world before any line, over what set-up leaves
---     IsIsolated, SetUpIsolates      each guest's replies, and what it holds, are those of its own inputs
---     SetUpTwoWorlds      worlds and scripts that agree on a guest's functions and inputs give it equal reply lines
+-- Guests on a board after set-up, which is one possible handoff.
+--     world_at_first w      a world before any line, over the handoff from set-up
+--     IsIsolated, SetUpIsolates      each guest's own inputs decide its replies and its state
+--     SetUpTwoWorlds      worlds and scripts that agree on a guest's functions and inputs give it the same reply lines
 use Rattle.std.specs.Prelude.{◌≡◌, IsTrue}
 use Rattle.model_set_up.specs.SetUp.{set_up_state}
 use Rattle.model_guests.specs.{Text.{Text, lines}, Grammar.has_name, World.{World, names, HasLawfulNames}, Replies.reply_lines, Guests.guests_at_first, WorldNow.{WorldNow, world_over, output}, Inputs.inputs, Isolation.{IsDecidedBy, AgreeOn}}

@@ -1,12 +1,12 @@
--- What it is that a state of the board agrees with guests over a handoff, and what no guest can change of it.
+-- When a state of the board agrees with the guests over a handoff, and the parts of it that no guest can change.
 --     OverBoards, OverHandoffs      over any state of a lawful board, over any handoff, whatever guests are seated there
---     StateAgrees, StateIsOnly      there is a state that agrees, and no other
---     FirstIsReset, FirstIsHandoff      before any event the given functions are at reset; if they were, it is the handoff
---     KeepsBoard, KeepsRouting      the same functions, with the routing registers that were handed over
---     KeepsBridges      no guest has a bridge: bus numbers and windows are as they were handed over
---     KeepsNumbers      so where the bridges have the numbers of the board, they keep them
---     KeepsReach, KeepsAddresses      configuration cycles reach what they reached, by the same addresses
---     KeepsProblems, StaysInOrder      an audit tells what it told of the handoff; so an orderly board stays so
+--     StateAgrees, StateIsOnly      exactly one state agrees with the guests
+--     FirstIsReset, FirstIsHandoff      before any event the assigned functions are at reset; if they were before, the state is the handoff
+--     KeepsBoard, KeepsRouting      the functions and the routing registers are those of the handoff
+--     KeepsBridges      no guest has a bridge: bus numbers and windows are those of the handoff
+--     KeepsNumbers      so if the bridges hold the board's bus numbers, they keep them
+--     KeepsReach, KeepsAddresses      configuration cycles reach the same functions at the same BDFs
+--     KeepsProblems, StaysInOrder      an audit gives the same result as for the handoff, so a consistent board stays consistent
 use Rattle.std.specs.Prelude.{◌≡◌, option_map, IsTrue}
 use Rattle.lists.specs.Elements.{Each}
 use Rattle.model_board.specs.{Board.is_bridge, Paths.Path, AtReset.board_at, State.State, Cycles.{BusAddress, reached}, Routing.routing}
@@ -49,7 +49,7 @@ abbrev pub KeepsNumbers : Type 0
 KeepsNumbers = OverBoards (λ s gs. HasNumbers (board_at s.functions) s.functions
     → HasNumbers (board_at s.functions) (state_over s gs).functions)
 
--- the function as it is now
+-- the function with its current cells
 abbrev pub KeepsReach : Type 0
 KeepsReach = OverBoards (λ s gs. (at : BusAddress)
     → reached (state_over s gs).functions at ≡ option_map (agreed_function (file_of gs)) (reached s.functions at))

@@ -1,16 +1,16 @@
--- How often the regions of a guest's functions may have come to stand elsewhere: PCI Local Bus 3.0, chapter 6.2.5.
---     lands_own g t w      w bytes at a place land on a byte of Command or of a base address register of the guest
---     moves_own g e      an event of the guest that is not refused, and writes such a byte, whatever value
---     moves_by_call name gs c      such an event of the guest, a move that is done out of a slot of the guest or into one,
---                                  or a reset that is done in one
---     changes name w a      such a call, or a gift or a taking that is done there
---     changes_along name w as      how many of these actions do so
---     after_change t n      a count after an action: one more where it changes, modulo 2^64
+-- Counts the events that may move regions of a guest's functions: PCI Local Bus 3.0, chapter 6.2.5.
+--     lands_own g t w      w bytes at a place include a byte of the guest's Command or base address registers
+--     moves_own g e      an accepted event of the guest that writes such a byte, with any value
+--     moves_by_call name gs c      such an event of the guest, a successful move out of or into one of the guest's slots,
+--                                  or a successful reset in one
+--     changes name w a      such a call, or a successful assignment or unassignment in one of its slots
+--     changes_along name w as      how many of these actions change the guest
+--     after_change t n      a count after an action: one more if the action changes the guest, modulo 2^64
 --     counts_after      the counts of all guests, in the order of their names
 --     MachineNow, after_on_machine      a world with a count for each of its guests, and after an action
---     after_line_on_machine, after_all_on_machine      and after a line of a script, and after actions
---     machine_protocol      what a line of a script writes, and the machine after it, as a protocol
---     BeginsIn P m      P of the world of a machine, whose counts are 0
+--     after_line_on_machine, after_all_on_machine      and after a line of a script, and after several actions
+--     machine_protocol      the output of a line of a script, and the machine after it, as a protocol
+--     BeginsIn P m      P holds for the world of a machine whose counts are 0
 use Rattle.std.specs.{Prelude.{◌≡◌, ◌+◌, ◌^◌, ◌%◌, ◌&&◌, ◌||◌, ℕ, Bool, false, not, List, [], ◌∷◌, if◌then◌else◌, is_some, map}, Option.option_map_or, Str.bytes_eq}
 use Rattle.model_guests.specs.{Accesses.{Target, Event, access, raises}, Slots.{Landing, fault_of}, Text.Text, Lone.LoneGuest, Guests.{GuestNow, GuestsNow, lone_of, move_fault}, Lines.{nothing, guest_event, host_read, host_move, bad, meaning}, DeviceEvents.{resets, device_reads, device_writes, slot_fault}, Calls.{Call, asks, at_device}, WorldNow.{WorldNow, names_now, line_output}, LineRuns.Protocol}
 use Rattle.model_handoff.specs.{Located.located, StayLaws.{any_tells, is_write}, Giving.{give_fault, take_fault}, Actions.{Action, calls, gives, takes, after_action}}
@@ -48,7 +48,7 @@ changes_along name w (a ∷ more) =
 abbrev pub after_change : Bool → ℕ → ℕ
 after_change t n = if t then (n + 1) % 2 ^ 64 else n
 
--- the counts past the last name stay
+-- the counts after the last name stay
 abbrev pub counts_where : (Text → Bool) → List Text → List ℕ → List ℕ
 counts_where test [] ns = ns
 counts_where test (t ∷ ts) [] = []

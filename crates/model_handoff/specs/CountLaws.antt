@@ -1,13 +1,13 @@
--- Laws of how often the regions of a guest's functions may have come to stand elsewhere.
---     RegionsStayAlong      along actions none of which changes the guest, each of its answers stays
---     ChangesTouchSlots      a call that changes the guest touches a slot of it
---     CountsGrow      along actions its count grows by one with each that changes it
---     AnswersStay      so while its count stays, its answers stay, along fewer than 2^64 changes
+-- Laws of the count of events that may move a guest's regions.
+--     RegionsStayAlong      if no action changes the guest, its answers stay the same
+--     ChangesTouchSlots      a call that changes the guest involves one of its slots
+--     CountsGrow      a guest's count grows by one with each action that changes it
+--     AnswersStay      so while the count is the same, the answers are the same, along fewer than 2^64 changes
 use Rattle.std.specs.Prelude.{◌≡◌, ◌<◌, ◌+◌, ◌^◌, ◌%◌, ℕ, true, List, Some, IsSome, slice_get}
 use Rattle.model_guests.specs.{Text.Text, Guests.{guest_named, lone_of}, Calls.Call, WorldNow.{WorldNow, names_now}}
 use Rattle.model_handoff.specs.{GuestRegions.region_answer, StayLaws.moves_regions, Kept.IsLawfulOver, Actions.{Action, calls, after_actions}, Changes.{changes, changes_along, MachineNow, after_all_on_machine}}
 
--- each slot, each register
+-- for each slot and each register
 abbrev pub HaveSameAnswers : WorldNow → WorldNow → Text → Type 0
 HaveSameAnswers w v name =
     (slot register : ℕ) → region_answer (lone_of v.guests name) slot register ≡ region_answer (lone_of w.guests name) slot register
@@ -21,7 +21,7 @@ abbrev pub ChangesTouchSlots : Type 0
 ChangesTouchSlots = (name : Text) (w : WorldNow) (c : Call) → changes name w (calls c) ≡ true
     → (slot : ℕ) × (moves_regions name slot w.guests c ≡ true)
 
--- the guest of this index has this name, and this count
+-- the guest at this index has this name and this count
 pub record IsCounted (m : MachineNow) (i : ℕ) (name : Text) (n : ℕ) : Type 0 where
   pub named : slice_get (names_now m.world) i ≡ Some name
   pub counted : slice_get m.counts i ≡ Some n

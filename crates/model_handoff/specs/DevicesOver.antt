@@ -1,6 +1,6 @@
--- What happens at devices of guests over a handoff.
+-- Events at the guests' devices over a handoff.
 --     LawfulAfterDevices      the world stays lawful
---     ResetAfterDevices      and its handoff is shown as before
+--     ResetAfterDevices      the board still identifies the same handoff
 use Rattle.std.specs.Prelude.{◌≡◌}
 use Rattle.model_board.specs.State.{State}
 use Rattle.model_guests.specs.{Text.Text, Guests.GuestsNow, WorldNow.WorldNow, DeviceEvents.{DeviceEvent, after_guest_device, after_device}}

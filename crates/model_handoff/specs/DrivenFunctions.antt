@@ -1,7 +1,7 @@
--- What is told of a function of a board that firmware drives: PCI Local Bus 3.0, chapter 6; PCI-to-PCI Bridge
+-- The report on a function of a board that firmware programs: PCI Local Bus 3.0, chapter 6; PCI-to-PCI Bridge
 -- Architecture 1.2, chapter 3.
---     is_found fs p      a configuration cycle for the function's number reaches it
---     DrivenFunctionNow, driven_function s f      a function with what is told of it, and which spaces its Command opens
+--     is_found fs p      a configuration cycle to the function's BDF reaches it
+--     DrivenFunctionNow, driven_function s f      a function with its report, and the spaces that its Command enables
 --     driven_function_nth s i      the function at an index, in path order
 use Rattle.std.specs.Prelude.{ℕ, Bool, List, [], Option, option_map, slice_get}
 use Rattle.model_registers.specs.Decoding.{io, memory, is_open}
@@ -12,7 +12,7 @@ use Rattle.model_handoff.specs.Functions.{LiveFunction, function_now, is_there}
 abbrev pub is_found : List BoardFunction → Path → Bool
 is_found fs p = is_there p (path_reached fs p)
 
--- no guest has it
+-- no guest has the function
 pub record DrivenFunctionNow : Type 0 where
   pub function : LiveFunction
   pub is_found : Bool

@@ -1,8 +1,8 @@
--- Worked examples: handoffs of the main board, as firmware other than set-up might leave it, and what guests see there.
+-- Worked examples: handoffs of the main board as firmware other than set-up may leave it, and the guests' accesses over them.
 --     written_to p w off v s      a state after a write to a configuration register
---     other_handoff      another bus number, another place for a region, and an Interrupt Line that is set
---     closed_handoff      the same, with the Command of a given function closed
---     lost_handoff      the same, with a Secondary Bus Number above the Subordinate
+--     other_handoff      another bus number, another address for a region, and an Interrupt Line that is set
+--     closed_handoff      the same, with decoding disabled in the Command of an assigned function
+--     lost_handoff      the same, with a Secondary Bus Number above the Subordinate Bus Number
 use Rattle.std.specs.Prelude.{[], ◌∷◌, ◌≡◌, ℕ, Some, None, codes}
 use Rattle.model_registers.specs.{Registers.{config, write, all_bytes}, Decoding.memory}
 use Rattle.model_board.specs.{Paths.Path, Claims.first_claim, Cycles.BusAddress, Ports.config_reply, State.State, Examples.{part, main_board, main_apertures}}
@@ -14,7 +14,7 @@ use Rattle.model_handoff.specs.Regions.{in_disorder, closed_region, closed_given
 abbrev pub written_to : Path → ℕ → ℕ → ℕ → State → State
 written_to p w off v s = with_change_at (write (all_bytes w) v (config off)) p s
 
--- bus 5 in place of bus 1; the first endpoint's memory at D0000000h; line 11 for the second endpoint
+-- bus 5 instead of bus 1; the first endpoint's memory at D0000000h; line 11 for the second endpoint
 abbrev pub other_handoff : State
 other_handoff =
     written_to (on_bus_0 2) 2 0x19 0x0505
@@ -35,21 +35,21 @@ abbrev pub on_bus : ℕ → ℕ → BusAddress
 on_bus bus d = record { bus = bus; part = part d 0 }
 
 pub record WorkedExamples : Type 0 where
-  -- an audit passes it, and its functions may be given
+  -- an audit finds no problem, and its functions may be assigned
   pub passes : problems other_handoff.functions ≡ []
   pub may_be_given : first_fault main_world other_handoff ≡ None
   pub number : address_now other_handoff.functions (behind 2 0) ≡ on_bus 5 0
-  -- the region is claimed where the handoff has it, and no longer where set-up would have placed it
+  -- the region is claimed at its address in the handoff, and no longer at its address after set-up
   pub claimed :
       first_claim (state_over other_handoff (guests_at_first main_world)).functions memory 0xd0000010
       ≡ Some (record { path = on_bus_0 1; index = 1; offset = 0x10 })
   pub left :
       first_claim (state_over other_handoff (guests_at_first main_world)).functions memory 0xc0100010 ≡ None
-  -- a given function begins at reset, whatever firmware wrote to its Interrupt Line
+  -- an assigned function starts at reset, whatever firmware wrote to its Interrupt Line
   pub line_before : config_reply other_handoff.functions (on_bus 5 0) 0x3c (all_bytes 1) ≡ 0x0b
   pub line_at_first :
       config_reply (state_over other_handoff (guests_at_first main_world)).functions (on_bus 5 0) 0x3c (all_bytes 1) ≡ 0
-  -- the guest is told the same as after set-up; the host finds the bytes at the handoff's place
+  -- the guest gets the same replies as after set-up; the host finds the bytes at the handoff's address
   pub dialogue :
       output (world_over main_world other_handoff)
       (codes "a cw 0 4 2 2" ∷ codes "a cw 0 0x14 4 0x80000000" ∷ codes "a mw 0x80000010 4 0x12345678"
@@ -58,10 +58,10 @@ pub record WorkedExamples : Type 0 where
       ≡ text_of_lines (
       codes "a: ok" ∷ codes "a: ok" ∷ codes "a: ok" ∷ codes "a: 0x12345678" ∷ codes "host: 0x12345678"
       ∷ codes "host: 0xffffffff" ∷ codes "host: 0x00031234" ∷ codes "host: 0xffffffff" ∷ codes "b: 0x00" ∷ [])
-  -- a closed region stands in the way of those to whom the function is given alone
+  -- a disabled region matters only to the guests to which its function is assigned
   pub closed : closed_given main_world closed_handoff ≡ closed_one ∷ []
   pub refused : first_fault main_world closed_handoff ≡ Some (closed_region closed_one)
   pub given_to_none : first_fault (record main_world { guests = [] }) closed_handoff ≡ None
-  -- and a problem comes first
+  -- a problem is reported before a disabled region
   pub lost :
       first_fault main_world lost_handoff ≡ Some (in_disorder (not_found (behind 2 0) (on_bus 6 0) None))

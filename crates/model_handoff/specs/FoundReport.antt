@@ -1,11 +1,11 @@
--- The report as code writes it: from the table of what set-up finds, and from what it writes. `ReportLaws` says that it is
--- the report of the board.
---     SetUpBoard, set_up_board      what is reported: the functions that set-up finds, its plan, and the guests; of a world
+-- The report as the code writes it, from the table that set-up finds and the values that it writes. `ReportLaws` proves that
+-- it is the report of the board.
+--     SetUpBoard, set_up_board      the data of the report: the functions that set-up finds, its plan, and the guests; these data for a world
 --     IsSetUpOf s w      s is what set-up finds and plans for w, whose declarations are lawful
 --     known_pin_lines      the line of a pin from 1 to 4
---     written_windows      the lines of a bridge's windows but for those whose base is above their limit
+--     written_windows      the lines of a bridge's windows, except those whose base is above their limit
 --     function_text      an endpoint with its regions and its interrupt, or a bridge with its buses and windows
---     found_report      the whole text, of what is reported
+--     found_report      the whole text, from the data of the report
 use Rattle.std.specs.Prelude.{◌≡◌, List, [], ◌∷◌, ℕ, ◌++◌, if◌then◌else◌, nat_lt, ◌==◌, ◌||◌, Option, Some, None, flat_map, map, not, count_by, codes}
 use Rattle.model_registers.specs.BridgeTable.{Window}
 use Rattle.model_board.specs.{Paths.Path, Board.{Decl, endpoint, bridge, is_bridge}, Lawful.HasLawfulDecls}
@@ -56,7 +56,7 @@ written_windows (to_bridge w) =
     named_window_lines (codes "io") w.io ++ named_window_lines (codes "mem") w.mem
     ++ named_window_lines (codes "pref") w.pref
 
--- what ends an endpoint's first line, and the lines after it; the same of a bridge
+-- the end of an endpoint's first line, and the lines after it; the same for a bridge
 abbrev pub endpoint_text : Path → ℕ → RegisterValues → Text
 endpoint_text p pin w = codes "\n" ++ text_of_lines (base_lines w) ++ text_of_lines (known_pin_lines p pin)
 

@@ -1,8 +1,8 @@
--- Worked examples: what is told of functions of the main board, once it is set up and one function was moved.
+-- Worked examples: the reports on functions of the main board, after set-up and one move.
 --     moved      the second function of guest a, in slot 3 of guest b
---     guests_moved, main_now      the guests after the move; the board as it is then
---     first_told, bridge_told, third_told      an endpoint, a bridge, and the function that was moved
---     ToldFunctions      these, by their index and by the slot that holds them, and what is refused
+--     guests_moved, main_now      the guests after the move; the state of the board then
+--     first_told, bridge_told, third_told      an endpoint, a bridge, and the moved function
+--     ToldFunctions      these reports, by index and by slot, and the refusals
 use Rattle.std.specs.Prelude.{[], ◌∷◌, ◌≡◌, ℕ, true, false, Option, Some, None, Ok, Err, codes}
 use Rattle.model_registers.specs.Declarations.{io_kind, mem32, mem64}
 use Rattle.model_board.specs.{Windows.Window, Cycles.BusAddress, Routing.{regions, windows}, State.State, Examples.{part, main_board, main_apertures}}
@@ -19,7 +19,7 @@ guests_moved = after_move (guests_at_first main_world) moved
 abbrev pub main_now : State
 main_now = state_over (set_up_state main_board main_apertures) guests_moved
 
--- all of vendor 1234h, with no subsystem
+-- all with Vendor ID 1234h and no subsystem
 abbrev pub identity_told : ℕ → ℕ → Identity
 identity_told device class =
     record { vendor = 0x1234; device = device; revision = 0; class = class; subvendor = 0; subsystem = 0 }
@@ -67,6 +67,6 @@ pub record ToldFunctions : Type 0 where
   pub no_more : function_nth main_now guests_moved 4 ≡ None
   pub stayed : slot_answer main_now guests_moved (codes "a") 0 ≡ Ok first_told
   pub came : slot_answer main_now guests_moved (codes "b") 3 ≡ Ok third_told
-  -- the slot that it left, and a slot that no guest has
+  -- the slot that the function left, and a slot of no guest
   pub left : slot_answer main_now guests_moved (codes "a") 1 ≡ Err 601
   pub past : slot_answer main_now guests_moved (codes "a") 32 ≡ Err 303

@@ -1,7 +1,7 @@
--- Laws of what is told of functions.
---     path_in_seat gs s      the path in a slot of a guest by its index
---     SeatsHold      a seat that is told holds the function
---     NoSeatHolds      where none is told, no slot of a guest holds it
+-- Laws of the reports on functions.
+--     path_in_seat gs s      the path in a slot of the guest at an index
+--     SeatsHold      a reported slot holds the function
+--     NoSeatHolds      if no slot is reported, no guest's slot holds the function
 use Rattle.std.specs.Prelude.{◌≡◌, Option, Some, None, unwrap_or, option_and_then, slice_get}
 use Rattle.model_board.specs.Paths.{Path}
 use Rattle.model_guests.specs.Guests.{GuestNow, GuestsNow}

@@ -1,11 +1,11 @@
--- A function of the board that no guest has comes into a slot of a guest, or leaves it for no other. No line of a
--- script says it. PCI Local Bus 3.0, chapter 2.2.1 (RST#).
---     Gift      the function at this path comes into this slot of this guest
---     with_reset_at p s      the endpoint at p is at reset, but for what guests have copies of
---     has_closed_region s p d      Command doesn't open the space of a region of the endpoint d at p
---     give_fault, take_fault      the checks, in their order
---     give_reply, take_reply      what the one who asks is told
---     after_give, after_take      the world after it
+-- Assigns a function that no guest has to a guest's slot, and unassigns it. No line of a script requests this.
+-- PCI Local Bus 3.0, chapter 2.2.1 (RST#).
+--     Gift      assigns the function at this path to this slot of this guest
+--     with_reset_at p s      the endpoint at p is at reset, except for the bytes that guests have copies of
+--     has_closed_region s p d      Command disables the space of a region of the endpoint d at p
+--     give_fault, take_fault      the checks, in order
+--     give_reply, take_reply      the reply to the caller
+--     after_give, after_take      the world after assigning or unassigning
 use Rattle.std.specs.{Prelude.{ℕ, Bool, not, nat_le, if◌then◌else◌, is_some, Option, Some, None}, List.list_any, Option.option_map_or}
 use Rattle.model_registers.specs.{Declarations.{Region, Endpoint}, CopiedFiles.after_reset}
 use Rattle.model_board.specs.{Paths.Path, AtReset.board_at, State.State}
@@ -17,7 +17,7 @@ pub record Gift : Type 0 where
   pub to : Text
   pub slot : ℕ
 
--- what else stands at the path stays as it is
+-- the file at a path without an endpoint doesn't change
 abbrev pub with_reset_at : Path → State → State
 with_reset_at p s =
     option_map_or (λ (d : Endpoint). with_change_at (after_reset d) p s) (declared (board_at s.functions) p) s
@@ -27,7 +27,7 @@ has_closed_region s p d = list_any (λ (r : Region). not (opens_region s p r)) d
 
 -- ---- the checks
 
--- an endpoint at the path, no guest that has it, an empty slot, no closed region
+-- the path has an endpoint, no guest has it, the slot is empty, and no region is disabled
 abbrev pub endpoint_fault : WorldNow → Gift → Option Endpoint → Option ℕ
 endpoint_fault w g None = Some 303
 endpoint_fault w g (Some d) =
@@ -35,13 +35,13 @@ endpoint_fault w g (Some d) =
     else (if is_some (function_in w.guests g.to g.slot) then Some 602
     else (if has_closed_region w.handoff g.path d then Some 206 else None))
 
--- the slot's number, then what stands at the path
+-- the slot's number, then the function at the path
 abbrev pub give_fault : WorldNow → Gift → Option ℕ
 give_fault w g =
     if nat_le 32 g.slot then Some 303
     else endpoint_fault w g (declared (board_at w.handoff.functions) g.path)
 
--- the slot's number, the slot's function
+-- the slot's number, then the slot's function
 abbrev pub take_fault : WorldNow → Text → ℕ → Option ℕ
 take_fault w name n = slot_fault (lone_of w.guests name).slots n
 
@@ -53,7 +53,7 @@ take_reply w name n = option_map_or refused (take_fault w name n) done
 
 -- ---- the world after it
 
--- on the board and in its slot the function is at reset
+-- the function is at reset on the board and in its slot
 abbrev pub given : Gift → Option Endpoint → WorldNow → WorldNow
 given g None w = w
 given g (Some d) w = record {
@@ -61,12 +61,12 @@ given g (Some d) w = record {
   guests = with_guest (with_slot_filled g.slot (Some g.path) d) g.to w.guests;
 }
 
--- a refused gift changes nothing
+-- a refused assignment changes nothing
 abbrev pub after_give : WorldNow → Gift → WorldNow
 after_give w g =
     if is_some (give_fault w g) then w else given g (declared (board_at w.handoff.functions) g.path) w
 
--- the slot is empty, and on the board the function is at reset
+-- the slot is empty, and the function is at reset on the board
 abbrev pub taken : Text → ℕ → WorldNow → WorldNow
 taken name n w = record {
   handoff = option_map_or (λ (p : Path). with_reset_at p w.handoff) (path_in w.guests name n) w.handoff;

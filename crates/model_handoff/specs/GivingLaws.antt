@@ -1,11 +1,11 @@
--- Laws of functions that are given to guests, and taken from them.
---     OnGift, OnTaking      what holds where it is not refused, of a guest that is there
---     BoardAfterGift, BoardAfterTaking      the board has the function at reset, and all else as it was
---     LawfulAfterGift, LawfulAfterTaking      the world stays lawful: no region of a given function is closed
---     ShownAfterGift, ShownAfterTaking      the handoff is shown with the function at reset, and else as before
---     GivenFunction      the slot has the function of the path, at reset
---     GivenBack      taken again at once, it leaves all guests as they were
---     OthersAfterGift, OthersAfterTaking      no other guest holds anything else than before
+-- Laws of assigning and unassigning functions.
+--     OnGift, OnTaking      a law for accepted requests whose guest exists
+--     BoardAfterGift, BoardAfterTaking      the board has the function at reset, and everything else unchanged
+--     LawfulAfterGift, LawfulAfterTaking      the world stays lawful: no region of an assigned function is disabled
+--     ShownAfterGift, ShownAfterTaking      the board identifies the handoff with the function at reset, and otherwise as before
+--     GivenFunction      the slot has the function at the path, at reset
+--     GivenBack      unassigning it at once restores all guests
+--     OthersAfterGift, OthersAfterTaking      all other guests keep their state
 use Rattle.std.specs.{Prelude.{◌≡◌, ℕ, Some, None, IsFalse, IsSome}, Str.bytes_eq}
 use Rattle.model_board.specs.{Paths.Path, AtReset.board_at}
 use Rattle.model_guests.specs.{Slots.reset_function, Text.Text, World.declared, Guests.{guest_named, lone_of, path_in, function_in}, WorldNow.{WorldNow, board_state}}

@@ -1,8 +1,8 @@
--- What holds of a world over a handoff from the first line of any script to the last: a monitor has to keep no more of
--- the board than this.
---     IsLawfulOver w      a handoff in order, whose guests are seated on its board and served
---     LawfulAtFirst      so it is where functions may be given
---     LawfulAfter, LawfulAlong      and after a line, and along lines
+-- Properties of a world over a handoff that hold throughout any script: a monitor needs to keep no more of the board than
+-- these.
+--     IsLawfulOver w      a consistent handoff, with guests seated on its board and served
+--     LawfulAtFirst      it holds at first, if the functions may be assigned
+--     LawfulAfter, LawfulAlong      it holds after a line, and along lines
 use Rattle.std.specs.Prelude.{List, ◌≡◌}
 use Rattle.model_board.specs.{AtReset.board_at, State.State}
 use Rattle.model_findings.specs.Witnesses.{IsInOrder}

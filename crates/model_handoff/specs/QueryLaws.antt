@@ -1,14 +1,14 @@
--- Laws of what a guest's accesses hit, and of where its regions stand: PCI Local Bus 3.0, chapter 6.2.5.
---     AccessLands      an access does what it does at the place that is told, whatever its width
---     NothingHit      where nothing is hit, a read gives all ones and a write changes nothing
---     IsInside, HitIsInside      a hit by a port or an address lies in a region that is told there, and that is open
---     InsideIsHit      each address of a region that is told, and that is open, hits something
+-- Laws of the reported targets of a guest's accesses, and of the reported addresses of its regions: PCI Local Bus 3.0, chapter 6.2.5.
+--     AccessLands      an access of any width has its effect at the reported place
+--     NothingHit      if an access hits nothing, a read returns all ones and a write changes nothing
+--     IsInside, HitIsInside      a hit at a port or an address is in an enabled region that is reported there
+--     InsideIsHit      each address of an enabled reported region hits something
 use Rattle.std.specs.Prelude.{◌≡◌, ◌≤◌, ◌<◌, ℕ, ◌+◌, ◌-◌, true, false, is_some, Some, None, Ok}
 use Rattle.model_registers.specs.{Registers.{block, all_ones}, Declarations.HasLawfulRegions, Decoding.{Space, Function}}
 use Rattle.model_guests.specs.{Accesses.{Target, Op, reads, writes, access, answered}, Slots.{Slots, slot_at, Landing, landing_from, fault_of, perform, effect}, Lone.{LoneGuest, answer, after_event}}
 use Rattle.model_handoff.specs.{GuestRegions.{LiveBar, region_answer}, Located.{located, is_latch_access}}
 
--- all but the one access that is the guest's own latch
+-- every access except the one to the guest's CONFIG_ADDRESS
 abbrev pub AccessLands : Type 0
 AccessLands = (g : LoneGuest) (t : Target) (w : ℕ) (op : Op)
     → fault_of (record { target = t; width = w; op = op }) ≡ None → is_latch_access t w ≡ false

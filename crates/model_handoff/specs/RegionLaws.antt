@@ -1,15 +1,15 @@
--- What a guest's access comes to on a board that was handed over in order: PCI Local Bus 3.0, chapters 3.2.2.3.2 and
+-- The effect of a guest's access on a board after a consistent handoff: PCI Local Bus 3.0, chapters 3.2.2.3.2 and
 -- 6.2.5; PCI-to-PCI Bridge Architecture 1.2, chapters 3 and 4.
---     space_reply, after_space_write      an access to what claims an address, where the address latch takes no port
---     RegionIsClaimed      a byte of an open region is claimed where the handoff has it, by that region alone
+--     space_reply, after_space_write      an access to the claimant of an address, at a port that isn't CONFIG_ADDRESS or CONFIG_DATA
+--     RegionIsClaimed      a byte of an enabled region is claimed at its address in the handoff, by that region only
 --     HasSlot      a slot of a guest, with its path and its function
---     HitReachesOver      a hit in a served function stands for a byte of such a region, in the same byte lanes
---     RegionReads, RegionWrites      an access there reads and changes what the guest's own file holds
---     HitActs      so an access of a guest that hits is one to the byte where the handoff has it
---     CycleReads, CycleWrites      a configuration cycle for the function's address in the handoff does so too
+--     HitReachesOver      a hit in a served function corresponds to a byte of such a region, in the same byte lanes
+--     RegionReads, RegionWrites      an access there reads and changes the guest's own file
+--     HitActs      so a guest's access that hits a region has the effect of accessing its byte at the handoff's address
+--     CycleReads, CycleWrites      so does a configuration cycle to the function's BDF in the handoff
 --     MemoryBySpace, PortsBySpace      these are the accesses of the board at its memory addresses and ordinary ports
---     ServedAtFirst, ServedAfterEvents, ServedAfterMoves      given functions are served, whatever guests do
---     FaultDecides      functions may be given where and only where there is no fault
+--     ServedAtFirst, ServedAfterEvents, ServedAfterMoves      assigned functions are served, whatever guests do
+--     FaultDecides      functions may be assigned if and only if there is no fault
 use Rattle.std.specs.Prelude.{List, [], ◌∷◌, ◌≡◌, ℕ, ◌<◌, ◌+◌, ◌%◌, Bool, Some, None, IsTrue, ◌↔◌}
 use Rattle.lists.specs.Elements.{IsIn}
 use Rattle.model_registers.specs.{Registers.{config, block, read, write, all_bytes, number}, OwnCopies.handed_on, Declarations.{Region, Endpoint}, Decoding.{Space, io, memory, space_of, Function, Hit, lone_claim}, DecodingLaws.IsHitIn}
@@ -33,7 +33,7 @@ pub record IsClaimedAlone (fs : List BoardFunction) (space : Space) (a : ℕ) (c
 abbrev pub claim_in_region : Path → Region → ℕ → Claim
 claim_in_region p r k = record { path = p; index = r.index; offset = k }
 
--- of any endpoint of the board, whatever guests did
+-- for any endpoint of the board, whatever guests did
 abbrev pub RegionIsClaimed : Type 0
 RegionIsClaimed = (s : State) → IsStateOfBoard s.functions → IsOrderly (routing s.functions)
     → (gs : GuestsNow) → AreSeated (board_at s.functions) gs
@@ -78,7 +78,7 @@ RegionWrites = (s : State) → IsStateOfBoard s.functions → IsOrderly (routing
     → after_space_write (state_over s gs) (space_of r.kind) (base_in s p r + k) w v
     ≡ state_over s (with_guest (with_slot_changed (write (all_bytes w) v (block r.index k)) n) name gs)
 
--- w bytes at the board's address where a hit of the guest's function in slot k stands
+-- w bytes at the board's address for a hit in the guest's function in slot k
 pub record ActsOver (s : State) (gs : GuestsNow) (name : Text) (k : ℕ) (f : Function) (space : Space) (h : Hit)
     (address w v : ℕ) : Type 0 where
   pub reads : space_reply (state_over s gs) space address w ≡ number f.file (block h.index h.offset) w
@@ -104,7 +104,7 @@ PortsBySpace = (s : State) (a w v : ℕ) → port_target s.latch a w ≡ ordinar
 
 -- ---- configuration
 
--- by the bytes of which the guest has no copy
+-- through the bytes that the guest has no copies of
 abbrev pub CycleReads : Type 0
 CycleReads = (s : State) → IsHandoff s → IsNumbered s.functions
     → (gs : GuestsNow) → AreSeated (board_at s.functions) gs

@@ -1,11 +1,11 @@
--- Where a handoff has the regions of a function, and which functions guests may be given over it: PCI Local Bus 3.0,
--- chapter 6.2.5.
---     base_in s p r      the address that a region's base address register holds in the handoff
---     opens_region s p r      the function's Command opens the region's space there
---     closed_given w s      the regions of given functions that Command doesn't open, in path order, then by register
---     HandoffFault, first_fault w s      a problem of the audit, or a closed region; the first of them
---     CanBeGiven w s      there is neither
---     HasOpenRegions s p, AreServed s gs      all regions of the function are open; of each function in a slot they are
+-- The addresses of a function's regions in a handoff, and the functions that may be assigned to guests over it: PCI Local
+-- Bus 3.0, chapter 6.2.5.
+--     base_in s p r      the address in a region's base address register in the handoff
+--     opens_region s p r      the function's Command enables the region's space in the handoff
+--     closed_given w s      the regions of assigned functions that Command disables, in path order, then by register
+--     HandoffFault, first_fault w s      a problem of the audit, or a disabled region; the first of them
+--     CanBeGiven w s      there is no such fault
+--     HasOpenRegions s p, AreServed s gs      all regions of the function are enabled; this holds for each function in a slot
 use Rattle.std.specs.Prelude.{List, [], ◌∷◌, ◌≡◌, ℕ, Bool, Option, Some, None, filter, IsTrue}
 use Rattle.lists.specs.Elements.{Each, first_of_two}
 use Rattle.model_registers.specs.{Declarations.{Region, Endpoint}, Decoding.{space_of, base, is_open}}
@@ -21,14 +21,14 @@ base_in s p r = base (file_at s.functions p) r.index r.kind
 abbrev pub opens_region : State → Path → Region → Bool
 opens_region s p r = is_open (file_at s.functions p) (space_of r.kind)
 
--- ---- what may be given
+-- ---- functions that may be assigned
 
 abbrev pub closed_given : World → State → List PlacedRegion
 closed_given w s = filter (λ q. is_given w q.path) (closed_regions (routing s.functions))
 
--- a closed region is refusal 206, and comes after all problems: a guest would see a hit there that the board doesn't
--- serve. The space isn't opened for the guest, since that could make a second claimant or an address that no bridge
--- forwards: the audit would be one of another state than the handoff.
+-- a disabled region is refusal 206, and comes after all problems: a guest would see a hit there that the board doesn't
+-- serve. The space isn't enabled for the guest, because that could add a second claimant, or an address that no bridge
+-- forwards: the audit would then describe a state other than the handoff.
 pub data HandoffFault : Type 0 where
   in_disorder : Problem → HandoffFault
   closed_region : PlacedRegion → HandoffFault
@@ -48,7 +48,7 @@ pub record CanBeGiven (w : World) (s : State) : Type 0 where
   pub order : IsInOrder s.functions
   pub none_closed : closed_given w s ≡ []
 
--- ---- what guests have
+-- ---- the guests' functions
 
 abbrev pub HasOpenRegions : State → Path → Type 0
 HasOpenRegions s p = (d : Endpoint) → declared (board_at s.functions) p ≡ Some d

@@ -1,13 +1,13 @@
--- The report of a board that is set up: functions in path order with their regions and interrupts, windows, and guests. It
--- is said of the board itself: of its functions, its bus numbers, where its regions and windows are placed, and its pins.
+-- The report of a board after set-up: functions in path order with their regions and interrupts, windows, and guests. It
+-- is defined by the board itself: its functions, bus numbers, placed regions and windows, and interrupt pins.
 --     numbers_text      bus, device and function number as BB:DD.F
---     base_line, pin_line      the line of a region; of a pin, with the device of bus 0 that it reaches and the pin there
---     region_lines      the regions of an endpoint, each where it is placed
+--     base_line, pin_line      the line of a region; the line of a pin, with the device and pin on bus 0 that it reaches
+--     region_lines      the regions of an endpoint, each at its placed address
 --     interrupt_lines      the pin of an endpoint, if it has one
---     window_lines      the windows of a bridge behind which something is placed
+--     window_lines      the windows of a bridge that have something placed behind them
 --     function_lines      an endpoint with its regions and its interrupt, or a bridge with its buses and windows
 --     guest_lines      the slots of a guest
---     report_lines, report      all lines, and the whole text, of a world
+--     report_lines, report      all lines of a world's report, and the whole text
 use Rattle.std.specs.Prelude.{List, [], ◌∷◌, ℕ, ◌+◌, ◌-◌, ◌++◌, true, false, if◌then◌else◌, ◌==◌, flat_map, map, not, count_by, codes, decimal}
 use Rattle.model_registers.specs.{Declarations.{Kind, io_kind, mem32, mem64, Endpoint, Bridge}, EndpointTable.BaseAddress, Apertures.Apertures}
 use Rattle.model_board.specs.{Paths.{Path, last_part}, Board.{endpoint, bridge, is_bridge, Row, Board}, BusNumbers.{bus_of, secondary, subordinate}, Interrupts.{root_device, root_pin}}
@@ -41,7 +41,7 @@ range_text bus first last =
 
 -- ---- lines of a function
 
--- its first line, as far as endpoints and bridges have it in common
+-- the start of the first line, which endpoints and bridges have in common
 abbrev pub head_text : ℕ → Path → Text → Text → Text
 head_text bus p kind identity =
     numbers_text bus (last_part p).device (last_part p).function ++ codes " " ++ path_text p ++ kind ++ identity
@@ -58,14 +58,14 @@ abbrev pub pin_line : Path → ℕ → Text
 pin_line p pin =
     codes "  irq " ++ pin_text pin ++ codes " at " ++ decimal (root_device p) ++ codes " " ++ pin_text (root_pin p pin)
 
--- pin 0 says that there is none
+-- pin 0 means that there is none
 abbrev pub interrupt_lines : Path → ℕ → List Text
 interrupt_lines p pin = if pin == 0 then [] else pin_line p pin ∷ []
 
 abbrev pub addresses_line : Text → ℕ → ℕ → Text
 addresses_line name first last = codes "  " ++ name ++ codes " " ++ hexadecimal first ++ codes " " ++ hexadecimal last
 
--- the window of a bus that begins at an address: it extends over what its items need
+-- the window of a bus that starts at an address, with the size that its items need
 abbrev pub items_lines : Text → (unit first : ℕ) → List PlacementItem → List Text
 items_lines name unit first [] = []
 items_lines name unit first (i ∷ is) = addresses_line name first (first + need unit (i ∷ is) - 1) ∷ []

@@ -1,9 +1,9 @@
--- The text that is made of what set-up finds and writes is the report of the board.
---     ReportOfBoard      so it is of each world whose declarations are lawful
+-- The text made from the results of set-up is the report of the board.
+--     ReportOfBoard      this holds for each world whose declarations are lawful
 --     is_closed w, is_empty is      the base of the window is above its limit; there are no items
---     ClosedWithoutItems      set-up closes just the windows behind which nothing is placed
---     CountsOfBoard, IdentitiesOfBoard      the functions that are counted, and their identities, are those of the board
---     PinLines      each pin but 0 has a line
+--     ClosedWithoutItems      set-up disables exactly the windows that have nothing placed behind them
+--     CountsOfBoard, IdentitiesOfBoard      the counted functions and their identities are those of the board
+--     PinLines      each pin except 0 has a line
 use Rattle.std.specs.Prelude.{◌≡◌, Bool, true, false, nat_lt, ◌==◌, if◌then◌else◌, not, count_by, List, [], ◌∷◌}
 use Rattle.model_registers.specs.{Declarations.Endpoint, DeclarationRules.IsLawfulEndpoint, Apertures.Apertures, BridgeTable.Window}
 use Rattle.model_board.specs.{Paths.Path, Board.{Decl, Board, is_bridge}, Lawful.HasLawfulDecls}

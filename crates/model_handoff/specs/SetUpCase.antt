@@ -1,6 +1,6 @@
--- What set-up leaves is one handoff.
---     SetUpIsHandoff, SetUpIsInOrder      it is a handoff of the board, and in order
---     SetUpCanBeGiven      no given function has a closed region there
+-- Set-up leaves a handoff.
+--     SetUpIsHandoff, SetUpIsInOrder      it is a handoff of the board, and consistent
+--     SetUpCanBeGiven      no assigned function has a disabled region
 --     SetUpPlaces, SetUpAddresses      its regions are where set-up placed them, and its bus numbers are the board's
 use Rattle.std.specs.Prelude.{◌≡◌, IsTrue}
 use Rattle.lists.specs.Elements.{Each, IsIn}

@@ -1,10 +1,10 @@
--- Laws of guests on a board that is set up: what holds over any handoff holds over what set-up leaves.
---     OverSetUp      over what set-up leaves of any lawful board, whatever guests are seated there
---     SetUpAgrees, SetUpIsOnly      just one state agrees with the guests
---     SetUpAtFirst      before any event it is what set-up leaves
+-- Laws of guests on a board after set-up: every law for any handoff applies to it.
+--     OverSetUp      after set-up of any lawful board, whatever guests are seated there
+--     SetUpAgrees, SetUpIsOnly      exactly one state agrees with the guests
+--     SetUpAtFirst      before any event it is the state that set-up leaves
 --     SetUpKeepsRouting, SetUpKeepsNumbers      routing registers and bus numbers are as set-up left them
---     ReachesRegion      a hit in a function stands for a byte of the board's region, placed and claimed there
---     HitReachesRegion      each hit in a seated function does
+--     ReachesRegion      a hit in a function corresponds to a byte of the board's region, which is placed and claimed there
+--     HitReachesRegion      this holds for each hit in a seated function
 use Rattle.std.specs.Prelude.{List, ◌≡◌, ℕ, ◌+◌, ◌%◌, Some}
 use Rattle.lists.specs.Elements.{IsIn}
 use Rattle.model_registers.specs.{Apertures.Apertures, Declarations.Region, Decoding.{Space, io, Function, Hit, lone_claim}, DecodingLaws.IsHitIn}

@@ -1,9 +1,9 @@
--- What changes where the regions of a guest's functions stand: PCI Local Bus 3.0, chapter 6.2.5.
+-- The events that change the addresses of the regions of a guest's functions: PCI Local Bus 3.0, chapter 6.2.5.
 --     tells_regions p      a byte of Command or of a base address register
 --     rewrites slot g e      an event that writes such a byte of the function in the slot
---     touches name slot gs m      a move that is done, out of this slot of the guest or into it
---     moves_regions name slot gs c      one of the guest's own writes of such bytes, such a move, or a reset there
---     RegionsStay      by no other call is an answer another one
+--     touches name slot gs m      a successful move out of this slot of the guest or into it
+--     moves_regions name slot gs c      one of the guest's own writes to such bytes, such a move, or a reset there
+--     RegionsStay      no other call changes an answer
 use Rattle.std.specs.{Prelude.{◌≡◌, ◌&&◌, ◌||◌, ◌==◌, ℕ, zero, suc, Bool, true, false, not, nat_le, nat_lt, is_some, IsSome}, Option.option_map_or, Str.bytes_eq}
 use Rattle.model_registers.specs.Registers.{Place, config, block, after}
 use Rattle.model_board.specs.{Board.Board, Lawful.HasLawfulDecls}
@@ -14,7 +14,7 @@ abbrev pub tells_regions : Place → Bool
 tells_regions (config off) = off == 4 || off == 5 || (nat_le 0x10 off && nat_lt off 0x28)
 tells_regions (block n off) = false
 
--- one of so many bytes from a place on
+-- one of the bytes from a place on
 abbrev pub any_tells : ℕ → Place → Bool
 any_tells zero p = false
 any_tells (suc w) p = tells_regions p || any_tells w (after p)
@@ -23,7 +23,7 @@ abbrev pub is_write : Op → Bool
 is_write reads = false
 is_write (writes v) = true
 
--- the access lands where `locate` says
+-- the access lands at the place that `locate` returns
 abbrev pub rewrites : ℕ → LoneGuest → Event → Bool
 rewrites slot g (access a) =
     is_write a.op

@@ -1,10 +1,10 @@
--- The handoff as the board shows it later: with each function in a slot at reset, it is the same whatever guests did.
--- So a monitor that keeps the board's registers and its guests, and no copy of the handoff, says over which it stands.
+-- The handoff as the board identifies it later: with each function in a slot at reset, the state is the same whatever
+-- guests did. So a monitor that keeps the board's registers and its guests needs no copy of the handoff to identify it.
 --     sits gs p      a guest has the function at a path in a slot
---     with_seated_reset s gs      a state with each function in a slot at reset, but for what guests have copies of
---     OverReset      guests can't tell it from the state itself
---     ResetShown      it is the same of the handoff and of the board over it
---     ResetAtFirst, ResetAfterEvents, ResetAfterMoves      it is that of the given functions, and stays so
+--     with_seated_reset s gs      a state with each function in a slot at reset, except for the bytes that guests have copies of
+--     OverReset      guests can't distinguish it from the state itself
+--     ResetShown      the handoff and the board over it give the same state
+--     ResetAtFirst, ResetAfterEvents, ResetAfterMoves      at first it is the state of the assigned functions, and it stays the same
 use Rattle.std.specs.{Prelude.{◌≡◌, Bool, false, if◌then◌else◌, Option, None, option_map, IsSome}, List.list_any, Option.option_map_or}
 use Rattle.model_registers.specs.Registers.{File}
 use Rattle.model_board.specs.{Paths.{Path, path_eq}, AtReset.board_at, State.State}
@@ -38,7 +38,7 @@ abbrev pub ResetAfterEvents : Type 0
 ResetAfterEvents = (s : State) (gs : GuestsNow) (name : Text) (e : Event)
     → with_seated_reset s (after_guest_event name e gs) ≡ with_seated_reset s gs
 
--- between guests that are there
+-- between guests that exist
 abbrev pub ResetAfterMoves : Type 0
 ResetAfterMoves = OverSeated (λ s gs. (m : Move) → IsSome (guest_named gs m.to)
     → with_seated_reset s (after_move gs m) ≡ with_seated_reset s gs)

@@ -1,5 +1,5 @@
--- Worked example: the bytes of a guest of the main board, and what of them is refused.
---     ByteExamples      what they begin with, how they are read, and by which guests they are taken
+-- Worked example: the bytes of a guest of the main board, and their refusals.
+--     ByteExamples      the first bytes, the image that they encode, and the guests that accept them
 use Rattle.std.specs.Prelude.{[], ◌∷◌, ◌≡◌, ◌++◌, Some, None, codes, take, drop, length}
 use Rattle.model_guests.specs.{World.declarations, Lone.reset_guest, Examples.main_world}
 use Rattle.model_images.specs.{ImageExamples.{at_work, its_image}, ImageBytes.{image_bytes, image_of}, LoadedBytes.load_fault}

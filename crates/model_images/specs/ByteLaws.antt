@@ -1,13 +1,13 @@
 -- Laws of images as bytes.
---     AreBytes      each number is a byte
---     Spells L bs p      bytes are those of a value that has bytes, and the rest follows
---     IsLayout L      a value's bytes are read as the value, whatever follows, and what is read has those bytes
---     HasBytes i      the numbers of the image fit their fields, and its functions hold what they can
---     BytesAreBytes, BytesAreRead, ReadAreBytes      the bytes of an image are read as it, and no others are
---     OneImage      two images that have bytes don't have the same
---     ReadIsOfAGuest      an image that is read is that of a guest, which it fits
---     IsSavable, IsSavableGuest      a lawful function that holds bytes which it can hold; a guest of such functions
---     GuestsHaveBytes      the image of such a guest has bytes
+--     AreBytes      each number is below 256
+--     Spells L bs p      bytes that start with the encoding of a value, followed by the rest
+--     IsLayout L      decoding an encoded value returns it, whatever follows, and a decoded value encodes to the same bytes
+--     HasBytes i      the numbers of the image fit their fields, and its functions hold values that they can hold
+--     BytesAreBytes, BytesAreRead, ReadAreBytes      the bytes of an image decode to it, and no other bytes do
+--     OneImage      two images with equal encodings are equal
+--     ReadIsOfAGuest      a decoded image belongs to a guest, which it fits
+--     IsSavable, IsSavableGuest      a lawful function that holds bytes that it can hold; a guest with such functions
+--     GuestsHaveBytes      the image of such a guest has an encoding
 use Rattle.std.specs.Prelude.{◌≡◌, ◌<◌, ℕ, List, ◌++◌, Option, Some, None, IsTrue, ⊤, length}
 use Rattle.lists.specs.Elements.{Each}
 use Rattle.model_registers.specs.{Cell.IsCell, AccessLaws.HoldsBytes, Declarations.{Region, ConfigBlock, Endpoint}, DeclarationRules.IsLawfulEndpoint, Decoding.Function, ConfigAddress.latched}
@@ -42,7 +42,7 @@ ReadAreBytes = (bs : List ℕ) (i : Image) → image_of bs ≡ Some i → (bs �
 abbrev pub OneImage : Type 0
 OneImage = (i j : Image) → HasBytes i → HasBytes j → image_bytes i ≡ image_bytes j → i ≡ j
 
--- with 32 slots and its latch
+-- with 32 slots and its CONFIG_ADDRESS
 pub record IsImageOf (i : Image) (g : LoneGuest) : Type 0 where
   pub image : image_of_lone g ≡ i
   pub fits : Fits i g
@@ -56,7 +56,7 @@ pub record HasCells (d : Endpoint) : Type 0 where
   pub regions : Each (λ (r : Region). Each IsCell r.cells) d.regions
   pub blocks : Each (λ (b : ConfigBlock). Each IsCell b.cells) d.blocks
 
--- its declaration can be written
+-- its declaration can be serialized
 pub record IsDeclared (d : Endpoint) : Type 0 where
   pub lawful : IsLawfulEndpoint d
   pub cells : HasCells d

@@ -1,9 +1,9 @@
--- What is saved can be loaded again: whatever happens, each function holds what functions of its declaration can hold.
---     IsFittingFunction, IsFitting, AreFitting      of a function, of a guest alone, of all guests
---     FittingAtFirst      so it is at first
+-- Saved guests can be loaded again: at any time, each function holds values that functions with its declaration can hold.
+--     IsFittingFunction, IsFitting, AreFitting      this property of a function, of a guest by itself, and of all guests
+--     FittingAtFirst      it holds at first
 --     IsFittingRequest, AreFittingRequests      requests whose images fit the guests that get them
---     FittingAfter, FittingAlong      along such requests it stays so
---     declarations_of, SavedFits      the image of such a guest fits each guest of equal declarations
+--     FittingAfter, FittingAlong      it is preserved along such requests
+--     declarations_of, SavedFits      the image of such a guest fits each guest with equal declarations
 use Rattle.std.specs.Prelude.{◌≡◌, List, [], ◌∷◌, map, Option, Some, None, option_map, ⊤, IsTrue, IsSome, false}
 use Rattle.lists.specs.Elements.{Each}
 use Rattle.model_registers.specs.{Declarations.Endpoint, EndpointTable.endpoint_reset, CopiedFiles.shape_of, Decoding.Function, ConfigAddress.latched}

@@ -1,14 +1,14 @@
--- The bytes of an image: a header, the latch, and 32 slots. A function has its declaration, then a byte for each cell.
---     magic, version      what an image begins with
+-- The bytes of an image: a header, CONFIG_ADDRESS, and 32 slots. A function has its declaration, then a byte for each cell.
+--     magic, version      the first bytes of an image, and its version
 --     cell_layout, region_layout, block_layout, endpoint_layout      the parts of a declaration
---     values_layout, function_layout, latch_layout, image_layout      values; a function; a latch; an image
+--     values_layout, function_layout, latch_layout, image_layout      values; a function; CONFIG_ADDRESS; an image
 --     declaration_bytes, image_bytes      the bytes of a declaration, and of an image
---     image_of bytes      the image whose bytes they are
+--     image_of bytes      the image that the bytes encode
 use Rattle.std.specs.Prelude.{List, ℕ, ◌==◌, true, false, if◌then◌else◌, nat_lt, length, Option}
 use Rattle.model_registers.specs.{Cell.Cell, ConfigAddress.latched, Declarations.{Kind, io_kind, mem32, mem64, Region, ConfigBlock, Endpoint}, EndpointTable.endpoint_reset}
 use Rattle.model_images.specs.{Images.{SavedFunction, Image, fit_cells}, Layouts.{Layout, number, checked, through, followed, both, exactly, repeated, counted, optional, whole}}
 
--- `PCIG`, and the first form of images
+-- `PCIG`, and version 1 of images
 abbrev pub magic : ℕ
 magic = 0x47494350
 
@@ -20,7 +20,7 @@ version = 1
 abbrev pub CellParts : Type 0
 CellParts = ℕ × (ℕ × ℕ)
 
--- the value at reset, the writable bits, the clearable bits
+-- the reset value, the writable bits, the write-1-to-clear bits
 abbrev pub cell_layout : Layout Cell
 cell_layout =
     through (λ (x : CellParts). record { value = x.0; writable = x.1.0; clearable = x.1.1 })
@@ -100,7 +100,7 @@ endpoint_layout =
 
 -- ---- functions and guests
 
--- a byte for each cell, of what functions of this declaration can hold
+-- a byte for each cell, with a value that functions with this declaration can hold
 abbrev pub values_layout : Endpoint → Layout (List ℕ)
 values_layout d =
     checked (fit_cells (endpoint_reset d false)) (repeated (length (endpoint_reset d false)) (number 1))
@@ -110,7 +110,7 @@ function_layout =
     through (λ (x : Endpoint × List ℕ). record { decl = x.0; values = x.1 })
     (λ (s : SavedFunction). (s.decl, s.values)) (followed endpoint_layout values_layout)
 
--- the bits that a latch doesn't have are 0
+-- unused bits of CONFIG_ADDRESS are 0
 abbrev pub latch_layout : Layout ℕ
 latch_layout = checked (λ n. latched n == n) (number 4)
 

@@ -1,13 +1,13 @@
 -- Worked example: the first guest of the main board is saved, and loaded on another board.
---     at_work      the guest after lines of its own
---     its_image      the image of it
---     elsewhere      another board, on which its functions stand behind a bridge; the image is loaded into its guest
+--     at_work      the guest after some lines of its own
+--     its_image      the guest's image
+--     elsewhere      another board, on which its functions are behind a bridge; the image is loaded into its guest
 use Rattle.std.specs.Prelude.{[], ◌∷◌, ◌≡◌, codes, length}
 use Rattle.model_board.specs.State.{State}
 use Rattle.model_guests.specs.{World.declarations, Lone.{LoneGuest, reset_guest}, Guests.lone_of, Inputs.{own_line, after_inputs}, WorldNow.{WorldNow, world_over}, Examples.{main_world, second_world}}
 use Rattle.model_images.specs.Images.{Image, image_of_lone, lone_of_image, after_load, at_reset}
 
--- Command, a base, a byte in memory, and the latch
+-- Command, a base, a byte in memory, and CONFIG_ADDRESS
 abbrev pub at_work : LoneGuest
 at_work =
     after_inputs (reset_guest (declarations main_world (codes "a")))

@@ -1,11 +1,11 @@
--- Images of guests: what a guest alone holds, as a value that outlives its world.
---     SavedFunction, Image      a function's declaration and what its cells hold; a guest's latch and its 32 slots
---     image_of_lone, image_of_guest      the image of what a guest alone holds; of a guest of a world
---     lone_of_image      what a guest holds into which an image was loaded
---     after_load name i w      the world in which this guest holds what the image says, and all else is as it was
---     at_reset, after_restart name w      a guest with all functions and its latch at reset; the world with this one so
---     fixed_bits, can_hold, fit_cells      what a cell, and what the cells of a function, can come to hold
---     Fits i g      what fits a guest: equal declarations slot by slot, and what their cells can come to hold
+-- Images of guests: a guest's own state, as a value that outlives its world.
+--     SavedFunction, Image      a function's declaration and the values of its cells; a guest's CONFIG_ADDRESS and its 32 slots
+--     image_of_lone, image_of_guest      the image of a guest by itself; of a guest of a world
+--     lone_of_image      the state of a guest after an image is loaded into it
+--     after_load name i w      the world in which this guest has the state in the image, and everything else is unchanged
+--     at_reset, after_restart name w      a guest with all functions and its CONFIG_ADDRESS at reset; the world with this guest reset
+--     fixed_bits, can_hold, fit_cells      the values that a cell, and the cells of a function, can take
+--     Fits i g      the images that fit a guest: equal declarations slot by slot, and values that their cells can take
 use Rattle.std.specs.Prelude.{List, [], ◌∷◌, ◌≡◌, ℕ, Bool, true, false, ◌&&◌, ◌||◌, ◌==◌, bit_and, map, Option, Some, None, option_map, IsTrue, ⊤}
 use Rattle.model_registers.specs.{Cell.{Cell, except}, Registers.{PlacedCell, File}, Declarations.Endpoint, EndpointTable.endpoint_reset, DeviceBytes.{is_device_byte, with_value}, Decoding.Function, ConfigAddress.latched}
 use Rattle.model_guests.specs.{Slots.{Slots, reset_function}, Text.Text, Lone.LoneGuest, Guests.{GuestNow, lone_of, with_guest}, WorldNow.WorldNow}
@@ -35,13 +35,13 @@ image_of_guest name w = image_of_lone (lone_of w.guests name)
 
 -- ---- loaded
 
--- the cells with these values; places and masks stay
+-- the cells with these values; places and masks are kept
 abbrev pub with_values : List ℕ → File → File
 with_values vs [] = []
 with_values [] (e ∷ es) = e ∷ es
 with_values (v ∷ vs) (e ∷ es) = record e { cell = with_value v e.cell } ∷ with_values vs es
 
--- the declaration says where cells stand, and which of their bits can be written
+-- the declaration determines the places of cells and their masks
 abbrev pub restored : SavedFunction → Function
 restored s = record { decl = s.decl; file = with_values s.values (endpoint_reset s.decl false) }
 
@@ -51,7 +51,7 @@ lone_of_image i = record { slots = map (option_map restored) i.slots; latch = i.
 abbrev pub loaded : Image → GuestNow → GuestNow
 loaded i g = record g { lone = lone_of_image i }
 
--- the handoff stays, and where functions stand on the board
+-- the handoff and the functions' paths on the board stay the same
 abbrev pub after_load : Text → Image → WorldNow → WorldNow
 after_load name i w = record w { guests = with_guest (loaded i) name w.guests }
 
@@ -63,17 +63,17 @@ function_at_reset o = reset_function (option_map (λ (f : Function). f.decl) o)
 abbrev pub at_reset : LoneGuest → LoneGuest
 at_reset g = record { slots = map function_at_reset g.slots; latch = 0 }
 
--- as its image at reset is loaded
+-- the same as loading the guest's image at reset
 abbrev pub after_restart : Text → WorldNow → WorldNow
 after_restart name w = after_load name (image_of_lone (at_reset (lone_of w.guests name))) w
 
--- ---- what fits
+-- ---- images that fit
 
 -- the bits of a byte that no access changes in the cell
 abbrev pub fixed_bits : Cell → ℕ → ℕ
 fixed_bits c v = bit_and (bit_and v (except c.writable)) (except c.clearable)
 
--- a device may write any byte of its own; elsewhere the fixed bits are those of the reset
+-- a device may write any byte of its own; elsewhere the fixed bits keep their reset values
 abbrev pub can_hold : PlacedCell → ℕ → Bool
 can_hold e v = is_device_byte e.place || fixed_bits e.cell v == fixed_bits e.cell e.cell.value
 
@@ -103,7 +103,7 @@ FitSlots [] (f ∷ fs) = ⊥
 FitSlots (s ∷ ss) [] = ⊥
 FitSlots (s ∷ ss) (f ∷ fs) = FitsSlot s f × FitSlots ss fs
 
--- the bits that a latch doesn't have are 0
+-- unused bits of CONFIG_ADDRESS are 0
 pub record Fits (i : Image) (g : LoneGuest) : Type 0 where
   pub latch : latched i.latch ≡ i.latch
   pub slots : FitSlots i.slots g.slots

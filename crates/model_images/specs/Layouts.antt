@@ -1,13 +1,13 @@
--- Layouts: how values stand as bytes one after the other, and how they are read again. Numbers are little-endian.
---     Layout      which values have bytes, the bytes of a value, and the value at the front of bytes
+-- Layouts: how values are encoded as consecutive bytes, and decoded again. Numbers are little-endian.
+--     Layout      the values that can be encoded, their bytes, and the value at the front of some bytes
 --     le_bytes k n, number k      n in k bytes; numbers of k bytes
 --     checked test L      the values of L that pass a test
---     through to from L      the values of L seen as others
---     followed L M, both L M      a value, then one of a layout that it decides; two values
---     exactly k n      this number alone, in k bytes
---     repeated n L, counted k L      n values; how many values there are, in k bytes, then these
+--     through to from L      the values of L, converted to another type
+--     followed L M, both L M      a value, then one in a layout that depends on it; two values
+--     exactly k n      only this number, in k bytes
+--     repeated n L, counted k L      n values; the number of values in k bytes, then the values
 --     optional L      a byte 0, or a byte 1 and a value
---     whole L bytes      the value that all these bytes are
+--     whole L bytes      the value that exactly these bytes encode
 use Rattle.std.specs.Prelude.{List, [], ◌∷◌, ℕ, zero, suc, ◌+◌, ◌*◌, ◌/◌, ◌%◌, ◌^◌, ◌++◌, Bool, true, false, ◌&&◌, ◌==◌, nat_lt, nat_le, if◌then◌else◌, length, flat_map, Option, Some, None, option_map, option_and_then}
 
 -- a value, and the bytes after it
@@ -29,7 +29,7 @@ abbrev pub le_bytes : ℕ → ℕ → List ℕ
 le_bytes zero n = []
 le_bytes (suc k) n = n % 256 ∷ le_bytes k (n / 256)
 
--- the number whose low byte and others these are
+-- the number with this low byte and these other bytes
 abbrev pub raised_number : ℕ → Parsed ℕ → Parsed ℕ
 raised_number b p = parsed (b + 256 * p.value) p.rest
 

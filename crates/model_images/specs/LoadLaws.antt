@@ -1,14 +1,14 @@
--- Laws of guests that are saved and loaded.
---     KeepsWhatWasSaved      a world into which a guest is loaded as it was saved stays as it is
---     LoadedHolds      what a guest holds after a load is told by the image alone
+-- Laws of saving and loading guests.
+--     KeepsWhatWasSaved      loading a guest's current image changes nothing
+--     LoadedHolds      a guest's state after a load depends only on the image
 --     RestartedHolds      after a restart it is at reset
---     HoldsAsSaved, AnswersAsSaved      a guest that is loaded with the image of another, of this world or of another
---                                       one, holds what that one held, and is told the same by the same inputs
---     OthersAfterLoad, NamesAfterLoad, PathsAfterLoad, HandoffAfterLoad      all else that guests have stays
---     BoardBesideLoad      and so do the board's functions that the guest hasn't
---     BoardAfterLoad, LoadsAlike      of those that it has the board takes what the guest has no copies of
---     SeatedAfterLoad, LawfulAfterLoad      after a load of what fits guests stay seated, and the world lawful
---     ShownAfterLoad      and the same handoff is shown
+--     HoldsAsSaved, AnswersAsSaved      a guest loaded with the image of another, of this world or of another
+--                                       one, has the saved guest's state, and gives the same replies to the same inputs
+--     OthersAfterLoad, NamesAfterLoad, PathsAfterLoad, HandoffAfterLoad      everything else that guests have stays the same
+--     BoardBesideLoad      so do the board's functions that the guest doesn't have
+--     BoardAfterLoad, LoadsAlike      in the guest's functions, the board takes the values that the guest has no copies of
+--     SeatedAfterLoad, LawfulAfterLoad      after loading an image that fits, guests stay seated, and the world is lawful
+--     ShownAfterLoad      the board still identifies the same handoff
 use Rattle.std.specs.{Prelude.{◌≡◌, ℕ, List, Some, IsFalse, IsSome, slice_get}, Str.bytes_eq}
 use Rattle.model_registers.specs.{Registers.File, CopiedFiles.agreed_file}
 use Rattle.model_board.specs.{Paths.Path, Board.Board, Ports.file_at}
@@ -52,7 +52,7 @@ AnswersAsSaved = (w v : WorldNow) (from to : Text) → IsCopy w from v to → (o
     → request_inputs from w ones ≡ request_inputs to (copied from w to v) others
     → AnswersAlike w from ones (copied from w to v) to others
 
--- ---- what stays
+-- ---- unchanged state
 
 abbrev pub OthersAfterLoad : Type 0
 OthersAfterLoad = (w : WorldNow) (name other : Text) (i : Image) → IsFalse (bytes_eq name other)
@@ -74,7 +74,7 @@ BoardBesideLoad = (b : Board) (w : WorldNow) → AreSeated b w.guests → (name 
     → ((n : ℕ) → path_in w.guests name n ≡ Some p → ⊥)
     → file_at (board_state (after_load name i w)).functions p ≡ file_at (board_state w).functions p
 
--- the registers of which guests have copies stay as they were handed over
+-- the registers that guests have copies of stay as in the handoff
 abbrev pub BoardAfterLoad : Type 0
 BoardAfterLoad = (b : Board) (w : WorldNow) → AreSeated b w.guests → (name : Text) (i : Image)
     → Fits i (lone_of w.guests name) → (n : ℕ) (p : Path) (s : SavedFunction) → path_in w.guests name n ≡ Some p
@@ -85,7 +85,7 @@ BoardAfterLoad = (b : Board) (w : WorldNow) → AreSeated b w.guests → (name :
 abbrev pub LoadsAlike : Type 0
 LoadsAlike = (file : File) → ChangesAlike (λ own. file) (λ shown. agreed_file shown file)
 
--- ---- what fits
+-- ---- images that fit
 
 abbrev pub SeatedAfterLoad : Type 0
 SeatedAfterLoad = (b : Board) (w : WorldNow) → AreSeated b w.guests → (name : Text) (i : Image)

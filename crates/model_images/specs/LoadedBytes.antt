@@ -1,20 +1,20 @@
--- How bytes are loaded into a guest: they are compared with what its functions declare, slot by slot, and the first byte
--- that fails decides.
---     then_read next r      what `next` makes of the bytes that are left, if there was no refusal
---     after_bytes k xs bytes      the bytes after these ones; where another byte stands, the refusal k
+-- How bytes are loaded into a guest: they are compared with the declarations of its functions, slot by slot, and the first
+-- byte that fails decides the refusal.
+--     then_read next r      applies `next` to the remaining bytes, unless there was a refusal
+--     after_bytes k xs bytes      the bytes after these ones; the refusal k if a byte differs
 --     after_values file bytes      the bytes after a value for each cell that the cell can hold
 --     after_slot      the bytes after those of a slot
---     after_slots, after_image      the same of slots, and of an image of this guest, which nothing follows
---     after_version v, after_beginning m v      the bytes after a version, and after what an image begins with
---     load_fault g bytes      905 where the bytes are no image, 908 where they are one of another version, 906 where they
+--     after_slots, after_image      the bytes after those of slots, and after an image of this guest, which must be the end
+--     after_version v, after_beginning m v      the bytes after a version, and after the start of an image
+--     load_fault g bytes      905 if the bytes aren't an image, 908 if their version is another one, 906 if they
 --                             declare other functions
---     after_load_bytes      the world after it
+--     after_load_bytes      the world after loading the bytes
 use Rattle.std.specs.{Prelude.{List, [], ◌∷◌, ◌++◌, ℕ, ◌==◌, false, if◌then◌else◌, is_some, Option, Some, None, Result, Ok, Err}, Option.option_map_or}
 use Rattle.model_registers.specs.{Registers.File, ConfigAddress.latched, EndpointTable.endpoint_reset, Decoding.Function}
 use Rattle.model_guests.specs.{Slots.Slots, Text.Text, Lone.LoneGuest, Guests.lone_of, WorldNow.WorldNow}
 use Rattle.model_images.specs.{Images.{Image, can_hold, after_load}, Layouts.{Parsed, le_bytes, parse_number}, ImageBytes.{magic, version, declaration_bytes, image_of}}
 
--- the bytes that are left, or a refusal
+-- the remaining bytes, or a refusal
 abbrev pub Left : Type 0
 Left = Result (List ℕ) ℕ
 
@@ -37,7 +37,7 @@ after_slot None bytes = after_bytes 906 (0 ∷ []) bytes
 after_slot (Some f) bytes =
     then_read (after_values (endpoint_reset f.decl false)) (after_bytes 906 (1 ∷ declaration_bytes f.decl) bytes)
 
--- no byte is left
+-- no byte remains
 abbrev pub at_end : List ℕ → Left
 at_end [] = Ok []
 at_end (b ∷ bytes) = Err 905
@@ -59,7 +59,7 @@ header = le_bytes 4 magic ++ le_bytes 4 version
 abbrev pub after_version : ℕ → List ℕ → Left
 after_version v bytes = after_bytes 908 (le_bytes 4 v) bytes
 
--- what follows is read only where the version is this one
+-- the rest is decoded only if the version is this one
 abbrev pub after_beginning : ℕ → ℕ → List ℕ → Left
 after_beginning m v bytes = then_read (after_version v) (after_bytes 905 (le_bytes 4 m) bytes)
 

@@ -1,9 +1,9 @@
--- Laws of bytes that are loaded into a guest.
---     AcceptedIsImage      bytes that are not refused are an image that fits the guest
---     ImagesDecided      an image is taken where it fits, and else refused as one of other functions
---     IsTakenByAll g, AlikeAccepted      the bytes of a guest's own image are taken by each guest of equal declarations
---     LoadsImage, RefusedStays      so the world after it is that after the load of an image that fits, or as it was
---     KeepsSavedBytes      bytes that were saved change nothing
+-- Laws of loading bytes into a guest.
+--     AcceptedIsImage      accepted bytes encode an image that fits the guest
+--     ImagesDecided      an image is accepted if it fits, and otherwise refused as belonging to other functions
+--     IsTakenByAll g, AlikeAccepted      each guest with equal declarations accepts the bytes of a guest's own image
+--     LoadsImage, RefusedStays      the world afterwards is that after loading an image that fits, or unchanged
+--     KeepsSavedBytes      loading the bytes just saved changes nothing
 use Rattle.std.specs.Prelude.{◌≡◌, ◌⊎◌, ℕ, List, Some, None}
 use Rattle.model_board.specs.Board.{Board}
 use Rattle.model_guests.specs.{Text.Text, Lone.LoneGuest, Guests.lone_of, Seated.AreSeated, WorldNow.WorldNow}
@@ -21,12 +21,12 @@ pub record IsOfOthers (g : LoneGuest) (bytes : List ℕ) (i : Image) : Type 0 wh
   pub refused : load_fault g bytes ≡ Some 906
   pub not_fitting : Fits i g → ⊥
 
--- so what is refused by 905 is no image
+-- so bytes refused with 905 aren't an image
 abbrev pub ImagesDecided : Type 0
 ImagesDecided = (g : LoneGuest) → IsSavableGuest g → (bytes : List ℕ) (i : Image) → image_of bytes ≡ Some i
     → ((load_fault g bytes ≡ None) × Fits i g) ⊎ IsOfOthers g bytes i
 
--- itself among them
+-- including the guest itself
 abbrev pub IsTakenByAll : LoneGuest → Type 0
 IsTakenByAll g = (other : LoneGuest) → declarations_of g ≡ declarations_of other
     → load_fault other (image_bytes (image_of_lone g)) ≡ None

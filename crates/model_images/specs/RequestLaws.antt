@@ -1,10 +1,10 @@
--- Laws of requests over lawful worlds, and how often the regions of a guest's functions may have come to stand elsewhere.
---     LawfulAlongRequests      along requests whose images fit the world stays lawful
---     changes_by, changes_along      a request changes the guest: an action that does, and each load or restart of it
+-- Laws of requests in lawful worlds, and of the count of events that may move a guest's regions.
+--     LawfulAlongRequests      requests whose images fit keep the world lawful
+--     changes_by, changes_along      a request changes the guest: an action that does, and each load or restart of the guest
 --     after_request_on_machine, after_all_requests      a machine after a request, and after requests
---     AnswersStayAlong      along requests none of which changes the guest, each of its answers stays
---     RequestCountsGrow      along requests its count grows by one with each that changes it
---     AnswersStayByCount      so while its count stays, its answers stay, along fewer than 2^64 changes
+--     AnswersStayAlong      if no request changes the guest, each of its answers stays the same
+--     RequestCountsGrow      a guest's count grows by one with each request that changes it
+--     AnswersStayByCount      so while the count is the same, the answers are the same, along fewer than 2^64 changes
 use Rattle.std.specs.{Prelude.{◌≡◌, ◌<◌, ◌+◌, ◌^◌, ◌%◌, ℕ, Bool, List, [], ◌∷◌, if◌then◌else◌, IsSome}, Str.bytes_eq}
 use Rattle.model_guests.specs.{Text.Text, Guests.guest_named, WorldNow.{WorldNow, names_now}}
 use Rattle.model_handoff.specs.{Kept.IsLawfulOver, Changes.{changes, counts_where, MachineNow}, CountLaws.{HaveSameAnswers, IsCounted}}

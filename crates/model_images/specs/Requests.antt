@@ -1,11 +1,11 @@
--- Isolation along actions, loads and restarts, in any order. What a guest is told, and what it holds then, depends on its
--- own inputs alone: what is its own of actions, and the images that are loaded into it.
---     Request      an action, or a guest that is loaded or put to reset
---     after_request, after_requests      the world after it, and after requests
---     told_of, all_told_of      what a guest is told
---     OwnInput, inputs_of_request, request_inputs      what is a guest's own of it
---     told_alone, after_own, all_told_alone, after_all_own      what that comes to over the guest alone
---     IsolatedByRequests      it decides
+-- Isolation along any sequence of actions, loads and restarts. A guest's replies and state depend only on its own
+-- inputs: its parts of actions, and the images that are loaded into it.
+--     Request      an action, or loading or resetting a guest
+--     after_request, after_requests      the world after one request, and after several
+--     told_of, all_told_of      the replies to a guest
+--     OwnInput, inputs_of_request, request_inputs      the parts of a request that concern a guest
+--     told_alone, after_own, all_told_alone, after_all_own      the effect of these inputs on the guest alone
+--     IsolatedByRequests      these inputs decide the guest's replies and state
 use Rattle.std.specs.{Prelude.{◌≡◌, List, [], ◌∷◌, ◌++◌, if◌then◌else◌, map, IsSome}, Str.bytes_eq}
 use Rattle.model_guests.specs.{Accesses.Reply, Text.Text, Lone.LoneGuest, Guests.{guest_named, lone_of}, WorldNow.WorldNow, Calls.{CallInput, alone_told, after_own_call}}
 use Rattle.model_handoff.specs.Actions.{Action, after_action, told_by, inputs_of_action}
@@ -25,7 +25,7 @@ abbrev pub after_requests : WorldNow → List Request → WorldNow
 after_requests w [] = w
 after_requests w (r ∷ more) = after_requests (after_request w r) more
 
--- of a load and of a restart the host is told
+-- the host gets the reply to a load or a restart
 abbrev pub told_of : Text → WorldNow → Request → List Reply
 told_of name w (acts a) = told_by name w a
 told_of name w (loads n i) = []
@@ -35,7 +35,7 @@ abbrev pub all_told_of : Text → WorldNow → List Request → List Reply
 all_told_of name w [] = []
 all_told_of name w (r ∷ more) = told_of name w r ++ all_told_of name (after_request w r) more
 
--- ---- what is the guest's own
+-- ---- the guest's inputs
 
 pub data OwnInput : Type 0 where
   acted : CallInput → OwnInput
@@ -51,7 +51,7 @@ abbrev pub request_inputs : Text → WorldNow → List Request → List OwnInput
 request_inputs name w [] = []
 request_inputs name w (r ∷ more) = inputs_of_request name w r ++ request_inputs name (after_request w r) more
 
--- ---- over the guest alone
+-- ---- for the guest alone
 
 abbrev pub told_alone : LoneGuest → OwnInput → List Reply
 told_alone g (acted i) = alone_told g i
@@ -75,7 +75,7 @@ pub record AreDecidedBy (is : List OwnInput) (w : WorldNow) (name : Text) (reque
   pub replies : all_told_of name w requests ≡ all_told_alone (lone_of w.guests name) is
   pub holds : lone_of (after_requests w requests).guests name ≡ after_all_own (lone_of w.guests name) is
 
--- in any world as it is now
+-- in any current world
 abbrev pub IsolatedByRequests : Type 0
 IsolatedByRequests = (w : WorldNow) (name : Text) → IsSome (guest_named w.guests name) → (requests : List Request)
     → AreDecidedBy (request_inputs name w requests) w name requests

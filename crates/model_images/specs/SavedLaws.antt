@@ -1,17 +1,17 @@
--- Laws of what is saved, whenever it is saved: guests can be saved along any requests, and what was saved of a guest is
--- taken by each guest of equal declarations.
---     CanBeDeclared, AreDeclared fs      a declaration that can be written; so are those of all functions of a board
---     CanBeSaved w      so it is of a world's board, and each of its guests can be saved
---     IsSavedAtFirst, CanBeSavedAtFirst      a lawful world can be saved at first, where the declarations of its board can
---                                   be written
---     IsWritableRequest, AreWritableRequests      requests whose images fit the guests that get them, and have bytes
---     CanBeSavedAlong      along such requests it can be saved
+-- Laws of saving at any time: guests can be saved after any requests, and each guest with equal declarations accepts the
+-- saved bytes.
+--     CanBeDeclared, AreDeclared fs      a declaration that can be serialized; all declarations of a board can be
+--     CanBeSaved w      this holds for a world's board, and each of its guests can be saved
+--     IsSavedAtFirst, CanBeSavedAtFirst      a lawful world can be saved at first, if the declarations of its board can
+--                                   be serialized
+--     IsWritableRequest, AreWritableRequests      requests whose images fit their guests, and have encodings
+--     CanBeSavedAlong      after such requests it can be saved
 --     IsAlike w from v to      a guest of equal declarations, in this world or another
---     IsTakenBy w from v to      the bytes that were saved of the first guest are taken by the second, which then answers as
---                                   the first would have, and no one else answers otherwise
---     IsTakenByEach w from, TakesSavedGuest      so they are by each guest of equal declarations
---     SavesWhatWasTaken      what is saved of a guest after a load are the bytes that were loaded
---     NoImageIsRefused      what is refused by 905 is no image
+--     IsTakenBy w from v to      the second guest accepts the bytes saved from the first, and then answers as
+--                                   the first would have, and no other guest's replies change
+--     IsTakenByEach w from, TakesSavedGuest      each guest with equal declarations does so
+--     SavesWhatWasTaken      saving a guest straight after a load returns the loaded bytes
+--     NoImageIsRefused      bytes refused with 905 aren't an image
 use Rattle.std.specs.{Prelude.{◌≡◌, ℕ, List, [], ◌∷◌, Some, None, IsFalse, IsSome, ⊤}, Str.bytes_eq}
 use Rattle.lists.specs.Elements.{Each}
 use Rattle.model_board.specs.{Board.{Decl, endpoint, bridge}, State.{BoardFunction, State}}
@@ -19,7 +19,7 @@ use Rattle.model_guests.specs.{Text.Text, World.World, Lone.LoneGuest, Guests.{G
 use Rattle.model_handoff.specs.{Handoffs.taken_over, Kept.IsLawfulOver}
 use Rattle.model_images.specs.{Images.{Image, image_of_guest, after_load, Fits}, Requests.{Request, acts, loads, restarts, after_request, after_requests, request_inputs}, LoadLaws.{copied, AnswersAlike}, FitLaws.declarations_of, ImageBytes.{image_bytes, image_of}, ByteLaws.{HasBytes, IsDeclared, IsSavableGuest}, LoadedBytes.{load_fault, after_load_bytes}, LoadedLaws.IsFittingImage}
 
--- a lawful bridge can be written
+-- a lawful bridge can be serialized
 abbrev pub CanBeDeclared : Decl → Type 0
 CanBeDeclared (endpoint d) = IsDeclared d
 CanBeDeclared (bridge d) = ⊤
@@ -31,7 +31,7 @@ pub record CanBeSaved (w : WorldNow) : Type 0 where
   pub declared : AreDeclared w.handoff.functions
   pub guests : Each (λ (g : GuestNow). IsSavableGuest g.lone) w.guests
 
--- over a handoff, and over what guests get of one
+-- over a handoff, and over the board that guests get from it
 pub record IsSavedAtFirst (w : World) (s : State) : Type 0 where
   pub over : IsLawfulOver (world_over w s) → CanBeSaved (world_over w s)
   pub taken_over : IsLawfulOver (world_over w (taken_over w s)) → CanBeSaved (world_over w (taken_over w s))
@@ -39,7 +39,7 @@ pub record IsSavedAtFirst (w : World) (s : State) : Type 0 where
 abbrev pub CanBeSavedAtFirst : Type 0
 CanBeSavedAtFirst = (w : World) (s : State) → AreDeclared s.functions → IsSavedAtFirst w s
 
--- bytes that are read as an image are of one that has bytes
+-- bytes that decode to an image come from an image with an encoding
 pub record IsWritableImage (i : Image) (g : LoneGuest) : Type 0 where
   pub fits : Fits i g
   pub bytes : HasBytes i
@@ -57,13 +57,13 @@ abbrev pub CanBeSavedAlong : Type 0
 CanBeSavedAlong = (w : WorldNow) → IsLawfulOver w → CanBeSaved w → (requests : List Request)
     → AreWritableRequests w requests → CanBeSaved (after_requests w requests)
 
--- ---- what was saved of a guest
+-- ---- the saved bytes of a guest
 
 pub record IsAlike (w : WorldNow) (from : Text) (v : WorldNow) (to : Text) : Type 0 where
   pub there : IsSome (guest_named v.guests to)
   pub declarations : declarations_of (lone_of w.guests from) ≡ declarations_of (lone_of v.guests to)
 
--- whatever others do, before and after
+-- whatever other guests do, before and after
 pub record IsTakenBy (w : WorldNow) (from : Text) (v : WorldNow) (to : Text) : Type 0 where
   pub image : image_of (image_bytes (image_of_guest from w)) ≡ Some (image_of_guest from w)
   pub accepted : load_fault (lone_of v.guests to) (image_bytes (image_of_guest from w)) ≡ None
@@ -81,7 +81,7 @@ abbrev pub TakesSavedGuest : Type 0
 TakesSavedGuest = (w : WorldNow) (from : Text) → IsLawfulOver w → CanBeSaved w → IsSome (guest_named w.guests from)
     → IsTakenByEach w from
 
--- ---- what was loaded
+-- ---- the loaded bytes
 
 abbrev pub SavesWhatWasTaken : Type 0
 SavesWhatWasTaken = (w : WorldNow) (name : Text) → IsSome (guest_named w.guests name) → (bytes : List ℕ) (i : Image)

@@ -1,11 +1,11 @@
--- What a function that is loaded holds, a guest and its device could have brought about from reset, byte by byte.
---     run step vs p file      the step of each byte, at one place after the other
---     written_run, put_run      as a guest writes bytes, and as a device puts them
+-- A guest and its device could have produced the state of each loaded function from reset, byte by byte.
+--     run step vs p file      the step for each byte, at consecutive places
+--     written_run, put_run      writes by the guest, and by the device
 --     header_values, blocks_size      how many values the header has, and the blocks of configuration space
 --     header_steps, blocks_steps, region_steps, regions_steps      the steps of a function's parts
---     steps d vs file      all of them: a guest writes Command, Cache Line Size, Latency Timer, Interrupt Line and the base
---                          address registers; a device puts Status, its own registers and its regions' bytes
---     LoadsBySteps      from reset they come to what is restored
+--     steps d vs file      all steps: a guest writes Command, Cache Line Size, Latency Timer, Interrupt Line and the base
+--                          address registers; a device writes Status, its own registers and its regions' bytes
+--     LoadsBySteps      from reset these steps give the restored state
 use Rattle.std.specs.Prelude.{List, [], ◌∷◌, ◌≡◌, ℕ, ◌+◌, ◌*◌, ◌<◌, take, drop, length, IsTrue, false}
 use Rattle.lists.specs.Elements.{Each}
 use Rattle.model_registers.specs.{Registers.{Place, config, block, after, File, write, all_bytes}, Declarations.{registers_of, Region, ConfigBlock, Endpoint}, DeclarationRules.IsLawfulEndpoint, EndpointTable.{base_register, endpoint_reset}, DeviceBytes.set_value}
@@ -21,7 +21,7 @@ written_run vs p file = run (write (all_bytes 1)) vs p file
 abbrev pub put_run : List ℕ → Place → File → File
 put_run vs p file = run set_value vs p file
 
--- ---- the parts of a function; of its values each takes those that are its own
+-- ---- the parts of a function, each with its own part of the values
 
 -- the cells of the header without base address registers
 abbrev pub header_values : ℕ
@@ -59,7 +59,7 @@ steps d vs file =
     regions_steps d.regions (drop (header_values + blocks_size d.blocks) vs)
     (blocks_steps d.blocks (drop header_values vs) (header_steps vs file))
 
--- ---- they come to the same
+-- ---- both give the same state
 
 abbrev pub LoadsBySteps : Type 0
 LoadsBySteps = (s : SavedFunction) → IsLawfulEndpoint s.decl → Each (λ v. v < 256) s.values → IsTrue (fits_declaration s)

@@ -1,12 +1,12 @@
--- Where bytes that a guest refuses stop to fit.
---     StopsAt g bytes n      with the byte at this offset, and not before it, they are refused as all of them are
---     OneStop      that is at one offset
---     stop_slot g bytes      the slot in which it is, and 32 where that is before the first one
+-- The offset at which bytes that a guest refuses stop fitting.
+--     StopsAt g bytes n      including the byte at this offset, but not without it, they are refused as all of them are
+--     OneStop      there is exactly one such offset
+--     stop_slot g bytes      the slot that contains it, or 32 if it is before the first slot
 use Rattle.std.specs.Prelude.{List, [], ◌∷◌, ◌≡◌, ℕ, suc, Bool, true, false, ◌==◌, not, Option, Some, None, Ok, Err, take}
 use Rattle.model_guests.specs.{Slots.Slots, Lone.LoneGuest}
 use Rattle.model_images.specs.{ImageBytes.{magic, version}, LoadedBytes.{Left, then_read, after_beginning, after_latch, after_slot, load_fault}}
 
--- too few bytes are refused by 905. So what is refused by it as a whole has no such offset.
+-- too few bytes are refused with 905, so bytes that are refused as a whole with 905 have no such offset
 pub record StopsAt (g : LoneGuest) (bytes : List ℕ) (n : ℕ) : Type 0 where
   pub before : load_fault g (take n bytes) ≡ load_fault g bytes → ⊥
   pub there : load_fault g (take (suc n) bytes) ≡ load_fault g bytes
@@ -25,7 +25,7 @@ abbrev pub one_more : (List ℕ → ℕ) → Left → ℕ
 one_more next (Ok bytes) = suc (next bytes)
 one_more next (Err k) = 0
 
--- how many slots are taken, one after the other
+-- how many slots are accepted, one after the other
 abbrev pub slots_read : Slots → List ℕ → ℕ
 slots_read [] bytes = 0
 slots_read (f ∷ fs) bytes = one_more (slots_read fs) (after_slot f bytes)

@@ -1,14 +1,14 @@
--- Bytes that a guest takes, slot by slot: where each function's values stand, and what the bytes are an image of.
---     le_number bytes      the number whose bytes these are, the low one first
---     values_begin d      how many bytes of a slot stand before the values of a function of this declaration
+-- The bytes that a guest accepts, slot by slot: the offset of each function's values, and the image that the bytes encode.
+--     le_number bytes      the number that these bytes encode, low byte first
+--     values_begin d      how many bytes of a slot precede the values of a function with this declaration
 --     slot_size f      how many bytes a slot has
---     taken_function, taken_slot, taken_slots      what is saved in the bytes of a function, of a slot, and of slots
---     taken_image g bytes      the image that the bytes are, if the guest takes them
---     IsTakenSlot f fs bytes rest      what bytes are that were taken for a slot and those after it
---     SlotsAreTaken      slots are taken one after the other: what a walk over them may take as so
---     IsTakenImage, ImageIsTaken      what stands before the slots, and that the slots follow
---     IsDeclaredGuest g      its declarations can be written, whatever its functions hold
---     AcceptedIsTaken      bytes that are not refused are this image, which fits the guest
+--     taken_function, taken_slot, taken_slots      the saved state in the bytes of a function, of a slot, and of slots
+--     taken_image g bytes      the image that the bytes encode, if the guest accepts them
+--     IsTakenSlot f fs bytes rest      the bytes accepted for a slot, and those after it
+--     SlotsAreTaken      slots are accepted one after the other, as a loop over them may assume
+--     IsTakenImage, ImageIsTaken      the bytes before the slots, followed by the slots
+--     IsDeclaredGuest g      its declarations can be serialized, whatever its functions hold
+--     AcceptedIsTaken      accepted bytes encode this image, which fits the guest
 use Rattle.std.specs.Prelude.{List, [], ◌∷◌, ◌≡◌, ◌≤◌, ℕ, ◌+◌, ◌*◌, false, length, take, drop, Option, Some, None, Ok, ⊤}
 use Rattle.lists.specs.Elements.{Each}
 use Rattle.model_registers.specs.{ConfigAddress.latched, Declarations.Endpoint, EndpointTable.endpoint_reset, Decoding.Function}
@@ -21,7 +21,7 @@ le_number (b ∷ bytes) = b + 256 * le_number bytes
 
 -- ---- a slot
 
--- that it is filled, and the declaration
+-- the byte for a filled slot, and the declaration
 abbrev pub values_begin : Endpoint → ℕ
 values_begin d = 1 + length (declaration_bytes d)
 
@@ -45,13 +45,13 @@ abbrev pub taken_slots : Slots → List ℕ → List (Option SavedFunction)
 taken_slots [] bytes = []
 taken_slots (f ∷ fs) bytes = taken_slot f bytes ∷ taken_slots fs (drop (slot_size f) bytes)
 
--- four bytes say what an image begins with, four the version, four the latch
+-- four bytes of magic, four of version, four of CONFIG_ADDRESS
 abbrev pub taken_image : LoneGuest → List ℕ → Image
 taken_image g bytes = record { latch = le_number (take 4 (drop 8 bytes)); slots = taken_slots g.slots (drop 12 bytes) }
 
 -- ---- laws
 
--- a byte for each cell of a function, which the cell can hold
+-- a byte for each cell of a function, with a value that the cell can hold
 pub record IsTakenSlot (f : Option Function) (fs : Slots) (bytes rest : List ℕ) : Type 0 where
   pub slot : after_slot f bytes ≡ Ok (drop (slot_size f) bytes)
   pub enough : slot_size f ≤ length bytes

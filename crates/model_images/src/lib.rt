@@ -113,9 +113,9 @@ pub fn saved_guests_are_taken()
     ensures refused { NoImageIsRefused }
 {}
 
-/// Proves at which offsets the bytes of an accepted image hold the state of each slot. The bytes
-/// encode exactly this image, which fits the guest. The only requirement is that the guest's
-/// declarations can be serialized.
+/// Proves the offsets at which accepted bytes hold the state of each slot. The bytes encode exactly
+/// this image, which fits the guest. The only requirement is that the guest's declarations can be
+/// serialized.
 pub fn taken_bytes_are_slots()
     ensures slots { SlotsAreTaken }
     ensures image { ImageIsTaken }

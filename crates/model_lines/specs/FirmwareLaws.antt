@@ -1,9 +1,9 @@
--- Laws of what firmware asks: PCI Local Bus 3.0, chapter 3.2.2.3.2.
---     LatchIsPort      4 bytes that are written at CF8h are the latch, but for the bits that read 0
---     DataIsByNumber      CFCh to CFFh are what an enabled latch selects; by number, the latch is 0 afterwards
---     RefusedChangesNothing, BadLinesChangeNothing      an access, or a line, that is refused
+-- Laws of firmware accesses: PCI Local Bus 3.0, chapter 3.2.2.3.2.
+--     LatchIsPort      writing 4 bytes at CF8h sets CONFIG_ADDRESS, except for the bits that read 0
+--     DataIsByNumber      CFCh to CFFh access the register that an enabled CONFIG_ADDRESS selects; an access by BDF leaves CONFIG_ADDRESS 0
+--     RefusedChangesNothing, BadLinesChangeNothing      a refused access or line changes nothing
 --     ReadsChangeNoRegister      a read changes no register of a function
---     LongLinesAlike      a line of more than 200 bytes writes the same whatever stands in it, and changes nothing
+--     LongLinesAlike      a line of more than 200 bytes has the same output whatever its words are, and changes nothing
 use Rattle.std.specs.Prelude.{◌≡◌, ◌<◌, ◌+◌, ℕ, IsTrue, IsSome}
 use Rattle.model_board.specs.{State.State, Ports.{latched, is_enabled, selected, selected_register}}
 use Rattle.model_guests.specs.{Accesses.{reads, writes}, Text.Text, Grammar.{HostTarget, host_configuration, host_port, is_long, Who}, HostReads.shown}

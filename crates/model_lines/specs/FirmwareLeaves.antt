@@ -1,6 +1,6 @@
--- Whatever firmware does to a handoff, it leaves one.
+-- Firmware accesses turn a handoff into a handoff.
 --     IsHandoffAlike s now      now is a handoff of the same board as s
---     AccessLeaves, LinesLeave      an access of firmware leaves such a one, and so do lines
+--     AccessLeaves, LinesLeave      a firmware access leaves such a handoff, and so do lines
 use Rattle.std.specs.Prelude.{List, ◌≡◌}
 use Rattle.model_board.specs.{AtReset.board_at, State.State}
 use Rattle.model_guests.specs.{LineRuns.after_lines, Text.Text}

@@ -1,16 +1,16 @@
--- The lines of firmware: what they mean, what each writes, and the board after it.
---     host_access_of      the words of a line after `host`
+-- Firmware lines: the meaning and output of each, and the board after it.
+--     host_access_of      parses the words of a line after `host`
 --     Meaning, meaning      an access, a refusal, or nothing
---     text_by s m      what a line of this meaning writes
---     line_output, after_line      what a line writes, and the board after it
---     board_protocol      the two as a protocol, so that they go along lines
+--     text_by s m      the output of a line with this meaning
+--     line_output, after_line      the output of a line, and the board after it
+--     board_protocol      both as a protocol, to run several lines
 use Rattle.std.specs.{Prelude.{List, [], ◌∷◌, ℕ, ◌^◌, if◌then◌else◌, Option, None, Some, codes, option_map, option_and_then}, Str.bytes_eq}
 use Rattle.lists.specs.Elements.{first_of_two}
 use Rattle.model_board.specs.{Cycles.BusAddress, State.State}
 use Rattle.model_guests.specs.{Accesses.{Op, reads, writes, refused}, Text.{Text, words, text_of_lines}, Numbers.{below, number_of}, Grammar.{given, on_word, HostRead, host_configuration, host_port, host_address, host_at, bus_address, host_read_of, Who, host, nobody, is_comment, is_long}, Replies.line_text, LineRuns.Protocol}
 use Rattle.model_lines.specs.HostAccesses.{HostAccess, answer, after_access}
 
--- what is done where a read would go
+-- a write with the target of a read
 abbrev pub done_at : Op → Option HostRead → Option HostAccess
 done_at op place = option_map (λ (r : HostRead). record { target = r.target; width = r.width; op = op }) place
 
@@ -30,7 +30,7 @@ host_write_of (op ∷ a ∷ w ∷ v ∷ []) =
 host_write_of (op ∷ a ∷ b ∷ w ∷ v ∷ []) = on_word op (codes "cw") (written_at v (config_place a b w))
 host_write_of _ = None
 
--- the host's reads of scripts, or one of these writes
+-- the host's reads in scripts, or one of these writes
 abbrev pub host_access_of : List Text → Option HostAccess
 host_access_of ws = first_of_two (done_at reads (host_read_of ws)) (host_write_of ws)
 
@@ -43,14 +43,14 @@ abbrev pub access_or_bad : Option HostAccess → Meaning
 access_or_bad None = bad host 401
 access_or_bad (Some a) = asked a
 
--- by the first word: a comment, `host`, or nobody's, since no guest is there
+-- by the first word: a comment, `host`, or an unknown name, because there are no guests
 abbrev pub meaning_of_words : List Text → Meaning
 meaning_of_words [] = nothing
 meaning_of_words (w ∷ ws) =
     if is_comment w then nothing
     else (if bytes_eq w (codes "host") then access_or_bad (host_access_of ws) else bad nobody 402)
 
--- a long line is bad whatever stands in it
+-- a long line is bad, whatever its words are
 abbrev pub meaning : Text → Meaning
 meaning line = if is_long line then bad nobody 403 else meaning_of_words (words line)
 

@@ -1,19 +1,19 @@
--- What guests see of a board that was given, whoever set it up.
---     IsGiven w s m      the guests of a world before any line, over its board as it was handed over
---     AreAlike name m n one other      a guest is told the same of two boards, each with a script of its own, and holds
---         the same
---     GivenIsolated      each guest's replies, and what it holds, are those of its own inputs over its own functions
---     GivenAlike      two boards and two scripts that agree on a guest tell it the same, and it holds the same
---     GivenAsSetUp      each script tells each guest what it tells it after our own set-up, and guests hold the same
---     GivenStays      along any lines the board is in order, with each region of a given function open
---     OrderlyStays      of such a board an audit tells no problem
+-- Guests on a board that firmware handed over, whoever set it up.
+--     IsGiven w s m      the guests of a world before any line, over the handed-over board
+--     AreAlike name m n one other      a guest gets the same replies on two boards, each with its own script, and has
+--         the same state
+--     GivenIsolated      each guest's own inputs and functions decide its replies and its state
+--     GivenAlike      a guest gets the same replies and has the same state on two boards with scripts that agree on it
+--     GivenAsSetUp      each script gives each guest the same replies and state as after our own set-up
+--     GivenStays      along any lines the board stays consistent, with each region of an assigned function enabled
+--     OrderlyStays      an audit of such a board finds no problem
 use Rattle.std.specs.Prelude.{◌≡◌, List, [], IsTrue}
 use Rattle.model_board.specs.{AtReset.board_at, State.State}
 use Rattle.model_guests.specs.{Text.{Text, lines}, Grammar.has_name, World.{World, names, IsLawfulWorld}, Replies.reply_lines, Guests.{guests_at_first, lone_of}, WorldNow.{WorldNow, world_over, board_state, output, after_lines}, Inputs.inputs, Isolation.{IsDecidedBy, AgreeOn}}
 use Rattle.model_handoff.specs.{AfterSetUp.world_at_first, Handoffs.{IsHandoff, taken_over}, Kept.IsLawfulOver, Regions.CanBeGiven}
 use Rattle.model_findings.specs.Problems.{problems}
 
--- each given function is at reset, but for what guests have copies of, and the address latch is clear
+-- each assigned function is at reset, except for the bytes that guests have copies of, and CONFIG_ADDRESS is 0
 pub record IsGiven (w : World) (s : State) (m : WorldNow) : Type 0 where
   pub lawful : IsLawfulWorld w
   pub board : board_at s.functions ≡ w.board
@@ -21,7 +21,7 @@ pub record IsGiven (w : World) (s : State) (m : WorldNow) : Type 0 where
   pub can : CanBeGiven w s
   pub begins : m ≡ world_over w (taken_over w s)
 
--- of a board that was given
+-- of a handed-over board
 abbrev pub OfGiven : (WorldNow → World → Type 0) → Type 0
 OfGiven P = (w : World) (s : State) (m : WorldNow) → IsGiven w s m → P m w
 

@@ -1,6 +1,6 @@
--- Worked examples: why a guest's accesses find what they find.
---     first_guest, placed_guest      a guest with one function in slot 1, at reset; its memory region opened at C0000000h
---     GuestExamples      what is told of some places
+-- Worked examples: explanations of guests' accesses.
+--     first_guest, placed_guest      a guest with one function in slot 1, at reset; its memory region enabled at C0000000h
+--     GuestExamples      the explanations of some places
 use Rattle.std.specs.Prelude.{[], ◌∷◌, ◌≡◌, ℕ, Some, None, codes}
 use Rattle.model_board.specs.Examples.{first_endpoint}
 use Rattle.model_guests.specs.{Accesses.{configuration, port, address, writes, access}, Lone.{LoneGuest, reset_guest, after_event}, Text.text_of_lines}

@@ -1,8 +1,8 @@
--- What firmware asks of the host bridge, and what that does to a board in any register state: PCI Local Bus 3.0,
+-- The accesses of firmware through the host bridge, and their effect on a board in any register state: PCI Local Bus 3.0,
 -- chapter 3.2.2.3.2 (CONFIG_ADDRESS and CONFIG_DATA).
---     HostAccess      a read or a write of a width, at a bus address, a port or a memory address
+--     HostAccess      a read or a write, with a width, at a BDF, a port or a memory address
 --     fault_of      the checks of an access
---     perform, effect      what an access that no check refuses replies, and the board after it
+--     perform, effect      the reply to an access that passes the checks, and the board after it
 --     answer, after_access      the reply to any access, and the board after it
 use Rattle.std.specs.{Prelude.{ℕ, if◌then◌else◌, Option, is_some}, Option.option_map_or}
 use Rattle.model_registers.specs.Registers.{all_bytes}
@@ -21,7 +21,7 @@ abbrev pub perform : State → ℕ → HostTarget → Op → Reply
 perform s w at reads = answered (shown s w at) w
 perform s w at (writes v) = done
 
--- the latch is 0 after an access by bus, device and function
+-- CONFIG_ADDRESS is 0 after an access by BDF
 abbrev pub effect : State → ℕ → HostTarget → Op → State
 effect s w (host_configuration at off) reads = record s { latch = 0 }
 effect s w (host_configuration at off) (writes v) = record {
@@ -33,7 +33,7 @@ effect s w (host_port a) (writes v) = after_port_write s a w v
 effect s w (host_address a) reads = s
 effect s w (host_address a) (writes v) = after_memory_write s a w v
 
--- a refusal, or what it does; the checks come first
+-- a refusal, or the result; the checks come first
 abbrev pub answer : State → HostAccess → Reply
 answer s a = option_map_or refused (fault_of a) (perform s a.width a.target a.op)
 

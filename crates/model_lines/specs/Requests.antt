@@ -1,9 +1,9 @@
--- The lines of a session that ask something of the host: `host audit`, `host ready` and `host guests`, and why something
--- finds what it finds, `host why mem ADDR`, `host why io PORT` and `host why cfg BB:DD.F`.
---     ExplainTarget      an address, a port or a number that is asked about
---     HostRequest, request line      what a line asks, if it is of such a form
---     why_written s a      what is told of why
---     RequestExamples      what some lines ask
+-- The session lines that request something of the host: `host audit`, `host ready` and `host guests`, and explanations
+-- by `host why mem ADDR`, `host why io PORT` and `host why cfg BB:DD.F`.
+--     ExplainTarget      the address, port or BDF to explain
+--     HostRequest, request line      the request that a line makes, if it has such a form
+--     why_written s a      the text of an explanation
+--     RequestExamples      the requests that some lines make
 use Rattle.std.specs.{Prelude.{◌≡◌, List, [], ◌∷◌, ℕ, ◌^◌, if◌then◌else◌, Option, Some, None, option_map, codes}, Str.bytes_eq}
 use Rattle.model_registers.specs.Decoding.{memory}
 use Rattle.model_board.specs.{Cycles.BusAddress, State.State}
@@ -43,7 +43,7 @@ abbrev pub request_in : List Text → Option HostRequest
 request_in [] = None
 request_in (w ∷ ws) = on_word w (codes "host") (request_of ws)
 
--- a long line asks for nothing
+-- a long line requests nothing
 abbrev pub request : Text → Option HostRequest
 request line = if is_long line then None else request_in (words line)
 

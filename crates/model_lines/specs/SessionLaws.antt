@@ -1,14 +1,14 @@
 -- Laws of sessions.
---     HostWordsAreNoForm      `host` and one word are refused among firmware's lines and among a script's
---     RequestsAreNoForm      so are all lines that ask something
+--     HostWordsAreNoForm      `host` and one word isn't a valid line of firmware or of a script
+--     RequestsAreNoForm      neither is any other line that requests something
 --     QuestionsChangeNothing      a question changes nothing, and among guests' lines it is a bad line
---     RefusedStays      a handover that is refused changes nothing
---     PlainSessions      lines without all these write and leave what they do as firmware's lines
---     DrivenIsFirmware      such lines leave the world, and the board as they do without a session
---     GivenIsScript      once the board is given, lines write and leave what they do as a script's
---     AccessesTellWritten, LinesTellWritten      where no write was done, a board with latch 0 is as it was
---     GivenBy      wherever a board is given, some line handed it over, and the later ones are a script over it
---     IsolatedSessions      from there on a guest is told what its own functions tell it, and holds what they leave
+--     RefusedStays      a refused handover changes nothing
+--     PlainSessions      lines without requests have the output and effect of firmware lines
+--     DrivenIsFirmware      such lines keep the world, and change the board as they would without a session
+--     GivenIsScript      after the handover, lines have the output and effect of a script's lines
+--     AccessesTellWritten, LinesTellWritten      until a write succeeds, a board whose CONFIG_ADDRESS is 0 is unchanged
+--     GivenBy      whenever guests have the board, some line handed it over, and the later lines are a script over it
+--     IsolatedSessions      from then on a guest's own functions and inputs decide its replies and state
 use Rattle.std.specs.Prelude.{◌≡◌, ◌≢◌, List, [], ◌∷◌, ◌++◌, Some, None, false, codes, IsTrue, IsFalse}
 use Rattle.lists.specs.Elements.{Each}
 use Rattle.model_guests.specs.{Text.{Text, lines, words}, Grammar.{has_name, host, is_long}, Guests.{guests_at_first, lone_of}, Inputs.{inputs, lone_output, after_inputs}, LineRuns.{output, after_lines}, Lone.reset_guest, Replies.reply_lines, World.{World, names, declarations, HasLawfulNames}}
@@ -54,7 +54,7 @@ pub record IsScript (m : MachineNow) (ls : List Text) : Type 0 where
 abbrev pub GivenIsScript : Type 0
 GivenIsScript = (m : MachineNow) (ls : List Text) → IsScript m ls
 
--- ---- what was written
+-- ---- successful writes
 
 abbrev pub AccessesTellWritten : Type 0
 AccessesTellWritten = (b : DrivenNow) → b.state.latch ≡ 0 → (a : HostAccess)
@@ -85,7 +85,7 @@ abbrev pub GivenBy : Type 0
 GivenBy = (b : DrivenNow) (ls : List Text) (m : MachineNow)
     → after_lines session_protocol (driven b) ls ≡ given m → IsGivenBy b ls m
 
--- its own lines and the moves that touch it decide; neither the board nor what firmware did is among them
+-- its own lines and the moves that involve it decide; neither the board nor firmware's accesses are inputs
 pub record IsToldAlone (w : World) (x : SessionNow) (name script : Text) : Type 0 where
   pub replies : reply_lines name (output session_protocol x (lines script))
       ≡ lone_output name (reset_guest (declarations w name)) (inputs (guests_at_first w) name (lines script))
@@ -93,7 +93,7 @@ pub record IsToldAlone (w : World) (x : SessionNow) (name script : Text) : Type 
       → lone_of m.world.guests name
       ≡ after_inputs (reset_guest (declarations w name)) (inputs (guests_at_first w) name (lines script))
 
--- whatever board of the world is handed over
+-- whichever board of the world is handed over
 abbrev pub IsolatedFrom : World → Type 0
 IsolatedFrom w = (b : DrivenNow) → b.world ≡ w → (line name script : Text) → IsHandedOver b line
     → IsTrue (has_name (names w) name) → IsToldAlone w (after_session_line (driven b) line) name script

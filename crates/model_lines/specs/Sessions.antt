@@ -1,17 +1,17 @@
--- A session over a board: firmware's lines from reset on, and among them `host audit`, which writes the text of an audit,
--- `host ready`, which writes that of readiness, `host why ..`, which writes why something finds what it finds, and
--- `host guests`, which hands the board to its guests. After that each line is a line of a script.
---     DrivenNow      the board of a world as firmware drives it, and whether a write was done since reset
+-- A session over a board: firmware lines from reset on, and among them `host audit`, which prints an audit,
+-- `host ready`, which prints a readiness report, `host why ..`, which prints an explanation, and
+-- `host guests`, which hands the board over to its guests. After that each line is a line of a script.
+--     DrivenNow      the board of a world that firmware programs, and whether a write succeeded since reset
 --     at_reset w      the board of a world at reset
---     after_board_access, after_board_line      the board after an access of firmware, and after a line of firmware
---     driven_protocol      what a line of firmware writes, and the board after it, as a protocol
---     SessionNow      a board that firmware drives, or the guests over it
---     session_functions x      the functions of the board as they stand
+--     after_board_access, after_board_line      the board after a firmware access, and after a firmware line
+--     driven_protocol      the output of a firmware line, and the board after it, as a protocol
+--     SessionNow      a board that firmware programs, or the guests over it
+--     session_functions x      the functions of the board in their current state
 --     machine_over w s      the guests of a world before any line, over a handoff
---     handed_over b      what guests get of a board
---     handover_lines f      what is written, by the first fault
---     session_output, after_session_line      what a line writes, and the session after it
---     session_protocol      the two as a protocol, so that they go along lines
+--     handed_over b      the board that guests get
+--     handover_lines f      the output for the first fault
+--     session_output, after_session_line      the output of a line, and the session after it
+--     session_protocol      both as a protocol, to run several lines
 use Rattle.std.specs.{Prelude.{List, [], ◌∷◌, ℕ, ◌++◌, ◌||◌, Bool, true, false, Option, None, Some, map, codes, decimal}, Option.option_map_or}
 use Rattle.model_board.specs.{AtReset.reset_state, State.{BoardFunction, State}}
 use Rattle.model_set_up.specs.PlacedRegions.{PlacedRegion}
@@ -31,7 +31,7 @@ pub record DrivenNow : Type 0 where
 abbrev pub at_reset : World → DrivenNow
 at_reset w = record { world = w; state = reset_state w.board; written = false }
 
--- to a write that is not refused
+-- after a write that isn't refused
 abbrev pub is_done : Reply → Bool
 is_done (answered v w) = false
 is_done done = true
@@ -81,7 +81,7 @@ closed_text q = codes "closed: " ++ path_text q.path ++ register_text q.index
 abbrev pub refused_line : ℕ → Text → Text
 refused_line n words = codes "host: refused " ++ decimal n ++ codes " " ++ words
 
--- what is wrong, and its number
+-- the fault and its number
 abbrev pub handover_lines : Option HandoffFault → List Text
 handover_lines None = line_text host done ∷ []
 handover_lines (Some (in_disorder p)) = audit_line (problem_text p) ∷ refused_line 207 (codes "not in order") ∷ []
@@ -96,7 +96,7 @@ after_handover b (Some f) = driven b
 
 -- ---- a line
 
--- what a request writes, and the session after it: all but that for guests are questions, which change nothing
+-- the output of a request, and the session after it: all requests except the one for guests are questions, and change nothing
 abbrev pub told_output : DrivenNow → HostRequest → Text
 told_output b for_audit = audit b.state.functions
 told_output b for_ready = ready_report b.world.apertures b.state.functions

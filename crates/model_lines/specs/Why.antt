@@ -1,28 +1,28 @@
--- Why an address finds what it finds, or nobody, in any register state: PCI Local Bus 3.0, chapter 6.2.5; PCI-to-PCI
+-- Explains who answers an address, or that nobody does, in any register state: PCI Local Bus 3.0, chapter 6.2.5; PCI-to-PCI
 -- Bridge Architecture 1.2, chapters 3.2.5 and 4.
---     NamedWindow, windows_now      the windows that a bridge has for a space, each with its addresses or shut
---     BlockReason, hindrance      what keeps a bridge from forwarding
---     Cause      a region is closed, or is behind a bridge that doesn't forward
+--     NamedWindow, windows_now      the windows of a bridge in a space, each with its addresses or disabled
+--     BlockReason, hindrance      the reason why a bridge doesn't forward an address
+--     Cause      a region is disabled, or is behind a bridge that doesn't forward
 --     closing, stops, causes_of      its Command, all such bridges, and both: the causes for the regions of a function
---     UnansweredRegion, told fs space n      each region that holds an address, but for the one that answers, with all its causes
---     is_as_at_reset      one that was never placed, so far as registers tell
---     apart, at_reset      those that aren't as at reset, and how many are
---     Forwarder, forwarders fs space n      each bridge that forwards an address to the bus behind it, down to where its way ends
---     Why, why fs space n      who answers, what forwards it, what is told of regions apart, and how many are as at reset
+--     UnansweredRegion, told fs space n      each region that contains an address, except the one that answers, with all its causes
+--     is_as_at_reset      the region was never placed, judging by its registers
+--     apart, at_reset      the regions that aren't as at reset, and how many are
+--     Forwarder, forwarders fs space n      each bridge that forwards an address to its secondary bus, down to the end of the route
+--     Why, why fs space n      the answering region, the bridges that forward to it, the other regions, and how many are as at reset
 use Rattle.std.specs.{Prelude.{List, [], ◌∷◌, ◌++◌, ℕ, Bool, true, false, ◌&&◌, ◌==◌, not, if◌then◌else◌, Option, Some, None, map, filter, count_by, flat_map, reverse}, Option.option_to_list}
 use Rattle.model_registers.specs.{Registers.File, Declarations.{Bridge, IoDecode, no_io, io16, io32, PrefDecode, no_pref, pref32, pref64}, Decoding.{Space, io, memory, command_word, is_open}}
 use Rattle.model_board.specs.{Paths.{Path, path_eq, is_ancestor_of}, Board.{endpoint, bridge}, State.BoardFunction, Windows.{Window, io_window, mem_window, pref_window, forwards}, Claims.{Claim, is_forwarded, first_claim}, Cycles.secondary_register, Routing.row_of}
 use Rattle.model_set_up.specs.PlacedRegions.{PlacedRegion, holds}
 use Rattle.model_findings.specs.OpenRegions.{regions_of}
 
--- ---- what a bridge has
+-- ---- the windows of a bridge
 
 pub data WindowName : Type 0 where
   for_io : WindowName
   for_memory : WindowName
   for_prefetchable : WindowName
 
--- none where it is shut, as its base is above its limit
+-- none if the window is disabled, because its base is above its limit
 pub record NamedWindow : Type 0 where
   pub name : WindowName
   pub window : Option Window
@@ -30,7 +30,7 @@ pub record NamedWindow : Type 0 where
 abbrev pub named : WindowName → Option Window → NamedWindow
 named name w = record { name = name; window = w }
 
--- none without the decode
+-- none if the bridge doesn't implement the window
 abbrev pub io_windows : IoDecode → Option Window → List NamedWindow
 io_windows no_io w = []
 io_windows io16 w = named for_io w ∷ []
@@ -45,12 +45,12 @@ abbrev pub windows_now : Bridge → File → Space → List NamedWindow
 windows_now d file io = io_windows d.io (io_window d.io file)
 windows_now d file memory = named for_memory (mem_window file) ∷ pref_windows d.pref (pref_window d.pref file)
 
--- ---- what keeps a region from answering
+-- ---- the causes that keep a region from answering
 
 pub data BlockReason : Type 0 where
-  -- Command doesn't open the space
+  -- Command disables the space
   closes : ℕ → BlockReason
-  -- no window of the space holds the address
+  -- no window in the space contains the address
   misses : List NamedWindow → BlockReason
 
 abbrev pub hindrance : Space → BoardFunction → BlockReason
@@ -61,7 +61,7 @@ hindrance space f = elim f.decl [
 ]
 
 pub data Cause : Type 0 where
-  -- this Command doesn't open its space
+  -- this Command disables its space
   closed_by : ℕ → Cause
   -- a bridge above it that doesn't forward the address
   stopped_at : Path → BlockReason → Cause
@@ -73,15 +73,15 @@ abbrev pub stop : Space → ℕ → Path → BoardFunction → Option Cause
 stop space n p f =
     if is_ancestor_of f.path p && not (forwards space n f) then Some (stopped_at f.path (hindrance space f)) else None
 
--- those of the bridges above, from bus 0 down
+-- the causes in the bridges above, from bus 0 down
 abbrev pub stops : List BoardFunction → Space → ℕ → Path → List Cause
 stops fs space n p = flat_map (λ f. option_to_list (stop space n p f)) fs
 
--- the nearest to the function first; a region without a cause would answer, if no other did
+-- the nearest to the function first; a region without a cause would answer, if no other region did
 abbrev pub causes_of : List BoardFunction → Space → ℕ → BoardFunction → List Cause
 causes_of fs space n f = reverse (stops fs space n f.path ++ closing space f)
 
--- ---- what is told
+-- ---- the reported regions
 
 pub record UnansweredRegion : Type 0 where
   pub region : PlacedRegion
@@ -91,7 +91,7 @@ abbrev pub is_answer : Option Claim → PlacedRegion → Bool
 is_answer None q = false
 is_answer (Some c) q = path_eq c.path q.path && c.index == q.index
 
--- open or closed
+-- enabled or disabled
 abbrev pub holders : Space → ℕ → BoardFunction → List PlacedRegion
 holders space n f = filter (holds space n) (regions_of (row_of f))
 
@@ -110,20 +110,20 @@ is_closed [] = false
 is_closed (closed_by command ∷ cs) = true
 is_closed (stopped_at p h ∷ cs) = false
 
--- as at reset its base is 0 and its function's Command doesn't open its space
+-- as at reset, its base is 0 and its function's Command disables its space
 abbrev pub is_as_at_reset : UnansweredRegion → Bool
 is_as_at_reset t = t.region.first == 0 && is_closed t.causes
 
--- those as at reset are told by their number alone
+-- only the number of those as at reset is reported
 abbrev pub apart : List UnansweredRegion → List UnansweredRegion
 apart ts = filter (λ t. not (is_as_at_reset t)) ts
 
 abbrev pub at_reset : List UnansweredRegion → ℕ
 at_reset ts = count_by is_as_at_reset ts
 
--- ---- where an address goes
+-- ---- the route of an address
 
--- a bridge, and the number that it holds for the bus behind it
+-- a bridge, and its Secondary Bus Number
 pub record Forwarder : Type 0 where
   pub path : Path
   pub bus : ℕ
@@ -131,7 +131,7 @@ pub record Forwarder : Type 0 where
 abbrev pub forwarder : BoardFunction → Forwarder
 forwarder f = record { path = f.path; bus = secondary_register f.file }
 
--- the bridges above it forward it too
+-- the bridges above it also forward the address
 abbrev pub passes_on : List BoardFunction → Space → ℕ → BoardFunction → Bool
 passes_on fs space n f = forwards space n f && is_forwarded fs f.path space n
 

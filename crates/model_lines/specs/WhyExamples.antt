@@ -1,6 +1,6 @@
--- Worked examples: why an address or a configuration number finds what it finds.
---     changed word v p      the main board after set-up, with a register word of a function written
---     WhyExamples      what is told
+-- Worked examples: explanations of addresses and BDFs.
+--     changed word v p      the main board after set-up, with one register word of a function changed
+--     WhyExamples      the explanations
 use Rattle.std.specs.Prelude.{List, [], ◌∷◌, ◌++◌, ◌≡◌, ℕ, codes}
 use Rattle.model_registers.specs.{Registers.{config, write}, ByteEnables.lanes, Decoding.memory}
 use Rattle.model_board.specs.{Paths.Path, State.{BoardFunction, with_file}, AtReset.reset_state, Examples.main_board}
@@ -12,7 +12,7 @@ abbrev pub changed : ℕ → ℕ → Path → List BoardFunction
 changed word v p = with_file (write (lanes 15) v (config word)) p left
 
 pub record WhyExamples : Type 0 where
-  -- after set-up a region's byte is its own, and nothing else is told
+  -- after set-up a region's byte is claimed by the region, and nothing else is reported
   pub own :
       why_text left memory 0xc0000010
       ≡ text_of_lines (
@@ -22,7 +22,7 @@ pub record WhyExamples : Type 0 where
   pub nowhere :
       why_text left memory 0xd0000000
       ≡ text_of_lines (codes "why: memory 0xd0000000: nobody answers" ∷ codes "why: 1 line" ∷ [])
-  -- its bridge's memory window is shut
+  -- its bridge's memory window is disabled
   pub window :
       why_text (changed 0x20 0xfff0 (on_root 2)) memory 0xc0000000
       ≡ text_of_lines (
@@ -30,7 +30,7 @@ pub record WhyExamples : Type 0 where
       ∷ (codes "why: 2.0/0.0 bar0 at 0xc0000000 size 0x100000: "
       ++ codes "2.0 doesn't forward it, memory shut, prefetchable 0x400000000..0x400ffffff")
       ∷ codes "why: 2 lines" ∷ [])
-  -- the endpoint's Command is clear, and the bridge opens I/O alone: the nearest to the function first
+  -- the endpoint's Command is 0, and the bridge forwards only I/O: the nearest to the function first
   pub causes :
       why_text (with_file (write (lanes 15) 1 (config 4)) (on_root 2) (changed 4 0 (behind 2 0))) memory 0xc0000000
       ≡ text_of_lines (
@@ -38,14 +38,14 @@ pub record WhyExamples : Type 0 where
       ∷ (codes "why: 2.0/0.0 bar0 at 0xc0000000 size 0x100000: closed, Command 0x0000; "
       ++ codes "2.0 doesn't forward it, Command 0x0001 closes memory")
       ∷ codes "why: 2 lines" ∷ [])
-  -- regions where reset leaves them are counted
+  -- regions that are as at reset are counted
   pub at_reset :
       why_text (reset_state main_board).functions memory 0x10
       ≡ text_of_lines (
       codes "why: memory 0x10: nobody answers"
       ∷ codes "why: 3 regions at 0x0, closed as at reset"
       ∷ codes "why: 2 lines" ∷ [])
-  -- another region's register names its place
+  -- another region has the same address in its register
   pub two :
       why_text (changed 0x14 0xc0000000 (on_root 1)) memory 0xc0000010
       ≡ text_of_lines (
@@ -53,7 +53,7 @@ pub record WhyExamples : Type 0 where
       ∷ codes "why: 2.0 forwards it to bus 01"
       ∷ codes "why: 2.0/0.0 bar0 at 0xc0000000 size 0x100000: would answer too"
       ∷ codes "why: 3 lines" ∷ [])
-  -- numbers
+  -- BDFs
   pub no_function :
       why_number_text left (at_bus 1 5)
       ≡ text_of_lines (
@@ -61,7 +61,7 @@ pub record WhyExamples : Type 0 where
       ∷ codes "why: 2.0 takes bus 01"
       ∷ codes "why: no function 5.0 behind 2.0"
       ∷ codes "why: 3 lines" ∷ [])
-  -- as long as the bridge holds 0, functions behind it have numbers of bus 0
+  -- while the bridge's Secondary Bus Number is 0, functions behind it are looked for on bus 0
   pub not_found :
       why_number_text (reset_state main_board).functions (at_bus 0 0)
       ≡ text_of_lines (

@@ -1,11 +1,11 @@
--- Why an access of a guest finds what it finds, or nobody, told of its own functions and latch alone: PCI Local Bus 3.0,
+-- Explains who answers a guest's access, or that nobody does, from its own functions and CONFIG_ADDRESS only: PCI Local Bus 3.0,
 -- chapters 3.2.2.3.2 and 6.2.5.
---     ClosedRegion, closed_from      closed regions of a guest's functions that hold an address, by slot, then by register
---     Finding, guest_finding g t      what a byte at a place finds
---     guest_why_text g t      its text
---     FoundAsLocated      it is what the guest's accesses land on
---     ClosedAreTrue, ClosedAreAll      each such region, and no other, is told where nobody answers
---     GuestExamples      what is told of some places
+--     ClosedRegion, closed_from      disabled regions of a guest's functions that contain an address, by slot, then by register
+--     Finding, guest_finding g t      the target of a byte at a place
+--     guest_why_text g t      the text of the explanation
+--     FoundAsLocated      it is the target of the guest's accesses
+--     ClosedAreTrue, ClosedAreAll      if nobody answers, exactly these regions are reported
+--     GuestExamples      the explanations of some places
 use Rattle.std.specs.{Prelude.{List, [], ◌∷◌, ◌++◌, ◌≡◌, ℕ, ◌+◌, Bool, ◌&&◌, if◌then◌else◌, nat_le, nat_lt, Option, Some, None, map, filter, codes, decimal, false, true}, Option.option_map_or}
 use Rattle.lists.specs.Elements.{IsIn, Each}
 use Rattle.model_registers.specs.{Registers.{File, Place, config, block}, Declarations.Region, Decoding.{Space, io, memory, same_space, space_of, base, Function, command_word, is_open}}
@@ -15,9 +15,9 @@ use Rattle.model_findings.specs.AuditText.{register_text, number_text}
 use Rattle.model_handoff.specs.Located.{located}
 use Rattle.model_lines.specs.{WhyText.{command_text, why_line}, WhyPorts.{port_use, use_lines}}
 
--- ---- what is found
+-- ---- the target of an access
 
--- where a region of the function in a slot stands, and the Command that doesn't open its space
+-- the address of a region of the function in a slot, and the Command that disables its space
 pub record ClosedRegion : Type 0 where
   pub slot : ℕ
   pub index : ℕ
@@ -52,11 +52,11 @@ closed_from space n slot (f ∷ fs) = option_map_or (closed_of space n slot) f [
 pub data Finding : Type 0 where
   -- a region, or a byte of configuration space
   answers : Landing → Finding
-  -- nobody; these regions hold the address
+  -- nobody answers; these regions contain the address
   nobody : List ClosedRegion → Finding
   -- the slot is empty
   empty : ℕ → Finding
-  -- the latch selects what isn't the function of a slot
+  -- CONFIG_ADDRESS selects something other than a slot's function
   no_slot : BusAddress → Finding
 
 abbrev pub lost : Slots → Target → Finding
@@ -132,7 +132,7 @@ closed_lines (nobody cs) = map closed_text cs
 closed_lines (empty slot) = []
 closed_lines (no_slot at) = []
 
--- what the guest's latch makes of a port
+-- the target of a port according to the guest's CONFIG_ADDRESS
 abbrev pub target_lines : ℕ → Target → List Text
 target_lines latch (configuration slot off) = []
 target_lines latch (port a) = use_lines latch a (port_use latch a)

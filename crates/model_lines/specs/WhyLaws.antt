@@ -1,14 +1,14 @@
--- What is told of an address and of a configuration number is so, and nothing is left out: PCI Local Bus 3.0, chapter
+-- The explanations of addresses and BDFs are true and complete: PCI Local Bus 3.0, chapter
 -- 6.2.5; PCI-to-PCI Bridge Architecture 1.2, chapters 3 and 4.
---     IsTrueHindrance, IsStopped, IsTrueCause      what a cause says
---     IsTrueTold      a told region holds the address, is not the answering one, and has these causes and no other
---     IsAnswering      what it says of a claim that it answers
---     IsForwarding      what it says of a bridge that it forwards the address
---     IsExplained, AddressesExplained      who answers, each bridge that forwards, and each region that holds the address
---     OrderlyAnswersAlone      in an orderly state no other region would answer too
---     ReadyTellsNothing      in a ready state nothing is told: a region that holds an address answers
---     IsWay, IsPassed      each bridge takes the cycle on the bus behind the one before; a bus on which it is taken
---     IsMissing, IsNumberExplained, NumbersExplained      where a cycle ends, who takes it, and what is missing there
+--     IsTrueHindrance, IsStopped, IsTrueCause      the meaning of a cause
+--     IsTrueTold      a reported region contains the address, doesn't answer, and has exactly these causes
+--     IsAnswering      the meaning of a claim that answers
+--     IsForwarding      the meaning of a bridge that forwards the address
+--     IsExplained, AddressesExplained      the answering region, each bridge that forwards, and each region that contains the address
+--     OrderlyAnswersAlone      in a consistent state no other region would answer too
+--     ReadyTellsNothing      in a ready state nothing else is reported: a region that contains an address answers
+--     IsWay, IsPassed      each bridge claims the cycle on the bus behind the one before; a bus on which it is claimed
+--     IsMissing, IsNumberExplained, NumbersExplained      where a cycle ends, who claims it, and what is missing there
 use Rattle.std.specs.Prelude.{List, [], ◌∷◌, ◌++◌, ◌≡◌, ℕ, ◌-◌, Option, Some, None, IsTrue, IsFalse, ◌⊎◌, ◌==◌, ⊤}
 use Rattle.model_registers.specs.{Apertures.Apertures, Decoding.{Space, command_word, is_open}}
 use Rattle.lists.specs.Elements.{IsIn, Each}
@@ -20,11 +20,11 @@ use Rattle.model_findings.specs.Problems as audit
 
 -- ---- an address
 
--- a window that is shut holds nothing
+-- a disabled window contains nothing
 abbrev pub LiesOutside : ℕ → NamedWindow → Type 0
 LiesOutside n w = IsFalse (is_in n w.window)
 
--- the windows that a bridge has for the space; an endpoint has none
+-- the windows that a bridge has in the space; an endpoint has none
 abbrev pub windows_at : Space → BoardFunction → List NamedWindow
 windows_at space f = elim f.decl [ endpoint d ↦ [] | bridge d ↦ windows_now d f.file space ]
 
@@ -63,7 +63,7 @@ pub record IsTrueTold (fs : List BoardFunction) (space : Space) (n : ℕ) (t : U
   pub too : t.causes ≡ [] → IsIn (claim_there n t.region) (claims fs space n)
   pub at_reset : IsTrue (is_as_at_reset t) → (t.region.first ≡ 0) × IsFalse (is_open function.file space)
 
--- the region of an open endpoint that holds the address, with each bridge above forwarding it
+-- the region of an enabled endpoint that contains the address, with each bridge above forwarding it
 pub record IsAnswering (fs : List BoardFunction) (space : Space) (n : ℕ) (c : Claim) : Type 0 where
   pub function : BoardFunction
   pub there : IsIn function fs
@@ -74,7 +74,7 @@ pub record IsAnswering (fs : List BoardFunction) (space : Space) (n : ℕ) (c : 
   pub forwarded : IsTrue (is_forwarded fs function.path space n)
   pub claim_is : c ≡ claim_there n region
 
--- a bridge that forwards the address, as each bridge above it does
+-- a bridge that forwards the address, as does each bridge above it
 pub record IsForwarding (fs : List BoardFunction) (space : Space) (n : ℕ) (g : Forwarder) : Type 0 where
   pub function : BoardFunction
   pub there : IsIn function fs
@@ -86,18 +86,18 @@ pub record IsExplained (fs : List BoardFunction) (space : Space) (n : ℕ) : Typ
   pub answer : (why fs space n).answer ≡ first_claim fs space n
   pub answering : (c : Claim) → (why fs space n).answer ≡ Some c → IsAnswering fs space n c
   pub forwarding : Each (IsForwarding fs space n) (why fs space n).forwarders
-  -- an agent that an audit says answers the address is told where bridges forward it there: 'answers' means one thing
+  -- an agent that answers the address in an audit is reported if bridges forward it there: 'answers' has one meaning
   pub all_forwarding : (f : BoardFunction) → IsIn f fs → IsTrue (answers space n (bridge_agent (row_of f) space))
       → IsTrue (is_forwarded fs f.path space n) → IsIn (forwarder f) (why fs space n).forwarders
   pub true_each : Each (IsTrueTold fs space n) (told fs space n)
-  -- a region that holds the address answers, or is told
+  -- a region that contains the address answers or is reported
   pub complete : (f : BoardFunction) → IsIn f fs → (q : PlacedRegion) → IsIn q (regions_of (row_of f))
       → IsTrue (holds space n q)
       → IsTrue (is_answer (first_claim fs space n) q) ⊎ ((t : UnansweredRegion) × IsIn t (told fs space n) × (t.region ≡ q))
-  -- those that aren't as at reset are told one by one, the others by their number
+  -- those that aren't as at reset are reported one by one, the others only by their number
   pub one_by_one : (why fs space n).told ≡ apart (told fs space n)
   pub by_number : (why fs space n).at_reset ≡ at_reset (told fs space n)
-  -- where nobody answers, each has a cause
+  -- if nobody answers, each has a cause
   pub nobody : first_claim fs space n ≡ None → Each (λ t. t.causes ≡ [] → ⊥) (told fs space n)
 
 abbrev pub AddressesExplained : Type 0
@@ -111,9 +111,9 @@ abbrev pub ReadyTellsNothing : Type 0
 ReadyTellsNothing = (a : Apertures) (fs : List BoardFunction) → IsStateOfBoard fs → IsReady a fs
     → (space : Space) (n : ℕ) → told fs space n ≡ []
 
--- ---- a configuration number
+-- ---- a BDF
 
--- from a bus down, each is the first on its bus that takes the cycle
+-- from a bus down, each is the first on its bus that claims the cycle
 abbrev pub IsWay : List BoardFunction → ℕ → Path → List BoardFunction → Type 0
 IsWay fs n bus [] = ⊤
 IsWay fs n bus (f ∷ gs) = (taker fs bus n ≡ Some f) × IsWay fs n f.path gs
@@ -123,18 +123,18 @@ abbrev pub bus_after : Path → List BoardFunction → Path
 bus_after bus [] = bus
 bus_after bus (f ∷ fs) = bus_after f.path fs
 
--- bus 0, and each bus behind a bridge that takes it on
+-- bus 0, and each bus behind a bridge that claims the cycle
 abbrev pub IsPassed : ℕ → Path → List BoardFunction → Path → Type 0
 IsPassed n bus ws p =
     (p ≡ bus) ⊎ ((w : BoardFunction) × IsIn w ws × (w.path ≡ p) × IsFalse (secondary_register w.file == n))
 
--- a bridge that takes the cycle on a bus of its way
+-- a bridge that claims the cycle on a bus of its route
 pub record IsTaking (fs : List BoardFunction) (n : ℕ) (bus : Path) (ws : List BoardFunction) (f : BoardFunction) : Type 0 where
   pub there : IsIn f fs
   pub takes : IsTrue (covers n f)
   pub passed : IsPassed n bus ws (parent f.path)
 
--- what an audit doesn't find by a number
+-- the functions that an audit doesn't find by a BDF
 abbrev pub IsUnfound : List BoardFunction → BusAddress → WhyNumber → Path → Type 0
 IsUnfound fs at w p = IsIn (audit.not_found p at w.reached) (audit.numbering_problems fs)
 
@@ -146,13 +146,13 @@ IsMissing fs at (no_function p t) =
 
 pub record IsNumberExplained (fs : List BoardFunction) (at : BusAddress) : Type 0 where
   pub way : IsWay fs at.bus [] (bridges_on_way fs at)
-  -- all that take the cycle, and no other
+  -- all bridges that claim the cycle, and no others
   pub taking : Each (IsTaking fs at.bus [] (bridges_on_way fs at)) (takers_on_way fs at)
   pub all_taking : (f : BoardFunction) → IsFalse (at.bus == 0) → IsTaking fs at.bus [] (bridges_on_way fs at) f
       → IsIn f (takers_on_way fs at)
   pub reached_is : reached fs at ≡ reached_at fs (end_of fs at) at.part
   pub missing_is : (m : Missing) → missing fs at (reached fs at) ≡ Some m → (reached fs at ≡ None) × IsMissing fs at m
-  -- what an audit says isn't found by the number, and nothing else
+  -- exactly the functions that an audit reports as not found by the BDF
   pub unfound : Each (IsUnfound fs at (why_number fs at)) (why_number fs at).not_found
   pub all_unfound : (p : Path) (instead : Option Path) → IsIn (audit.not_found p at instead) (audit.numbering_problems fs)
       → IsIn p (why_number fs at).not_found

@@ -1,10 +1,10 @@
--- Why an I/O port finds what it finds, beside the address latch: PCI Local Bus 3.0, chapter 3.2.2.3.2.
---     PortUse, port_use latch n      what the latch makes of a port
---     target_by w u      where an access of w bytes goes then
---     use_lines, found_lines      the line of what the latch makes of a port, and those of what is found there
---     why_port_text s n      both
---     PortsByLatch      each access at a port goes there
---     PortExamples      what is told of some ports
+-- Explains the target of an I/O port, given CONFIG_ADDRESS: PCI Local Bus 3.0, chapter 3.2.2.3.2.
+--     PortUse, port_use latch n      the use of a port according to CONFIG_ADDRESS
+--     target_by w u      the target of an access of w bytes with this use
+--     use_lines, found_lines      the line for the use of a port, and the lines for its target
+--     why_port_text s n      both texts
+--     PortsByLatch      each port access goes to this target
+--     PortExamples      the explanations of some ports
 use Rattle.std.specs.Prelude.{List, [], ◌∷◌, ◌++◌, ◌≡◌, ℕ, ◌==◌, if◌then◌else◌, codes}
 use Rattle.model_registers.specs.{Decoding.io, ConfigAddress.{is_data_port, selected_offset}}
 use Rattle.model_board.specs.{State.State, Cycles.BusAddress, Ports.{is_enabled, selected, PortTarget, config_address, config_data, ordinary, port_target}}
@@ -13,11 +13,11 @@ use Rattle.model_findings.specs.{AuditText.{space_text, number_text}, ReadyExamp
 use Rattle.model_lines.specs.{Why.why, Ways.why_number, WhyText.{why_lines, number_lines, whole_text}}
 
 pub data PortUse : Type 0 where
-  -- 4 bytes are the latch; fewer are those of a port like others
+  -- a 4-byte access goes to CONFIG_ADDRESS; a narrower one goes to an ordinary port
   holds_latch : PortUse
-  -- a byte of configuration space, which the latch selects
+  -- the byte of configuration space that CONFIG_ADDRESS selects
   shows_data : BusAddress → ℕ → PortUse
-  -- a port like others, as the latch isn't enabled
+  -- an ordinary port, because CONFIG_ADDRESS isn't enabled
   hides_data : PortUse
   like_others : PortUse
 

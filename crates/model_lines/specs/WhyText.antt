@@ -1,9 +1,9 @@
--- The text of why an address or a configuration number finds what it finds: who answers, and a line for each cause.
---     window_text, hindrance_text, cause_text, causes_text      a window, what a bridge lacks, a cause, and all of a region
+-- The text that explains an address or a BDF: who answers, and a line for each cause.
+--     window_text, hindrance_text, cause_text, causes_text      a window, the obstacle in a bridge, a cause, and all causes of a region
 --     at_reset_lines      how many regions are as at reset, in one line
---     counted, whole_text ls      some lines, with a last one that counts them
+--     counted, whole_text ls      some lines, with a last line that counts them
 --     why_text      the lines of an address
---     why_number_text      the lines of a configuration number
+--     why_number_text      the lines of a BDF
 use Rattle.std.specs.{Prelude.{List, [], ◌∷◌, ◌++◌, ℕ, ◌==◌, if◌then◌else◌, length, map, flat_map, codes, decimal, Option, Some, None}, Option.option_map_or}
 use Rattle.model_registers.specs.Decoding.{Space}
 use Rattle.model_board.specs.{Paths.{Path, parent}, State.BoardFunction, Windows.Window, Claims.Claim, Cycles.BusAddress}
@@ -87,7 +87,7 @@ why_lines space n w =
 abbrev pub why_text : List BoardFunction → Space → ℕ → Text
 why_text fs space n = whole_text (why_lines space n (why fs space n))
 
--- ---- a configuration number
+-- ---- a BDF
 
 -- [] names bus 0
 abbrev pub bus_text : Path → Text

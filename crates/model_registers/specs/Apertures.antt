@@ -1,6 +1,6 @@
--- The addresses that set-up may give out.
---     Aperture, Apertures      of I/O, of memory, and of prefetchable memory where the board has it
---     are_lawful, IsLawfulApertures      whole units that the pools can reach, memory and prefetchable memory apart
+-- The addresses that set-up may assign.
+--     Aperture, Apertures      the apertures for I/O, for memory, and for prefetchable memory if the board has one
+--     are_lawful, IsLawfulApertures      whole units that the pools can reach; memory and prefetchable memory don't overlap
 use Rattle.std.specs.Prelude.{ℕ, ◌+◌, ◌%◌, ◌^◌, ◌≡◌, ◌<◌, ◌≤◌, ◌==◌, Bool, true, ◌&&◌, ◌||◌, nat_lt, nat_le, ◌⊎◌, Option, Some, None}
 
 -- first and last address
@@ -15,24 +15,24 @@ pub record Apertures : Type 0 where
 
 -- ---- as tests
 
--- not empty, and of whole units
+-- not empty, and a whole number of units
 abbrev pub is_of_units : ℕ → Aperture → Bool
 is_of_units unit a = nat_le a.first a.last && (a.first % unit == 0) && ((a.last + 1) % unit == 0)
 
--- the first 4 KB of I/O stay free
+-- the first 4 KB of I/O stay unused
 abbrev pub is_io_aperture : Aperture → Bool
 is_io_aperture a = is_of_units (2 ^ 12) a && nat_le 0x1000 a.first && nat_le a.last 0xffff
 
 abbrev pub is_mem_aperture : Aperture → Bool
 is_mem_aperture a = is_of_units (2 ^ 20) a && nat_lt a.last (2 ^ 32)
 
--- prefetchable memory lies below 2^63, on one side of 4 GB, apart from memory
+-- prefetchable memory is below 2^63, entirely below or above 4 GB, and doesn't overlap memory
 abbrev pub is_pref_aperture : Aperture → Aperture → Bool
 is_pref_aperture mem a =
     is_of_units (2 ^ 20) a && nat_lt a.last (2 ^ 63) && (nat_lt a.last (2 ^ 32) || nat_le (2 ^ 32) a.first)
     && (nat_lt mem.last a.first || nat_lt a.last mem.first)
 
--- a board may be without a prefetchable aperture
+-- a board needn't have a prefetchable aperture
 abbrev pub has_lawful_pref : Aperture → Option Aperture → Bool
 has_lawful_pref mem None = true
 has_lawful_pref mem (Some a) = is_pref_aperture mem a
@@ -40,7 +40,7 @@ has_lawful_pref mem (Some a) = is_pref_aperture mem a
 abbrev pub are_lawful : Apertures → Bool
 are_lawful a = is_io_aperture a.io && is_mem_aperture a.mem && has_lawful_pref a.mem a.pref
 
--- ---- as facts
+-- ---- as propositions
 
 pub record IsOfUnits (unit : ℕ) (a : Aperture) : Type 0 where
   pub not_empty : a.first ≤ a.last

@@ -1,17 +1,17 @@
 -- The registers of a bridge: PCI-to-PCI Bridge Architecture 1.2, chapter 3.2.
 --     Window      a first and a last address, both included
---     BridgeValues      what set-up writes into a bridge
---     bridge_header      the registers of the header, without windows
+--     BridgeValues      the values that set-up writes into a bridge
+--     bridge_header      the registers of the header, without the windows
 --     bridge_file, bridge_reset      the cells of a bridge with these values, and at reset
 use Rattle.std.specs.Prelude.{[], ℕ, ◌+◌, ◌*◌, ◌/◌, ◌%◌, Bool, ◌^◌, ◌++◌}
 use Rattle.model_registers.specs.{Registers.{config, File, field}, Declarations.{IoDecode, no_io, io16, io32, PrefDecode, no_pref, pref32, pref64, Bridge}, EndpointTable.header_type}
 
--- a first and a last address, both included; as the registers of a window name them, the first may be the greater
+-- a first and a last address, both included; as in the registers of a window, the first may exceed the last
 pub record Window : Type 0 where
   pub first : ℕ
   pub last : ℕ
 
--- what set-up writes into a bridge
+-- the values that set-up writes into a bridge
 pub record BridgeValues : Type 0 where
   pub command : ℕ
   pub primary : ℕ
@@ -21,7 +21,7 @@ pub record BridgeValues : Type 0 where
   pub mem : Window
   pub pref : Window
 
--- a register whose bits above 3 are the address bits from a power of two on, and whose bits 3..0 read `decode`
+-- a window register: the bits above 3 are address bits, starting at a power of two, and bits 3..0 read `decode`
 abbrev pub address_bits : ℕ → ℕ → ℕ → ℕ
 address_bits unit address decode = address / unit % 2 ^ 12 * 16 + decode
 
@@ -61,7 +61,7 @@ bridge_header d multifunction r =
     ++ field (config 0x1a) 1 r.subordinate 0xff 0
     ++ field (config 0x1b) 1 0 0xff 0 ++ field (config 0x1e) 2 0 0 0xf900 ++ field (config 0x3c) 1 0 0xff 0
 
--- the cells of a bridge with these values, all others at reset
+-- the cells of a bridge with these values, and all others at reset
 abbrev pub bridge_file : Bridge → Bool → BridgeValues → File
 bridge_file d multifunction r =
     bridge_header d multifunction r ++ (mem_cells r.mem ++ io_cells d.io r.io ++ pref_cells d.pref r.pref)

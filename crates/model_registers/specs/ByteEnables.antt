@@ -1,10 +1,10 @@
 -- The four byte enables of a cycle, lowest byte first: PCI Local Bus 3.0, chapter 3.2.2.
---     lanes enables      the four enables that the bits 0 to 3 of a number say
---     enabled_bytes ons n      a number with 0 in each byte that is not enabled
---     enables_of off w      the enables of w bytes from an offset on, in the word of that offset
---     to_lanes off v, from_lanes off w word      a number moved to those lanes, and taken from them
---     word_of p      the place of the word in which a place lies
---     enabled_bits enables      the bits of the enabled bytes
+--     lanes enables      the four enables, from bits 0 to 3 of a number
+--     enabled_bytes ons n      a number with each disabled byte set to 0
+--     enables_of off w      the enables of w bytes from an offset on, in the word that contains the offset
+--     to_lanes off v, from_lanes off w word      shifts a number into those lanes, and out of them
+--     word_of p      the place of the word that contains a place
+--     enabled_bits enables      a mask of the enabled bytes
 use Rattle.std.specs.{Prelude.{◌≡◌, ◌≤◌, ℕ, ◌+◌, ◌-◌, ◌*◌, ◌/◌, ◌%◌, ◌^◌, ◌==◌, ◌⊎◌, if◌then◌else◌, Bool, List, [], ◌∷◌}, Int.bit_at}
 use Rattle.model_registers.specs.Registers.{Place, config, block}
 
@@ -22,7 +22,7 @@ enabled_bytes (on ∷ ons) n = (if on then n % 256 else 0) + 256 * enabled_bytes
 abbrev pub IsWidth : ℕ → Type 0
 IsWidth w = (w ≡ 1) ⊎ ((w ≡ 2) ⊎ (w ≡ 4))
 
--- w bytes from an offset on lie in one word
+-- the w bytes from an offset on lie in one word
 abbrev pub LiesInWord : ℕ → ℕ → Type 0
 LiesInWord off w = off % 4 + w ≤ 4
 

@@ -1,9 +1,9 @@
--- The address latch behind the ports CONFIG_ADDRESS and CONFIG_DATA: PCI Local Bus 3.0, chapter 3.2.2.3.2. Its bits:
+-- The CONFIG_ADDRESS register, which selects the target of CONFIG_DATA: PCI Local Bus 3.0, chapter 3.2.2.3.2. Its bits:
 -- 31 enable, 23..16 bus, 15..11 device, 10..8 function, 7..2 register; all other bits read 0.
---     latched v      what the latch holds when v was written
---     is_enabled, selected_bus, selected_device, selected_function, selected_register      these parts of a latch
---     is_address_port a w, is_data_port a      an access of w bytes at a is one of the latch, or one of CONFIG_DATA
---     selected_offset latch a      the offset of the byte that port a of CONFIG_DATA shows
+--     latched v      the value of CONFIG_ADDRESS after v is written
+--     is_enabled, selected_bus, selected_device, selected_function, selected_register      the fields of CONFIG_ADDRESS
+--     is_address_port a w, is_data_port a      an access of w bytes at a accesses CONFIG_ADDRESS; a is a port of CONFIG_DATA
+--     selected_offset latch a      the offset of the byte that port a of CONFIG_DATA accesses
 use Rattle.std.specs.Prelude.{ℕ, ◌+◌, ◌-◌, ◌*◌, ◌/◌, ◌%◌, ◌^◌, bit_and, Bool, ◌&&◌, ◌==◌, nat_le}
 
 abbrev pub latched : ℕ → ℕ
@@ -21,11 +21,11 @@ selected_device latch = latch / 2 ^ 11 % 2 ^ 5
 abbrev pub selected_function : ℕ → ℕ
 selected_function latch = latch / 2 ^ 8 % 2 ^ 3
 
--- the offset of the word that is selected
+-- the offset of the selected word
 abbrev pub selected_register : ℕ → ℕ
 selected_register latch = latch / 2 ^ 2 % 2 ^ 6 * 4
 
--- only 4 bytes at CF8h are CONFIG_ADDRESS
+-- only a 4-byte access at CF8h accesses CONFIG_ADDRESS
 abbrev pub is_address_port : ℕ → ℕ → Bool
 is_address_port a w = a == 0xcf8 && w == 4
 

@@ -1,15 +1,15 @@
--- A function's file as its guest has it, as the board has it, and what is common to both.
+-- A function's register file as the guest has it and as the board has it, and the parts they share.
 --     places_of, shape_of      the places of a file; its cells without their values
---     agreed_file left own      the board's file: as set-up left it where the guest has copies, else the guest's
---     with_copies copies file      a file with the cells of the copies at their places
---     after_reset d file      the board's file of a function that is at reset but for what its guests have copies of
+--     agreed_file left own      the board's file: set-up's values where the guest has copies, and the guest's values elsewhere
+--     with_copies copies file      a file with the copies replacing the cells at their places
+--     after_reset d file      the board's file of a function at reset, except for the bytes that guests have copies of
 use Rattle.std.specs.Prelude.{List, if◌then◌else◌, map, false}
 use Rattle.model_registers.specs.{Registers.{Place, PlacedCell, File, cell_at}, Declarations.Endpoint, EndpointTable.endpoint_reset, OwnCopies.is_own}
 
 abbrev pub places_of : File → List Place
 places_of file = map (λ e. e.place) file
 
--- which bits of each cell can be written and cleared stays
+-- the masks of each cell stay the same
 abbrev pub shape_of : File → File
 shape_of file = map (λ (e : PlacedCell). record e { cell = record e.cell { value = 0 } }) file
 

@@ -1,9 +1,9 @@
--- Which declarations are lawful, and which rule a declaration breaks first. The numbers are those of the board file's
--- refusals.
+-- The rules for declarations, and the first rule that a declaration breaks. The numbers are the error numbers of board
+-- files.
 --     first_broken      the number of the first rule whose test fails
---     endpoint_rules, bridge_rules      the rules of a declaration, in the order in which they are judged
+--     endpoint_rules, bridge_rules      the rules for a declaration, in the order in which they are checked
 --     in_register_order      regions in the order of their registers
---     IsLawfulEndpoint, IsLawfulBridge      what holds of a declaration that keeps the rules
+--     IsLawfulEndpoint, IsLawfulBridge      the properties of a declaration that follows the rules
 use Rattle.std.specs.{Prelude.{List, [], ◌∷◌, ◌≡◌, ℕ, ◌+◌, ◌^◌, ◌<◌, ◌≤◌, ◌==◌, Bool, ◌&&◌, ◌||◌, nat_lt, nat_le, IsTrue, if◌then◌else◌, Option, Some, None, length, filter, flat_map, count_by, bit_and}, List.list_all}
 use Rattle.lists.specs.Elements.{Each, EachPair, all_pairs}
 use Rattle.model_registers.specs.Declarations.{registers_of, Region, HasLawfulRegions, ConfigBlock, Endpoint, Bridge}
@@ -12,11 +12,11 @@ abbrev pub first_broken : List (ℕ × Bool) → Option ℕ
 first_broken [] = None
 first_broken (rule ∷ rules) = if rule.1 then first_broken rules else Some rule.0
 
--- the device's own registers lie at 40h to FFh
+-- device-specific registers are at 40h to FFh
 abbrev pub is_config_block : ConfigBlock → Bool
 is_config_block b = nat_le 0x40 b.offset && nat_lt 0 (length b.cells) && nat_le (b.offset + length b.cells) 0x100
 
--- Vendor ID FFFFh says that no function is there
+-- Vendor ID FFFFh means that no function is present
 abbrev pub has_lawful_numbers : Endpoint → Bool
 has_lawful_numbers d =
     nat_lt d.vendor 0xffff && nat_lt d.class (2 ^ 24) && nat_le d.pin 4 && (bit_and d.status 0xf900 == d.status)
@@ -26,7 +26,7 @@ has_lawful_numbers d =
 abbrev pub uses : ℕ → Region → Bool
 uses n r = nat_le r.index n && nat_lt n (r.index + registers_of r.kind)
 
--- each region has its registers among the six, and no register is used twice
+-- each region's registers are among the six, and no register is used twice
 abbrev pub has_own_registers : List Region → Bool
 has_own_registers rs =
     list_all (λ r. nat_le (r.index + registers_of r.kind) 6) rs
@@ -43,7 +43,7 @@ endpoint_rules d =
 abbrev pub bridge_rules : Bridge → List (ℕ × Bool)
 bridge_rules d = (104, nat_lt d.vendor 0xffff) ∷ []
 
--- the region of register 0, then that of register 1, and so on
+-- the region of register 0, then the region of register 1, and so on
 abbrev pub in_register_order : List Region → List Region
 in_register_order rs = flat_map (λ n. filter (λ r. r.index == n) rs) (0 ∷ 1 ∷ 2 ∷ 3 ∷ 4 ∷ 5 ∷ [])
 
@@ -55,7 +55,7 @@ pub record IsConfigBlock (b : ConfigBlock) : Type 0 where
   pub not_empty : 0 < length b.cells
   pub ends : b.offset + length b.cells ≤ 0x100
 
--- the numbers that may have any value of their registers
+-- numbers that may have any value that fits their registers
 pub record FitsRegisters (d : Endpoint) : Type 0 where
   pub device : d.device < 2 ^ 16
   pub revision : d.revision < 2 ^ 8

@@ -1,8 +1,8 @@
--- What a board declares of its functions: PCI Local Bus 3.0, chapter 6; PCI-to-PCI Bridge Architecture 1.2, chapter 3.
---     Kind, Bar      what a base address register opens, with its size
---     Region      such a register's index, and the cells at the beginning of what it opens
+-- The declarations of a board's functions: PCI Local Bus 3.0, chapter 6; PCI-to-PCI Bridge Architecture 1.2, chapter 3.
+--     Kind, Bar      the kind of a base address register, and its size
+--     Region      the index of a base address register, and the cells at the beginning of its region
 --     Endpoint, Bridge      the declared values of a function
---     plain_endpoint      an endpoint with an identity and a class alone
+--     plain_endpoint      an endpoint that has only an identity and a class code
 use Rattle.std.specs.Prelude.{List, [], ◌≡◌, ℕ, ◌+◌, Bool, ◌≤◌, length, ◌^◌}
 use Rattle.lists.specs.Elements.{Each, EachPair}
 use Rattle.model_registers.specs.Cell.{Cell}
@@ -13,7 +13,7 @@ pub data Kind : Type 0 where
   mem32 : Bool → Kind
   mem64 : Bool → Kind
 
--- what a base address register opens
+-- the kind of a base address register
 pub record Bar : Type 0 where
   pub kind : Kind
   pub size : ℕ
@@ -25,7 +25,7 @@ pub record Region : Type 0 where
   pub size : ℕ
   pub cells : List Cell
 
--- how many registers a region takes
+-- how many registers a region uses
 abbrev pub registers_of : Kind → ℕ
 registers_of io_kind = 1
 registers_of (mem32 pref) = 1
@@ -75,7 +75,7 @@ pub record Endpoint : Type 0 where
   pub regions : List Region
   pub blocks : List ConfigBlock
 
--- an endpoint of this identity and class: all other numbers are 0, and it has neither regions nor registers of its own
+-- an endpoint with this identity and class: all other numbers are 0, and it has no regions and no device-specific registers
 abbrev pub plain_endpoint : ℕ → ℕ → ℕ → Endpoint
 plain_endpoint vendor device class = record {
   vendor = vendor;

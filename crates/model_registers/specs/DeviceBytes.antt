@@ -1,8 +1,8 @@
--- A device's own side of its registers, whatever an access may change of them: PCI Local Bus 3.0, chapters 6.2.3 (Status)
--- and 6.1 (40h to FFh are the device's).
---     is_device_byte p      Status, one of a device's own registers in configuration space, or a byte of a region
---     with_value v c      the cell with another value; its masks stay
---     set_value v p file      the file with the low byte of v at a place; where no cell stands nothing changes
+-- The register bytes that a device itself may read and set, whatever accesses may change: PCI Local Bus 3.0, chapters
+-- 6.2.3 (Status) and 6.1 (40h to FFh are device-specific).
+--     is_device_byte p      a byte of Status, of a device-specific register in configuration space, or of a region
+--     with_value v c      the cell with its value replaced and its masks kept
+--     set_value v p file      the file with the low byte of v at a place; if there is no cell, nothing changes
 use Rattle.std.specs.Prelude.{ℕ, ◌%◌, Bool, true, ◌||◌, ◌==◌, nat_le}
 use Rattle.model_registers.specs.{Cell.Cell, Registers.{Place, config, block, File, changed}}
 

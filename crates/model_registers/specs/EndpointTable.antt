@@ -1,8 +1,8 @@
 -- The registers of an endpoint: PCI Local Bus 3.0, chapter 6.
---     base_cells      a base address register, with its base and type bits
---     BaseAddress, base_file      base address registers as they stand, and their cells
---     header_cells, config_cells      the header without base address registers; the same with the device's own blocks
---     endpoint_file      all cells of an endpoint with a Command and bases, all others at reset
+--     base_cells      the cells of a base address register, with its base and type bits
+--     BaseAddress, base_file      a base address register with its current base, and the cells of base address registers
+--     header_cells, config_cells      the header without base address registers; the header with the device-specific blocks
+--     endpoint_file      all cells of an endpoint with this Command and these bases, and all others at reset
 --     endpoint_reset      all cells at reset
 use Rattle.std.specs.Prelude.{List, [], ◌≡◌, ℕ, ◌-◌, ◌+◌, ◌*◌, ◌%◌, ◌<◌, Bool, if◌then◌else◌, ◌^◌, ◌++◌, map, flat_map}
 use Rattle.lists.specs.Elements.{Each}
@@ -11,13 +11,13 @@ use Rattle.model_registers.specs.{Registers.{Place, config, block, File, field, 
 abbrev pub base_register : ℕ → Place
 base_register n = config (0x10 + 4 * n)
 
--- the bits below a base, which tell its kind
+-- the bits below a base, which encode its kind
 abbrev pub type_bits : Kind → ℕ
 type_bits io_kind = 1
 type_bits (mem32 pref) = if pref then 8 else 0
 type_bits (mem64 pref) = if pref then 12 else 4
 
--- how many bits a base has
+-- the width of a base in bits
 abbrev pub base_width : Kind → ℕ
 base_width kind = 32 * registers_of kind
 
@@ -26,7 +26,7 @@ abbrev pub base_cells : ℕ → Kind → ℕ → ℕ → File
 base_cells n kind size base =
     field (base_register n) (4 * registers_of kind) (base + type_bits kind) (2 ^ base_width kind - size) 0
 
--- a base address register as it stands
+-- a base address register with its current base
 pub record BaseAddress : Type 0 where
   pub index : ℕ
   pub kind : Kind
@@ -36,19 +36,19 @@ pub record BaseAddress : Type 0 where
 abbrev pub register_cells : BaseAddress → File
 register_cells b = base_cells b.index b.kind b.size b.base
 
--- the cells of base address registers, and of nothing else
+-- the cells of base address registers only
 abbrev pub base_file : List BaseAddress → File
 base_file bs = flat_map register_cells bs
 
--- what a register opens, whatever cells stand there
+-- the kind and size of a region, without its cells
 abbrev pub opened : BaseAddress → Region
 opened b = record { index = b.index; kind = b.kind; size = b.size; cells = [] }
 
--- a region's register at reset
+-- the register of a region at reset
 abbrev pub closed : Region → BaseAddress
 closed r = record { index = r.index; kind = r.kind; size = r.size; base = 0 }
 
--- a size that the kind allows, and a base that the registers can hold
+-- a size that the kind allows, and a base that fits the registers
 pub record IsLawfulBase (b : BaseAddress) : Type 0 where
   pub size_is_lawful : IsLawfulSize b.kind b.size
   pub aligned : b.base % b.size ≡ 0
@@ -65,11 +65,11 @@ region_cells bases r = base_cells r.index r.kind r.size (bases r) ++ cells_from 
 abbrev pub block_cells : ConfigBlock → File
 block_cells b = cells_from (config b.offset) b.cells
 
--- `multifunction` says that the device holds two functions or more: bit 7 of the header type
+-- `multifunction` means that the device has two or more functions: bit 7 of the header type
 abbrev pub header_type : ℕ → Bool → ℕ
 header_type layout multifunction = layout + (if multifunction then 0x80 else 0)
 
--- the bits of Command that a write sets: I/O and memory space, bus master, parity and system error response, interrupt disable
+-- the writable bits of Command: I/O and memory space, bus master, parity and system error response, interrupt disable
 abbrev pub command_mask : ℕ
 command_mask = 0x0547
 
@@ -92,7 +92,7 @@ header_cells d multifunction command =
 abbrev pub config_cells : Endpoint → Bool → ℕ → File
 config_cells d multifunction command = header_cells d multifunction command ++ flat_map block_cells d.blocks
 
--- the cells of an endpoint with this Command and these bases, all others at reset
+-- the cells of an endpoint with this Command and these bases, and all others at reset
 abbrev pub endpoint_file : Endpoint → Bool → ℕ → (Region → ℕ) → File
 endpoint_file d multifunction command bases =
     config_cells d multifunction command ++ flat_map (region_cells bases) d.regions

@@ -1,7 +1,7 @@
--- Laws of files that are joined, and of the cells of a block as those of a region.
---     has_place file p      a cell stands at the place
---     HasNone file p ons      no cell stands at an enabled place from p on
---     IsConfigFile file      each cell stands at a configuration offset
+-- Laws of joined register files, and of a block's cells as the cells of a region.
+--     has_place file p      the place has a cell
+--     HasNone file p ons      none of the enabled places from p on has a cell
+--     IsConfigFile file      each cell is at a configuration offset
 use Rattle.std.specs.Prelude.{◌≡◌, ◌≢◌, ◌++◌, ⊤, ℕ, Bool, false, true, ◌||◌, if◌then◌else◌, List, [], ◌∷◌}
 use Rattle.lists.specs.Elements.{Each}
 use Rattle.model_registers.specs.{Cell.Cell, Registers.{Place, config, block, place_eq, after, PlacedCell, File, cell_at, changed, read, write, cells_from, in_region}}
@@ -23,11 +23,11 @@ IsConfigFile file = Each (λ (e : PlacedCell). IsConfig e.place) file
 
 -- ---- joined files
 
--- the first file that has the place shows its cell
+-- a place reads from the first file that has it
 abbrev pub JoinedCell : Type 0
 JoinedCell = (xs ys : File) (p : Place) → cell_at (xs ++ ys) p ≡ (if has_place xs p then cell_at xs p else cell_at ys p)
 
--- a change or a write of joined files is one of each
+-- a change or a write of joined files changes each file separately
 abbrev pub JoinedChange : Type 0
 JoinedChange = (f : Cell → Cell) (p : Place) (xs ys : File) → changed f p (xs ++ ys) ≡ changed f p xs ++ changed f p ys
 
@@ -35,7 +35,7 @@ abbrev pub JoinedWrite : Type 0
 JoinedWrite = (ons : List Bool) (v : ℕ) (p : Place) (xs ys : File)
     → write ons v p (xs ++ ys) ≡ write ons v p xs ++ write ons v p ys
 
--- a file without a cell at the enabled places reads 0 there, stays, and is passed by
+-- a file without a cell at the enabled places reads 0 there, doesn't change, and is skipped
 abbrev pub ReadNone : Type 0
 ReadNone = (ons : List Bool) (p : Place) (file : File) → HasNone file p ons → read file p ons ≡ 0
 
@@ -48,7 +48,7 @@ ReadSecond = (ons : List Bool) (p : Place) (xs ys : File) → HasNone xs p ons �
 abbrev pub ReadFirst : Type 0
 ReadFirst = (ons : List Bool) (p : Place) (xs ys : File) → HasNone ys p ons → read (xs ++ ys) p ons ≡ read xs p ons
 
--- changes leave the places
+-- changes keep the places
 abbrev pub PlacesStay : Type 0
 PlacesStay = (ons : List Bool) (v : ℕ) (p q : Place) (file : File) → has_place (write ons v p file) q ≡ has_place file q
 
@@ -73,7 +73,7 @@ abbrev pub RegionWrite : Type 0
 RegionWrite = (ons : List Bool) (v n a : ℕ) (file : File) → IsConfigFile file
     → write ons v (block n a) (in_region n file) ≡ in_region n (write ons v (config a) file)
 
--- such cells stand at no configuration offset and in no other region, and configuration cells in none
+-- such cells are at no configuration offset and in no other region, and configuration cells are in no region
 abbrev pub RegionHasNoConfig : Type 0
 RegionHasNoConfig = (ons : List Bool) (n a : ℕ) (file : File) → HasNone (in_region n file) (config a) ons
 

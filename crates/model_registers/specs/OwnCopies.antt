@@ -1,9 +1,9 @@
--- The registers of which a guest has its own copies: Command, header type and base address registers,
--- PCI Local Bus 3.0, chapter 6.2. The header type has no cell, as it reads 00h and drops writes.
---     is_own p      the place is one of these
---     OwnCopies, own_file      what they hold, and their cells
---     HoldsOwn file own      the file holds just these copies
---     handed_on p enables      the enables of the bytes from p on that are none of these
+-- The registers that a guest has its own copies of: Command, header type and base address registers,
+-- PCI Local Bus 3.0, chapter 6.2. The header type has no cell, because it reads 00h and ignores writes.
+--     is_own p      the place belongs to one of these registers
+--     OwnCopies, own_file      the values of the copies, and their cells
+--     HoldsOwn file own      the file holds exactly these copies
+--     handed_on p enables      the enables of the bytes from p on that aren't copied
 use Rattle.std.specs.Prelude.{◌≡◌, ◌≤◌, ℕ, Bool, true, false, ◌&&◌, ◌||◌, not, ◌==◌, nat_le, nat_lt, if◌then◌else◌, List, [], ◌∷◌, ◌++◌, ◌+◌, map}
 use Rattle.lists.specs.Elements.{Each}
 use Rattle.model_registers.specs.{Registers.{Place, config, block, after, File, cell_at, read, write, raise}, Declarations.{Region, HasLawfulRegions, Endpoint}, EndpointTable.{BaseAddress, base_file, command_cells, opened, closed, endpoint_reset}, Decoding.{Space, first_hit}}
@@ -31,24 +31,24 @@ handed_on p (on ∷ ons) = (on && not (is_own p)) ∷ handed_on (after p) ons
 abbrev pub IsLawfulOwn : OwnCopies → Type 0
 IsLawfulOwn own = HasLawfulRegions (map opened own.bases)
 
--- a file that holds the copies reads as they do, with the bytes that are handed on
+-- a file that holds the copies reads the copied bytes together with the forwarded bytes
 abbrev pub OwnReads : Type 0
 OwnReads = (own : OwnCopies) → IsLawfulOwn own → (file : File) → HoldsOwn file own → (p : Place) (enables : List Bool)
     → read file p enables ≡ read (own_file own) p enables + read file p (handed_on p enables)
 
--- a write reaches the copies by itself, and all other cells by the bytes that are handed on
+-- a write changes the copies directly, and all other cells through the forwarded bytes
 abbrev pub OwnWrites : Type 0
 OwnWrites = (own : OwnCopies) → (file : File) → HoldsOwn file own → (p q : Place) (enables : List Bool) (x : ℕ)
     → cell_at (write enables x p file) q
     ≡ (if is_own q then cell_at (write enables x p (own_file own)) q
     else cell_at (write (handed_on p enables) x p file) q)
 
--- a device can't raise a bit of them
+-- a device can't raise bits in the copies
 abbrev pub OwnStay : Type 0
 OwnStay = (own : OwnCopies) (file : File) → HoldsOwn file own → (p q : Place) (m : ℕ) → is_own p ≡ true
     → cell_at (raise m p file) q ≡ cell_at file q
 
--- the copies alone tell what is decoded
+-- the copies alone decide what is decoded
 abbrev pub bare : Region → Region
 bare r = record r { cells = [] }
 
@@ -57,7 +57,7 @@ OwnHits = (own : OwnCopies) → IsLawfulOwn own → (file : File) → HoldsOwn f
     → map bare rs ≡ map opened own.bases → (space : Space) (a : ℕ)
     → first_hit file rs space a ≡ first_hit (own_file own) (map opened own.bases) space a
 
--- at reset a function holds Command and bases of 0, whatever its own registers from 40h on are
+-- at reset, Command and all bases are 0, whatever the device-specific registers hold
 abbrev pub ResetHoldsOwn : Type 0
 ResetHoldsOwn = (d : Endpoint) → Each (λ b. 0x40 ≤ b.offset) d.blocks
     → HoldsOwn (endpoint_reset d false) (record { command = 0; bases = map closed d.regions })

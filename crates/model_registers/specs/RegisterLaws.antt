@@ -1,21 +1,21 @@
 -- Laws of register files: PCI Local Bus 3.0, chapter 6.1.
---     ChangeAtPlace      a change of one cell is seen at its place alone
---     FieldReads, FieldWrites      a register of several bytes reads its value and takes a write by its mask
---     merged      such a register's value after a write
---     EnabledFieldReads, EnabledFieldWrites      the same by byte enables
+--     ChangeAtPlace      changing one cell affects reads of its place only
+--     FieldReads, FieldWrites      a multi-byte register reads its value and is written under its mask
+--     merged      the value of such a register after a write
+--     EnabledFieldReads, EnabledFieldWrites      the same laws with byte enables
 use Rattle.std.specs.Prelude.{List, Bool, length, ◌≡◌, ℕ, ◌-◌, ◌<◌, bit_and, bit_or, ◌%◌, if◌then◌else◌, ◌^◌, ◌++◌}
 use Rattle.model_registers.specs.{Cell.{Cell, no_cell}, Registers.{Place, config, place_eq, File, cell_at, changed, read, write, all_bytes, number, field}, ByteEnables.enabled_bits}
 
--- a change of one cell is seen at its place and nowhere else
+-- changing one cell affects reads of its place only
 abbrev pub ChangeAtPlace : Type 0
 ChangeAtPlace = (f : Cell → Cell) → f no_cell ≡ no_cell → (file : File) (p q : Place)
     → cell_at (changed f p file) q ≡ (if place_eq p q then f (cell_at file q) else cell_at file q)
 
--- a register's cells read its value
+-- the cells of a register read its value
 abbrev pub FieldReads : Type 0
 FieldReads = (w a v rw w1c : ℕ) (rest : File) → number (field (config a) w v rw w1c ++ rest) (config a) w ≡ v % 256 ^ w
 
--- a register of w bytes after a write of x: its writable bits are those of x, and all others stay
+-- a w-byte register after a write of x: its writable bits come from x, and all others stay
 abbrev pub merged : ℕ → ℕ → ℕ → ℕ → ℕ
 merged w v x rw = bit_or (bit_and v (256 ^ w - 1 - rw)) (bit_and x rw)
 
@@ -23,7 +23,7 @@ abbrev pub FieldWrites : Type 0
 FieldWrites = (w a v rw x : ℕ) → rw < 256 ^ w
     → write (all_bytes w) x (config a) (field (config a) w v rw 0) ≡ field (config a) w (merged w v x rw) rw 0
 
--- by byte enables: a read shows the enabled bytes, and a write sets the writable bits of the enabled bytes
+-- with byte enables: a read returns the enabled bytes, and a write sets the writable bits of the enabled bytes
 abbrev pub EnabledFieldReads : Type 0
 EnabledFieldReads = (enables : List Bool) (a v rw w1c : ℕ) (rest : File)
     → read (field (config a) (length enables) v rw w1c ++ rest) (config a) enables ≡ bit_and v (enabled_bits enables)

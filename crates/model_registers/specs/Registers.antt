@@ -1,9 +1,9 @@
--- A register file: the cells of one function, by place. A place without a cell reads 0 and drops writes, and numbers
--- are little-endian: PCI Local Bus 3.0, chapter 6.1.
+-- A register file: the cells of one function, by place. A place without a cell reads 0 and ignores writes. Numbers are
+-- little-endian: PCI Local Bus 3.0, chapter 6.1.
 --     Place      a configuration offset, or an offset in a region's block
 --     File      places with their cells
 --     cell_at file p, changed f p file      the cell at a place; the file with that cell changed by f
---     read file p enables, write enables v p file      numbers, byte by byte, where the enables say so
+--     read file p enables, write enables v p file      reads and writes of numbers, byte by byte, of the enabled bytes
 use Rattle.std.specs.Prelude.{List, [], ◌∷◌, ℕ, zero, suc, ◌+◌, ◌*◌, ◌/◌, ◌%◌, Bool, true, false, ◌&&◌, ◌==◌, if◌then◌else◌, replicate}
 use Rattle.model_registers.specs.Cell.{Cell, written, raised, no_cell}
 
@@ -36,7 +36,7 @@ abbrev pub changed : (Cell → Cell) → Place → File → File
 changed f p [] = []
 changed f p (e ∷ es) = (if place_eq e.place p then record e { cell = f e.cell } else e) ∷ changed f p es
 
--- the number of the bytes from p on, lowest first; a byte that is not enabled counts as 0
+-- the number in the bytes from p on, lowest first; disabled bytes count as 0
 abbrev pub read : File → Place → List Bool → ℕ
 read file p [] = 0
 read file p (on ∷ ons) = (if on then (cell_at file p).value else 0) + 256 * read file (after p) ons
@@ -60,14 +60,14 @@ abbrev pub all_ones : ℕ → ℕ
 all_ones zero = 0
 all_ones (suc w) = 255 + 256 * all_ones w
 
--- w cells from p on: the bytes of the value, of the writable bits and of the clearable bits, lowest first
+-- w cells from p on: the bytes of the value, the writable bits and the write-1-to-clear bits, lowest first
 abbrev pub field : Place → ℕ → ℕ → ℕ → ℕ → File
 field p zero v rw w1c = []
 field p (suc w) v rw w1c =
     record { place = p; cell = record { value = v % 256; writable = rw % 256; clearable = w1c % 256 } }
     ∷ field (after p) w (v / 256) (rw / 256) (w1c / 256)
 
--- the cells one after the other, from p on
+-- the cells at consecutive places, starting at p
 abbrev pub cells_from : Place → List Cell → File
 cells_from p [] = []
 cells_from p (c ∷ cs) = record { place = p; cell = c } ∷ cells_from (after p) cs
@@ -76,7 +76,7 @@ abbrev pub offset_of : Place → ℕ
 offset_of (config a) = a
 offset_of (block n a) = a
 
--- the cells of a file as those of a region's block, at the same offsets
+-- the cells of a file as cells of a region's block, at the same offsets
 abbrev pub in_region : ℕ → File → File
 in_region n [] = []
 in_region n (e ∷ es) = record e { place = block n (offset_of e.place) } ∷ in_region n es

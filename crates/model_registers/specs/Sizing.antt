@@ -1,8 +1,8 @@
--- How software finds the size of a region: PCI Local Bus 3.0, chapter 6.2.5.1. It writes all ones to the
+-- How software determines the size of a region: PCI Local Bus 3.0, chapter 6.2.5.1. It writes all ones to the
 -- region's registers and reads them back.
 --     sized n b      the cells of b's registers from index n on, after all ones are written
---     mask_of b      what they then read, all bytes as one number
---     ShowsSize b low high      what they then read: high is of no account where the base takes one register
+--     mask_of b      the value that they then read, all bytes as one number
+--     ShowsSize b low high      the values that they then read; high doesn't matter if the base uses one register
 use Rattle.std.specs.Prelude.{◌≡◌, ℕ, ◌-◌, ◌+◌, ◌*◌, ◌/◌, ◌%◌, ◌^◌}
 use Rattle.model_registers.specs.{Registers.{File, write, all_bytes, all_ones, number}, Declarations.{Bar, registers_of, IsLawfulSize}, EndpointTable.{base_register, type_bits, base_width, base_cells}}
 

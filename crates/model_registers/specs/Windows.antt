@@ -1,14 +1,14 @@
--- What a bridge's window registers name: PCI-to-PCI Bridge Architecture 1.2, chapter 3.2.5.
---     io_window, mem_window, pref_window      the addresses that the registers name now; Command does not count
+-- The windows in a bridge's window registers: PCI-to-PCI Bridge Architecture 1.2, chapter 3.2.5.
+--     io_window, mem_window, pref_window      the addresses in the registers now; Command isn't taken into account
 use Rattle.std.specs.Prelude.{ℕ, ◌+◌, ◌*◌, ◌/◌, if◌then◌else◌, ◌^◌, nat_le, Option, Some, None}
 use Rattle.model_registers.specs.{Registers.{config, File, number}, Declarations.{IoDecode, no_io, io16, io32, PrefDecode, no_pref, pref32, pref64}}
 pub use Rattle.model_registers.specs.BridgeTable.{Window}
 
--- a base above its limit names no window
+-- if the base is above the limit, there is no window
 abbrev pub window : ℕ → ℕ → Option Window
 window first last = if nat_le first last then Some (record { first = first; last = last }) else None
 
--- a window register of w bytes holds in its bits above 3 the address bits from a power of two on
+-- the bits above 3 of a w-byte window register are address bits, starting at a power of two
 abbrev pub window_bits : File → ℕ → ℕ → ℕ → ℕ
 window_bits file off w unit = number file (config off) w / 16 * unit
 

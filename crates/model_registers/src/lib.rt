@@ -40,8 +40,8 @@ pub fn files_of_bytes()
     ensures read { ReadsEnabled }
 {}
 
-/// Proves that in the concatenation of register files each file receives its own part of a write,
-/// and that a file without the accessed byte is skipped.
+/// Proves that a write to concatenated register files writes each file separately, and that a file
+/// without the accessed byte is skipped.
 pub fn joined_files()
     ensures cell { JoinedCell }
     ensures change { JoinedChange }

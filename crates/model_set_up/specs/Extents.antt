@@ -1,6 +1,6 @@
--- Addresses or offsets from a first one on, as many as a size says.
---     IsInside start end first size      none is before the start, and none at the end or after it
---     AreApart first size first' size'      two such ranges have none in common
+-- Ranges of consecutive addresses or offsets, given by the first one and a size.
+--     IsInside start end first size      none is before the start, and none is at the end or after it
+--     AreApart first size first' size'      two such ranges don't overlap
 use Rattle.std.specs.Prelude.{ℕ, ◌+◌, ◌≤◌, ◌⊎◌}
 
 abbrev pub IsInside : ℕ → ℕ → ℕ → ℕ → Type 0

@@ -1,10 +1,10 @@
--- What software finds of a board's functions by configuration cycles: PCI Local Bus 3.0, chapters 6.2.1 and 6.2.5.1;
+-- The facts about a board's functions that software finds by configuration cycles: PCI Local Bus 3.0, chapters 6.2.1 and 6.2.5.1;
 -- PCI-to-PCI Bridge Architecture 1.2, chapter 3.2.
---     met_decl, found_decl      what a scan, and sizing after it, find of a declaration; all else counts as 0 or none
---     BusRange, TableRow      the numbers of the buses behind a bridge; a function with the number of its bus
---     scanned_table, sized_table      a board's functions as a scan, and as sizing after it, leave them in a table
---     board_in      a table as a board of what was found
---     PlacedAsFound      placement looks at nothing else of a board
+--     met_decl, found_decl      the parts of a declaration that a scan finds, and that sizing finds after it; all other parts are 0 or absent
+--     BusRange, TableRow      the bus numbers behind a bridge; a function with the number of its bus
+--     scanned_table, sized_table      the table of a board's functions after a scan, and after sizing
+--     board_in      a table read as a board that contains only what was found
+--     PlacedAsFound      placement uses nothing else of a board
 use Rattle.std.specs.Prelude.{List, [], ◌≡◌, ℕ, Option, Some, None, map}
 use Rattle.model_registers.specs.{Declarations.{Endpoint, plain_endpoint, no_io, no_pref, Bridge}, OwnCopies.bare, Apertures.Apertures}
 use Rattle.model_board.specs.{Paths.Path, Board.{Decl, endpoint, bridge, Row, Board, IsBoard}, BusNumbers.{secondary, subordinate, bus_of, Enumerates}, Lawful.HasLawfulDecls}
@@ -21,7 +21,7 @@ abbrev pub met_decl : Decl → Decl
 met_decl (endpoint d) = endpoint (met_endpoint d)
 met_decl (bridge d) = bridge (met_bridge d)
 
--- the same with kinds and sizes, or with the decode of a bridge's windows
+-- also with kinds and sizes, or with the decoding of a bridge's windows
 abbrev pub found_decl : Decl → Decl
 found_decl (endpoint d) = endpoint (record (met_endpoint d) { regions = map bare d.regions })
 found_decl (bridge d) = bridge (record (met_bridge d) { io = d.io; pref = d.pref })
@@ -56,8 +56,8 @@ board_in rows = map (λ (r : TableRow). record { path = r.path; decl = r.decl })
 
 -- ---- placement
 
--- a lawful board as it was found is a lawful board with the same table, the same plan and the same causes of a refusal,
--- and it enumerates where the board does
+-- a lawful board as found is a lawful board with the same table, the same plan and the same reasons for a refusal,
+-- and it can be enumerated if the original board can
 pub record IsPlacedAsFound (b : Board) : Type 0 where
   pub board : IsBoard (board_in (sized_table b))
   pub declarations : HasLawfulDecls (board_in (sized_table b))

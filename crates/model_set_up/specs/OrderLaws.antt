@@ -1,12 +1,12 @@
--- The order in which items stand on a bus: a sorted permutation, and the only one.
---     OrderIsSorted      in_order gives a sorted permutation
---     OneOrder      however a bus's items are sorted, they come in this order
+-- The order of the items on a bus is a sorted permutation, and the only one.
+--     OrderIsSorted      in_order returns a sorted permutation
+--     OneOrder      every way of sorting a bus's items gives this order
 use Rattle.std.specs.{Prelude.{List, ◌≡◌}, List.Sorted.{IsPermutation, IsSortedBy}}
 use Rattle.model_board.specs.{Paths.Path, Board.{Board, IsBoard}, Lawful.HasLawfulDecls}
 use Rattle.model_set_up.specs.{Pools.Pool, Placement.{PlacementItem, stands_before, in_order, items_on}}
 use Rattle.model_registers.specs.Apertures.{Apertures}
 
--- no item stands before the one that it follows
+-- no item comes before the one that it follows
 abbrev pub IsInOrder : List PlacementItem → Type 0
 IsInOrder is = IsSortedBy stands_before is
 

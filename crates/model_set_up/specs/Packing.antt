@@ -1,9 +1,9 @@
--- On a bus without bridges, compact placement takes the sum of the sizes rounded up to the unit, and no lawful
--- placement takes less; on any bus it is a run of spots within its need.
---     IsPowerOfTwo, HasPowerSizes      a size is a power of two; those of an endpoint's regions are
---     Interval, IsPlacement      where an item is put; spots for all items of a bus
---     FlatNeed, FlatNeedOnBus      the need is the sum, and the least; of a bus without bridges it is
---     IsRun, CompactIsRun      spots one after the other; compact placement is such a run
+-- On a bus without bridges, the compact placement needs the sum of the sizes rounded up to the unit, and no lawful
+-- placement needs less. On any bus it is a run of spots within its computed size.
+--     IsPowerOfTwo, HasPowerSizes      a size is a power of two; all sizes of an endpoint's regions are
+--     Interval, IsPlacement      the range that an item gets; spots for all items of a bus
+--     FlatNeed, FlatNeedOnBus      the need is the sum of the sizes, and the least possible; this holds for a bus without bridges
+--     IsRun, CompactIsRun      consecutive spots; the compact placement consists of consecutive spots
 use Rattle.std.specs.Prelude.{List, ◌≡◌, ℕ, ◌<◌, ◌+◌, ◌*◌, ◌%◌, ◌≤◌, ◌^◌, map, sum_by, IsFalse}
 use Rattle.lists.specs.Elements.{Each, EachPair}
 use Rattle.model_set_up.specs.{Extents.{IsInside, AreApart}, Pools.{Pool, unit_of}, Placement.{PlacementItem, round_up, PlacedItem, spot_end, spots, need, items_on}}
@@ -13,13 +13,13 @@ use Rattle.model_registers.specs.Apertures.{Apertures}
 abbrev pub IsPowerOfTwo : ℕ → Type 0
 IsPowerOfTwo n = (k : ℕ) × (n ≡ 2 ^ k)
 
--- where an item is put: its first address and its size
+-- the range that an item gets: its first address and its size
 pub record Interval : Type 0 where
   pub first : ℕ
   pub size : ℕ
 
--- each item has a spot of its size at a multiple of its size; the spots are apart, and within `units` units from
--- `start` on
+-- each item has a spot of its size at a multiple of its size; spots don't overlap, and lie within `units` units,
+-- starting at `start`
 pub record IsPlacement (unit start units : ℕ) (is : List PlacementItem) (spots : List Interval) : Type 0 where
   pub sizes : map (λ s. s.size) spots ≡ map (λ i. i.size) is
   pub aligned : Each (λ s. s.first % s.size ≡ 0) spots
@@ -41,12 +41,12 @@ FlatNeedOnBus = (b : Board) (a : Apertures) (pool : Pool) (bus : Path)
     → Each (λ r. IsFalse (is_bridge r.decl)) (rows_on b bus) → Each (λ r. HasPowerSizes r.decl) b
     → FlatNeed (unit_of pool) (items_on b a pool bus)
 
--- spots of one bus: each at a multiple of its alignment, at `start` or after, before `stop`, and before all later ones
+-- spots of one bus: each at a multiple of its alignment, from `start` on, before `stop`, and before all later ones
 pub record IsRun (start stop : ℕ) (ss : List PlacedItem) : Type 0 where
   pub aligned : Each (λ s. s.first % s.item.align ≡ 0) ss
   pub within : Each (λ s. (start ≤ s.first) × (spot_end s ≤ stop)) ss
   pub apart : EachPair (λ s t. spot_end s ≤ t.first) ss
 
--- compact placement on a bus, with windows too, keeps within its need
+-- the compact placement of a bus, including windows, stays within its computed size
 abbrev pub CompactIsRun : Type 0
 CompactIsRun = (unit : ℕ) (is : List PlacementItem) → 0 < unit → Each (λ i. 0 < i.align) is → IsRun 0 (need unit is) (spots is)

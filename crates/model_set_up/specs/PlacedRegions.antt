@@ -1,9 +1,9 @@
--- The regions where set-up places them, as one flat list: the claims of a board without a word of bridges.
+-- The regions where set-up places them, as one flat list: the claims of a board, without mentioning bridges.
 --     PlacedRegion      a region's path and register, its space, first address and size
 --     placed_regions      all regions of a board, in path order, then by register
 --     placed_rows      the regions among the rows of a layout
---     holds      a placed region holds an address
---     placed_claim      the claim of the first placed region that holds an address
+--     holds      a placed region contains an address
+--     placed_claim      the claim of the first placed region that contains an address
 use Rattle.std.specs.Prelude.{List, [], ◌∷◌, ℕ, ◌-◌, ◌+◌, Bool, ◌&&◌, if◌then◌else◌, nat_lt, nat_le, Option, Some, None, map, flat_map}
 use Rattle.lists.specs.Elements.{first_some}
 use Rattle.model_registers.specs.{Declarations.Region, Decoding.{Space, io, memory, space_of, same_space}, Apertures.Apertures}
@@ -26,13 +26,13 @@ placed_at b a r = elim r.decl [ endpoint d ↦ map (placed b a r.path) d.regions
 abbrev pub placed_regions : Board → Apertures → List PlacedRegion
 placed_regions b a = flat_map (placed_at b a) b
 
--- the addresses that a pool has
+-- the addresses of a pool's space
 abbrev pub pool_space : Pool → Space
 pool_space io_pool = io
 pool_space mem_pool = memory
 pool_space pref_pool = memory
 
--- a row of a region, and none of a window
+-- a row of a region, not of a window
 abbrev pub placed_row : LayoutRow → List PlacedRegion
 placed_row r = elim r.what [
   | a_region n ↦

@@ -1,18 +1,18 @@
--- Where set-up places regions and windows, one pool at a time: this project's own rule. A window extends over whole
--- units: PCI-to-PCI Bridge Architecture 1.2, chapter 3.2.5.
---     Placed, PlacementItem      the region of a register or a bridge's window; one of them on a bus, with alignment and size
---     in_order      items by alignment descending, then device, function and register
+-- The addresses at which set-up places regions and windows, one pool at a time: this project's own rule. A window is a
+-- whole number of units: PCI-to-PCI Bridge Architecture 1.2, chapter 3.2.5.
+--     Placed, PlacementItem      the region of a register or a bridge's window; one of these on a bus, with its alignment and size
+--     in_order      items by descending alignment, then device, function and register
 --     PlacedItem, spots      an item and its offset on the bus; the items one after the other
---     need, alignment      size and alignment of a bus's window
---     items_on      what stands on a bus: its regions of the pool, and the windows of its bridges that have items
---     fits      whether a pool fits its aperture
---     bus_first, region_first      the address at which a bus begins, and a region
+--     need, alignment      the size and the alignment of a bus's window
+--     items_on      the items on a bus: its regions in the pool, and the windows of its bridges that have items behind them
+--     fits      whether a pool fits in its aperture
+--     bus_first, region_first      the first address of a bus, and of a region
 use Rattle.std.specs.{Prelude.{List, [], ◌∷◌, ℕ, ◌-◌, zero, suc, ◌+◌, ◌*◌, ◌/◌, Bool, true, false, ◌&&◌, ◌==◌, if◌then◌else◌, ◌++◌, flat_map, ◌||◌, nat_lt, nat_le, map, filter, max}, Option.option_map_or}
 use Rattle.model_registers.specs.{Declarations.{Region, Endpoint}, Apertures.{Aperture, Apertures}}
 use Rattle.model_board.specs.{Paths.{Part, Path, part_eq, parent, last_part}, Board.{endpoint, bridge, Row, Board, rows_on}}
 use Rattle.model_set_up.specs.Pools.{Pool, same_pool, unit_of, bridges_above, pool_of, aperture_of}
 
--- what is placed: the region of a base address register, or the window of a bridge
+-- the object placed: the region of a base address register, or the window of a bridge
 pub data Placed : Type 0 where
   a_region : ℕ → Placed
   a_window : Placed
@@ -23,19 +23,19 @@ same_placed a_window a_window = true
 same_placed (a_region n) a_window = false
 same_placed a_window (a_region m) = false
 
--- the register that tells items of one function apart; a bridge has one item at most
+-- the register that distinguishes the items of one function; a bridge has at most one item
 abbrev pub register_of : Placed → ℕ
 register_of (a_region n) = n
 register_of a_window = 0
 
--- what one function of a bus has there
+-- the items of one function on a bus
 pub record PlacementItem : Type 0 where
   pub part : Part
   pub what : Placed
   pub align : ℕ
   pub size : ℕ
 
--- alignment descending, then device, function and register
+-- descending alignment, then device, function and register
 abbrev pub stands_before : PlacementItem → PlacementItem → Bool
 stands_before i j =
     nat_lt j.align i.align || (i.align == j.align && (nat_lt i.part.device j.part.device
@@ -50,11 +50,11 @@ abbrev pub in_order : List PlacementItem → List PlacementItem
 in_order [] = []
 in_order (i ∷ is) = inserted i (in_order is)
 
--- the least multiple of a that is not before n
+-- the smallest multiple of a that is at least n
 abbrev pub round_up : ℕ → ℕ → ℕ
 round_up a n = (n + (a - 1)) / a * a
 
--- where the last of the items ends, if the first may begin at n
+-- the end of the last item, if the first may start at n
 abbrev pub end_from : ℕ → List PlacementItem → ℕ
 end_from n [] = n
 end_from n (i ∷ is) = end_from (round_up i.align n + i.size) is
@@ -67,7 +67,7 @@ pub record PlacedItem : Type 0 where
 abbrev pub spot_end : PlacedItem → ℕ
 spot_end s = s.first + s.item.size
 
--- the items one after the other, each at the least multiple of its alignment that is not before the former's end
+-- the items one after the other, each at the smallest multiple of its alignment from the end of the one before it
 abbrev pub spots_from : ℕ → List PlacementItem → List PlacedItem
 spots_from n [] = []
 spots_from n (i ∷ is) = record { item = i; first = round_up i.align n } ∷ spots_from (round_up i.align n + i.size) is
@@ -75,7 +75,7 @@ spots_from n (i ∷ is) = record { item = i; first = round_up i.align n } ∷ sp
 abbrev pub spots : List PlacementItem → List PlacedItem
 spots is = spots_from 0 (in_order is)
 
--- the item is what the function at this part has
+-- the item belongs to the function at this part
 abbrev pub is_item : Part → Placed → PlacementItem → Bool
 is_item p w i = part_eq i.part p && same_placed i.what w
 
@@ -111,7 +111,7 @@ items_of b a pool behind r =
       | bridge d ↦ window_items (unit_of pool) (last_part r.path) (behind r.path)
     ]
 
--- the items of a bus, with at most n levels of buses from it down
+-- the items of a bus, with at most n levels of buses, counting the bus itself
 abbrev pub items_within : Board → Apertures → Pool → ℕ → Path → List PlacementItem
 items_within b a pool zero bus = []
 items_within b a pool (suc n) bus = flat_map (items_of b a pool (items_within b a pool n)) (rows_on b bus)
@@ -120,7 +120,7 @@ items_within b a pool (suc n) bus = flat_map (items_of b a pool (items_within b 
 abbrev pub items_on : Board → Apertures → Pool → Path → List PlacementItem
 items_on b a pool bus = items_within b a pool 16 bus
 
--- bus 0 begins at the least multiple of its alignment that is not before the aperture
+-- bus 0 starts at the smallest multiple of its alignment in the aperture
 abbrev pub root_first : Apertures → Pool → List PlacementItem → ℕ
 root_first a pool is =
     option_map_or (λ (ap : Aperture). round_up (alignment (unit_of pool) is) ap.first) (aperture_of a pool) 0
@@ -138,7 +138,7 @@ fits b a pool = fits_items a pool (items_on b a pool [])
 abbrev pub offset_on : Board → Apertures → Pool → Path → Part → Placed → ℕ
 offset_on b a pool bus p w = offset_in (spots (items_on b a pool bus)) p w
 
--- the first address of a bus in a pool, on the way from the bus `above` at `n` down the parts
+-- the first address of a bus in a pool, reached from the bus `above`, which starts at `n`, through these parts
 abbrev pub first_below : Board → Apertures → Pool → ℕ → Path → Path → ℕ
 first_below b a pool n above [] = n
 first_below b a pool n above (p ∷ ps) =

@@ -1,6 +1,6 @@
--- Compact placement is lawful, and its rows say where set-up places what the board declares.
---     PoolsAreLawful, LayoutIsLawful      where a pool fits, its rows are lawful
---     HasRows      each region and each window has its one row, and each row is one of these
+-- The compact placement is lawful, and its rows are where set-up places the declared regions and windows.
+--     PoolsAreLawful, LayoutIsLawful      if a pool fits, its rows are lawful
+--     HasRows      each region and each window has exactly one row, and there are no other rows
 use Rattle.std.specs.Prelude.{List, [], ◌∷◌, ◌≡◌, ◌&&◌, filter, IsTrue}
 use Rattle.lists.specs.Elements.{Each, IsIn}
 use Rattle.model_registers.specs.{Declarations.Region, Apertures.Apertures}
@@ -32,22 +32,22 @@ window_row b a pool p = record {
   size = need (unit_of pool) (items_on b a pool p);
 }
 
--- a bridge has a window where items stand behind it
+-- a bridge has a window if there are items behind it
 abbrev pub window_rows : Board → Apertures → Pool → Path → List PlacementItem → List LayoutRow
 window_rows b a pool p [] = []
 window_rows b a pool p (i ∷ is) = window_row b a pool p ∷ []
 
--- the rows of the pool for what the function at p has
+-- the pool's rows for the function at p
 abbrev pub rows_at : Board → Apertures → Pool → Path → Placed → List LayoutRow
 rows_at b a pool p w = filter (λ r. path_eq r.path p && same_placed r.what w) (pool_rows b a pool)
 
--- each region has one row in its pool; a bridge has one in each pool in which items stand behind it
+-- each region has one row in its pool; a bridge has one in each pool with items behind the bridge
 abbrev pub HasOwnRows : Board → Apertures → Path → Decl → Type 0
 HasOwnRows b a p (endpoint d) =
     Each (λ r. rows_at b a (pool_at b a p r) p (a_region r.index) ≡ region_row b a p r ∷ []) d.regions
 HasOwnRows b a p (bridge d) = (pool : Pool) → rows_at b a pool p a_window ≡ window_rows b a pool p (items_on b a pool p)
 
--- the row is that of a region in this pool, or of a window
+-- the row belongs to a region in this pool, or to a window
 abbrev pub IsRowFor : Board → Apertures → Pool → LayoutRow → Path → Decl → Type 0
 IsRowFor b a pool row p (endpoint d) =
     (r : Region) × IsIn r d.regions × (pool_at b a p r ≡ pool) × (row ≡ region_row b a p r)

@@ -1,9 +1,9 @@
--- Which aperture a region is placed in. Prefetchable regions may stand behind windows for memory: PCI-to-PCI Bridge
+-- The aperture in which a region is placed. Prefetchable regions may be behind windows for memory: PCI-to-PCI Bridge
 -- Architecture 1.2, chapter 4.
 --     Pool      I/O, memory and prefetchable memory
---     Aperture, Apertures      the addresses that set-up may give out
---     pool_of      the pool of a region, by its kind, the apertures and the bridges above it
---     has_io_paths      each I/O region stands behind bridges with I/O windows alone
+--     Aperture, Apertures      the addresses that set-up may assign
+--     pool_of      the pool of a region, given its kind, the apertures and the bridges above it
+--     has_io_paths      all bridges above each I/O region have I/O windows
 use Rattle.std.specs.{Prelude.{List, [], ◌∷◌, ℕ, Bool, true, false, ◌&&◌, if◌then◌else◌, ◌^◌, flat_map, not, ◌||◌, nat_lt, Option, Some, None, filter}, List.{list_any, list_all}}
 use Rattle.model_registers.specs.Declarations.{Kind, io_kind, mem32, mem64, IoDecode, no_io, io16, io32, PrefDecode, no_pref, pref32, pref64, Bridge}
 use Rattle.model_board.specs.{Paths.{Path, is_ancestor_of}, Board.{Decl, endpoint, bridge, Row, Board}}
@@ -25,7 +25,7 @@ unit_of io_pool = 2 ^ 12
 unit_of mem_pool = 2 ^ 20
 unit_of pref_pool = 2 ^ 20
 
--- the declarations of the bridges that a path goes through
+-- the declarations of the bridges on a path
 abbrev pub bridge_of : Row → List Bridge
 bridge_of r = elim r.decl [ endpoint d ↦ [] | bridge d ↦ d ∷ [] ]
 
@@ -42,7 +42,7 @@ has_pref64 no_pref = false
 has_pref64 pref32 = false
 has_pref64 pref64 = true
 
--- a prefetchable region goes to its pool where each bridge above it can forward the aperture's addresses
+-- a prefetchable region is in the prefetchable pool if each bridge above it can forward the aperture's addresses
 abbrev pub pref_reaches : Aperture → List Bridge → Bool → Bool
 pref_reaches a above wide =
     if nat_lt a.last (2 ^ 32) then list_all (λ d. has_pref d.pref) above
@@ -73,7 +73,7 @@ has_io no_io = false
 has_io io16 = true
 has_io io32 = true
 
--- each I/O region stands behind bridges with I/O windows alone
+-- all bridges above each I/O region have I/O windows
 abbrev pub has_io_paths : Board → Bool
 has_io_paths b = list_all (λ r. not (opens_io r.decl) || list_all (λ d. has_io d.io) (bridges_above b r.path)) b
 

@@ -1,10 +1,10 @@
--- The order in which a scan meets functions: on a bus devices 0 to 15 and in a device functions 0 to 7, each bridge
--- followed by all that stands behind it. Software looks for functions 1 to 7 where function 0 says that its device is
+-- The order in which a scan visits functions: devices 0 to 15 on a bus, functions 0 to 7 in a device, and everything
+-- behind a bridge directly after the bridge. Software probes functions 1 to 7 only if function 0 says that its device is
 -- a multifunction device: PCI Local Bus 3.0, chapter 6.2.1.
---     nth_part n      the nth device and function of a bus; nth_part 128 is past the last
---     next_part      the one of a bus that is looked at next
---     met b here      the functions that a scan has met when it comes to a path
---     MeetsInPathOrder, GivesNumbersInPathOrder      that order is path order, and bus numbers are given in it
+--     nth_part n      the nth device and function number on a bus; nth_part 128 is past the last
+--     next_part      the part of a bus that the scan probes next
+--     met b here      the functions visited before a scan gets to a path
+--     MeetsInPathOrder, GivesNumbersInPathOrder      this order is path order, and bus numbers are assigned in it
 use Rattle.std.specs.Prelude.{[], ◌∷◌, ◌++◌, ◌≡◌, ℕ, ◌+◌, ◌/◌, ◌%◌, ◌&&◌, ◌==◌, if◌then◌else◌, not, filter, IsTrue, IsFalse}
 use Rattle.lists.specs.Elements.{IsIn}
 use Rattle.model_board.specs.{Paths.{Part, Path, path_eq, path_before}, Board.{is_bridge, Row, Board, stands_at, is_bridge_at, is_multifunction, IsBoard}, BusNumbers.{bridge_count, secondary, subordinate}}
@@ -16,7 +16,7 @@ nth_part n = record { device = n / 8; function = n % 8 }
 abbrev pub on : Path → ℕ → Path
 on bus n = bus ++ nth_part n ∷ []
 
--- functions 1 to 7 are looked at where function 0 says that its device holds others
+-- functions 1 to 7 are probed if function 0 says that its device is a multifunction device
 abbrev pub next_part : Board → Path → ℕ → ℕ
 next_part b bus n =
     if n % 8 == 0 && not (stands_at b (on bus n) && is_multifunction b (on bus n)) then n + 8 else n + 1
@@ -27,14 +27,14 @@ met b here = filter (λ r. path_before r.path here) b
 pub record MeetsInPathOrder (b : Board) : Type 0 where
   pub first : met b (on [] 0) ≡ []
   pub last : met b (on [] 128) ≡ b
-  -- a function has been met when the scan comes to the first path behind it
+  -- a function has been visited when the scan gets to the first path behind it
   pub behind : (r : Row) → IsIn r b → met b (on r.path 0) ≡ met b r.path ++ r ∷ []
-  -- an endpoint, or no function, stands at a path
+  -- a path with an endpoint or without a function
   pub endpoint : (bus : Path) (n : ℕ) → (r : Row) → IsIn r b → r.path ≡ on bus n → IsFalse (is_bridge r.decl)
       → met b (on bus (next_part b bus n)) ≡ met b (on bus n) ++ r ∷ []
   pub none : (bus : Path) (n : ℕ) → IsFalse (stands_at b (on bus n))
       → met b (on bus (next_part b bus n)) ≡ met b (on bus n)
-  -- back from the end of the bus behind a bridge
+  -- returning from the end of the bus behind a bridge
   pub back : (bus : Path) (n : ℕ) → IsTrue (is_bridge_at b (on bus n))
       → met b (on bus (next_part b bus n)) ≡ met b (on (on bus n) 128)
 

@@ -1,14 +1,14 @@
--- The bus numbers that bridges hold while a scan runs, and what a configuration cycle reaches then: PCI-to-PCI Bridge
--- Architecture 1.2, chapter 3.2.5. A scan goes through the functions in path order, so when it comes to a path it has
--- met the bridges before that path.
+-- The bus numbers in the bridges during a scan, and the functions that a configuration cycle reaches then: PCI-to-PCI Bridge
+-- Architecture 1.2, chapter 3.2.5. A scan visits the functions in path order, so when it gets to a path it has
+-- visited the bridges before that path.
 --     BusNumbers      Primary, Secondary and Subordinate Bus Number
---     board_numbers, open_numbers      the numbers of a bridge of the board; the same while its side is being scanned
---     scan_numbers b here p      what the bridge at p holds when the scan comes to the path `here`
---     scan_state, numbered_state      the board at such a time, and after the scan, all else at reset
---     IsNumbered      a lawful board that enumerates, with its bus numbers, all else at reset
---     HasOwnNumbers      some numbers stand in the bridges, all else is at reset
---     HasScanNumbers      any registers with those numbers
---     ReachedWhileScanning, NumbersOfScanState      with them a cycle reaches what stands there; a scan state has them
+--     board_numbers, open_numbers      the numbers of a bridge of the board; its numbers while the buses behind it are being scanned
+--     scan_numbers b here p      the numbers of the bridge at p when the scan gets to the path `here`
+--     scan_state, numbered_state      the board at that time, and after the scan, with all other cells at reset
+--     IsNumbered      a lawful board that can be enumerated, with its bus numbers in the bridges and all other cells at reset
+--     HasOwnNumbers      the bridges hold some bus numbers, and all other cells are at reset
+--     HasScanNumbers      the bridges hold those numbers; their other registers may hold anything
+--     ReachedWhileScanning, NumbersOfScanState      with these numbers a cycle reaches its function; a scan state has these numbers
 use Rattle.std.specs.Prelude.{List, [], ◌∷◌, ◌++◌, ◌≡◌, ℕ, ◌≤◌, if◌then◌else◌, map, find, IsTrue, ◌⊎◌}
 use Rattle.lists.specs.Elements.{Each}
 use Rattle.model_registers.specs.{Registers.{config, File, number}, EndpointTable.endpoint_reset, BridgeTable.{BridgeValues, no_bridge_values, bridge_file}}
@@ -25,12 +25,12 @@ no_numbers = record { primary = 0; secondary = 0; subordinate = 0 }
 abbrev pub board_numbers : Board → Path → BusNumbers
 board_numbers b p = record { primary = bus_of b p; secondary = secondary b p; subordinate = subordinate b p }
 
--- a bridge whose side is being scanned takes all cycles for its own number and above
+-- a bridge whose secondary side is being scanned claims all cycles for its own bus number and above
 abbrev pub open_numbers : Board → Path → BusNumbers
 open_numbers b p = record (board_numbers b p) { subordinate = 0xff }
 
--- the sides of the bridges above the path are being scanned; the other bridges before it are done; those after it
--- were not met
+-- the bridges above the path are being scanned; the other bridges before it are finished; those after it haven't been
+-- visited
 abbrev pub scan_numbers : Board → Path → Path → BusNumbers
 scan_numbers b here p =
     if is_ancestor_of p here then open_numbers b p else (if path_before p here then board_numbers b p else no_numbers)
@@ -47,7 +47,7 @@ numbers_in file = record {
 abbrev pub with_numbers : BusNumbers → BridgeValues
 with_numbers n = record no_bridge_values { primary = n.primary; secondary = n.secondary; subordinate = n.subordinate }
 
--- the cells at reset, but for these numbers in the bridges
+-- the cells at reset, except for these bus numbers in the bridges
 abbrev pub numbered_file : Board → (Path → BusNumbers) → Path → Decl → File
 numbered_file b numbers p (endpoint d) = endpoint_reset d (is_multifunction b p)
 numbered_file b numbers p (bridge d) = bridge_file d (is_multifunction b p) (with_numbers (numbers p))
@@ -69,7 +69,7 @@ HasOwnNumbers b s = (numbers : Path → BusNumbers) × (s ≡ state_of b (number
 
 -- ---- reach
 
--- the functions of the board, with these numbers in the bridges, whatever else their cells hold
+-- the board's functions, with these bus numbers in the bridges, whatever their other cells hold
 pub record HasScanNumbers (b : Board) (here : Path) (fs : List BoardFunction) : Type 0 where
   pub rows : map row_at fs ≡ b
   pub numbers : Each (λ f. IsTrue (is_bridge f.decl) → numbers_in f.file ≡ scan_numbers b here f.path) fs
@@ -78,15 +78,15 @@ pub record HasScanNumbers (b : Board) (here : Path) (fs : List BoardFunction) : 
 abbrev pub IsBus : Board → Path → Type 0
 IsBus b bus = (bus ≡ []) ⊎ IsTrue (is_bridge_at b bus)
 
--- where the scan has met at most 255 bridges, a cycle for a bus that it has met reaches the function that stands
--- there, or none
+-- if the scan has visited at most 255 bridges, a cycle for a bus that it has visited reaches the function at that BDF,
+-- if there is one
 abbrev pub ReachedWhileScanning : Type 0
 ReachedWhileScanning = (b : Board) → IsBoard b → (here : Path) → secondary b here ≤ 256 → (fs : List BoardFunction)
     → HasScanNumbers b here fs
     → (bus : Path) → IsBus b bus → IsTrue (path_before bus here) → (t : Part)
     → reached fs (record { bus = bus_behind b bus; part = t }) ≡ find (λ f. path_eq f.path (bus ++ t ∷ [])) fs
 
--- a scan state has the numbers of the scan
+-- a scan state has the bus numbers of the scan
 abbrev pub NumbersOfScanState : Type 0
 NumbersOfScanState = (b : Board) (here : Path) → secondary b here ≤ 256
     → HasScanNumbers b here (scan_state b here).functions

@@ -1,9 +1,9 @@
--- The register state that set-up leaves: all cells at reset, but for bus numbers, Command, base registers and windows.
+-- The register state that set-up leaves: all cells at reset, except bus numbers, Command, base registers and windows.
 -- PCI Local Bus 3.0, chapters 6.2.2 and 6.2.5; PCI-to-PCI Bridge Architecture 1.2, chapter 3.2.5.
---     first_of      the address at which a region begins
---     command_of      an endpoint's Command: the spaces of its regions
+--     first_of      the first address of a region
+--     command_of      an endpoint's Command, which enables the spaces of its regions
 --     Windows, windows_of      the windows of a bridge
---     bridge_values      what a bridge holds: Command, bus numbers and windows
+--     bridge_values      the values of a bridge: Command, bus numbers and windows
 --     set_up_file      the cells of a function after set-up
 --     set_up_state      the state of a whole board after set-up
 use Rattle.std.specs.{Prelude.{List, [], ◌∷◌, ℕ, ◌-◌, ◌+◌, ◌*◌, Bool, if◌then◌else◌}, List.list_any}
@@ -21,7 +21,7 @@ opens d space = list_any (λ r. same_space (space_of r.kind) space) d.regions
 abbrev pub command_of : Endpoint → ℕ
 command_of d = (if opens d io then 1 else 0) + (if opens d memory then 2 else 0)
 
--- a window without items has its base in the last unit that the register names, and its limit at 0
+-- a window without items has its base in the register's last unit, and its limit at 0
 abbrev pub window_of : ℕ → ℕ → ℕ → List PlacementItem → Window
 window_of unit closed first [] = record { first = closed * unit; last = 0 }
 window_of unit closed first (i ∷ is) = record { first = first; last = first + need unit (i ∷ is) - 1 }

@@ -1,9 +1,9 @@
--- What set-up writes into the functions of a board, and why it refuses one: PCI Local Bus 3.0, chapters 6.2.2 and
--- 6.2.5; PCI-to-PCI Bridge Architecture 1.2, chapter 3.2.5.
---     RegisterValues, FunctionProgram      Command, bases and windows of one function; the same with the numbers that reach it
---     settings      of each function of a board, in path order
---     Plan, planned      the rows of compact placement, and those settings
---     placement_rules, set_up_rules      what a board must keep, in order, each with the number of its refusal
+-- The values that set-up writes into a board's functions, and the reasons for refusing a board: PCI Local Bus 3.0, chapters
+-- 6.2.2 and 6.2.5; PCI-to-PCI Bridge Architecture 1.2, chapter 3.2.5.
+--     RegisterValues, FunctionProgram      the Command and bases of an endpoint, or the windows of a bridge; these with the function's BDF
+--     settings      the values for each function of a board, in path order
+--     Plan, planned      the rows of the compact placement, and these values
+--     placement_rules, set_up_rules      the rules that a board must follow, in order, each with the number of its refusal
 use Rattle.std.specs.Prelude.{List, [], ◌∷◌, ℕ, Bool, map}
 use Rattle.model_registers.specs.{Declarations.Region, EndpointTable.BaseAddress, Apertures.Apertures}
 use Rattle.model_board.specs.{Paths.Path, Board.{Decl, endpoint, bridge, Row, Board}, BusNumbers.numbers_suffice, Cycles.BusAddress}
@@ -35,7 +35,7 @@ pub record Plan : Type 0 where
 abbrev pub planned : Board → Apertures → Plan
 planned b a = record { rows = layout b a; settings = settings b a }
 
--- the numbers of the refusals of a board file's board
+-- the numbers of the refusals for the board in a board file
 abbrev pub placement_rules : Board → Apertures → List (ℕ × Bool)
 placement_rules b a =
     (202, has_io_paths b) ∷ (203, fits b a io_pool) ∷ (204, fits b a mem_pool) ∷ (205, fits b a pref_pool) ∷ []

@@ -1,11 +1,11 @@
--- After set-up every address has at most one claim, and each byte of a placed region has its own: PCI-to-PCI Bridge
+-- After set-up every address has at most one claim, and each byte of a placed region is claimed: PCI-to-PCI Bridge
 -- Architecture 1.2, chapter 4.
 --     CanBePlaced      lawful declarations and apertures, I/O paths, and room in all three pools
---     HasUniqueClaims      the claims are those of the placed regions
---     UniqueClaimant      with the routing registers of set-up they are
---     ClaimOfRegion      so a byte of a declared region is claimed where set-up placed it
---     PlacedWithin      where a declared region may be placed
---     ClaimInAnyOrder      a list of the placed regions in any order has the same claim
+--     HasUniqueClaims      an address is claimed by the placed region that contains it
+--     UniqueClaimant      this holds with the routing registers that set-up leaves
+--     ClaimOfRegion      so a byte of a declared region is claimed at the address where set-up placed it
+--     PlacedWithin      the addresses at which a declared region may be placed
+--     ClaimInAnyOrder      a list of the placed regions in any order gives the same claim
 --     RowsArePlaced      the regions among the rows of the layout are the placed regions
 use Rattle.std.specs.{Prelude.{List, ◌≡◌, ℕ, ◌<◌, ◌+◌, ◌%◌, ◌^◌, ◌≤◌, Some, IsTrue, ◌↔◌}, Option.option_to_list}
 use Rattle.lists.specs.Elements.{Each, EachPair, first_some, IsIn}
@@ -25,12 +25,12 @@ pub record IsClaimed (fs : List BoardFunction) (r : PlacedRegion) (k : ℕ) : Ty
   pub forwarded : IsTrue (is_forwarded fs r.path r.space (r.first + k))
   pub claimed : first_claim fs r.space (r.first + k) ≡ Some (record { path = r.path; index = r.index; offset = k })
 
--- regions of one space share no address
+-- regions of one space don't overlap
 abbrev pub ShareNone : PlacedRegion → PlacedRegion → Type 0
 ShareNone r s = IsTrue (same_space r.space s.space) → AreApart r.first r.size s.first s.size
 
 pub record HasUniqueClaims (b : Board) (a : Apertures) (fs : List BoardFunction) : Type 0 where
-  -- an address has the claim of the placed region that holds it, and no other
+  -- an address is claimed by the placed region that contains it, and by no other
   pub only : (space : Space) (n : ℕ) → claims fs space n ≡ option_to_list (placed_claim b a space n)
   pub first : (space : Space) (n : ℕ) → first_claim fs space n ≡ placed_claim b a space n
   pub each_byte : Each (λ r. (k : ℕ) → k < r.size → IsClaimed fs r k) (placed_regions b a)
@@ -40,7 +40,7 @@ abbrev pub UniqueClaimant : Type 0
 UniqueClaimant = (b : Board) (a : Apertures) → CanBePlaced b a → (fs : List BoardFunction)
     → routing fs ≡ routing (set_up_state b a).functions → HasUniqueClaims b a fs
 
--- for an endpoint that stands on the board, and a region that it declares
+-- for an endpoint of the board, and a region that it declares
 abbrev pub ClaimOfRegion : Type 0
 ClaimOfRegion = (b : Board) (a : Apertures) → CanBePlaced b a
     → (fs : List BoardFunction) → routing fs ≡ routing (set_up_state b a).functions
@@ -48,7 +48,7 @@ ClaimOfRegion = (b : Board) (a : Apertures) → CanBePlaced b a
     → (k : ℕ) → k < r.size
     → first_claim fs (space_of r.kind) (first_of b a p r + k) ≡ Some (record { path = p; index = r.index; offset = k })
 
--- at a multiple of 4; above the first 4 KB of I/O, and below 64 KB; or in memory below 2^63
+-- at a multiple of 4; in I/O from 1000h to FFFFh; in memory below 2^63
 pub record IsPlacedWithin (r : PlacedRegion) : Type 0 where
   pub aligned : r.first % 4 ≡ 0
   pub io_begins : r.space ≡ io → 0x1000 ≤ r.first

@@ -1,15 +1,15 @@
--- What the window registers of a bridge name after set-up: PCI-to-PCI Bridge Architecture 1.2, chapters 3.2.5.6 to
+-- The windows in a bridge's window registers after set-up: PCI-to-PCI Bridge Architecture 1.2, chapters 3.2.5.6 to
 -- 3.2.5.10 and 4.
---     ClosedWindows      a window without items forwards no address, in each decode
---     NamedWindows      whole units within the reach of the decode are read back
---     SetUpWindows      each bridge of a board forwards what placement put behind it, and nothing else
+--     ClosedWindows      a window without items forwards no address, in any decode mode
+--     NamedWindows      whole units within the address range of the decode mode are read back
+--     SetUpWindows      each bridge forwards exactly the window that placement assigned to it
 use Rattle.std.specs.Prelude.{List, [], ◌∷◌, ◌≡◌, ℕ, ◌-◌, ◌+◌, ◌%◌, Bool, ◌<◌, ◌≤◌, ◌^◌, Option, Some, None, IsTrue, ⊤}
 use Rattle.lists.specs.Elements.{Each}
 use Rattle.model_registers.specs.{Declarations.{IoDecode, no_io, io16, io32, PrefDecode, no_pref, pref32, pref64, Bridge}, BridgeTable.{BridgeValues, bridge_file}, Apertures.{IsLawfulApertures, Apertures}}
 use Rattle.model_board.specs.{Paths.Path, Board.{Decl, endpoint, bridge, Board, IsBoard}, Windows.{Window, io_window, mem_window, pref_window}, Lawful.HasLawfulDecls}
 use Rattle.model_set_up.specs.{Pools.{Pool, io_pool, mem_pool, pref_pool, unit_of, has_io_paths}, Placement.{PlacementItem, need, items_on, fits, bus_first}, SetUp.{window_of, set_up_file}}
 
--- as set-up leaves a window without items: the base in the last unit that the register names, and the limit at 0
+-- the values that set-up leaves for a window without items: the base in the register's last unit, and the limit 0
 abbrev pub closed_io : Window
 closed_io = window_of (unit_of io_pool) 0xf 0 []
 
@@ -25,7 +25,7 @@ pub record Closes (d : Bridge) (multifunction : Bool) (r : BridgeValues) : Type 
 abbrev pub ClosedWindows : Type 0
 ClosedWindows = (d : Bridge) (multifunction : Bool) (r : BridgeValues) → Closes d multifunction r
 
--- addresses that a decode can name lie below this; without a window there is none
+-- the end of the addresses that a decode mode can express; 0 without a window
 abbrev pub io_reach : IoDecode → ℕ
 io_reach no_io = 0
 io_reach io16 = 2 ^ 16
@@ -52,12 +52,12 @@ pub record Names (d : Bridge) (multifunction : Bool) (r : BridgeValues) : Type 0
 abbrev pub NamedWindows : Type 0
 NamedWindows = (d : Bridge) (multifunction : Bool) (r : BridgeValues) → Names d multifunction r
 
--- the window of a bus that begins at `first`: none without items
+-- the window of a bus that starts at `first`; none if the bus has no items
 abbrev pub window_over : ℕ → ℕ → List PlacementItem → Option Window
 window_over unit first [] = None
 window_over unit first (i ∷ is) = Some (record { first = first; last = first + need unit (i ∷ is) - 1 })
 
--- the window that placement gives the bridge at p
+-- the window that placement assigns to the bridge at p
 abbrev pub placed_window : Board → Apertures → Pool → Path → Option Window
 placed_window b a pool p = window_over (unit_of pool) (bus_first b a pool p) (items_on b a pool p)
 

@@ -1,4 +1,4 @@
--- The physical number of a function, in the words of the definitions.
+-- The BDF of a function, in the terms of the formal model.
 use Rattle.model_board.specs.Cycles.{BusAddress}
 use Rattle.paths.specs.declared.bdf.Bdf.{Bdf}
 

@@ -1,6 +1,6 @@
--- Where a guest's ports lead by its address latch, in the program's words: PCI Local Bus 3.0, chapter 3.2.2.3.2.
---     select_at latch a      what port a is by the latch: an ordinary one, or CONFIG_DATA of no function or of a slot
---     IsSelectAt a s      a slot is one of 32, and the offset in it has the byte lane of the port
+-- The target of a guest's port access, given its CONFIG_ADDRESS: PCI Local Bus 3.0, chapter 3.2.2.3.2.
+--     select_at latch a      the target of port a: an ordinary port, or CONFIG_DATA of a slot or of no function
+--     IsSelectAt a s      the slot is below 32, and the offset in it has the byte lane of the port
 use Rattle.std.specs.Prelude.{◌≡◌, ◌<◌, ⊤, ℕ, ◌%◌, ◌&&◌, ◌==◌, if◌then◌else◌, not}
 use Rattle.model_registers.specs.ConfigAddress.{
   is_enabled,
@@ -12,7 +12,7 @@ use Rattle.model_registers.specs.ConfigAddress.{
 }
 use Rattle.paths.specs.declared.latch.Select.{Select, TheVariants.{Ordinary, Nowhere, Slot}}
 
--- a guest sees its slots as the devices of bus 0, each with function 0 alone
+-- a guest sees its slots as the devices of bus 0, each with function 0 only
 abbrev pub select_at : ℕ → ℕ → Select
 select_at latch a =
     if not (is_enabled latch && is_data_port a) then Ordinary

@@ -1,8 +1,8 @@
--- The laws of the comparisons of paths, and what path order as an ordering says.
+-- Laws of path comparisons, and how path order relates to `Ordering`.
 --     paths_equal      path_eq is an equivalence
 --     paths_ordered      path_cmp is a total order
---     paths_tied      path_eq holds exactly where path_cmp answers Equal
---     paths_before      path_before, where it answers Less
+--     paths_tied      path_eq holds if and only if path_cmp returns Equal
+--     paths_before      path_before holds if and only if path_cmp returns Less
 use Rattle.paths.specs.PathOrders.{part_cmp, path_cmp}
 use Rattle.std.{proofs.{Common.{◌≡◌, Ordering, Less, Equal, Greater, true, ◌&&◌, ◌||◌, [], ◌∷◌, refl, sym, ap, ap₂, ◌∙◌, arith, rules}, lemmas.Bool.Decides.nat_tests}, specs.{Ordering.{is_lt, is_eq, ordering_then}, Cmp.{IsEquivalence, IsTotalOrder, Lexicographic.lists_total, Rules.comparing}}}
 use Rattle.model_board.{specs.Paths.{Part, Path, part_eq, part_before, path_eq, path_before}, proofs.{PathOrder.path_same, PathEnds.path_eq-sym}}
@@ -43,7 +43,7 @@ then_less Less s = refl
 then_less Equal s = refl
 then_less Greater s = refl
 
--- paths that are not told apart are equal
+-- paths that compare as equal are equal
 pub paths_tied : (p q : Path) → path_eq p q ≡ is_eq (path_cmp p q)
 paths_tied [] [] = refl
 paths_tied [] (q ∷ qs) = refl
@@ -51,7 +51,7 @@ paths_tied (p ∷ ps) [] = refl
 paths_tied (p ∷ ps) (q ∷ qs) =
     ap₂ ◌&&◌ (sym (part_equal p q)) (paths_tied ps qs) ∙ sym (then_equal (part_cmp p q) (path_cmp ps qs))
 
--- Less says that a path comes before another
+-- Less means that a path comes before another
 pub paths_before : (p q : Path) → is_lt (path_cmp p q) ≡ path_before p q
 paths_before [] [] = refl
 paths_before [] (q ∷ qs) = refl

@@ -1,6 +1,6 @@
--- Path order as an ordering, as sorting and searching by halving take it.
+-- Path order as an `Ordering`, the form that sorting and binary search need.
 --     part_cmp      by device, then by function
---     path_cmp      part by part, and a path before its extensions
+--     path_cmp      part by part, with each path before its extensions
 use Rattle.std.specs.{declared.cmp.Ordering.Ordering, Ordering.{on, nat_cmp, then_cmp}, Cmp.Lexicographic.slice_cmp}
 use Rattle.model_board.specs.Paths.{Part, Path}
 

@@ -1,7 +1,7 @@
 -- What answers a question of the registers of a board.
 --     audit_in form ps, ready_in form ps ls      some problems, and also some lacks, in a form
 --     told_by q a fs, counted_by q a fs      the text that answers a question of some functions, by these apertures, and
---         how many problems and readiness_issues it counts
+--         how many problems and readiness issues it counts
 use Rattle.std.specs.Prelude.{ℕ, List, length}
 use Rattle.model_registers.specs.Apertures.{Apertures}
 use Rattle.model_board.specs.State.{BoardFunction}

@@ -7,9 +7,9 @@
 --         isolated
 --     HasEnded board at      all lines of such a run were read, and what they write was written and flushed
 --     told q a fs, counted q a fs      the text that answers a question of some functions, by these apertures, where one is
---         asked, and how many problems and readiness_issues it counts
+--         asked, and how many problems and readiness issues it counts
 --     last_fault q strict refused n      the fault of who was told all, if there is one: by whether a line was refused, and
---         n problems and readiness_issues
+--         n problems and readiness issues
 --     IsTold q board at      all lines were read, and the texts were written and flushed
 --     IsToldInPart q board at      so was all of what the lines write, and a beginning of the text that a question asks for
 --     IsServed q strict last seen board at      all was told, this is the fault after it, if there is one, and this was seen of

@@ -1,7 +1,7 @@
--- How a call on a reader or a writer counts as a failure, and what a text that is not written whole leaves.
---     failures_of      an error is one failure
---     write_failures_of      so is a write that takes no byte
---     AppendsPart old new text      a beginning of the text was written, after what was written before
+-- Counts failed calls of readers and writers, and describes a text that was written only in part.
+--     failures_of      an error counts as one failure
+--     write_failures_of      a write that accepts no byte also counts as one failure
+--     AppendsPart old new text      a prefix of the text was appended to what was written before
 use Rattle.std.specs.{Prelude.{◌==◌, ℕ, List, if◌then◌else◌, Option, Result, Ok, Err}, Io.{StartsWith, KnownBytes.Appends}}
 
 abbrev pub failures_of : {T E : Type 0} → Result T E → ℕ

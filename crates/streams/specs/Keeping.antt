@@ -1,4 +1,4 @@
--- Bytes that are kept back: they, the room for more behind them, and all the room there is.
+-- A buffer: its bytes, the free space behind them, and its capacity.
 use Rattle.std.specs.Prelude.{ℕ, List}
 
 pub record KeptBytes : Type 0 where

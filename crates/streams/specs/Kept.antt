@@ -1,8 +1,8 @@
--- What a writer that keeps bytes back holds, as contracts see it.
---     writer_behind w      the writer that gets them
---     kept_back w      the bytes that were taken and not handed on
+-- The state of a buffering writer, as its contracts describe it.
+--     writer_behind w      the inner writer
+--     kept_back w      the bytes accepted but not passed on yet
 --     is_stopped w      whether a call has failed
---     refusals w      how many calls failed without a call of the writer behind
+--     refusals w      how many calls failed without reaching the inner writer
 use Rattle.std.specs.Prelude.{ℕ, List, Bool}
 use Rattle.streams.specs.declared.buffered.BufferedWriter.{BufferedWriter}
 

@@ -6,10 +6,10 @@ use crate::ends::{Failed, Writer};
 use crate::kept::Kept;
 use std::alloc::{AllocError, Global};
 
-/// A writer that buffers bytes until it is flushed or the buffer is full, so that small writes need
-/// no call of the inner writer.
+/// A writer that buffers bytes until it is flushed or the buffer is full, so that small writes
+/// don't call the inner writer.
 ///
-/// No call of the inner writer is retried. After the first failure, every call fails without
+/// It never retries a call of the inner writer. After the first failure, every call fails without
 /// reaching the inner writer, and the bytes in the buffer are never written. Bytes that are in the
 /// buffer when the writer is dropped are lost too.
 #[derive(Drop)]
@@ -132,8 +132,8 @@ impl<W: Writer + Drop> Writer for BufferedWriter<W> {
 
     ghost flushed = { λ w. W.flushed (writer_behind w) };
 
-    // The failures of the inner writer, and the calls that failed without reaching it. No failed
-    // call was retried.
+    // The failures of the inner writer, and the calls that failed without reaching it. Failed
+    // calls aren't retried.
     ghost failures = { λ w. W.failures (writer_behind w) + refusals w };
 
     #[inline(always)]
