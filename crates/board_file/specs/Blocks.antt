@@ -1,4 +1,4 @@
--- The bytes at the beginning of a region or of a device's own registers, from the patterns that a board file gives.
+-- The bytes of a region's block or of a device's own registers, computed from the patterns in a board file.
 --     pattern n text      the bytes of hexadecimal text of 1 to n bytes
 --     is_block n p, block_cells n p      the patterns give n cells, and these cells
 --     Gives t found P      a value of which P holds where the test t does, and none where it does not

@@ -1,5 +1,5 @@
--- What a board file says, read from its table: texts and numbers, not yet looked at. A key that is absent, or that has
--- no value of its type, gives 0, no text or no tables.
+-- The entries of a board file, read from its table: texts and numbers that haven't been checked. If a key is absent or its
+-- value has the wrong type, it reads as 0, an empty text or no tables.
 --     Bar, Config, Endpoint, Bridge, Guest      what the tables of these names say
 --     File, file      the whole file, and how it is read from the table of a document
 use Rattle.std.specs.{Prelude.{ℕ, ℤ, pos, codes, List, [], ◌∷◌, map, Option, unwrap_or, option_map, option_and_then}, List.filter_map}

@@ -1,5 +1,5 @@
--- The rules that the entries of a board file are asked, by the fault of a file in which one is broken: each with
--- whether it is kept.
+-- The rules for the entries of a board file, with the fault of a file that breaks each rule, and whether the entry keeps
+-- the rule.
 --     file_rules, host_rules, path_rules, endpoint_rules, bar_rules, config_rules, bridge_rules, guest_rules
 use Rattle.std.specs.{Prelude.{ℕ, ℤ, ◌+◌, nat_abs, pos, int_le, ◌+ℤ◌, Bool, not, ◌&&◌, ◌||◌, length, nat_le, take, map, List, [], ◌∷◌, ◌++◌, option_map}, List.list_all, Str.bytes_eq}
 use Rattle.model_registers.specs.{Apertures.{is_io_aperture, is_mem_aperture, has_lawful_pref}, DeclarationRules.has_own_registers}
@@ -29,7 +29,7 @@ host_rules _ f = []
 
 -- ---- paths
 
--- two texts of the same path
+-- two texts that are one path
 abbrev pub are_same_place : List ℕ → List ℕ → Bool
 are_same_place a b = is_path_text a && is_path_text b && path_eq (path_at a) (path_at b)
 

@@ -1,6 +1,6 @@
--- Why a board file is refused.
+-- The reasons for refusing a board file.
 --     number_of      the number of a fault
---     fault_words      what is said of it
+--     fault_words      its message
 use Rattle.std.specs.Prelude.{ℕ, List, codes}
 use Rattle.board_file.specs.declared.fault.BoardFault.{BoardFault, TheVariants.{NotToml, Key, UnknownKey, Number, Place, Register, Size, TooMany, GuestName, Slot, Aperture, CellMasks, Memory}}
 

@@ -1,7 +1,7 @@
--- What the tables of a board file declare, where they keep the rules.
+-- The declarations in the tables of a board file that keeps the rules.
 --     region, config_block, endpoint, bridge      what the tables of a function declare
 --     endpoint_row, bridge_row      a function with its path
---     standings, rows      where functions stand, and the functions there
+--     standings, rows      the paths of functions, and the functions at them
 --     apertures, guests      the addresses that set-up may give out, and the guests
 use Rattle.std.specs.Prelude.{nat_abs, true, false, List, ◌++◌, map, option_map}
 use Rattle.model_registers.specs.{Apertures.{Aperture, Apertures}, Declarations.{Region, ConfigBlock}, DeclarationRules.with_ordered_regions}

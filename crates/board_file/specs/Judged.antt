@@ -1,4 +1,4 @@
--- What is known of a file before its functions are made.
+-- What the checks establish about a file before its functions are declared.
 --     kept rules      all of these rules are kept
 --     keeps fault e      an endpoint, its regions and its own registers keep the rules of a fault
 --     is_region, is_config_block, is_declarable, is_lawful_bridge      all rules but those of patterns are kept

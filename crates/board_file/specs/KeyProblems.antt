@@ -1,4 +1,4 @@
--- What is wrong with the keys of a board file, table by table.
+-- Problems with the keys of a board file, table by table.
 --     tables_of f      the tables of a file, each before those inside it
 --     of_field e ms f      at a key that a table may have: where it is needed it is there, and what is there has its form
 --     of_member e l k      at a key that a table has: it is known

@@ -1,10 +1,11 @@
 -- The meaning of a board file: a board with its apertures and guests, or the number of the first check that fails.
---     file_checks, order      the checks but for that of cell masks, in the order in which they are made, without those of
---         keys and with them
---     check ms f, early_checks ms, checks ms      no entry breaks a rule of this fault; the same of these checks, and of all
+--     file_checks, order      the checks except that of cell masks, in the order in which they are made: without the checks
+--         of keys, and with them
+--     check ms f, early_checks ms, checks ms      no entry breaks a rule with this fault; these checks in order, and all
+--         checks
 --     world_in      a host and guests as a world
---     world_of, meaning      what a file declares; the same, where all checks hold
---     document_meaning      of a document, where it is TOML
+--     world_of, meaning      the world that a file declares; that world, if all checks hold
+--     document_meaning      the meaning of a document, if it is TOML
 use Rattle.std.specs.Prelude.{ℕ, Bool, List, [], ◌∷◌, ◌++◌, map, Option, Some, None, Result, Ok, Err}
 use Rattle.toml.specs.Data.{Members}
 use Rattle.model_registers.specs.DeclarationRules.{first_broken}

@@ -1,4 +1,4 @@
--- Functions by the sets of their paths.
+-- Lookups of functions by sets of their paths.
 --     AreSetsOf ss all bridges      the paths of all functions, and of the bridges among them
 use Rattle.std.specs.{Prelude.{◌≡◌, List}, BTreeSet.{BTreeSet, contains}}
 use Rattle.model_board.specs.{Paths.Path, Places.{Standing, has_path, has_bridge}}

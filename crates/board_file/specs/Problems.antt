@@ -1,5 +1,5 @@
 -- The entries of a file that break a rule.
---     Found, found_of p      an entry, a rule, and the key at which the entry breaks it; the same of a problem
+--     Found, found_of p      an entry, a rule, and the key at which the entry breaks the rule; these parts of a problem
 --     of_values fault f      those that break a rule of this fault beside paths, each before those inside it
 --     of_paths fault f      those whose paths break one
 --     problems_in f fault      all entries that break a rule of this fault, in the order of the file

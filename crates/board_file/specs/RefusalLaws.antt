@@ -1,4 +1,4 @@
--- What refusals and problems have to do with each other.
+-- The relation between refusals and problems.
 --     RefusalsHaveProblems      a document that is refused has a problem of the fault for which it is
 --     ProblemsBreakChecks      a document with a problem of a fault fails the check of that fault: what is right is not blamed
 use Rattle.std.specs.Prelude.{◌≡◌, ◌≢◌, false, [], Err}

@@ -1,7 +1,7 @@
--- What the values of a board file have to be.
+-- The rules for the values of a board file.
 --     is_between, has_only_bits      a number in a range; one of 16 bits with none outside a mask
 --     has_few_slashes      a text has at most 15 slashes
---     is_root, is_endpoint, names_endpoint      bus 0; an endpoint stands there; a text is the path of one
+--     is_root, is_endpoint, names_endpoint      bus 0; there is an endpoint at a path; a text is the path of an endpoint
 --     is_size      a power of two within the limits of a region's kind
 --     is_natural, are_natural      both addresses of an aperture are 0 or more
 --     masks_hold      each block of an endpoint has lawful patterns, and no two blocks of own registers overlap
@@ -32,7 +32,7 @@ abbrev pub is_root : Path → Bool
 is_root [] = true
 is_root (p ∷ ps) = false
 
--- a function stands there, and no bridge does
+-- there is a function at the path, and it isn't a bridge
 abbrev pub is_endpoint : List Standing → Path → Bool
 is_endpoint ss p = has_path ss p && not (has_bridge ss p)
 

@@ -1,5 +1,5 @@
--- The keys of a board file, and what a table has to hold at them.
---     fields      the keys of a table, whether they are needed, and what stands there
+-- The keys of a board file, and the form of the value at each key.
+--     fields      the keys of a table, whether each is required, and the form of its value
 --     has_form      a value has the type, or is one of the words, that stands at its key
 --     form_at      what stands at a key
 use Rattle.std.specs.{Prelude.{ℕ, codes, Bool, true, false, ◌&&◌, List, [], ◌∷◌, length, ◌==◌, Option, Some, None, is_some, if◌then◌else◌}, List.list_all}

@@ -1,4 +1,4 @@
--- A document beside the bytes of its file.
+-- A document together with the bytes of its file.
 --     IsRead      the document is what these bytes are
 use Rattle.std.specs.Prelude.{◌≡◌, Some, IsUtf8}
 use Rattle.toml.specs.{Parse.parse_document, View.table_view}

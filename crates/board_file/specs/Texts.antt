@@ -1,4 +1,4 @@
--- Texts, and the words that a board file has for kinds.
+-- Texts, and the keywords that a board file uses for kinds.
 --     same_text      two texts have the same bytes
 --     region_kind, io_decode, pref_decode      what a word says of a base address register, and of a bridge's windows
 use Rattle.std.specs.{Prelude.{ℕ, codes, Bool, true, false, List, Option, Some, None, if◌then◌else◌}, Str.bytes_eq}

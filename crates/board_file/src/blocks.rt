@@ -8,8 +8,7 @@ use config_bytes::Cell;
 use hex::FromHexError;
 use std::alloc::{AllocError, Global};
 
-/// Decodes hexadecimal text of 1 to `len` bytes. Returns `None` if the text isn't valid or has
-/// another length.
+/// Decodes hexadecimal text of 1 to `len` bytes. Returns `None` for any other text.
 pub fn pattern(alloc: Global, text: &str, len: usize) -> Result<Option<Vec<u8>>, AllocError>
     ensures { IfOk result (λ found. option_map (λ v. v.items) found ≡ pattern len text.now) }
 {

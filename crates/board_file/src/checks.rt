@@ -5,7 +5,7 @@ ghost use Rattle.board_file.specs.Meaning.{order};
 use crate::fault::BoardFault;
 
 /// Returns the checks of a document in the order in which they are made. Leaves out `CellMasks`,
-/// which is checked last because the length of a pattern is limited by that of its block.
+/// which is checked last because a block's length limits the length of its patterns.
 pub fn order() -> &'static [BoardFault]
     ensures { result.now ≡ order }
 {

@@ -22,7 +22,7 @@ pub struct Violation<'a> {
     pub key: &'a str,
 }
 
-/// Appends a problem for each rule that the entry doesn't keep.
+/// Appends a problem for each rule that the entry breaks.
 pub(crate) fn push_broken(
     problems: &mut Vec<Violation<'_>>,
     entry: Entry,
@@ -103,8 +103,8 @@ fn push_values(
     push_guests(problems, file, fault)
 }
 
-/// Returns the problems of the file's values with this fault, in file order. Returns none for the
-/// faults of keys and of TOML syntax.
+/// Returns the problems of the file's values with this fault, in file order. Returns none if the
+/// fault is about keys or TOML syntax.
 pub(crate) fn value_problems<'a>(
     alloc: Global,
     source: &Source<'_>,

@@ -91,8 +91,8 @@ fn path_texts<'f, 'a>(
     }
 }
 
-/// Adds the path of a text to the set. Returns false if the set already has that path. An invalid
-/// text returns true and adds nothing.
+/// Adds a text's path to the set. Returns false if the set already contains the path. For an
+/// invalid text, returns true and adds nothing.
 fn take(taken: &mut BTreeSet<Path>, text: &PathText<'_>) -> Result<bool, AllocError>
     ensures own { IfOk result (λ own.
         own ≡ (not (is_path_text text.now)
@@ -107,7 +107,7 @@ fn take(taken: &mut BTreeSet<Path>, text: &PathText<'_>) -> Result<bool, AllocEr
     }
 }
 
-/// Marks each text whose path an earlier entry already has.
+/// Marks each text whose path is also that of an earlier entry.
 fn path_entries<'f, 'a>(
     alloc: Global,
     texts: Vec<(Entry, &'f PathText<'a>)>,

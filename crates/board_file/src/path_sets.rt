@@ -11,7 +11,7 @@ use std::alloc::{AllocError, Global};
 use std::collections::BTreeSet;
 use std::marker::Model;
 
-/// The paths of all functions, and separately those of bridges.
+/// The paths of all functions, and a separate set with the paths of bridges.
 #[derive(Drop)]
 pub(crate) struct PathSets<'a> {
     functions: &'a [FunctionPath],

@@ -89,8 +89,8 @@ pub enum Rule {
 
 impl Rule {
     /// Returns the fault of a file that breaks the rule, and the key at which the problem is
-    /// reported. The key is empty for rules of keys, which apply to any key, and of slots, which
-    /// have no key.
+    /// reported. The key is empty for rules about keys, which apply to any key, and for rules about
+    /// slots, which have no key.
     fn row(self) -> (BoardFault, &'static str)
         ensures { (result.0, result.1.now) ≡ row_of self }
     {

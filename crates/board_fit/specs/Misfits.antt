@@ -1,4 +1,4 @@
--- Why the board of a file can't be set up, by the entries of the file.
+-- The entries of a file that prevent its board from being set up.
 --     first_closed bs p      of these bridges the first above the function at a path that has no I/O window
 --     closed_regions      all regions of I/O behind such a bridge, in order
 --     bridge_too_many      the bridge after the 255 that have bus numbers

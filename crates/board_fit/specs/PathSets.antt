@@ -1,4 +1,4 @@
--- Functions and slots by sets of paths.
+-- Lookups of functions and slots by sets of paths.
 --     bridge_at bus, bridge_above p      the path of the bridge behind which a bus is, and of that behind which a function
 --         is; none is where that is bus 0
 --     given_paths gs      the paths of the guests' slots

@@ -1,4 +1,4 @@
--- Remarks with their places.
+-- Remarks with their places in the file.
 --     remark_of l      the remark
 --     IsPlacedRemark text ms l      its place, if it has one, is that of the value at its key, and so is that of the other
 --         entry

@@ -1,4 +1,4 @@
--- That an entry of the file is named where it is why a board can't be set up.
+-- If entries of a file prevent its board from being set up, at least one of them is named.
 --     names_entries      the faults for which that is so: bus numbers (201), and I/O windows (202)
 --     ReasonsAreTold      where set-up refuses the board of a file by such a fault, an entry is named
 use Rattle.std.specs.Prelude.{◌≡◌, ◌≢◌, Bool, true, false, [], Some}

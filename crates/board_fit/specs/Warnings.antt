@@ -1,9 +1,9 @@
--- What may be a mistake in a board file whose board can be set up, and is no fault.
---     has_none_behind      of these functions none stands on the bus behind the bridge at a path
+-- Possible mistakes in a board file whose board can be set up.
+--     has_none_behind      none of these functions is on the bus behind the bridge at a path
 --     is_given      one of the guests has the function at a path in a slot
 --     is_wide x      the aperture of a pool is more than ten times what the pool uses, and it uses something
 --     empty_bridges, endpoints_of_none (where the file has guests), guests_without_slots      all of which this is so, in order
---     all_wide_apertures xs, wide_apertures w xs      the same of apertures, by how pools fit them; and so if all is warned of
+--     all_wide_apertures xs, wide_apertures w xs      a remark for each wide aperture; if these are selected
 --     warnings w f xs      what is warned of, in order
 use Rattle.std.specs.{Prelude.{ℕ, ◌*◌, ◌==◌, Bool, false, not, ◌&&◌, nat_lt, List, [], ◌++◌, filter, length, map, Option, Some, None, if◌then◌else◌}, List.{list_all, list_any, enumerate_from}}
 use Rattle.model_board.specs.Paths.{Path, path_eq, parent}

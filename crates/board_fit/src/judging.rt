@@ -30,8 +30,8 @@ use window_packing::{enumerate, plan};
 pub struct Verdict {
     /// The first set-up rule that the board breaks, if any.
     pub fault: Option<Fault>,
-    /// The fit of each pool. If the board can't be set up, only the pool that doesn't fit, if that
-    /// is the fault.
+    /// How each pool fits its aperture. If a pool doesn't fit, only that pool is listed. For any
+    /// other fault, the list is empty.
     pub fits: Vec<PoolFit>,
     /// Warnings about the file if the board can be set up. Otherwise, the entries that cause the
     /// fault.

@@ -1,10 +1,10 @@
--- Bridges that do what they mustn't with a region below them, in the program's words: they keep back a byte of an open
--- region, or prefetch one of a region that isn't prefetchable.
---     sort_blamed c      the sort of regions of which bridges are asked
---     address_blamed c r q      the least address of a region for which the bridge of a row is to blame
---     blame c q r      its blame, if it is above the region
---     blames_of c rows q, all_blames c rows      that of the first to blame for a region; for all regions of the sort
---     unforwarded_problem, prefetched_issue      what is told of a blame
+-- Bridges that violate a rule for a region behind them, in the code's types: they don't forward a byte of an enabled
+-- region, or they prefetch a byte of a region that isn't prefetchable.
+--     sort_blamed c      the regions to check for this kind of violation
+--     address_blamed c r q      the lowest address of a region that the bridge of a row mishandles
+--     blame c q r      the bridge's violation, if the bridge is above the region
+--     blames_of c rows q, all_blames c rows      the violation of the first such bridge above a region; for all regions
+--     unforwarded_problem, prefetched_issue      the problem or readiness issue for a violation
 use Rattle.std.specs.{Prelude.{List, ℕ, if◌then◌else◌, Option, None, flat_map}, Option.{option_map, option_to_list}}
 use Rattle.lists.specs.Elements.{first_some}
 use Rattle.model_board.specs.{Paths.is_ancestor_of, Routing.RoutingRow}

@@ -1,4 +1,4 @@
--- Bridges among rows, and what is told of the number of one function: PCI-to-PCI Bridge Architecture 1.2, chapter 3.
+-- Bridges among rows, and functions that their own BDFs don't reach: PCI-to-PCI Bridge Architecture 1.2, chapter 3.
 --     is_bridge_row bus r      the row is that of the bridge above the bus
 --     is_there p o      the path that was reached is p
 --     lost_function fs p      the problem of the function at a path, if it has one

@@ -1,5 +1,5 @@
--- Problems and lacks, in the words of the definitions.
---     problem_of, issue_of      a problem and a lack as the definitions have them
+-- Problems and readiness issues, converted to the types of the definitions.
+--     problem_of, issue_of      a problem and a readiness issue, as the definitions have them
 use Rattle.paths.specs.BusAddresses.{bus_address_of}
 use Rattle.findings.specs.declared.{problem.Problem.{Problem, TheVariants.{NotForwarded, Contended, NotFound}}, readiness_issue.ReadinessIssue.{ReadinessIssue, TheVariants.{NotOpen, OutsideApertures, Prefetched, OtherPrimary}}}
 use Rattle.model_findings.specs.Problems as audit

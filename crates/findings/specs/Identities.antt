@@ -1,5 +1,5 @@
--- The identity of a function, in the words of the definitions.
---     identity_told      an identity, from the program's word
+-- A function's identity, converted to the type of the definitions.
+--     identity_told      an identity, from the code's type
 --     identity_nth fs i      that of the function at an index of the list
 use Rattle.std.specs.Prelude.{List, ℕ, Option, option_map, slice_get}
 use Rattle.model_board.specs.State.{BoardFunction}

@@ -1,4 +1,4 @@
--- The regions of functions that are of one sort, in the program's words: open, closed, or open memory that isn't
+-- Selecting regions, in the code's types: enabled regions, disabled regions, or enabled memory regions that aren't
 -- prefetchable.
 --     is_of_sort sort command b      a region is of the sort, by the word of Command
 --     regions_among sort p command bs      those of some regions of the function at p that are

@@ -1,4 +1,4 @@
--- What is told of an address, from routing registers and what is declared of bridges.
+-- The explanation of an address, computed from routing registers and the declarations of bridges.
 --     row_windows, row_hindrance, row_stop      of a bridge, by its row
 --     RegionWithCommand, held_in, held_of, all_held      regions that hold an address and don't answer, each with its function's Command
 --     causes_at, told_from      all that keeps such a region from answering, by its path and Command; what is told of it

@@ -1,5 +1,5 @@
--- A configuration cycle on its way.
---     end_told      where it ends, in the words of the definitions
+-- The bridges that a configuration cycle passes, and where it ends.
+--     end_told      where the cycle ends, in the type of the definitions
 --     is_taker, paths_taking      a bridge that takes a cycle on a bus; those among some functions
 --     taken fs bus n      that bridge, and whether it is the last
 --     missing_by      what is missing at the end, unless a path is reached

@@ -1,8 +1,8 @@
--- What is told, in the words of the definitions.
+-- Explanations, converted to the types of the definitions.
 --     window_told, windows_told, hindrance_told, cause_told      what keeps a region from answering
---     forwarder_told, region_told, why_told      of a bridge, of a region, and of an address
---     missing_told, number_told      of a configuration number
---     use_told      what the latch makes of a port
+--     forwarder_told, region_told, why_told      a bridge, a region, and an address
+--     missing_told, number_told      the explanation of a BDF
+--     use_told      the role of a port in the configuration mechanism
 use Rattle.std.specs.{Prelude.{List, [], ◌++◌, map, unwrap_or, Option, option_map}, Option.option_to_list}
 use Rattle.bridge_forward.specs.RoutingRows.{window_of}
 use Rattle.paths.specs.BusAddresses.{bus_address_of}

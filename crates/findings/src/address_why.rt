@@ -22,7 +22,7 @@ fn is_as_at_reset(asked: &AddressQuery, held: &RegionWithCommand) -> bool
     held.region.region.base == 0 && !opens(held.command, asked.space)
 }
 
-/// Returns the causes for each BAR in the list, except those in their reset state.
+/// Returns what keeps each BAR in the list from answering. Leaves out BARs in their reset state.
 fn all_unanswered(
     alloc: Global,
     host: &Host,

@@ -47,7 +47,7 @@ fn address_blamed(charge: ViolationKind, row: &RoutingRow, region: &LiveBar) -> 
     }
 }
 
-/// Returns the blame for a bridge, if it is above the BAR and mishandles it.
+/// Returns a bridge's violation, if the bridge is above the BAR and mishandles it.
 fn blame_by(charge: ViolationKind, row: &RoutingRow, region: &LiveBar) -> Option<BridgeViolation>
     ensures { result ≡ blame charge region.now row.now }
 {
@@ -62,7 +62,7 @@ fn blame_by(charge: ViolationKind, row: &RoutingRow, region: &LiveBar) -> Option
     })
 }
 
-/// Returns the blame for the first of these bridges that mishandles the BAR.
+/// Returns the violation of the first of these bridges that mishandles the BAR.
 fn first_blame(
     charge: ViolationKind,
     above: &[&RoutingRow],
@@ -78,7 +78,7 @@ fn first_blame(
     None
 }
 
-/// Appends the blame for each of these BARs that one of the bridges mishandles.
+/// Appends a violation for each of these BARs that one of the bridges mishandles.
 fn add_blames(
     told: &mut Vec<BridgeViolation>,
     charge: ViolationKind,
@@ -116,7 +116,7 @@ fn rows_above<'a>(
     Ok(above)
 }
 
-/// Appends the blames for the BARs of a function.
+/// Appends the violations for a function's BARs.
 fn add_function(
     alloc: Global,
     told: &mut Vec<BridgeViolation>,
@@ -133,7 +133,7 @@ fn add_function(
     add_blames(told, charge, &above, &regions)
 }
 
-/// Returns the blames for the BARs of all functions.
+/// Returns the violations for the BARs of all functions.
 pub(crate) fn all_blames(
     alloc: Global,
     charge: ViolationKind,

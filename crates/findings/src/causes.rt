@@ -19,7 +19,7 @@ pub struct NamedWindow {
     pub window: Option<Window>,
 }
 
-/// The reason that a bridge doesn't forward an address.
+/// The reason why a bridge doesn't forward an address.
 #[derive(Clone, Copy, Debug)]
 pub enum BlockReason {
     /// The bridge's Command register disables the space.
@@ -33,7 +33,7 @@ pub enum BlockReason {
     },
 }
 
-/// A reason that a BAR which contains an address doesn't answer.
+/// A reason why a BAR doesn't answer an address that it contains.
 #[derive(Debug, Drop)]
 pub enum Cause {
     /// The function's Command register disables the space.

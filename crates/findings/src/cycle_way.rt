@@ -9,8 +9,8 @@ use bridge_forward::Path;
 use host_bridge::Host;
 use std::alloc::{AllocError, Global};
 
-/// The end of a configuration cycle: its own bus, or a bus on which no bridge claims it. A bus is
-/// given by the bridge above it, and bus 0 by `None`.
+/// Where a configuration cycle ends: on its destination bus, or on a bus where no bridge claims it.
+/// The bridge above a bus identifies the bus; `None` means bus 0.
 #[derive(Drop)]
 pub(crate) enum WayEnd {
     OnBus(Option<Path>),
@@ -125,8 +125,8 @@ fn add_takers(
     Ok(())
 }
 
-/// Follows a cycle from bus 0 to another bus. Sixteen steps are enough, because at most 15 bridges
-/// are above a function.
+/// Follows a configuration cycle for a bus other than bus 0, starting at bus 0, until the cycle
+/// ends. Sixteen steps are enough, because at most 15 bridges are above a function.
 pub(crate) fn way_down(alloc: Global, host: &Host, number: u8) -> Result<Way, AllocError>
     ensures bridges { let fs = host.now.state.functions in IfOk result (λ w.
         w.bridges.items ≡ map (λ (f : BoardFunction). f.path) (takers_down fs number 16 [])) }

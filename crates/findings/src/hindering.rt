@@ -81,7 +81,7 @@ fn windows(
     }
 }
 
-/// Returns the reason that a bridge doesn't forward an address. The caller has checked that it
+/// Returns the reason why a bridge doesn't forward an address. The caller has checked that it
 /// doesn't.
 pub(crate) fn hindrance_of(row: &RoutingRow, decl: Option<BridgeDecl>, space: Space) -> BlockReason
     ensures { hindrance_told result ≡ row_hindrance (named_space space) decl row.now }

@@ -12,8 +12,8 @@ use bridge_forward::{Path, RoutingRow};
 use host_bridge::{Bdf, Host};
 use std::alloc::{AllocError, Global};
 
-/// What is missing at the end of a configuration cycle. A bus is given by the bridge above it, and
-/// bus 0 by `None`.
+/// What is missing at the end of a configuration cycle. The bridge above a bus identifies the bus;
+/// `None` means bus 0.
 #[derive(Debug, Drop)]
 pub enum Missing {
     /// No bridge on the bus claims cycles for bus number `bus`.
@@ -95,8 +95,8 @@ fn missing_if(reached: &Option<Path>, end: WayEnd, at: Bdf) -> Option<Missing>
     }
 }
 
-/// Returns whether a function has this BDF, by the bridge above it, but isn't the function that is
-/// reached.
+/// Returns whether a function has this BDF according to the bridge above it, but isn't the function
+/// that the BDF reaches.
 fn is_unfound(
     host: &Host,
     rows: &[RoutingRow],
@@ -111,7 +111,8 @@ fn is_unfound(
     address_now(host, rows, path) == at && !is_there(reached, path)
 }
 
-/// Returns the functions that have this BDF, by the bridges above them, but aren't reached by it.
+/// Returns the functions that have this BDF according to the bridges above them, but aren't reached
+/// by it.
 fn unfound(
     alloc: Global,
     host: &Host,

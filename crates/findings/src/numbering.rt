@@ -57,7 +57,7 @@ pub(crate) fn address_now(host: &Host, rows: &[RoutingRow], path: &Path) -> Bdf
     }
 }
 
-/// Returns the path at an index, if there is one.
+/// Returns the path of the function at an index, if there is one.
 fn path_at(rows: &[RoutingRow], index: Option<usize>) -> Option<Path>
     ensures { result
         ≡ option_map (λ (r : RowValue). r.path) (option_and_then (slice_get rows.now) index) }

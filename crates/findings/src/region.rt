@@ -52,7 +52,7 @@ impl LiveBar {
         if holds(held, end) { Some(end) } else { None }
     }
 
-    /// Returns a copy.
+    /// Returns a copy of the BAR.
     pub fn copied(&self) -> LiveBar
         ensures { result ≡ self.now }
     {

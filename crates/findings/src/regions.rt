@@ -44,7 +44,7 @@ fn is_of_sort(sort: Sort, command: u16, region: RoutingRegion) -> bool
     }
 }
 
-/// Appends those of these BARs that are to be selected.
+/// Appends each of these BARs that is to be selected.
 fn add_among(
     told: &mut Vec<LiveBar>,
     sort: Sort,

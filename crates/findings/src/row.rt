@@ -48,7 +48,8 @@ pub(crate) fn holds_any(one: Option<Window>, other: Option<Window>, addr: u64) -
     one.is_some_and(|w| holds(w, addr)) || other.is_some_and(|w| holds(w, addr))
 }
 
-/// Returns the windows through which a bridge forwards a space. There are two for memory at most.
+/// Returns the windows through which a bridge forwards accesses in a space: at most one for I/O,
+/// and at most two for memory.
 pub(crate) fn forwarded(row: &RoutingRow, space: Space) -> (Option<Window>, Option<Window>)
     ensures { extents_of result.0 result.1 ≡ forwarded_extents (named_space space) row.now }
 {

@@ -143,8 +143,8 @@ fn crowds(groups: &[u64], group: u64) -> bool
     groups.iter().any(|crowded| *crowded == group)
 }
 
-/// Returns the responders in groups whose addresses overlap. No other responder shares an address
-/// with any.
+/// Returns the responders in groups whose addresses overlap. All other responders share no address
+/// with any responder on their bus.
 pub(crate) fn crowded(alloc: Global, agents: &[Agent]) -> Result<Vec<Agent>, AllocError>
     ensures { IfOk result (λ v. contentions v.items ≡ contentions agents.now) }
 {

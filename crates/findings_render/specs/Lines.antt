@@ -1,4 +1,4 @@
--- The lines of some problems and of some lacks, in the program's words.
+-- The lines of lists of problems and readiness issues, in the code's types.
 use Rattle.std.specs.Prelude.{List, map}
 use Rattle.model_guests.specs.Text.{Text, text_of_lines}
 use Rattle.model_findings.specs.{AuditText.{problem_text, audit_line}, ReadyText.{issue_text, ready_line}}

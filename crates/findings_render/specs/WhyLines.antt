@@ -1,4 +1,4 @@
--- What lines of why say, from the program's words.
+-- The lines of an explanation, from the code's types.
 --     answer_text, address_head, number_head      who answers an address; what a configuration number reaches
 --     taking_text      a bridge that takes the cycle for a bus
 --     at_reset_text      how many regions are as at reset

@@ -15,7 +15,7 @@ use report::{ShownPath, TwoDigits};
 use std::alloc::AllocError;
 use std::fmt;
 
-/// Displays the reason that a bridge doesn't forward an address.
+/// Displays the reason why a bridge doesn't forward an address.
 #[derive(Clone, Copy)]
 struct ShownHindrance {
     space: Space,
@@ -37,7 +37,7 @@ impl fmt::Display for ShownHindrance {
     }
 }
 
-/// Displays a reason that a BAR doesn't answer.
+/// Displays a reason why a BAR doesn't answer.
 #[derive(Clone, Copy)]
 struct ShownCause<'a> {
     space: Space,
@@ -62,7 +62,7 @@ impl<'a> fmt::Display for ShownCause<'a> {
     }
 }
 
-/// Displays all reasons that a BAR doesn't answer, separated by semicolons.
+/// Displays all reasons why a BAR doesn't answer, separated by semicolons.
 #[derive(Clone, Copy)]
 struct ShownCauses<'a> {
     space: Space,
@@ -85,7 +85,7 @@ impl<'a> fmt::Display for ShownCauses<'a> {
     }
 }
 
-/// Displays a BAR that contains the address, with the reasons that it doesn't answer.
+/// Displays a BAR that contains the address, with the reasons why it doesn't answer.
 #[derive(Clone, Copy)]
 pub(crate) struct ShownTold<'a> {
     pub(crate) space: Space,

@@ -1,4 +1,4 @@
--- Why bytes are no image that a guest takes.
+-- The reasons why a guest can't load bytes.
 --     number_of why      the number of the fault
 --     of_version n      the number of a refusal, where bytes are to be a version
 use Rattle.std.specs.Prelude.{ℕ, ◌==◌, if◌then◌else◌}

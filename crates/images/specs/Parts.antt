@@ -1,6 +1,6 @@
 -- The parts of a declaration as bytes.
 --     cell_bytes      a cell
---     endpoint_head, region_head, block_head      what stands before regions, and before cells of a region or a block
+--     endpoint_head, region_head, block_head      the bytes before the regions, and before the cells of a region or a block
 --     region_bytes, block_bytes      a region, a block
 --     counted_blocks, rest_bytes, declared_bytes      blocks with their count; what follows the head; a declaration
 --     DeclaredBytes      they are the bytes of the declaration

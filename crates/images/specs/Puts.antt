@@ -1,4 +1,4 @@
--- Bytes that are put into a buffer.
+-- Copying bytes into a buffer.
 --     put at xs bytes      the bytes with xs in place of those from an index on
 use Rattle.std.specs.Prelude.{List, ℕ, ◌+◌, ◌++◌, length, take, drop}
 

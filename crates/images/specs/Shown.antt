@@ -1,6 +1,6 @@
--- A function as its guest has it, and its bytes in an image.
+-- A function as its guest sees it, and its bytes in an image.
 --     seen e own      the board's endpoint with the guest's own copies put in
---     HasDeclaredPlaces e      its cells stand where those of its declaration stand at reset
+--     HasDeclaredPlaces e      its cells are at the places at which the declaration has cells at reset
 --     source e own p, shown_byte e own p      the cells that tell a byte, and the byte
 --     bytes_from e own p n      n bytes from a place on
 --     header_values, block_values, region_values, shown_values      the bytes of all cells, part by part

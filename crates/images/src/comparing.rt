@@ -11,7 +11,7 @@ use config_bytes::Cell;
 use headers::{ConfigBlock, EndpointDecl, EndpointValues, Region};
 
 /// Strips the expected bytes from the front of `bytes`, and returns the rest. Refuses bytes that
-/// end early or differ.
+/// end early (905) or differ (906).
 pub(crate) fn after<'a>(own: &[u8], bytes: &'a [u8]) -> Result<&'a [u8], ImageFault>
     ensures left { IfOk result (λ rest. after_bytes 906 own.now bytes.now ≡ Ok rest.now) }
     ensures refused { IfErr result (λ why.
@@ -136,7 +136,7 @@ fn after_parts<'a>(decl: &EndpointDecl, bytes: &'a [u8]) -> Result<&'a [u8], Ima
 }
 
 /// Strips a declaration from the front of `bytes`, and returns the rest. Refuses bytes that end
-/// early, and the bytes of a different declaration.
+/// early (905) or belong to a different declaration (906).
 #[tactic(auto, using(crate::proofs::DeclaredBytes::declared_is))]
 pub(crate) fn after_declaration<'a>(
     decl: &EndpointDecl,

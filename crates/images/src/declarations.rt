@@ -1,7 +1,7 @@
 //! A check that every function declared on a board can be saved: the value and the masks of each
-//! register are bytes. This holds for all boards, since registers are stored as bytes. The calls
-//! establish it for the theorems about saved guests before a board is handed over. They change
-//! nothing and allocate no memory.
+//! register are bytes. They always are, since registers are stored as bytes. The theorems about
+//! saved guests need this fact, and these calls establish it before a board is handed over. They
+//! change nothing and allocate no memory.
 ghost use Rattle.std.specs.Prelude.{◌≡◌, Some, slice_get};
 ghost use Rattle.lists.specs.Elements.{Each};
 ghost use Rattle.model_registers.specs.Cell.{IsCell};

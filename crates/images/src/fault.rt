@@ -11,10 +11,11 @@ pub enum ImageFault {
     /// register can't hold.
     #[error("image")]
     NoImage,
-    /// 906: the bytes were saved from a guest with other slots filled, or with other declarations.
+    /// 906: the bytes were saved from a guest that had functions in different slots, or functions
+    /// with different declarations.
     #[error("other functions")]
     OtherFunctions,
-    /// 908: the bytes have another version of the format.
+    /// 908: the bytes have a different version of the format.
     #[error("image version")]
     OtherVersion,
 }

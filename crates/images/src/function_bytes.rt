@@ -18,7 +18,7 @@ fn is_own(off: u8) -> bool
     matches!(off, 0x04 | 0x05 | 0x0e | 0x10..=0x27)
 }
 
-/// Returns a byte of configuration space at its position in its word, with 0 in the other bytes.
+/// Returns the configuration word that contains a byte, with 0 in the word's other bytes.
 fn word_of(endpoint: &EndpointFn, own: &VirtualFunction, off: u8) -> u32
     ensures { let ons = lanes (enables_of off 1) in
         result ≡ read (source endpoint.now own.now (config off)) (config (off / 4 * 4)) ons }

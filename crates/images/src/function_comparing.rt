@@ -8,9 +8,9 @@ use crate::heading::after_tag;
 use crate::values::after_values;
 use bridge_forward::EndpointFn;
 
-/// Strips a slot that is filled with this function, with any values that its registers can hold,
-/// and returns the rest. Refuses bytes that end early, a value that its register can't hold, an
-/// empty slot, and another declaration.
+/// Strips a slot that contains this function, with any values that its registers can hold, and
+/// returns the rest. Refuses with 906 if the slot is empty or its function has a different
+/// declaration, or with 905 if the bytes end early or a register can't hold its value.
 pub fn after_function<'a>(endpoint: &EndpointFn, bytes: &'a [u8]) -> Result<&'a [u8], ImageFault>
     ensures left { IfOk result (λ rest.
         after_filled endpoint.now.decl bytes.now ≡ Ok rest.now) }

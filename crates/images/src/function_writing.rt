@@ -1,4 +1,4 @@
-//! Serialization of a function as its guest has it: its declaration, followed by a byte for each
+//! Serialization of a function as its guest sees it: its declaration, followed by a byte for each
 //! register byte.
 ghost use Rattle.std.specs.Prelude.{◌≡◌, ◌≤◌, ◌+◌, length};
 ghost use Rattle.model_registers.specs.OwnCopies.{OwnCopies};

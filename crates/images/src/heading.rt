@@ -27,7 +27,7 @@ pub fn latch_bytes(latch: u32) -> [u8; 4]
     bytes
 }
 
-/// Maps a mismatch (906) to the fault for another version (908), and returns other faults
+/// Maps a mismatch (906) to the fault for a different version (908), and returns other faults
 /// unchanged.
 fn of_version(fault: ImageFault) -> ImageFault
     ensures { number_of result ≡ of_version (number_of fault) }
@@ -38,7 +38,8 @@ fn of_version(fault: ImageFault) -> ImageFault
     }
 }
 
-/// Strips the version of the format. Refuses bytes that end early, and another version.
+/// Strips the version of the format. Refuses bytes that end early (905) or have a different version
+/// (908).
 fn after_version(version: u32, bytes: &[u8]) -> Result<&[u8], ImageFault>
     ensures left { IfOk result (λ rest. after_version version bytes.now ≡ Ok rest.now) }
     ensures refused { IfErr result (λ why.

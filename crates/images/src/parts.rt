@@ -87,8 +87,8 @@ pub(crate) fn region_head(region: &Region) -> [u8; 12]
     [index, kind, a, b, c, d, e, f, g, h, low, high]
 }
 
-/// Returns the bytes in front of a block's declared bytes: the offset of the first one, and their
-/// number.
+/// Returns the bytes in front of a block's declared bytes: the offset of the first one, and how
+/// many there are.
 #[tactic(auto, unfolding(crate::specs::Parts::block_head))]
 pub(crate) fn block_head(block: &ConfigBlock) -> [u8; 2]
     requires offset { block.now.offset < 256 }

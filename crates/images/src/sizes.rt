@@ -55,7 +55,7 @@ pub fn declaration_size(decl: &EndpointDecl) -> usize
     parts_size(decl)
 }
 
-/// Returns the number of register bytes of the regions, including their base address registers.
+/// Returns how many register bytes the regions have, including their base address registers.
 fn regions_cells(regions: &[Region]) -> usize
     requires counts { Each (λ r. length r.cells ≤ 4096) regions.now }
     requires few { length regions.now ≤ 6 }
@@ -86,7 +86,7 @@ fn blocks_cells(blocks: &[ConfigBlock]) -> usize
     size
 }
 
-/// Returns the number of register bytes of a declared endpoint. Each has one byte in a saved state.
+/// Returns how many register bytes a declared endpoint has. Each takes one byte in a saved state.
 pub fn values_size(decl: &EndpointDecl) -> usize
     ensures size { result ≡ length (endpoint_reset decl.now false) }
     ensures bound { result ≤ 61511 }

@@ -117,8 +117,8 @@ fn after_regions<'a>(regions: &[Region], bytes: &'a [u8]) -> Result<&'a [u8], Im
     Ok(bytes)
 }
 
-/// Strips a saved value for each register byte of an endpoint, and returns the rest. Refuses bytes
-/// that end early, and a value that its register can't hold.
+/// Strips a saved value for each register byte of an endpoint, and returns the rest. Refuses with
+/// 905 if the bytes end early or a register can't hold its value.
 pub(crate) fn after_values<'a>(decl: &EndpointDecl, bytes: &'a [u8]) -> Result<&'a [u8], ImageFault>
     ensures left { IfOk result (λ rest.
         after_values (endpoint_reset decl.now false) bytes.now ≡ Ok rest.now) }

@@ -1,5 +1,5 @@
--- What is wrong and what is lacking in a register state, as a JSON value: each with its witness, in their order. The members of an
--- object stand in the order of their names.
+-- The problems and readiness issues of a register state as a JSON value: each with its witness, in their order. The members
+-- of an object are in the order of their names.
 --     path_value, reached_value      a path; that of what is reached, null where nothing is
 --     space_text      the name of a space, as in lines
 --     region_value      a region, with the path of its endpoint
@@ -7,7 +7,7 @@
 --     number_value      a bus, device and function number
 --     problem_value      a problem
 --     problems_value, problems_json      the whole value; its text, and a line feed
---     issue_value      what is lacking
+--     issue_value      a readiness issue
 --     issues_value, lacks_json      problems and lacks; their text, and a line feed
 use Rattle.std.specs.{Prelude.{List, [], ◌∷◌, ◌++◌, ℕ, Option, map, codes}, Option.option_map_or}
 use Rattle.serde_json.specs.{Data.{Data, null, number, unsigned, string, array, object, member, no_members}, View.items_of, Written.compact_text}

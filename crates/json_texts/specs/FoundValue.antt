@@ -1,5 +1,5 @@
--- The report's value as code makes it: from the table of what set-up finds, and from what it writes. `report_json` says that
--- it is the value of the board's report.
+-- The report's JSON value as the code builds it: from the table that set-up finds, and from the register values that it
+-- writes. `report_json` says that this is the value of the board's report.
 --     known_interrupt      a pin from 1 to 4; null for any other
 --     named_window      a window, null where its base is above its limit
 --     written_regions, written_windows      what is written into a function

@@ -1,11 +1,11 @@
--- The report of a board that is set up, as a JSON value: functions in path order with their regions and interrupts,
--- windows, and guests. It is said of the board itself, as the report in lines is. The members of an object stand in the
+-- The report of a board that is set up, as a JSON value: functions in path order with their regions, interrupts and
+-- windows, and guests. It is defined from the board itself, as the report in lines is. The members of an object are in the
 -- order of their names.
 --     natural, array_of      a number; values one after the other
 --     region_value      a region, from its base address register
 --     pin_value, interrupt_value      a pin, with the device of bus 0 that it reaches and the pin there; null for pin 0
 --     pool_window, bridge_windows      the windows of a bridge, each null where nothing is placed behind it
---     endpoint_value, bridge_value      a function, from what is told of it
+--     endpoint_value, bridge_value      a function, from its description
 --     row_value b a r      a function of a board, with its regions or windows where they are placed
 --     guest_value      a guest with its slots
 --     report_value      the whole value, of a world

@@ -1,5 +1,5 @@
--- Why an address, a port or a configuration number finds what it finds, as a JSON value: as lines tell it, in their order. The
--- members of an object stand in the order of their names.
+-- The explanation of an address, a port or a BDF as a JSON value, in the order of its lines. The members of an object are
+-- in the order of their names.
 --     window_range      the addresses of a window, null where it is shut
 --     window_value, cause_value      a window; what keeps a region from answering
 --     told_value, forwarder_value, claim_value      a region with its causes, a bridge that forwards, and what answers

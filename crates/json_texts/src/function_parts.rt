@@ -38,7 +38,7 @@ fn region_values(alloc: Global, bases: &[Option<BarWithBase>]) -> Result<Vec<Val
     Ok(values)
 }
 
-/// Returns the BARs written into an endpoint as JSON. Returns none for a bridge.
+/// Returns, as JSON, the BARs that set-up wrote into an endpoint. Returns none for a bridge.
 pub(crate) fn written_regions(
     alloc: Global,
     writes: &RegisterValues,
@@ -119,7 +119,7 @@ fn windows_value(
     json!(in alloc; {"io": io, "mem": mem, "pref": pref})
 }
 
-/// Returns the windows written into a bridge as JSON, or `null` for an endpoint.
+/// Returns, as JSON, the windows that set-up wrote into a bridge, or `null` for an endpoint.
 pub(crate) fn written_windows(alloc: Global, writes: &RegisterValues) -> Result<Value, AllocError>
     ensures { IfOk result (λ v. view v ≡ written_windows (writes_of writes.now)) }
 {

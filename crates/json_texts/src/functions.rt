@@ -100,7 +100,7 @@ fn bridge_value(
     Ok(Value::Object(members))
 }
 
-/// Returns a function as JSON, with the registers written into it.
+/// Returns a function as JSON, with the register values that set-up wrote into it.
 fn function_value(
     alloc: Global,
     row: &EnumeratedFunction,
@@ -118,7 +118,7 @@ fn function_value(
     }
 }
 
-/// Returns all functions as JSON, each with the registers written into it.
+/// Returns all functions as JSON, each with the register values that set-up wrote into it.
 pub(crate) fn function_values(
     alloc: Global,
     rows: &[EnumeratedFunction],

@@ -20,7 +20,7 @@ pub(crate) fn path_value(alloc: Global, path: &Path) -> Result<Value, AllocError
     Ok(Value::from(text))
 }
 
-/// Returns the path of the function that was reached as JSON, or `null` if none was.
+/// Returns, as JSON, the path of the function that was reached, or `null` if none was.
 pub(crate) fn reached_value(alloc: Global, path: &Option<Path>) -> Result<Value, AllocError>
     ensures { IfOk result (λ v. view v ≡ reached_value path.now) }
 {

@@ -16,7 +16,7 @@ use paths::{Bdf, Path};
 use serde_json::{Value, json};
 use std::alloc::{AllocError, Global};
 
-/// Returns the problem of a BAR that a bridge doesn't forward as JSON.
+/// Returns, as JSON, the problem that a bridge doesn't forward a BAR.
 fn not_forwarded(
     alloc: Global,
     region: &LiveBar,
@@ -36,7 +36,7 @@ fn not_forwarded(
     })
 }
 
-/// Returns the address conflict between two responders as JSON.
+/// Returns, as JSON, the address conflict between two responders.
 fn contended(alloc: Global, one: &Agent, other: &Agent, address: u64) -> Result<Value, AllocError>
     ensures { IfOk result (λ v. view v ≡ problem_value (contended one.now other.now address)) }
 {
@@ -47,7 +47,7 @@ fn contended(alloc: Global, one: &Agent, other: &Agent, address: u64) -> Result<
     json!(in alloc; {"address": address, "agents": agents, "space": space, "type": "contended"})
 }
 
-/// Returns the problem of a function that isn't reached by its BDF as JSON.
+/// Returns, as JSON, the problem that a function isn't reached by its BDF.
 fn not_found(
     alloc: Global,
     path: &Path,

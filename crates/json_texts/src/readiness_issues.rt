@@ -13,7 +13,7 @@ use paths::Path;
 use serde_json::{Value, json};
 use std::alloc::{AllocError, Global};
 
-/// Returns the requirement to enable a BAR as JSON.
+/// Returns, as JSON, the requirement to enable a BAR.
 fn not_open(alloc: Global, region: &LiveBar) -> Result<Value, AllocError>
     ensures { IfOk result (λ v. view v ≡ issue_value (not_open region.now)) }
 {
@@ -21,7 +21,7 @@ fn not_open(alloc: Global, region: &LiveBar) -> Result<Value, AllocError>
     json!(in alloc; {"region": region, "type": "closed"})
 }
 
-/// Returns the requirement to move a BAR into the apertures as JSON.
+/// Returns, as JSON, the requirement to move a BAR into the apertures.
 fn outside(alloc: Global, region: &LiveBar, address: u64) -> Result<Value, AllocError>
     ensures { IfOk result (λ v. view v ≡ issue_value (outside_apertures region.now address)) }
 {
@@ -29,7 +29,7 @@ fn outside(alloc: Global, region: &LiveBar, address: u64) -> Result<Value, Alloc
     json!(in alloc; {"address": address, "region": region, "type": "outside apertures"})
 }
 
-/// Returns the requirement not to prefetch a BAR as JSON.
+/// Returns, as JSON, the requirement not to prefetch a BAR.
 fn prefetched(
     alloc: Global,
     region: &LiveBar,
@@ -49,7 +49,7 @@ fn prefetched(
     })
 }
 
-/// Returns the requirement to correct a Primary Bus Number as JSON.
+/// Returns, as JSON, the requirement to correct a Primary Bus Number.
 fn primary(alloc: Global, path: &Path, held: u8, number: u8) -> Result<Value, AllocError>
     ensures { IfOk result (λ v. view v ≡ issue_value (other_primary path.now held number)) }
 {

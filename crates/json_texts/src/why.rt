@@ -137,7 +137,7 @@ impl HasValue for Forwarder {
     }
 }
 
-/// Returns the BAR that answers as JSON, or `null` if none does.
+/// Returns, as JSON, the BAR that answers, or `null` if none does.
 fn answer_value(alloc: Global, answer: &Option<Claim>) -> Result<Value, AllocError>
     ensures { IfOk result (λ v. view v ≡ option_map_or claim_value answer.now null) }
 {
@@ -165,7 +165,7 @@ fn address_value(alloc: Global, host: &Host, space: Space, addr: u64) -> Result<
     })
 }
 
-/// Returns the path of the bridge above a bus as JSON, or `null` for bus 0.
+/// Returns, as JSON, the path of the bridge above a bus, or `null` for bus 0.
 fn behind_value(alloc: Global, behind: &Option<Path>) -> Result<Value, AllocError>
     ensures { IfOk result (λ v. view v ≡ behind_value (unwrap_or behind.now [])) }
 {
@@ -177,7 +177,7 @@ fn behind_value(alloc: Global, behind: &Option<Path>) -> Result<Value, AllocErro
     path_value(alloc, path)
 }
 
-/// Returns what is missing at the end of a configuration cycle as JSON, or `null` if nothing is.
+/// Returns, as JSON, what is missing at the end of a configuration cycle, or `null` if nothing is.
 fn missing_value(alloc: Global, missing: &Option<Missing>) -> Result<Value, AllocError>
     ensures { IfOk result (λ v.
         view v ≡ option_map_or missing_value (option_map missing_told missing.now) null) }
@@ -220,7 +220,8 @@ fn way_value(alloc: Global, host: &mut Host, at: Bdf) -> Result<Value, AllocErro
     })
 }
 
-/// Returns the port's role in the configuration mechanism as JSON, or `null` for an ordinary port.
+/// Returns, as JSON, the port's role in the configuration mechanism, or `null` for an ordinary
+/// port.
 fn latch_value(alloc: Global, used: PortUse) -> Result<Value, AllocError>
     ensures { IfOk result (λ v. view v ≡ latch_value (use_told used)) }
 {

@@ -1,8 +1,8 @@
--- Guests before they did anything, on the board of a host.
+-- Guests at handover, on the board of a host.
 --     world_on, world_of      the board of a host, or of a host that is set up, with guests
 --     with_no_slots name      a guest of this name, whose slots are empty
 --     declared_in      what a base address register opens
---     IsStanding s i p f      the endpoint f at reset stands in row i of the board, at the path p
+--     IsStanding s i p f      row i of the board is the endpoint f at reset, with the path p
 --     AreSlotsAtFirst      a guest's slots, the first of them with the endpoints at these paths
 use Rattle.std.specs.Prelude.{ℕ, ◌-◌, ◌≡◌, false, List, [], ◌++◌, Option, Some, None, map, option_map, length, replicate, slice_get}
 use Rattle.bars.specs.declared.region.BarWithBase.{BarWithBase}

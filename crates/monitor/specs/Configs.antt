@@ -1,8 +1,8 @@
--- A function in a slot, as the host shows its configuration space.
+-- The configuration space of a function in a slot, as the host shows it.
 --     IsSeen      the bytes of which the guest has no copy are those of its file
 --     IsHolding      a slot with a function
 --     WritesOwn      the slots after a write of that function's own copies
---     HoldsAt, WritesGuest      the same of a guest by its index
+--     HoldsAt, WritesGuest      these for a slot of the guest at an index
 use Rattle.std.specs.Prelude.{ℕ, List, Bool, Option, Some, ◌≡◌, IsSome, map, slice_get, slice_set}
 use Rattle.model_registers.specs.{Registers.{config, File, read, write}, ByteEnables.lanes, EndpointTable.opened, OwnCopies.{OwnCopies, own_file, HoldsOwn, IsLawfulOwn, handed_on}}
 use Rattle.bridge_forward.specs.Lending.{endpoint_nth}

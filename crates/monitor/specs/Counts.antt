@@ -1,4 +1,4 @@
--- How often the regions of a guest's functions may have come to stand elsewhere, by the guest's index.
+-- Change counts: how often a region of a guest's functions may have been moved, enabled or disabled, by guest index.
 --     counts_of gs      the counts that are kept
 --     counted_nth i t ns      one more in the count at an index, where something changes
 --     counted_both i j ns      one more in the counts at two indices, or once at one

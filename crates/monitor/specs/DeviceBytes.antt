@@ -1,7 +1,7 @@
--- A byte of a device, as code holds it.
+-- A byte that a device reads or writes, as the code represents it.
 --     device_byte n place off      the byte of the function in slot n
 --     Reaches      the function in a slot whose device reaches the byte
---     Refuses      the slots for which such an event is refused by a number
+--     Refuses      the slots for which such an access is refused with a number
 use Rattle.std.specs.Prelude.{ℕ, List, Option, Some, ◌≡◌, ◌≤◌, true, slice_get, is_some}
 use Rattle.model_registers.specs.{DeviceBytes.is_device_byte, Decoding.Function}
 use Rattle.model_board.specs.{Paths.Path, State.State}

@@ -1,6 +1,6 @@
--- What code answers of a function of the board.
---     seat_named, function_named      a seat and a function, from the program's words
---     seat_kept i k gs      the seat of the function at an index among kept guests; k is the index of the first of them
+-- The code's description of a function of the board.
+--     seat_named, function_named      an assignment and a function, from the code's types
+--     seat_kept i k gs      the assignment of the function at an index, among kept guests of which the first has index k
 use Rattle.std.specs.Prelude.{ℕ, ◌+◌, List, [], ◌∷◌, Option, None, option_map, position}
 use Rattle.lists.specs.Elements.{first_of_two}
 use Rattle.paths.specs.BusAddresses.{bus_address_of}

@@ -1,7 +1,7 @@
--- Boards that are handed over to guests, whoever set them up, or why they aren't.
+-- Handing a board over to guests, no matter which firmware configured it, and the reasons to refuse that.
 --     closed_if_given ps r      the first closed region of a function, if it is at one of these paths
 --     is_among ps q, first_closed_at ps rows      a region is of such a function; the first closed one
---     number_of f, handover_words n, words_of f      the number of a fault, and the words of a number and of a fault
+--     number_of f, handover_words n, words_of f      the number of a fault, and the message for a number or a fault
 --     handoff_fault f      the fault of the handoff, unless memory is out
 --     IsFaultOf w h f      the first fault of a world over a board, unless memory is out
 use Rattle.std.specs.{Prelude.{◌≡◌, ◌==◌, ℕ, List, [], Bool, if◌then◌else◌, Option, None, Some, codes, slice_get, filter, IfSome}, List.list_any}

@@ -1,7 +1,7 @@
 -- The function in a slot of a guest.
 --     is_at i o      a slot has the function at an index
 --     IsInSlot slots n h      slot n has the function h
---     IsSlotFault slots n number      slot n is refused by this number: there is none, or no function in it
+--     IsSlotFault slots n number      slot n is refused with this number: there is no slot n, or the slot is empty
 use Rattle.std.specs.{Prelude.{ℕ, List, Bool, false, Option, Some, ◌≡◌, ◌≤◌, ◌==◌, slice_get}, Option.option_map_or}
 use Rattle.model_board.specs.{Paths.Path, State.State}
 use Rattle.model_guests.specs.{Slots.Slots, DeviceEvents.slot_fault}

@@ -1,6 +1,6 @@
--- What the monitor keeps of a world: the board's registers, and of each guest's functions the guest's own copies alone.
---     IsHeld      a function in a slot: its place on the board, its regions where the handoff has them, and the copies
---     IsSlot, AreSlots, IsGuest, AreGuests      the same slot by slot, and guest by guest
+-- The world that the monitor keeps: the board has all registers except the guests' own copies, which the guests have.
+--     IsHeld      a function in a slot: its index on the board, its regions with their bases at handoff, and the guest's copies
+--     IsSlot, AreSlots, IsGuest, AreGuests      all functions in slots are held so, slot by slot and guest by guest
 --     IsKept      the board is in the one state that agrees with the guests over the handoff
 --     IsSound      a host and guests keep the world that they show, whose guests can be saved and have lawful names
 use Rattle.std.specs.Prelude.{List, [], ◌∷◌, ◌≡◌, Option, None, Some, IsTrue, ⊤, map, slice_get}
@@ -41,8 +41,8 @@ AreGuests s [] [] [] = ⊤
 AreGuests s (t ∷ ts) (w ∷ ws) (g ∷ gs) = IsGuest s t w g × AreGuests s ts ws gs
 AreGuests s ts ws gs = ⊥
 
--- bridges, functions in no slot, bus numbers and routing registers are as they were handed over: `board_state` says so.
--- Functions in slots are at reset in the handoff, which the board shows only so.
+-- `board_state` says that bridges, unassigned functions, bus numbers and routing registers are as they were at handover.
+-- In the handoff, functions in slots are at reset: the board can't show any other values that they had there.
 pub record IsKept (w : WorldNow) (h : HostState) (names : List Text) (gs : List Guest) : Type 0 where
   pub lawful : IsLawfulOver w
   pub clear : w.handoff.latch ≡ 0

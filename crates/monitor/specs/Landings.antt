@@ -1,4 +1,4 @@
--- Where an address of a guest lands, in the program's words.
+-- The region that a guest's address decodes to, in the code's types.
 --     landing_of      a slot, the register of a region and the offset in it
 use Rattle.std.specs.Prelude.{ℕ}
 use Rattle.model_registers.specs.Registers.{block}

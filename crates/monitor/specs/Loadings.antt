@@ -1,4 +1,4 @@
--- A function in a slot of a guest that comes to hold the values of an image, as code holds it.
+-- A function in a guest's slot while it is loaded with the values of an image.
 --     with_slot_nth i n o w      the world in which slot n of guest i has this
 --     KeepsFunction h gs i n      a world that a host and guests keep, in which slot n of guest i has the function f
 --     Becomes k file new back      what they keep once this function has these cells, and nothing else changed

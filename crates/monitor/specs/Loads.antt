@@ -1,5 +1,5 @@
--- A guest by its index into which an image is loaded.
---     value_span f      how many bytes of a slot stand before its function's values, and how many values it has
+-- Loading an image into the guest at an index.
+--     value_span f      how many bytes of a slot precede the values of its function, and how many values there are
 --     slot_loaded n bytes g, slots_loaded bytes g      what a guest holds after the function in slot n, or each of its
 --                                                      functions, took its values from bytes
 --     CanLoad, AreLoadable      a slot, or slots, at reset, and bytes that they take

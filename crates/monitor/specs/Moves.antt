@@ -1,10 +1,10 @@
--- A function that is moved to another slot, as code holds it.
+-- Moving a function to another slot.
 --     move_nth w i n j m      from slot n of guest i to slot m of guest j, by the guests' names
---     is_taken, fault_between      a slot with a function; the checks of a move, in their order
+--     is_taken, fault_between      a slot is occupied; the checks of a move, in their order
 --     reset_held      a function with its own copies at reset
 --     HasSlot      a slot of a guest by its index
---     IsExchanged      the guests after a slot has another function, or none
---     HandsOver      the guests and the host after a function left a slot and came into another, at reset
+--     IsExchanged      the guests after the contents of one slot are replaced
+--     HandsOver      the guests and the host after a function has moved to another slot and was reset
 use Rattle.std.specs.Prelude.{ℕ, List, Bool, Option, Some, None, ◌≡◌, ◌<◌, ◌||◌, not, if◌then◌else◌, nat_le, is_some, map, length, slice_get, slice_set, unwrap_or}
 use Rattle.bars.specs.Resets.{with_no_base}
 use Rattle.model_guests.specs.{Guests.Move, WorldNow.WorldNow}
@@ -23,7 +23,7 @@ fault_between from n to m =
     if nat_le 32 n || nat_le 32 m then Some 303
     else (if not (is_taken from n) then Some 601 else (if is_taken to m then Some 602 else None))
 
--- what the board has of it is told by its place there
+-- its registers on the board are found by its index there
 abbrev pub reset_held : AssignedFunction → AssignedFunction
 reset_held held = record held { own = record { command = 0; bases = map with_no_base held.own.bases } }
 
@@ -42,7 +42,7 @@ pub record IsExchanged (gs : List Guest) (i n : ℕ) (was o : Option AssignedFun
   pub latch : guest.latch ≡ before.latch
   pub items : guest.slots.items ≡ slice_set before.slots.items n o
 
--- on the board the function is at reset, but for what guests have copies of
+-- on the board, the function is at reset, except for the registers that guests have copies of
 pub record HandsOver (h : HostState) (gs : List Guest) (i n j m : ℕ) (new : HostState) (after : List Guest) : Type 0 where
   pub held : AssignedFunction
   pub left : List Guest

@@ -1,7 +1,7 @@
--- What a guest's own registers hold, as code tells it.
---     own_now f      Command and the base address registers of a function, as they stand
---     own_told o      the same, from the program's words
---     standing file n r      a region at a base address register, with the base that a file has there
+-- The values of a guest's own registers, in the code's types.
+--     own_now f      the current values of Command and the base address registers of a function
+--     own_told o      these values, from the code's types
+--     standing file n r      a region at a base address register, with the base that the register file holds
 use Rattle.std.specs.Prelude.{ℕ, map}
 use Rattle.bars.specs.{declared.region.BarWithBase.BarWithBase, Slots.bases_from}
 use Rattle.model_registers.specs.{Registers.File, OwnCopies.OwnCopies, Decoding.{Function, base, base_address, command_word}}

@@ -1,6 +1,6 @@
--- What code answers of a guest without changing anything.
+-- The code's answers to queries about a guest, which change nothing.
 --     IsGuestNth w i g      what is kept of the guest at an index
---     region_named, hit_named      a region and a hit, from the program's words
+--     region_named, hit_named      a region and a byte that an access reaches, from the code's types
 use Rattle.std.specs.Prelude.{ℕ, Some, ◌≡◌, slice_get}
 use Rattle.bars.specs.Kinds.{named_space}
 use Rattle.headers.specs.Places.{place_of}

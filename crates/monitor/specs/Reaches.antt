@@ -1,4 +1,4 @@
--- Where a guest's address lands in its slots.
+-- The slot and region that a guest's address decodes to.
 --     Decodes own space addr o      what a function with these copies decodes
 --     LandsIn      a slot with a function whose copies decode the address
 --     target_in      a port or an address in memory

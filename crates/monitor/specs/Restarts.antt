@@ -1,5 +1,5 @@
--- A guest by its index that is put to reset.
---     slots_at_reset i w      the world in which all its functions are at reset
+-- Resetting the guest at an index.
+--     slots_at_reset i w      the world with all functions of guest i at reset
 use Rattle.std.specs.Prelude.{ℕ, map}
 use Rattle.model_guests.specs.WorldNow.{WorldNow}
 use Rattle.model_images.specs.Images.{function_at_reset}

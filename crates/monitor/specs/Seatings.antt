@@ -1,12 +1,12 @@
--- A function of the board that comes to a guest from none, as code holds it.
---     gift_nth w p i n      the function at the path comes into slot n of guest i, by the guest's name
+-- Assigning an unassigned function of the board to a guest.
+--     gift_nth w p i n      the function at the path is assigned to slot n of guest i, by the guest's name
 --     assign_error_number      the number of a refusal
---     fault_told      what is told of a gift, by its number
---     IsEndpointAt      an endpoint stands at a path, and at an index
+--     fault_told      the number with which an assignment is refused
+--     IsEndpointAt      the endpoint at a path has an index
 --     has_index i gs      a slot of any guest has the function at an index
 --     is_closed_base, is_closed_slot      Command doesn't open the space of the region that begins at a register
 --     ComesIn      the function at the path, at reset, as it is kept in a slot
---     MakesGift      what a gift is told in a world that is kept, and what comes into the slot where it is not refused
+--     MakesGift      the reply to an assignment in a world that is kept, and the function in the slot unless it is refused
 use Rattle.std.specs.{Prelude.{ℕ, List, Bool, false, ◌≡◌, not, Option, None, Some, Result, Ok, Err, slice_get, ⊤}, List.list_any, Option.option_map_or}
 use Rattle.bars.specs.declared.region.BarWithBase.{BarWithBase}
 use Rattle.model_registers.specs.{Declarations.Endpoint, EndpointTable.BaseAddress, Decoding.{opens_space, space_of}}

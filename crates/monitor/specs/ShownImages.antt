@@ -1,4 +1,4 @@
--- The image of a guest as the host shows its functions.
+-- The image of a guest, built from the functions that the host shows.
 --     lone_shown fs g      what a guest alone holds
 --     slot_image fs o, slots_image fs os      the bytes of a slot in an image, and of slots
 --     HasPlaces o      a function in a slot has its cells where its declaration has them at reset

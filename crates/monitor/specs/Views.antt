@@ -1,11 +1,11 @@
--- What the guests of a host see.
+-- The world and the machine that a host and its guests show.
 --     texts      guests' names as texts
 --     function_shown, slot_shown      a function in a slot: the board's registers, with the guest's own copies put in
 --     path_shown      the path of a function in a slot, as the board has it
 --     guest_shown, guests_shown      guests as they are now
 --     handoff_shown      the handoff, as the board shows it: with all functions in slots at reset
 --     world_shown      the handoff with the guests as they are now
---     machine_shown      the same with their counts
+--     machine_shown      the world with the guests' change counts
 use Rattle.std.specs.{Prelude.{List, [], ◌∷◌, Option, None, map, option_map, slice_get}, Option.option_map_or}
 use Rattle.arrayvec.specs.{ArrayVec.ArrayVec, ArrayString.ArrayString}
 use Rattle.model_registers.specs.{OwnCopies.own_file, Decoding.Function, CopiedFiles.with_copies}

@@ -217,7 +217,7 @@ impl<R: Route> Engine<R> {
         }
     }
 
-    /// Answers an access of the guest at an index, as its functions and its CONFIG_ADDRESS would in
+    /// Answers a guest's access just as the guest's functions and its CONFIG_ADDRESS would in
     /// isolation.
     fn access(&mut self, guest: usize, access: Access) -> Reply
         requires { guest < length self.old.world.guests }
@@ -260,7 +260,7 @@ impl<R: Route> Engine<R> {
         self.access(guest, access)
     }
 
-    /// Sets W1C bits of one byte of a function of the guest at an index. A refusal changes nothing.
+    /// Sets W1C bits of one byte of the function in a guest's slot. A refusal changes nothing.
     fn raise_nth(&mut self, guest: usize, slot: u64, place: Place, off: u64, mask: u8) -> Reply
         requires { guest < length self.old.world.guests }
         ensures reply { let e = guests.raises
@@ -305,8 +305,8 @@ impl<R: Route> Engine<R> {
         self.raise_nth(guest, slot, place, off, mask)
     }
 
-    /// Moves the function in a slot to another slot of the same or another guest, and resets it.
-    /// The former slot is then empty. Refuses with 303 if a slot is above 31, else with 601 if the
+    /// Moves a function from a guest's slot to an empty slot of any guest, and resets it. The
+    /// source slot is then empty. Refuses with 303 if a slot is above 31, else with 601 if the
     /// source slot is empty, else with 602 if the target slot is occupied. A refusal changes
     /// nothing.
     pub fn move_function(&mut self, from: usize, slot: u64, to: usize, target: u64) -> Reply
@@ -354,8 +354,8 @@ impl<R: Route> Engine<R> {
     }
 }
 
-/// Reads 1, 2 or 4 bytes at a configuration offset of the function at a BDF. CONFIG_ADDRESS is 0
-/// and stays 0.
+/// Reads 1, 2 or 4 bytes at a configuration offset of the function at a BDF. The host's
+/// CONFIG_ADDRESS is 0, and is 0 again afterwards.
 fn config_number(host: &mut Host, at: Bdf, off: u8, width: u64) -> u32
     requires width { IsWidth width }
     requires aligned { off % width ≡ 0 }

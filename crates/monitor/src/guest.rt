@@ -11,7 +11,7 @@ pub(crate) struct AssignedFunction {
     /// The regions with their bases at handoff, each at the index of its first base address
     /// register.
     pub(crate) placed: [Option<BarWithBase>; 6],
-    /// The index among the functions of the host.
+    /// The function's index on the host.
     pub(crate) index: usize,
 }
 

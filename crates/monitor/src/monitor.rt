@@ -21,8 +21,8 @@ use window_packing::Ready;
 pub type Monitor = Engine<Table>;
 
 impl Monitor {
-    /// Assigns functions of a board after set-up to guests. Fails only if memory is exhausted, and
-    /// then drops the board.
+    /// Assigns functions to guests on a board that set-up has configured. Fails only if memory is
+    /// exhausted, and then drops the board.
     pub fn new(alloc: Global, ready: Ready, guests: &[GuestDecl]) -> Result<Monitor, Fault>
         requires { HasLawfulGuests (world_of ready guests.now) }
         ensures made { IfOk result (BeginsIn (λ v.
@@ -34,10 +34,10 @@ impl Monitor {
         Ok(Engine::by_route(alloc, ready, table, guests)?)
     }
 
-    /// Hands a board over to guests, whoever configured it. Resets each assigned function, except
-    /// for the registers that guests have copies of, and clears CONFIG_ADDRESS. Fails with 207 if
-    /// the audit reports a problem, with 206 if a region of a function to assign is disabled, or
-    /// with 299 if memory is exhausted, and then returns the board unchanged.
+    /// Hands a board over to guests, no matter which firmware configured it. Resets each assigned
+    /// function, except for the registers that guests have copies of, and clears CONFIG_ADDRESS.
+    /// Fails with 207 if the audit reports a problem, with 206 if a region of a function to assign
+    /// is disabled, or with 299 if memory is exhausted. A failure returns the board unchanged.
     pub fn hand_over(
         alloc: Global,
         host: Host,

@@ -1,22 +1,24 @@
--- What C asks of a machine or of a board that firmware drives, as data, and what each call answers.
---     Call, BoardCall      a call with what it is given; one of 1 to 8 bytes is a device's or, of a region, a guest's
---     Told      what a call tells, and what stands where it goes: nothing, a number, a row of some kind; a text, an image or a
---         line's reply, which go to a buffer, and with it how many bytes that takes; a text with a count beside it; and rows that
---         stand before as after, with how many of them moved
---     Outcome      a call is refused, or is done, with what is told and the session after it
---     reading r, doing r, telling f r      the outcome of a reply, which tells what was read, or nothing; and of an answer
---     where_lawful, where_guest m guest, of_guest m guest      902 where a value is none that is lawful, and where the machine
---         has no such guest
---     outcome c m, board_outcome c b      what becomes of a call of a machine, and of a board
---     Answer      the number that is answered, the session after it, and what then stands where the answer goes
---     settled s old o      the answer of an outcome: a refusal tells and changes nothing, and 902 is answered where a buffer has
---         less room than a text or an image takes, whose length alone is told, or than a reply may
---     Answers c before after n old new, AnswersBoard ..      a call of a handle is answered so, and by 901 where nothing is held
---     unless_out n o      an outcome; but where n is 299, memory ran out, and nothing is told or changed
---     AnswersOrRunsOut c before after n old new, AnswersBoardOrRunsOut ..      the same of a call that takes memory
---     AnswersLine line room before after n old new      the same of a line of a session, which takes memory where it asks for more
---         than a reply, and has no less room than a reply may take
---     AnswersLoad told R before after n      a load, after which the machine is one that R relates, or else by the number that is told of it
+-- C's calls on a machine, or on a board that firmware drives, as data, and the result of each call.
+--     Call, BoardCall      a call with its arguments; a call of 1 to 8 bytes is by a device or, for a region, by a guest
+--     Told      the output of a call, or what is at the place where the output goes: nothing, a number or a row; a text, an
+--         image or a line's reply, which go to a buffer, with their length; a text with a count; or rows, with how many of
+--         them have moved
+--     Outcome      a call is refused, or it is done, with its output and the session after it
+--     reading r, doing r, telling f r      the outcome of a read reply, of a reply without a value, and of a result
+--     where_lawful, where_guest m guest, of_guest m guest      902 if a value isn't lawful, or if the machine has no such
+--         guest
+--     outcome c m, board_outcome c b      the outcome of a call on a machine, and on a board
+--     Answer      the number that is returned, the session after it, and the content of the output's place
+--     settled s old o      the answer for an outcome: a refusal stores and changes nothing; 902 if a buffer is too small for
+--         a text or an image, of which only the length is stored, or for the longest reply
+--     Answers c before after n old new, AnswersBoard ..      a call on a handle has this answer, or 901 if the handle is
+--         empty
+--     unless_out n o      an outcome; but if n is 299, memory is exhausted, and nothing is stored or changed
+--     AnswersOrRunsOut c before after n old new, AnswersBoardOrRunsOut ..      as Answers, for a call that allocates memory
+--     AnswersLine line room before after n old new      as Answers, for a line of a session, which allocates memory if its
+--         text is longer than a reply, and whose buffer has room for a reply
+--     AnswersLoad told R before after n      a load: 901 without a machine, else the number `told`; if that is 0, R relates
+--         the machine to the one after the load, else nothing changes
 use Rattle.std.specs.Prelude.{◌≡◌, ◌≢◌, ◌==◌, ℕ, List, IfNone, IfSome, slice_get, Bool, true, false, unwrap_or, if◌then◌else◌, nat_lt, nat_le, length, Option, None, Some, option_and_then, option_map, Result, Ok, Err}
 use Rattle.model_guests.specs.{Accesses.{Op, RaisePlace, Reply, Target, answered, done, refused, Event, access, raises, reads, writes}, DeviceEvents.{DeviceByte, DeviceEvent, resets}, Text.Text, Grammar.HostTarget, Lines.host_move, WorldNow.{move_reply, host_reply, board_state, line_output}, Calls.asks}
 use Rattle.model_handoff.specs.{Actions.calls, Changes.{MachineNow, after_on_machine, after_line_on_machine}, Functions.function_nth, DrivenFunctions.driven_function_nth}

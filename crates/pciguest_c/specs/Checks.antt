@@ -1,4 +1,4 @@
--- What a report and a check of a board file tell C.
+-- The report and the check of a board file, as C receives them.
 --     IsReportIn form board before after old new n      the report of a file in a form is put into a buffer, and its length is told,
 --         or n is the number of why not
 --     IsCheckOf board n      n is the number that refuses a board, or 0

@@ -1,12 +1,12 @@
--- What C is told of an event at the device of a guest's function, and of accesses of bytes side by side, by the device or by
--- the guest that has the function.
+-- The results of a device's event at a guest's function, and of accesses to consecutive bytes by the device or by the
+-- function's guest, as C receives them.
 --     reply_at_device, after_at_device      such an event of a guest by its index: the reply, and the machine after it
---     byte_of b      a byte of a function in a slot, from the program's words
+--     byte_of b      a byte of a function in a slot, from the code's types
 --     bytes_from d n      n bytes of a function in a slot, from one on
 --     read_reply side, after_byte side      a read of a byte: the reply; and a write: the machine after it
 --     bytes_read side w guest ds      the number that is read of bytes, the lowest first, or why the first is refused
 --     after_bytes side m guest ds v      the machine after a number was written into bytes, the lowest first
---     width_fault off n      what is no width, or ends past what 64 bits number
+--     width_fault off n      302 for an invalid width, or 303 if offset plus width doesn't fit in 64 bits
 --     wide_read side w guest d n      what is read of n bytes, or the number of the first of these refusals
 --     after_wide side m guest d n v      the machine after a number was written there, if they can be read
 use Rattle.std.specs.{Prelude.{ℕ, zero, suc, ◌+◌, ◌*◌, ◌/◌, ◌%◌, ◌^◌, ◌==◌, ◌||◌, nat_lt, nat_le, List, [], ◌∷◌, if◌then◌else◌, is_ok, Option, None, Some, Result, Ok, Err}, Option.option_map_or}

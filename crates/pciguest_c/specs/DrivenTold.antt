@@ -1,6 +1,6 @@
--- What C is told of a function of a board that firmware drives: PCI Local Bus 3.0, chapter 6; PCI-to-PCI Bridge
--- Architecture 1.2, chapter 3.
---     driven_row f      all that is told of it
+-- The description of a function on a board that firmware drives, as C receives it: PCI Local Bus 3.0, chapter 6; PCI-to-PCI
+-- Bridge Architecture 1.2, chapter 3.
+--     driven_row f      its description
 use Rattle.std.specs.Prelude.{replicate}
 use Rattle.model_handoff.specs.DrivenFunctions.{DrivenFunctionNow}
 use Rattle.pciguest_c.specs.{InterruptsTold.no_interrupt, QueriesTold.one_if, FunctionsTold.function_row, declared.board.functions.DrivenRow.DrivenRow}

@@ -1,9 +1,10 @@
--- What C is told of a function of the board: PCI Local Bus 3.0, chapter 6; PCI-to-PCI Bridge Architecture 1.2, chapter 3.
+-- The description of a function of the board, as C receives it: PCI Local Bus 3.0, chapter 6; PCI-to-PCI Bridge
+-- Architecture 1.2, chapter 3.
 --     region_row b, no_region      a base address register with its region, and where none begins
 --     region_rows r      those of the six base address registers; a bridge has none
 --     window_row w, window_rows r      a window, and a bridge's windows for ports, memory and prefetchable memory
 --     text_room, text_row t      a text at the front of the bytes that are there for it, the others 0
---     function_row f i, function_told w f      all that is told of a function, with its interrupt
+--     function_row f i, function_told w f      the description of a function, with its interrupt
 --     slot_asked w guest slot      the function in a slot of a guest by its index, or why there is none
 use Rattle.std.specs.{Prelude.{◌==◌, ◌-◌, ◌++◌, ℕ, List, [], ◌∷◌, map, length, replicate, find, is_some, Option, Some, None, Result}, Option.option_map_or}
 use Rattle.model_registers.specs.{Declarations.registers_of, Decoding.space_of, EndpointTable.BaseAddress}

@@ -1,4 +1,4 @@
--- What a handle of C holds.
+-- The contents of C's handles.
 --     session_of h      a session, or nothing
 --     machine_of h      the machine of a session whose board is given to its guests
 --     board_of h      the board of a session that firmware drives

@@ -1,4 +1,4 @@
--- How a machine is made of a board, for C.
+-- Making a machine from a board, for C.
 --     SetsUp o before after n      our own set-up of a board that firmware drives, if there is one, into a handle: 901 where there
 --         is none, 903 where the handle holds something, and 904 where firmware wrote; else 0, out of memory, or the first rule
 --         that the board breaks

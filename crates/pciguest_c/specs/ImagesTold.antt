@@ -1,12 +1,12 @@
--- What C is told of images of guests and of loads, and the machine after a guest was put to reset.
+-- The results of saving and loading a guest, as C receives them, and the machine after a guest is reset.
 --     image_asked w guest      the bytes of the image of a guest by its index
---     IsTakenAsSaved m guest      each guest that declares the same takes this image, and then answers as this guest would
+--     IsTakenAsSaved m guest      every guest with equal declarations can load this image, and then answers as this guest would
 --     IsStop g bytes slot offset      where bytes that a guest refuses as an image of other functions or of another version stop
 --         fitting it; of other bytes, slot 32 and how many there are
 --     TellsStop o guest bytes slot offset n      this is told of a machine, if there is one: else 901, and 902 without such a guest
 --     after_restart m guest      the machine after this guest was put to reset
 --     load_number w guest bytes      0, or the number of why bytes can't be loaded into the guest
---     load_asked m guest bytes      the same, or 902 where the machine has no such guest
+--     load_asked m guest bytes      the result of the load, or 902 if the machine has no such guest
 use Rattle.std.specs.Prelude.{◌≡◌, ◌≤◌, ◌<◌, ℕ, true, false, if◌then◌else◌, length, nat_lt, unwrap_or, Option, IfNone, IfSome}
 use Rattle.model_guests.specs.{Text.Text, Lone.LoneGuest, Guests.lone_of, WorldNow.WorldNow}
 use Rattle.model_handoff.specs.Changes.{MachineNow}

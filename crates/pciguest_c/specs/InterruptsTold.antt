@@ -1,10 +1,10 @@
--- What C is told of the interrupt of a function: PCI Local Bus 3.0, chapters 2.2.6, 6.2.2 and 6.2.4; PCI-to-PCI Bridge
--- Architecture 1.2, chapter 9.1.
+-- The description of a function's interrupt, as C receives it: PCI Local Bus 3.0, chapters 2.2.6, 6.2.2 and 6.2.4;
+-- PCI-to-PCI Bridge Architecture 1.2, chapter 9.1.
 --     no_interrupt      where firmware drives the board
---     pin_route p n      a pin, and the device of bus 0 and its pin that it reaches; 0 where it is no pin
---     own_command w s      Command of the function in a slot of a guest, as the guest has it
---     command_now w f      as the guest has it whose function it is, else as the board has it
---     interrupt_of w f      all that is told of it
+--     pin_route p n      a pin, and the device and pin on bus 0 that it is routed to; all 0 if the pin isn't 1 to 4
+--     own_command w s      the guest's copy of Command for the function in a slot
+--     command_now w f      Command of a function: its guest's copy if it is assigned, else the board's register
+--     interrupt_of w f      the interrupt's description
 use Rattle.std.specs.{Prelude.{ℕ, ◌/◌, ◌%◌, ◌||◌, if◌then◌else◌, length, nat_lt, nat_le}, Option.option_map_or}
 use Rattle.model_registers.specs.{Registers.{config, number}, Decoding.{Function, command_word}}
 use Rattle.model_board.specs.{Interrupts.{root_device, root_pin}, Paths.Path, Ports.file_at}
@@ -19,7 +19,7 @@ no_interrupt = record { pin = 0; root_device = 0; root_pin = 0; is_disabled = 0 
 abbrev pub pin_route : Path → ℕ → ℕ × ℕ × ℕ
 pin_route p n = if nat_lt n 1 || nat_lt 4 n then (0, 0, 0) else (n, root_device p, root_pin p n)
 
--- a seat is one of a guest that is there
+-- the guest of an assignment exists
 abbrev pub own_command : WorldNow → Assignment → ℕ
 own_command w s =
     if nat_le (length w.guests) s.guest then 0

@@ -1,4 +1,4 @@
--- How large things can be, as C is told of it.
+-- Upper limits of sizes, as C receives them.
 --     greatest_image      no image of a guest has more bytes: 12 and 32 slots of 246307
 --     limits      functions, guests and slots as board files may have them; registers; cells of a region and of a function
 use Rattle.std.specs.Prelude.{ℕ, replicate}

@@ -1,9 +1,9 @@
--- What C is told of the regions of a guest that stand elsewhere than they were told before.
---     no_region_told      where there is no region
+-- The regions of a guest that have moved since C last received them.
+--     no_region_told      the description of a missing region
 --     place_now w guest n      the region of a guest by its index; n counts six for each slot
---     is_same a b      two regions stand alike
+--     is_same a b      two descriptions of regions are equal
 --     place_row now before      the row of a region, and whether it moved
---     places_from w guest n ps      rows that are told anew, the first of region n
+--     places_from w guest n ps      updated rows, of which the first is for region n
 --     moved_count ps      how many of these moved
 use Rattle.std.specs.Prelude.{ℕ, ◌+◌, ◌/◌, ◌%◌, ◌==◌, ◌&&◌, Bool, not, List, [], ◌∷◌, Result, Ok, Err, count_by}
 use Rattle.model_guests.specs.WorldNow.{WorldNow}

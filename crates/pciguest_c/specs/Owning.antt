@@ -1,4 +1,4 @@
--- What the pointer that C holds owns.
+-- The session that C's pointer owns.
 --     session_coded      how a session is told in a field that the machine does not store
 --     may_free      the right to free a block of the heap, whichever value of its handle is passed
 --     owner_owns      nothing, or the session at the pointer with that right

@@ -1,8 +1,8 @@
--- What C is told of a guest's regions, and of what its accesses hit.
+-- A guest's regions and the byte that an access reaches, as C receives them.
 --     region_asked, hit_asked      the answers for a guest by its index
 --     space_number      1 ports, 2 memory
---     part_number      the part of a function in which a byte stands: a region by its register, or 6
---     region_told, hit_told      the answers for C
+--     part_number      the part of a function that contains a byte: a region by its register, or 6
+--     region_told, hit_told      the results, as C receives them
 use Rattle.std.specs.Prelude.{ℕ, Bool, if◌then◌else◌, Option, Some, None, Result}
 use Rattle.model_registers.specs.{Registers.{Place, config, block, offset_of}, Decoding.{Space, io, memory}}
 use Rattle.model_guests.specs.{Accesses.Target, Slots.Landing, Guests.lone_of, WorldNow.WorldNow}

@@ -1,10 +1,10 @@
--- What C is told, in the words of guests' definitions.
---     number_told      the number of a reply: 0, or that of its refusal
+-- Results for C, in the terms of the definitions of guests.
+--     number_told      the number of a reply: 0, or the number of the refusal
 --     index_asked w name      the index of the first guest of a name
---     value_told old r      what a call leaves where a value goes: what was read, or what stood there
+--     value_told old r      the value stored by a call: the value that was read, or else the old value
 --     target_told space slot n      where an access goes: 0 configuration space, 1 ports, 2 memory
 --     at_bus      the function of a physical number
---     host_target_told space at n      the same of a read by the host
+--     host_target_told space at n      where a read by the host goes
 --     part_told n      where a raise goes: a region by its register, or configuration space
 --     reply_asked, after_asked      a guest's event by its index: the reply, and the machine after it
 use Rattle.std.specs.{Prelude.{ℕ, ◌==◌, if◌then◌else◌, nat_lt, Option, Some, None, position}, Str.bytes_eq}
@@ -45,7 +45,7 @@ host_target_told space at n =
 abbrev pub part_told : ℕ → Option RaisePlace
 part_told n = if nat_lt n 6 then Some (in_region n) else (if n == 6 then Some in_config else None)
 
--- the guest's name stands for it, as no two guests have one name
+-- the name identifies the guest, because no two guests have the same name
 abbrev pub reply_asked : WorldNow → ℕ → Event → Reply
 reply_asked w guest e = answer (lone_of w.guests (name_nth w guest)) e
 

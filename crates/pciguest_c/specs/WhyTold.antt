@@ -1,5 +1,5 @@
--- What C is told of why an access of a guest finds what it finds.
---     why_asked form w guest t      the text in a form, or the number by which it isn't told, as that of a read
+-- The explanation of a guest's access, as C receives it.
+--     why_asked form w guest t      the text in a form, or the number with which a read would be refused
 use Rattle.std.specs.{Prelude.{ℕ, Result, Ok, Err}, Option.option_map_or}
 use Rattle.model_guests.specs.{Accesses.Target, Text.Text, WorldNow.WorldNow}
 use Rattle.session.specs.declared.questions.ReportForm.{ReportForm}

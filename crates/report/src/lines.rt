@@ -25,7 +25,7 @@ fn push_region(text: &mut String, index: usize, region: &BarWithBase) -> Result<
     writeln!(text, "  bar{index} {kind} at 0x{base:x} size 0x{size:x}")
 }
 
-/// Appends the lines of regions, which are at the indices of their first BAR registers.
+/// Appends the lines of regions. Each region is at the index of its first BAR register.
 fn push_regions(text: &mut String, bases: &[Option<BarWithBase>]) -> Result<(), AllocError>
     ensures { OnOk result (Adds text.old text.new
         (text_of_lines (map base_line (bases_from 0 bases.now)))) }

@@ -1,4 +1,4 @@
--- By which number a line of a script is refused, if it is.
+-- The number with which a line of a script is refused, if it is refused.
 --     refusal_of r      that of a reply
 --     reply_to w m      what a line of this meaning is replied, if it makes output
 --     refusal_in w line, refusal_on_machine m line      that of a line

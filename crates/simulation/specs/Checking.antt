@@ -1,4 +1,4 @@
--- What is written of what a check says of a board file.
+-- The text that a check of a board file writes.
 --     IsChecked board fault old new      the fault is that of the file or its board, and a text was written after what was
 --         written before
 --     IsCheckedInPart old new      so was a beginning of a text

@@ -1,12 +1,12 @@
--- What the program does, by what it is asked.
+-- The effect of each of the program's commands.
 --     form_of json      the form of a report or of an audit
---     style_of plain, warned_of all      how a check tells, and of what it warns
+--     style_of plain, warned_of all      the style of a check, and the warnings that it gives
 --     Prints text at result, Lists form board at result, Checks board at result      a text was written
 --         whole and flushed, or a beginning of it where a write or flush failed: one that is given, the report of a
 --         board, or what a check says
 --     Does choice seen board at result      what was done, by how it ended, with a board file of these bytes
---     IsUntold choice      nothing is told of lines
---     IsTelling choice f      the choice tells of the fault
+--     IsUntold choice      no statistics about lines are reported
+--     IsTelling choice f      the choice writes a text about the fault
 --     IsLacking choice f      memory is out once lines ran
 --     IsOfChoice choice f      a fault that the choice can end with
 use Rattle.std.specs.{Prelude.{◌≡◌, Bool, if◌then◌else◌, None, Some, Result, Ok, Err, string_bytes, ⊤}, Io.KnownBytes.Appends}
@@ -33,7 +33,7 @@ Lists form board at (Ok x) = IsListed form board at.before at.after × (at.flush
 Lists form board at (Err Write) = IsListedInPart form board at.before at.after
 Lists form board at (Err other) = ⊤
 
--- a check tells of a fault of the file or its board
+-- a check writes a text about a fault of the file or its board
 abbrev pub Checks : {T : Type 0} → Text → Ends → Result T Fault → Type 0
 Checks board at (Ok x) = IsChecked board None at.before at.after × (at.flushed ≡ at.after)
 Checks board at (Err Write) = IsCheckedInPart at.before at.after

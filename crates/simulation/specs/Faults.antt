@@ -1,4 +1,4 @@
--- Why the program fails.
+-- The reasons why the program fails.
 --     line_of      the line of a fault
 --     open_fault f      the fault of the file or its board, if it is one
 --     OnRun P r      how a run of lines ended has P, if any ran before r
@@ -7,7 +7,7 @@
 --     IsRefusal f      so too, and memory isn't out
 --     OnFile P f, OnSetUp P f      where f refuses the file, or its board, its number has P
 --     read_faults, write_faults      whether a result is the fault of the reader, or of the writer
---     IsToldLast f      f is told once all was written and flushed
+--     IsToldLast f      f is reported once all output was written and flushed
 --     IsOfList, IsOfRun      a fault of a listing, or of a run over a board that is set up
 --     IsOfSession      a fault of a session over a board at reset
 --     IsOfRunAs strict      a fault of a run, or a line was refused, where that is a fault

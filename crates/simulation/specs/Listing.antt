@@ -1,4 +1,4 @@
--- What is written of the report of the board that a board file declares.
+-- The report that is written for the board that a board file declares.
 --     IsListed form board old new      the report of the board that some bytes declare, once it is set up, was written, after
 --         what was written before
 --     IsListedInPart form board old new      so was a beginning of it

@@ -1,4 +1,4 @@
--- What a run says of a board file and a script.
+-- The effect of running a script on the board of a board file.
 --     IsRun board at result      what a run did in the file's world; guests are isolated there
 --     HasRun strict refused seen board at      all lines were read, and what they write was written and flushed; if `strict`,
 --         this is whether one was refused, and this was seen of them

@@ -5,8 +5,8 @@ use diagnostics::Shown;
 use lines::{ArgError, ArgKind, BadLine, Dialect, RunStats};
 use std::alloc::{AllocError, Global};
 
-/// Returns what a missing word of this kind is called, and the message about a word of another
-/// kind.
+/// Returns the phrase for a missing word of this kind, and the message for a word that isn't of
+/// this kind.
 fn words_of(role: ArgKind) -> (&'static str, &'static str) {
     let number = "is no number below 2^64";
     match role {
@@ -48,8 +48,8 @@ fn push_bad_line(text: &mut String, bad: &BadLine) -> Result<(), AllocError> {
     }
 }
 
-/// Returns the error messages about the first bad lines, and a last line with the number of the
-/// others, if there are more. The text is empty if there are no bad lines.
+/// Returns the error messages about the first bad lines and, if there are more, a last line that
+/// counts the rest. The text is empty if there are no bad lines.
 pub fn bad_lines_text(alloc: Global, seen: &RunStats) -> Result<String, AllocError>
     ensures silent { seen.now.bad ≡ 0 → IfOk result (λ t. string_bytes t ≡ []) }
 {

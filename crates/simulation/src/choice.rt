@@ -101,8 +101,8 @@ pub fn perform<R: Reader, W: Writer>(
         → ¬ IsTelling choice.now f → ¬ IsLacking choice.now f
         → writer.new ≡ writer.old) }
 
-    // If memory was exhausted once lines had run, by a question or by a handover, the output of the
-    // lines was flushed.
+    // If a question or a handover exhausted memory once lines had run, the output of the lines was
+    // flushed.
     ensures lacking_flushed { IfErr result (λ f. IsLacking choice.now f →
         (W.flushed writer.new ≡ W.written writer.new) ⊎ (writer.new ≡ writer.old)) }
 

@@ -1,4 +1,4 @@
--- The buses of a board, and what stands above each of its functions: PCI-to-PCI Bridge Architecture 1.2, chapter 3.2.5.
+-- The buses of a board, and the bridges above each of its functions: PCI-to-PCI Bridge Architecture 1.2, chapter 3.2.5.
 --     bus_path      the path of the bus with an index: 0 is bus 0, and 1 + n the bus behind the function of row n
 --     nothing_above, behind      what a function has above it, on bus 0 and behind a bridge
 --     AreAbove      for each row: the index of its bus, and what all bridges above it have

@@ -11,7 +11,7 @@ use Rattle.window_packing.specs.{Packs.PackedBus, Placed.{PlacedPool, Placement}
 abbrev pub bus_at : List Path → ℕ → Path
 bus_at paths bus = unwrap_or (slice_get ([] ∷ paths) bus) []
 
--- the buses with their first addresses and with what stands on them
+-- the buses with their first addresses and their items
 abbrev pub rows_along : Pool → List Path → List ℕ → List PackedBus → List LayoutRow
 rows_along pool (bus ∷ buses) (n ∷ ns) (p ∷ ps) = map (row_of pool bus n) p.spots ++ rows_along pool buses ns ps
 rows_along pool buses ns ps = []

@@ -1,9 +1,9 @@
 -- One pool of a board, placed (this project's own rule).
 --     bus_paths      the paths of all buses, by index
 --     PlacedPool, IsPlaced      each bus with its items, and its first address
---     Placement, IsPlacement      the same of all three pools
+--     Placement, IsPlacement      all three pools, placed
 --     pool_in      one of them
---     IsAboveAt      what stands above the function of a row
+--     IsAboveAt      the bridges above the function of a row
 --     IsRegionAt      a region of the endpoint of a row
 --     is_bar_in, is_port      a register's region lies in a space; it is of I/O
 use Rattle.std.specs.Prelude.{List, [], ◌∷◌, ◌≡◌, ℕ, Bool, false, Option, Some, None, map, slice_get, IsTrue}
@@ -20,7 +20,7 @@ pub record PlacedPool : Type 0 where
   pub packs : List PackedBus
   pub firsts : List ℕ
 
--- the pool fits its aperture, and this is where its buses stand
+-- the pool fits its aperture, and these are the addresses of its buses
 pub record IsPlaced (b : Board) (a : Apertures) (pool : Pool) (p : PlacedPool) : Type 0 where
   pub apertures : IsLawfulApertures a
   pub fit : IsTrue (fits b a pool)

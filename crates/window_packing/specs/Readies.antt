@@ -1,6 +1,6 @@
 -- A board that is set up: PCI Local Bus 3.0, chapter 6.2.5; PCI-to-PCI Bridge Architecture 1.2, chapters 3.2.5
 -- and 4.
---     ReadyBoard      a host, what was found of its functions, and where their regions and windows stand
+--     ReadyBoard      a host, the table of its functions, and the addresses of their regions and windows
 --     board_below      the functions below a host
 --     IsEnumerated      what scan and sizing leave of a host at reset: its bus numbers, and its functions in a table
 --     IsReady      registers, table and plan are those that set-up gives to the board, and the plan's rows are a lawful
@@ -21,7 +21,7 @@ pub record ReadyBoard : Type 0 where
 abbrev pub board_below : HostState → Board
 board_below h = board_at h.state.functions
 
--- h is at reset, k the same host when it is enumerated, and t the table of its functions
+-- h is at reset, k is that host after enumeration, and t is the table of its functions
 pub record IsEnumerated (h k : HostState) (t : List TableRow) : Type 0 where
   pub host : k ≡ record h { state = numbered_state (board_below h) }
   pub board : board_below k ≡ board_below h

@@ -1,5 +1,5 @@
--- Where an item stands among the spots of a bus (this project's own order).
---     IsFirstFrom ss i n      the spot at index n is the first whose item doesn't stand before i
+-- The position of an item among the placed items of a bus (this project's own order).
+--     IsFirstFrom ss i n      the spot at index n is the first whose item isn't ordered before i
 use Rattle.std.specs.Prelude.{List, ◌≡◌, ℕ, ◌<◌, ◌≤◌, Some, length, slice_get, IsTrue, IsFalse}
 use Rattle.model_set_up.specs.Placement.{PlacementItem, PlacedItem, stands_before}
 

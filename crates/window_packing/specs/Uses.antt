@@ -1,4 +1,4 @@
--- How much of its aperture a pool takes (placement is this project's own rule).
+-- How much of its aperture a pool needs (placement is this project's own rule).
 --     pool_use      where bus 0 begins in a pool, how far its items extend from there, and how far the aperture does
 --     told_use      the same, where they extend over 2 ^ 63 bytes at most
 use Rattle.std.specs.Prelude.{List, [], ◌-◌, ◌^◌, if◌then◌else◌, nat_le, Option, Some, None}

@@ -1,7 +1,7 @@
 -- Configuration writes of words: PCI Local Bus 3.0, chapter 3.2.2.3; PCI-to-PCI Bridge Architecture 1.2, chapter 3.2.5.
 --     WordWrite      the enabled bytes of the word at an offset
---     after_word, after_words      the functions after such writes to the function that a number reaches
---     base_words, endpoint_words, bridge_words      what gives a region its base, and a function its registers
+--     after_word, after_words      the functions after these writes to the function at a BDF
+--     base_words, endpoint_words, bridge_words      the writes that set a region's base and a function's registers
 --     words_of, after_settings      the writes of a setting, and the functions after settings in order
 --     host_after      the host with such functions and the address latch clear
 use Rattle.std.specs.Prelude.{List, [], ◌∷◌, ◌++◌, ℕ, ◌+◌, ◌*◌, ◌/◌, ◌%◌, ◌^◌, ◌==◌, if◌then◌else◌, flat_map}
@@ -27,7 +27,7 @@ after_words at (w ∷ ws) fs = after_words at ws (after_word at w fs)
 
 -- ---- the words of a function
 
--- the upper half of a 64-bit base stands in the next register
+-- the next register holds the upper half of a 64-bit base
 abbrev pub base_words : BaseAddress → List WordWrite
 base_words b =
     word (0x10 + 4 * b.index) 0xf (b.base % 2 ^ 32)

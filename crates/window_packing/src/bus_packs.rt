@@ -32,7 +32,7 @@ fn no_items(alloc: Global, count: usize) -> Result<Vec<Vec<PlacementItem>>, Allo
 /// behind each function in row order; the bus behind an endpoint is empty. Returns `None` if a bus
 /// ends above 2^63, because the pool then can't fit in its aperture.
 ///
-/// Each bus is sorted once, so the total time is that of sorting all regions and windows.
+/// Each bus is sorted once, so packing takes about as long as sorting all regions and windows.
 pub(crate) fn pack_pool(
     alloc: Global,
     pool: Pool,

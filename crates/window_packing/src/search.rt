@@ -7,7 +7,7 @@ ghost use Rattle.window_packing.specs.Searching.{IsFirstFrom};
 use crate::item::{PlacedItem, PlacementItem};
 use crate::pack::PackedBus;
 
-/// Returns whether both items are the same region, or the window of the same bridge.
+/// Returns whether both items are one region, or one bridge's window.
 fn is_same(item: &PlacementItem, key: &PlacementItem) -> bool
     ensures { result ≡ is_item key.now.part key.now.what item.now }
 {

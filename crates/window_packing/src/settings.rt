@@ -152,7 +152,7 @@ fn window_of(pool: Pool, closed: u64, first: u64, pack: &PackedBus) -> WindowSet
     }
 }
 
-/// Returns the window, in one pool, of the bus behind the function in row `i`.
+/// Returns the window in one pool for the bus behind the function in row `i`.
 fn window_behind(
     rows: &[EnumeratedFunction],
     i: usize,

@@ -40,7 +40,8 @@ fn behind(bus: usize, row: &EnumeratedFunction, up: UpstreamWindows) -> Upstream
     }
 }
 
-/// Returns the properties for functions on a bus, given those of the functions in the first rows.
+/// Returns the properties of the bridges above a bus, given the properties for the functions in the
+/// first rows.
 fn on_bus(rows: &[EnumeratedFunction], above: &[UpstreamWindows], bus: usize) -> UpstreamWindows
     requires known { bus ≤ length above.now }
     requires there { length above.now ≤ length rows.now }

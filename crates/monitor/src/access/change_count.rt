@@ -1,5 +1,5 @@
-//! The change counts of guests: how often a region of a guest's functions may have been moved,
-//! enabled or disabled.
+//! Guests' change counts. A guest's count grows whenever a region of its functions may have been
+//! moved, enabled or disabled.
 ghost use Rattle.std.specs.Prelude.{◌≡◌, ◌<◌, Some, length, slice_get};
 ghost use Rattle.model_registers.specs.{ByteEnables.IsWidth, Registers.config};
 ghost use Rattle.model_handoff.specs.{StayLaws.any_tells, Changes.after_change};
@@ -16,8 +16,7 @@ pub(crate) fn tells_regions(offset: u64, width: u64) -> bool
     (offset < 0x06 && offset + width > 0x04) || (offset < 0x28 && offset + width > 0x10)
 }
 
-/// Returns the next change count, which wraps from 2^64 - 1 to 0. The count stays the same unless
-/// `changes` is set.
+/// Returns the change count, increased by one if `changes` is set. It wraps from 2^64 - 1 to 0.
 pub(crate) fn counted(count: u64, changes: bool) -> u64
     ensures { result ≡ after_change changes count }
 {
@@ -29,10 +28,10 @@ pub(crate) fn counted(count: u64, changes: bool) -> u64
 }
 
 impl<R: Route> Engine<R> {
-    /// Returns how often an access of the guest, a move, a reset, a load, a restart, an assignment
-    /// or an unassignment may have changed a region of a function in one of the guest's slots.
-    /// While the count stays the same, all results of `region` for the guest stay the same. It
-    /// wraps from 2^64 - 1 to 0.
+    /// Returns how often a region in one of the guest's slots may have changed, through an access
+    /// of the guest, a move, a load, an assignment, an unassignment, or a reset of a function or of
+    /// the guest. While the count stays the same, `region` returns the same results for the guest.
+    /// It wraps from 2^64 - 1 to 0.
     pub fn changed(&self, guest: usize) -> u64
         requires { guest < length self.now.world.guests }
         ensures { slice_get self.now.counts guest ≡ Some result }

@@ -59,8 +59,8 @@ pub(crate) fn function_in(
     }
 }
 
-/// Writes the guest's copies among the enabled bytes of a word, and returns the function's index on
-/// the host and the byte enables to forward to the board.
+/// Writes those enabled bytes of a configuration word that the guest has copies of. Returns the
+/// function's index on the host, and the byte enables of the bytes to write on the board.
 pub(crate) fn write_own(
     slots: &mut [Option<AssignedFunction>],
     slot: usize,
@@ -82,8 +82,8 @@ pub(crate) fn write_own(
     }
 }
 
-/// Writes the copies in a slot of a guest, as `write_own` does. Increments the guest's change count
-/// if `changes` is set.
+/// Calls `write_own` for a guest's slot, and increments the guest's change count if `changes` is
+/// set.
 pub(crate) fn write_in(
     guests: &mut [Guest],
     guest: usize,

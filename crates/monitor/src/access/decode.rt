@@ -1,4 +1,4 @@
-//! The decoding of guest addresses.
+//! Decoding of guest addresses.
 ghost use Rattle.std.specs.Prelude.{◌≡◌, List, Option, IfSome, option_map};
 ghost use Rattle.model_board.specs.{Paths.Path, State.State};
 ghost use Rattle.model_guests.specs.Slots.{Slots, landing_from};
@@ -10,8 +10,9 @@ use crate::guest::AssignedFunction;
 use bars::Space;
 use host_bridge::BarOffset;
 
-/// Returns the first region that decodes an address according to the guest's own registers, by slot
-/// and then by base address register: the slot, the register and the offset in the region.
+/// Finds the region that decodes an address according to the guest's own registers. If several
+/// regions do, the lowest slot wins, then the lowest base address register. Returns the slot, the
+/// register and the offset in the region.
 pub(crate) fn landing(
     slots: &[Option<AssignedFunction>],
     space: Space,
@@ -32,7 +33,7 @@ pub(crate) fn landing(
     None
 }
 
-/// Returns the location on the board of an offset in a region of the function in a slot.
+/// Converts a slot, a base address register and an offset in its region to a location on the board.
 pub(crate) fn located(
     slots: &[Option<AssignedFunction>],
     slot: usize,

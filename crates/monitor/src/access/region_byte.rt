@@ -14,8 +14,8 @@ use crate::queries::regions::region_kept;
 use accesses::{Op, Place, Refusal, Reply, master_abort};
 use host_bridge::{BarOffset, Route};
 
-/// Returns whether the guest's Command enables the region with this byte, or None if no region has
-/// the byte.
+/// Returns whether the guest's Command enables the region that contains this byte, or None if no
+/// region contains it.
 fn opening(held: &AssignedFunction, place: Place, off: u64) -> Option<bool>
     ensures { (s : State) (p : Path) (f : Function) → IsHeld s p f held.now
         → IsLawfulOwn held.now.own → result ≡ opening f (part_of place) off }
@@ -33,7 +33,8 @@ fn opening(held: &AssignedFunction, place: Place, off: u64) -> Option<bool>
     }
 }
 
-/// Returns the location on the board of a byte in a region of a function.
+/// Converts a base address register of a function and an offset in its region to a location on the
+/// board.
 fn byte_at(held: &AssignedFunction, place: Place, off: u64) -> BarOffset
     ensures { result
         ≡ record { index = held.now.index; region = register_of (part_of place); offset = off } }

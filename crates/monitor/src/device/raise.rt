@@ -13,8 +13,8 @@ use crate::guest::AssignedFunction;
 use accesses::Place;
 use host_bridge::Host;
 
-/// Returns whether a function in a slot has the byte: an offset in its configuration space, or one
-/// below the size of the region that begins at a base address register.
+/// Returns whether the byte exists in the function: its offset is at most 255 in configuration
+/// space, or below the size of the region that begins at the base address register.
 pub(crate) fn has_place(held: &AssignedFunction, place: Place, off: u64) -> bool
     ensures { (s : State) (p : Path) (f : Function) → IsHeld s p f held.now
         → result ≡ is_some (raise_place f (part_of place) off) }

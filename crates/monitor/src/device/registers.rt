@@ -85,9 +85,9 @@ impl<R: Route> Engine<R> {
         }
     }
 
-    /// Sets a byte of a guest's function as its device does, whatever the masks of the byte, which
-    /// stay. An undeclared byte isn't changed. Refuses the same bytes as `device_read`. A refusal
-    /// changes nothing. Allocates no memory.
+    /// Sets a byte of a guest's function as its device does. The byte's masks don't limit the
+    /// value, and don't change. An undeclared byte isn't changed. Refuses in the same cases as
+    /// `device_read`, with the same numbers. A refusal changes nothing. Allocates no memory.
     pub fn device_write(
         &mut self,
         guest: usize,

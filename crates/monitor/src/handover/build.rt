@@ -18,8 +18,8 @@ impl<R: Route + Drop> Engine<R> {
     /// Assigns functions of a consistently routed board to guests, over a route that fits the
     /// board. None of their regions may be disabled. Resets each assigned function, except for the
     /// registers that guests have copies of, and clears CONFIG_ADDRESS. Fails only if memory is
-    /// exhausted, and then returns the board unchanged. A pass over the declarations establishes
-    /// that all guests can be saved.
+    /// exhausted, and then returns the board unchanged. Reads all declarations first, which
+    /// establishes that all guests can be saved.
     pub fn over_by_route(
         alloc: Global,
         host: Host,
@@ -44,8 +44,8 @@ impl<R: Route + Drop> Engine<R> {
         Ok(Engine::of_parts(host, route, names_of(guests), kept))
     }
 
-    /// Assigns functions of a board after set-up to guests, over a route that fits the board. Fails
-    /// only if memory is exhausted, and then drops the board.
+    /// Assigns functions to guests on a board that set-up has configured, over a route that fits
+    /// the board. Fails only if memory is exhausted, and then drops the board.
     pub fn by_route(
         alloc: Global,
         ready: Ready,

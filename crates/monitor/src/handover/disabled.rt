@@ -59,7 +59,7 @@ fn is_given(decls: &[GuestDecl], path: &Path) -> bool
     decls.iter().any(|decl| has_path(decl, path))
 }
 
-/// Returns the first disabled region of a function that is to be assigned to a guest.
+/// Returns the function's first disabled region, if the function is to be assigned to a guest.
 fn closed_if_given(decls: &[GuestDecl], row: &RoutingRow) -> Option<LiveBar>
     ensures { let ps = flat_map (λ (g : GuestValue). g.slots) decls.now in
         result ≡ closed_if_given ps row.now }
@@ -84,8 +84,7 @@ fn first_closed_in(rows: &[RoutingRow], decls: &[GuestDecl]) -> Option<LiveBar>
     None
 }
 
-/// Returns the first disabled region of a board among all functions that are to be assigned to
-/// guests.
+/// Returns the board's first disabled region among all functions that are to be assigned to guests.
 pub(crate) fn first_closed(
     alloc: Global,
     host: &Host,

@@ -20,7 +20,7 @@ pub enum HandoverFault {
     Memory,
 }
 
-/// Returns the message for the number of a fault, or an empty string for any other number.
+/// Returns the message for a handover fault's number, or an empty string for any other number.
 fn handover_words(number: u32) -> &'static str
     ensures { result.now ≡ handover_words number }
 {

@@ -42,8 +42,8 @@ fn decls_of(placed: &[Option<BarWithBase>; 6]) -> [Option<BarDecl>; 6]
     ]
 }
 
-/// Returns the endpoint at an index for a guest's slot: the guest's copies are at reset, and the
-/// regions are where the host has placed them.
+/// Returns the initial slot record for the endpoint at an index: the guest's copies are at reset,
+/// and the regions have the bases that they have on the host.
 pub(crate) fn held_of(host: &Host, index: usize) -> AssignedFunction
     requires { HasLawfulRegions
         (map opened (map with_no_base (bases_nth host.now.state.functions index))) }
@@ -58,7 +58,7 @@ pub(crate) fn held_of(host: &Host, index: usize) -> AssignedFunction
     }
 }
 
-/// Returns the endpoint at a path for a guest's slot.
+/// Returns the initial slot record for the endpoint at a path.
 fn held_at(host: &Host, path: &Path) -> AssignedFunction
     requires board { IsStateOfBoard host.now.state.functions }
     requires there { IsSome (declared (board_below host.now) path.now) }
@@ -71,7 +71,7 @@ fn held_at(host: &Host, path: &Path) -> AssignedFunction
     }
 }
 
-/// Returns the 32 slots of a guest: the endpoints at these paths, from slot 0 on, and then empty
+/// Returns a guest's 32 slots: the endpoints at these paths, starting at slot 0, and then empty
 /// slots.
 fn slots_of(
     alloc: Global,

@@ -23,7 +23,7 @@ fn reset_at(host: &mut Host, path: &Path)
     host.reset_nth(index);
 }
 
-/// Resets the endpoints at all of these paths in the same way.
+/// Resets the endpoints at these paths, except for the registers that guests have copies of.
 fn reset_all(host: &mut Host, paths: &[Path])
     ensures { let files = files_given (board_below host.old) paths.now in
         host.new ≡ with_functions

@@ -27,8 +27,8 @@ fn with_no_slots(alloc: Global, names: &Names) -> Result<Vec<GuestDecl>, AllocEr
 }
 
 impl<R: Route> Engine<R> {
-    /// Returns the board. Guests' functions are on it as they are now, except for the registers
-    /// that guests have copies of.
+    /// Returns the board. It shows guests' functions as they are now, except for the registers that
+    /// guests have copies of.
     pub fn host(&self) -> &Host
         ensures state { result.now.state ≡ board_state self.now.world }
         ensures handoff { IsHandoff result.now.state }
@@ -37,8 +37,8 @@ impl<R: Route> Engine<R> {
         &self.host
     }
 
-    /// Returns a new board with the same functions at reset, and guests with the same names and
-    /// with empty slots.
+    /// Returns a new copy of the board at reset, and declares guests that have this monitor's names
+    /// and empty slots.
     pub fn anew(&self, alloc: Global) -> Result<(Host, Vec<GuestDecl>), AllocError>
         ensures board { let board = board_at (board_state self.now.world).functions in
             IfOk result (λ r. board_at r.0.state.functions ≡ board) }

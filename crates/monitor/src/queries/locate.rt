@@ -91,8 +91,9 @@ fn locate_in(guest: &Guest, at: At) -> Result<Option<DecodedByte>, Refusal>
 impl<R: Route> Engine<R> {
     /// Returns the byte that an access of a guest reaches in a function in one of its slots, or
     /// None if the access is unclaimed. All accesses to the place reach this byte, except 4-byte
-    /// accesses to CF8h, which go to the guest's CONFIG_ADDRESS. Fails like a one-byte read, with
-    /// 303 for a slot above 31, an offset above 255 or a port above FFFFFFFFh. Allocates no memory.
+    /// accesses to CF8h, which go to the guest's CONFIG_ADDRESS. Fails with 303, as a one-byte read
+    /// would, for a slot above 31, an offset above 255 or a port above FFFFFFFFh. Allocates no
+    /// memory.
     pub fn locate(&self, guest: usize, at: At) -> Result<Option<DecodedByte>, Refusal>
         requires { guest < length self.now.world.guests }
         ensures { result_map_both (option_map hit_named) number_of result

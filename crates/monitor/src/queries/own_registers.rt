@@ -1,5 +1,5 @@
-//! The register values that a guest has to itself: its CONFIG_ADDRESS, and its copies for the
-//! function in each slot.
+//! The registers that each guest has for itself: its CONFIG_ADDRESS, and its copies of Command and
+//! the base address registers of the function in each slot.
 ghost use Rattle.std.specs.Prelude.{◌≡◌, ◌<◌, ℕ, length, option_map};
 ghost use Rattle.model_registers.specs.{Registers.File, OwnCopies.{HoldsOwn, IsLawfulOwn}, Decoding.{Function, command_word}};
 ghost use Rattle.model_board.specs.{Paths.Path, State.State};
@@ -81,7 +81,7 @@ fn registers_in(guest: &Guest, slot: usize) -> Option<OwnRegisters>
     }
 }
 
-/// Returns the number of slots of a guest.
+/// Returns how many slots a guest has.
 fn slot_count(guest: &Guest) -> usize
     ensures { (w : WorldNow) (i : ℕ) → IsGuestNth w i guest.now
         → result ≡ length (lone_nth w i).slots }
@@ -98,7 +98,7 @@ impl<R: Route> Engine<R> {
         self.guest(guest).latch
     }
 
-    /// Returns the number of slots of a guest.
+    /// Returns how many slots a guest has.
     pub fn slots(&self, guest: usize) -> usize
         requires { guest < length self.now.world.guests }
         ensures { result

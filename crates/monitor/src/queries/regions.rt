@@ -36,8 +36,8 @@ fn is_prefetchable(kind: Kind) -> bool
     }
 }
 
-/// Returns the base address in the guest's own base address registers, from the register at an
-/// index on.
+/// Returns the base address that the guest's copies give to the region of this kind at base address
+/// register `bar`.
 pub(crate) fn base_of(held: &AssignedFunction, bar: u16, kind: Kind) -> u64
     requires { bar < 6 }
     ensures { (file : File) → HoldsOwn file held.now.own →

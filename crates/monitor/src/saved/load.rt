@@ -1,5 +1,5 @@
-//! Loading of a guest from saved bytes: its slots in order, and then CONFIG_ADDRESS. No call
-//! allocates memory.
+//! Loads a guest's saved state: its slots in order, and then CONFIG_ADDRESS. Bytes that don't fit
+//! the guest are refused with 905, 906 or 908. No call allocates memory.
 ghost use Rattle.std.specs.Prelude.{◌≡◌, ◌<◌, List, ℕ, None, Ok, IfSome, IsSome, true, length, map, option_map, take, drop};
 ghost use Rattle.model_guests.specs.{Slots.slot_at, Guests.lone_of};
 ghost use Rattle.model_images.specs.{Images.lone_of_image, ImageBytes.image_of, LoadedBytes.{after_latch, load_fault}, TakenBytes.{le_number, slot_size, taken_image}};
@@ -51,8 +51,8 @@ fn value_span(
     Some((1 + declaration_size(decl), values_size(decl)))
 }
 
-/// Loads the function in a slot from the bytes at the front, and returns the bytes after the slot.
-/// No change is counted.
+/// Loads the function in a slot from the front of `bytes`, and returns the bytes after the slot.
+/// Doesn't touch the change count.
 fn load_slot<'a>(
     host: &mut Host,
     guests: &mut [Guest],
@@ -108,8 +108,8 @@ fn latch_in(bytes: &[u8]) -> u32
     }
 }
 
-/// Loads bytes that fit the guest. The guest is reset, which counts as one change, and then its
-/// functions and its CONFIG_ADDRESS are loaded.
+/// Resets the guest, which adds one to its change count, and then loads its functions and its
+/// CONFIG_ADDRESS from bytes that fit the guest.
 fn load_image(host: &mut Host, guests: &mut [Guest], guest: usize, bytes: &[u8])
     requires has { HasSlot guests.old guest 31 }
     requires takes { (k : KeepsWorld host.old guests.old)
@@ -126,7 +126,7 @@ fn load_image(host: &mut Host, guests: &mut [Guest], guest: usize, bytes: &[u8])
 }
 
 impl<R: Route> Engine<R> {
-    /// Loads bytes that a comparison has found to fit the guest.
+    /// Loads bytes that `compare_image` accepts for the guest.
     fn load_taken(&mut self, guest: usize, bytes: &[u8])
         requires there { guest < length self.old.world.guests }
         requires accepted { let g = lone_of self.old.world.guests (name_nth self.old.world guest) in
@@ -137,12 +137,12 @@ impl<R: Route> Engine<R> {
         load_image(&mut self.host, &mut self.guests, guest, bytes);
     }
 
-    /// Loads a guest from saved bytes. Its functions and its CONFIG_ADDRESS then have the saved
-    /// values. They reach them from reset, by writes that the guest and its devices could make
-    /// themselves. The load counts as one change of the guest, and other guests aren't affected.
-    /// Refuses with 905 if they are not a saved state, 906 if the guest has other functions in its
-    /// slots, or 908 if they have another version of the format. A refusal changes nothing. The
-    /// first byte that doesn't fit decides. Allocates no memory.
+    /// Loads a guest's saved state: sets the guest's functions and its CONFIG_ADDRESS to the saved
+    /// values, by a reset and by writes that the guest and its devices could make themselves. Adds
+    /// one to the guest's change count, and doesn't affect other guests. Refuses with 905 if the
+    /// bytes aren't a saved state, 906 if the guest has different functions in its slots, or 908 if
+    /// the bytes have a different version of the format. The first byte that doesn't fit determines
+    /// the number. A refusal changes nothing. Allocates no memory.
     pub fn load(&mut self, guest: usize, bytes: &[u8]) -> Option<ImageFault>
         requires { guest < length self.old.world.guests }
         ensures fault { let g = lone_of self.old.world.guests (name_nth self.old.world guest) in

@@ -1,5 +1,6 @@
-//! Loading of one function from saved values. Registers change only through writes that the guest
-//! or the device could make itself. No call allocates memory.
+//! Loads saved values into one function, only by writes that the guest or the device could make
+//! itself. The bytes have been checked before, so no call refuses them with 905, 906 or 908. No
+//! call allocates memory.
 ghost use Rattle.std.specs.Prelude.{◌≡◌, ◌≤◌, ◌<◌, ◌+◌, ◌*◌, ◌^◌, ℕ, IsSome, IsTrue, Some, drop, length, slice_get};
 ghost use Rattle.model_registers.specs.{Declarations.{ConfigBlock, Region}, Decoding.Function, DeviceBytes.is_device_byte, Registers.{config, write, all_bytes}};
 ghost use Rattle.model_images.specs.{Images.restored, StepLaws.{put_run, written_run, header_values, header_steps, blocks_steps, blocks_size, region_steps, regions_steps, base_size, steps}};
@@ -15,7 +16,7 @@ use config_bytes::{enables_of, to_lanes};
 use headers::register_width;
 use host_bridge::Host;
 
-/// Returns the index on the host of the function in a slot of a guest.
+/// Returns the host's index for the function in a guest's slot.
 fn index_in(guests: &[Guest], guest: usize, slot: usize) -> usize
     requires { HoldsAt guests.now guest slot }
     ensures { (holds : HoldsAt guests.now guest slot) → result ≡ holds.slot.held.index }
@@ -26,7 +27,7 @@ fn index_in(guests: &[Guest], guest: usize, slot: usize) -> usize
     }
 }
 
-/// Sets consecutive bytes of an endpoint from a place on, as its device does.
+/// Sets consecutive bytes of an endpoint as its device does, starting at offset `first`.
 fn put_run(host: &mut Host, index: usize, place: Place, first: u64, bytes: &[u8])
     requires there { IsSome (endpoint_nth host.old.state.functions index) }
     requires own { (n : ℕ) → n < length bytes.now
@@ -45,8 +46,8 @@ fn put_run(host: &mut Host, index: usize, place: Place, first: u64, bytes: &[u8]
     }
 }
 
-/// Writes a configuration byte of the function in a slot, as its guest does, without counting a
-/// change.
+/// Writes a configuration byte of the function in a slot as its guest does, but doesn't touch the
+/// change count.
 fn write_byte(host: &mut Host, guests: &mut [Guest], guest: usize, slot: usize, off: u8, value: u8)
     requires { KeepsFunction host.old guests.old guest slot }
     ensures becomes { (k : KeepsFunction host.old guests.old guest slot)
@@ -61,7 +62,7 @@ fn write_byte(host: &mut Host, guests: &mut [Guest], guest: usize, slot: usize, 
     host.config_write_nth(index, word, others, moved);
 }
 
-/// Writes consecutive configuration bytes from an offset on, as the guest does.
+/// Writes consecutive configuration bytes as the guest does, starting at an offset.
 fn write_run(
     host: &mut Host,
     guests: &mut [Guest],
@@ -101,7 +102,7 @@ fn load_header(host: &mut Host, guests: &mut [Guest], guest: usize, slot: usize,
     write_run(host, guests, guest, slot, 0x3c, &values[19..20]);
 }
 
-/// Returns the number of configuration blocks of an endpoint.
+/// Returns how many configuration blocks an endpoint has.
 fn block_count(host: &Host, index: usize) -> usize
     ensures { (e : Function) → endpoint_nth host.now.state.functions index ≡ Some e
         → result ≡ length e.decl.blocks }
@@ -160,7 +161,7 @@ fn load_blocks<'a>(
     left
 }
 
-/// Returns the number of regions of an endpoint.
+/// Returns how many regions an endpoint has.
 fn region_count(host: &Host, index: usize) -> usize
     ensures { (e : Function) → endpoint_nth host.now.state.functions index ≡ Some e
         → result ≡ length e.decl.regions }
@@ -171,8 +172,8 @@ fn region_count(host: &Host, index: usize) -> usize
     }
 }
 
-/// Returns the base address register of a region, its width in bytes, and the number of declared
-/// bytes in the region.
+/// Returns a region's base address register, the register's width in bytes, and how many bytes of
+/// the region are declared.
 fn region_at(host: &Host, index: usize, region: usize) -> (u8, usize, usize)
     requires { (e : Function) × (r : Region)
         × (endpoint_nth host.now.state.functions index ≡ Some e)
@@ -240,7 +241,7 @@ fn load_regions(host: &mut Host, guests: &mut [Guest], guest: usize, slot: usize
     }
 }
 
-/// Loads a saved value into each register byte, by writes of the guest and of the device.
+/// Loads the saved value of each register byte, by guest writes and device writes.
 fn take_steps(host: &mut Host, guests: &mut [Guest], guest: usize, slot: usize, values: &[u8])
     requires { (k : KeepsFunction host.old guests.old guest slot) × IsLoadable k values.now }
     ensures becomes { (k : KeepsFunction host.old guests.old guest slot) → IsLoadable k values.now
@@ -253,8 +254,8 @@ fn take_steps(host: &mut Host, guests: &mut [Guest], guest: usize, slot: usize, 
     load_regions(host, guests, guest, slot, left);
 }
 
-/// Loads the function in a slot, which is at reset, with values that its registers can hold.
-/// Nothing else changes, and no change is counted.
+/// Loads saved values into the function in a slot. The function is at reset, and its registers can
+/// hold the values. Nothing else changes, not even the change count.
 pub(crate) fn load_function(
     host: &mut Host,
     guests: &mut [Guest],

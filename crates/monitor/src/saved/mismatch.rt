@@ -1,5 +1,5 @@
-//! The position of the first mismatch in bytes that a guest refuses to load. No call allocates
-//! memory.
+//! Finds the first mismatch in bytes that a guest refuses to load with 906 or 908. No call
+//! allocates memory.
 ghost use Rattle.std.specs.{Prelude.{◌≡◌, ◌≢◌, ◌≤◌, ◌<◌, ◌==◌, IfSome, Some, false, is_some, length, map}, Option.option_map_or};
 ghost use Rattle.model_guests.specs.Guests.{lone_of};
 ghost use Rattle.model_images.specs.{LoadedBytes.load_fault, Stops.{StopsAt, is_told, slots_read, stop_slot}};
@@ -11,15 +11,15 @@ use crate::saved::save::{after_slot, compare_image};
 use host_bridge::{Host, Route};
 use images::{after_header, after_latch};
 
-/// The position of the first byte that doesn't fit: its slot, 0 to 31, or 32 in front of the first
-/// slot, and its offset in the bytes.
+/// The position of the first byte that doesn't fit: its slot (0 to 31, or 32 if the byte is in
+/// front of the slots), and its offset in the bytes.
 #[derive(Clone, Copy, Debug, PartialEq, Eq)]
 pub struct ImageStop {
     pub slot: usize,
     pub offset: usize,
 }
 
-/// Returns the number of slots that fit before the first one that doesn't.
+/// Returns how many slots fit before the first one that doesn't.
 fn slots_read(host: &Host, slots: &[Option<AssignedFunction>], bytes: &[u8]) -> usize
     requires { length slots.now ≤ 32 }
     ensures { let fs = map (slot_shown host.now.state.functions) slots.now in
@@ -64,8 +64,9 @@ fn is_refused(host: &Host, guest: &Guest, bytes: &[u8], number: u16) -> bool
     }
 }
 
-/// Returns the offset of the first mismatch in bytes that the guest refuses with this fault number,
-/// by a binary search over the lengths of prefixes.
+/// Returns the offset of the first mismatch in bytes that the guest refuses with this fault number.
+/// A binary search finds the shortest prefix that is refused with it; the mismatch is the prefix's
+/// last byte.
 fn stop_offset(host: &Host, guest: &Guest, bytes: &[u8], number: u16) -> usize
     requires refused { let g = lone_shown host.now.state.functions guest.now in
         load_fault g bytes.now ≡ Some number }
@@ -110,8 +111,8 @@ fn stop_in(host: &Host, guest: &Guest, bytes: &[u8]) -> Option<ImageStop>
 
 impl<R: Route> Engine<R> {
     /// Returns the position of the first mismatch in bytes that a guest refuses because they were
-    /// saved from other functions (906), or have another version of the format (908). Returns None
-    /// for all other bytes.
+    /// saved from different functions (906), or have a different version of the format (908).
+    /// Returns None for all other bytes.
     pub fn image_stop(&self, guest: usize, bytes: &[u8]) -> Option<ImageStop>
         requires { guest < length self.now.world.guests }
         ensures at { let g = lone_of self.now.world.guests (name_nth self.now.world guest) in

@@ -1,5 +1,5 @@
-//! Saved states of guests: their size, saving into a buffer, and comparison with bytes to load. No
-//! call allocates memory.
+//! Saves guests' states, and checks whether a guest can load saved bytes: 905, 906 and 908 say why
+//! it can't. No call allocates memory.
 ghost use Rattle.std.specs.Prelude.{◌≡◌, ◌≤◌, ◌<◌, ◌+◌, [], Ok, Err, IfErr, IfOk, length, map, option_map};
 ghost use Rattle.model_images.specs.{Images.{image_of_guest, image_of_lone}, ImageBytes.image_bytes, LoadedBytes.{after_image, after_slot, after_slots}, SavedLaws.IsTakenByEach};
 ghost use Rattle.images.specs.{Faults.number_of, Puts.put, Shown.seen};
@@ -31,7 +31,7 @@ pub(crate) fn slot_shown<'a>(
     Some((endpoint, &held.own))
 }
 
-/// Returns the size of a slot in a saved state, in bytes.
+/// Returns how many bytes a slot occupies in a saved state.
 fn slot_size(host: &Host, slot: &Option<AssignedFunction>) -> usize
     requires { HasPlaces (slot_shown host.now.state.functions slot.now) }
     ensures size { result ≡ length (slot_image host.now.state.functions slot.now) }
@@ -105,8 +105,9 @@ fn put_image(host: &Host, guest: &Guest, out: &mut [u8])
     put_slots(host, &guest.slots, out, next);
 }
 
-/// Strips a slot from the front of `bytes`, and returns the rest. Refuses bytes that end early, a
-/// value that its register can't hold, and a slot with another content.
+/// Strips a slot from the front of `bytes`, and returns the rest. Refuses with 906 if the saved
+/// slot has different contents, or with 905 if the bytes end early or a register can't hold its
+/// saved value.
 pub(crate) fn after_slot<'a>(
     host: &Host,
     slot: &Option<AssignedFunction>,
@@ -123,8 +124,8 @@ pub(crate) fn after_slot<'a>(
     }
 }
 
-/// Refuses bytes that aren't the saved slots of these functions. The register values don't matter,
-/// as long as the registers can hold them.
+/// Refuses bytes that aren't saved slots of these functions, with 905 or 906. Accepts all values
+/// that the registers can hold.
 fn compare_slots(
     host: &Host,
     slots: &[Option<AssignedFunction>],
@@ -144,8 +145,8 @@ fn compare_slots(
     at_end(bytes)
 }
 
-/// Refuses bytes that aren't a saved state for this guest. The values of CONFIG_ADDRESS and of
-/// registers don't matter, as long as the registers can hold them.
+/// Refuses bytes that aren't a saved state for this guest, with 905, 906 or 908. Accepts all values
+/// that CONFIG_ADDRESS and the other registers can hold.
 pub(crate) fn compare_image(host: &Host, guest: &Guest, bytes: &[u8]) -> Result<(), ImageFault>
     ensures all { let g = lone_shown host.now.state.functions guest.now in
         IfOk result (λ _. after_image g bytes.now ≡ Ok []) }
@@ -170,9 +171,9 @@ impl<R: Route> Engine<R> {
         12 + slots_size(&self.host, &self.guests[guest].slots)
     }
 
-    /// Saves a guest to the start of a buffer that is large enough. The rest of the buffer isn't
-    /// changed. Any guest with equal declarations, on any machine, can load the bytes, and is then
-    /// answered as this guest would have been.
+    /// Saves a guest's state to the start of a buffer, which must be large enough. The rest of the
+    /// buffer isn't changed. Any guest with equal declarations, on any machine, can load the bytes.
+    /// Its accesses are then answered as this guest's would have been.
     pub fn save(&self, guest: usize, out: &mut [u8])
         requires there { guest < length self.now.world.guests }
         requires room { let image = image_of_guest (name_nth self.now.world guest) self.now.world in

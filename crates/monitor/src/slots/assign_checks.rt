@@ -89,8 +89,8 @@ fn has_closed(host: &Host, index: usize) -> bool
     }
 }
 
-/// Returns the function at a path for a guest's slot, or the reason why it can't be assigned: the
-/// first failed check.
+/// Returns the slot record for the function at a path, or the first reason why the function can't
+/// be assigned to the slot.
 pub(crate) fn gift(
     host: &Host,
     guests: &[Guest],

@@ -1,10 +1,10 @@
-//! Assignments of functions to slots of guests.
+//! Finds the guest's slot to which a function is assigned.
 ghost use Rattle.std.specs.Prelude.{◌≡◌, ◌+◌, ◌<◌, ◌^◌, length, option_map, position};
 ghost use Rattle.monitor.specs.{FunctionsTold.{seat_named, seat_kept}, InSlots.is_at};
 
 use crate::guest::{AssignedFunction, Guest};
 
-/// A slot of a guest, with the guest's index.
+/// A guest's slot: the guest's index and the slot's number.
 #[derive(Clone, Copy, Debug, PartialEq, Eq)]
 pub struct Assignment {
     pub guest: usize,

@@ -17,8 +17,8 @@ pub(crate) fn is_taken(slots: &[Option<AssignedFunction>], slot: usize) -> bool
     held_in(slots, slot).is_some()
 }
 
-/// Returns the first check that a move fails: 303 if a slot is above 31, 601 if the source slot is
-/// empty, 602 if the target slot is occupied.
+/// Returns why a move is refused: 303 if a slot is above 31, else 601 if the source slot is empty,
+/// else 602 if the target slot is occupied. Returns None for any other move.
 pub(crate) fn move_fault(
     from: &[Option<AssignedFunction>],
     slot: u64,
@@ -38,7 +38,7 @@ pub(crate) fn move_fault(
     }
 }
 
-/// Replaces the content of a slot, and returns the former content.
+/// Replaces the contents of a slot, and returns the previous contents.
 fn exchange(
     slots: &mut [Option<AssignedFunction>],
     slot: usize,
@@ -51,7 +51,7 @@ fn exchange(
     replace(&mut slots[slot], held)
 }
 
-/// Replaces the content of a slot of a guest, and returns the former content. Increments the
+/// Replaces the contents of a guest's slot, and returns the previous contents. Increments the
 /// guest's change count if `changes` is set.
 pub(crate) fn exchange_in(
     guests: &mut [Guest],
@@ -69,9 +69,9 @@ pub(crate) fn exchange_in(
     exchange(&mut guest.slots, slot, held)
 }
 
-/// Moves a function to another slot and resets it: the guest's copies here, and all other registers
-/// on the board. Increments the change counts of the source guest and the target guest, only once
-/// if they are the same guest.
+/// Moves a function to another slot and resets it: the guest's copies in the slot record, and all
+/// other registers on the board. Increments the change counts of the source guest and the target
+/// guest, only once if they are the same guest.
 pub(crate) fn hand_over(
     host: &mut Host,
     guests: &mut [Guest],

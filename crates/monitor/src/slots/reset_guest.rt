@@ -1,4 +1,4 @@
-//! The reset of a guest: all functions in its slots, and its CONFIG_ADDRESS.
+//! Resets a guest: all functions in its slots, and its CONFIG_ADDRESS.
 ghost use Rattle.std.specs.Prelude.{◌≡◌, ◌≤◌, ◌<◌, ℕ, List, Some, true, length, slice_get, slice_set};
 ghost use Rattle.model_guests.specs.{Text.Text, WorldNow.WorldNow, DeviceEvents.reset_in};
 ghost use Rattle.model_handoff.specs.Changes.{after_change};
@@ -12,7 +12,7 @@ use crate::slots::moving::exchange_in;
 use guest_functions::Latch;
 use host_bridge::{Host, Route};
 
-/// Resets the function in a slot of a guest, if there is one, without counting a change.
+/// Resets the function in a guest's slot, if there is one. Doesn't touch the change count.
 fn reset_slot(host: &mut Host, guests: &mut [Guest], guest: usize, slot: usize)
     requires has { HasSlot guests.old guest slot }
     requires low { slot ≤ 31 }
@@ -42,7 +42,7 @@ fn reset_slots(host: &mut Host, guests: &mut [Guest], guest: usize)
     }
 }
 
-/// Clears CONFIG_ADDRESS of a guest, and increments the guest's change count.
+/// Clears a guest's CONFIG_ADDRESS, and adds one to its change count.
 fn clear_latch(guests: &mut [Guest], guest: usize)
     requires { guest < length guests.old }
     ensures { (g : Guest) → slice_get guests.old guest ≡ Some g
@@ -55,7 +55,7 @@ fn clear_latch(guests: &mut [Guest], guest: usize)
     guest.changed = counted(guest.changed, true);
 }
 
-/// Resets all functions and CONFIG_ADDRESS of a guest, and counts one change.
+/// Resets all functions of a guest, clears its CONFIG_ADDRESS, and adds one to its change count.
 pub(crate) fn restart(host: &mut Host, guests: &mut [Guest], guest: usize)
     requires { HasSlot guests.old guest 31 }
     ensures kept { (w : WorldNow) (names : List Text) → IsKept w host.old names guests.old
@@ -69,8 +69,8 @@ pub(crate) fn restart(host: &mut Host, guests: &mut [Guest], guest: usize)
 impl<R: Route> Engine<R> {
     ghost use Rattle.monitor.specs.{Views.{texts, machine_shown}, Keeping.IsSound};
 
-    /// Resets each function of a guest in its slot, and the guest's CONFIG_ADDRESS. Counts as one
-    /// change of the guest. Allocates no memory.
+    /// Resets all functions in a guest's slots, and clears the guest's CONFIG_ADDRESS. Adds one to
+    /// the guest's change count. Allocates no memory.
     pub fn reset_guest(&mut self, guest: usize)
         requires { guest < length self.old.world.guests }
         ensures { self.new

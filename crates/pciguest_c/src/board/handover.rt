@@ -8,12 +8,12 @@ use crate::handle::Handle;
 use crate::values::numbers::{IN_USE, NO_MACHINE};
 use std::alloc::Global;
 
-/// Assigns the functions of a board to the guests of its file, with the board set up as it is now,
-/// and moves the resulting machine to its handle. If a line has already handed the board over, the
-/// machine is moved unchanged. The board's handle is then empty. Returns 901 if there is no board,
-/// 903 if the machine's handle is already in use, 207 if the audit finds a problem, 206 if a BAR of
-/// an assigned function is disabled, or 299 if memory is exhausted. After an error, both handles
-/// are unchanged.
+/// Assigns the functions of a board to the guests of its file, with the board's registers as they
+/// are now, and moves the resulting machine to its handle. If a line has already handed the board
+/// over, the machine is moved unchanged. The board's handle is then empty. Returns 901 if there is
+/// no board, 903 if the machine's handle is already in use, 207 if the audit finds a problem, 206
+/// if a BAR of an assigned function is disabled, or 299 if memory is exhausted. After an error,
+/// both handles are unchanged.
 #[unsafe(no_mangle)]
 pub extern "C" fn pciguest_raw_board_guests(
     alloc: Global,

@@ -92,8 +92,7 @@ pub extern "C" fn pciguest_raw_host_read(
     put_value(answer, value)
 }
 
-/// Moves the function in a guest's slot to a slot of another guest or of the same guest, and resets
-/// the function.
+/// Moves a function from a guest's slot to a slot of any guest, and resets the function.
 #[unsafe(no_mangle)]
 pub extern "C" fn pciguest_raw_move(
     alloc: Global,

@@ -25,10 +25,10 @@ fn load(machine: &mut Monitor, guest: usize, image: &[u8]) -> Result<(), u32>
     }
 }
 
-/// Loads an image into a guest, whose state is then the saved one. The guest's change count
-/// increases by one. Returns 905 if the bytes aren't an image, 908 for another version of the
-/// format, or 906 if the guest has other functions in its slots. The first byte that fails decides
-/// between these. After an error, nothing has changed. No memory is allocated.
+/// Loads an image into a guest, which then has the saved state. The guest's change count increases
+/// by one. Returns 905 if the bytes aren't an image, 906 if the guest has different functions in
+/// its slots, or 908 if the image has a different version of the format. The first byte that
+/// doesn't fit determines the number. After an error, nothing has changed. No memory is allocated.
 #[unsafe(no_mangle)]
 pub extern "C" fn pciguest_raw_load(
     alloc: Global,

@@ -14,8 +14,8 @@ use std::alloc::Global;
 /// The slot number reported for an image with no mismatch in a slot.
 const NO_SLOT: u64 = 32;
 
-/// Stores the slot and the byte offset at which an image of other functions or of another version
-/// stops fitting the guest. For any other image, stores slot 32 and the length of the image.
+/// Stores the slot and the byte offset at which an image stops fitting the guest, if the image is
+/// refused with 906 or 908. For any other image, stores slot 32 and the length of the image.
 fn tell_stop(machine: &Monitor, guest: usize, image: &[u8], slot: &mut u64, offset: &mut usize)
     requires { guest < length machine.now.world.guests }
     ensures { IsStop (lone_asked machine.now.world guest) image.now slot.new offset.new }
@@ -58,8 +58,8 @@ fn tell_stop_in(
 }
 
 /// Stores the slot and the byte offset at which an image stops fitting a guest, if the guest
-/// refuses it with 906 (other functions) or 908 (other version). For any other image, stores slot
-/// 32 and the length of the image. Nothing changes, and no memory is allocated.
+/// refuses it with 906 (different functions) or 908 (different version). For any other image,
+/// stores slot 32 and the length of the image. Nothing changes, and no memory is allocated.
 #[unsafe(no_mangle)]
 pub extern "C" fn pciguest_raw_image_fault(
     alloc: Global,

@@ -10,8 +10,8 @@ use monitor::Monitor;
 use session::Session;
 use std::alloc::Global;
 
-/// A region now, and the same region when the row was last updated. Each is all 0 if there was no
-/// region.
+/// A region's current description, and its description when the row was last updated. A description
+/// is all 0 if there was no region.
 #[repr(C)]
 #[derive(Clone, Copy)]
 pub struct PlaceRow {

@@ -8,8 +8,8 @@ use crate::values::numbers::{number_of, number_of_done};
 use monitor::Monitor;
 use std::alloc::Global;
 
-/// Resets the function in a guest's slot, which keeps the function. As in a move, no state is
-/// carried over.
+/// Resets the function in a guest's slot, and leaves it there. As in a move, no state is carried
+/// over.
 #[unsafe(no_mangle)]
 pub extern "C" fn pciguest_raw_reset(
     alloc: Global,

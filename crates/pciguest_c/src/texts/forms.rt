@@ -20,7 +20,8 @@ pub fn form_of(is_json: bool) -> ReportForm
     }
 }
 
-/// Returns the question whether a board is ready, or which problems its registers have.
+/// Returns the question to ask about a board: whether it is ready, or which problems its registers
+/// have.
 pub fn question_of(is_ready: bool, is_json: bool) -> Question
     ensures { result ≡ question_of is_ready is_json }
 {

@@ -30,8 +30,7 @@ pub fn tell<T: Copy>(text: &[T], out: &mut [T], needed: &mut usize) -> u32
     0
 }
 
-/// Copies a text to the front of a buffer and stores its length, as `tell` does. Stores a count too
-/// if the text fits.
+/// Calls `tell` for a text, and also stores a count if the text fits.
 pub fn tell_counted(
     text: &[u8],
     counted: usize,

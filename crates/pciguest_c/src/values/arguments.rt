@@ -7,8 +7,8 @@ use crate::values::numbers::ARGUMENT;
 use accesses::{At, Names, Place};
 use monitor::Monitor;
 
-/// The accessor of a function's byte: its device, or the guest that the function is assigned to,
-/// through its BARs.
+/// Who accesses a function's byte: the function's device, or, through a BAR, the guest that the
+/// function is assigned to.
 #[derive(Clone, Copy)]
 pub enum Side {
     Device,
