@@ -725,11 +725,11 @@ uint32_t pciguest_board_audit_json(struct pciguest_board *board, char *text, siz
 
 /* Reports what is wrong in the registers of a board as they are now, and what is left to do: writes
  * the lines of pciguest_board_audit except the last, then one line for each readiness issue, then a
- * last line, `ready: ok` or counts such as `ready: 1 problem, 2 lacks`. A readiness issue, or lack,
- * is a region that is closed, that is outside the apertures, or that is prefetched although it isn't
- * prefetchable, or a bridge whose Primary Bus Number isn't the number of its bus. Stores the length
- * of the text in `needed`, and in `count` the number of problems and readiness issues, which is 0 if
- * the board is ready. The text isn't terminated by a 0. The board stays unchanged.
+ * last line, `ready: ok` or counts such as `ready: 1 problem, 2 left to do`. A readiness issue is a
+ * region whose decode is disabled, that is outside the apertures, or that is prefetched although it
+ * isn't prefetchable, or a bridge whose Primary Bus Number isn't the number of its bus. Stores the
+ * length of the text in `needed`, and in `count` the number of problems and readiness issues, which
+ * is 0 if the board is ready. The text isn't terminated by a 0. The board stays unchanged.
  * Returns 0 on success; 902 if the buffer is too small (only the length is stored); 299 if memory
  * runs out. Since 0.4.0. */
 uint32_t pciguest_board_ready(struct pciguest_board *board, char *text, size_t room, size_t *needed,

@@ -90,7 +90,7 @@ static inline void pg_store(uint64_t address, int width, uint32_t value)
 /* ---- questions */
 
 /* Returns whether a line is the last line of a reply, and stores how many lines it says come before it. Such a line is
- * `audit: ok`, `ready: 1 problem, 2 lacks` or `why: 3 lines`, for example. */
+ * `audit: ok`, `ready: 1 problem, 2 left to do` or `why: 3 lines`, for example. */
 static inline int pg_is_count(const char *line, unsigned long *count)
 {
     int audit = 0, both = 0, ready = 0, why = 0;

@@ -3,16 +3,16 @@ import json
 import re
 
 REGION = r"(\S+) bar(\d) at (\S+) size ([^\s:]+)"
-NOT_FORWARDED = re.compile(REGION + r": (\S+) is not forwarded by (\S+)")
-CONTENDED = re.compile(r"(\S+)(?: bar(\d))? and (\S+)(?: bar(\d))? both answer (\S+) (\S+)")
-NOT_FOUND = re.compile(r"(\S+): a cycle for (..):(..)\.(.) reaches (\S+)")
+NOT_FORWARDED = re.compile(REGION + r": (\S+) is not forwarded by bridge (\S+)")
+CONTENDED = re.compile(r"(\S+)(?: bar(\d))? and (\S+)(?: bar(\d))?: address conflict at (\S+) (\S+)")
+NOT_FOUND = re.compile(r"(\S+): a configuration cycle to (..):(..)\.(.) reaches (\S+)")
 # the kinds of lacks of a region
 LACKS = {
-    "closed": re.compile(REGION + " is closed"),
+    "closed": re.compile(REGION + ": .* decode is disabled"),
     "outside apertures": re.compile(REGION + r": (?P<address>\S+) is outside the apertures"),
-    "prefetched": re.compile(REGION + r": (?P<bridge>\S+) prefetches (?P<address>\S+)"),
+    "prefetched": re.compile(REGION + r": bridge (?P<bridge>\S+) forwards (?P<address>\S+) as prefetchable"),
 }
-PRIMARY = re.compile(r"(\S+): Primary is (..) on bus (..)")
+PRIMARY = re.compile(r"(\S+): Primary Bus Number is (..), but the bridge is on bus (..)")
 
 
 def kind_of(file, path, bar):

@@ -210,8 +210,8 @@ full 'audit, without a line' audit "$boards/main.toml" < /dev/null
 echo 'audit: ok' > wanted.out
 ends_with 'audit, no function at all' audit "$boards/host_alone.toml" < /dev/null
 cat > wanted.out <<'END'
-audit: 2.0/0.0: a cycle for 00:00.0 reaches nothing
-audit: 2.0/1.0: a cycle for 00:01.0 reaches 1.0
+audit: 2.0/0.0: a configuration cycle to 00:00.0 reaches nothing
+audit: 2.0/1.0: a configuration cycle to 00:01.0 reaches 1.0
 audit: 2 problems
 END
 ends_with 'audit, a board at reset' audit "$boards/main.toml" < /dev/null
@@ -229,14 +229,14 @@ ends_with 'ready, no function at all' ready "$boards/host_alone.toml" < /dev/nul
 ends_with 'ready' ready "$top/examples/audit/board.toml" < "$top/examples/audit/set_up.script"
 full 'ready' ready "$top/examples/audit/board.toml" < "$top/examples/audit/set_up.script"
 cat > wanted.out <<'END'
-audit: 2.0/0.0: a cycle for 00:00.0 reaches nothing
-audit: 2.0/1.0: a cycle for 00:01.0 reaches 1.0
-ready: 1.0 bar0 at 0x0 size 0x20 is closed
-ready: 1.0 bar1 at 0x0 size 0x1000 is closed
-ready: 2.0/0.0 bar0 at 0x0 size 0x100000 is closed
-ready: 2.0/0.0 bar1 at 0x0 size 0x8 is closed
-ready: 2.0/1.0 bar0 at 0x0 size 0x1000000 is closed
-ready: 2 problems, 5 lacks
+audit: 2.0/0.0: a configuration cycle to 00:00.0 reaches nothing
+audit: 2.0/1.0: a configuration cycle to 00:01.0 reaches 1.0
+ready: 1.0 bar0 at 0x0 size 0x20: I/O decode is disabled
+ready: 1.0 bar1 at 0x0 size 0x1000: memory decode is disabled
+ready: 2.0/0.0 bar0 at 0x0 size 0x100000: memory decode is disabled
+ready: 2.0/0.0 bar1 at 0x0 size 0x8: I/O decode is disabled
+ready: 2.0/1.0 bar0 at 0x0 size 0x1000000: memory decode is disabled
+ready: 2 problems, 5 left to do
 END
 ends_with_fault 'ready, a board at reset' '208 not ready' ready "$boards/main.toml" < /dev/null
 { echo 'host: ok'; cat wanted.out; } > wanted.more; mv wanted.more wanted.out
@@ -271,10 +271,10 @@ ends_with 'run --strict, an empty script' run --strict "$boards/main.toml" < /de
 full 'run --strict' run --strict "$boards/main.toml" < run.script
 fails_with 'run --strict, a script that is a folder' '501 read failed' run --strict "$boards/main.toml" < /
 fails_with 'run --strict, a faulty file' '107 size' run --strict "$boards/refused/size.toml" < run.script
-printf 'host: 0x1234\naudit: 2.0/0.0: a cycle for 00:00.0 reaches nothing\nhost: refused 207 not in order\n' > wanted.out
+printf 'host: 0x1234\naudit: 2.0/0.0: a configuration cycle to 00:00.0 reaches nothing\nhost: refused 207 not in order\n' > wanted.out
 ends_with_fault 'firmware --strict, a handover that is refused' '209 refused line' firmware --strict "$boards/main.toml" \
   < <(printf 'host cr 00:01.0 0 2\nhost guests\n')
-printf 'audit: 2.0/0.0: a cycle for 00:00.0 reaches nothing\naudit: 2.0/1.0: a cycle for 00:01.0 reaches 1.0\naudit: 2 problems\n' > wanted.out
+printf 'audit: 2.0/0.0: a configuration cycle to 00:00.0 reaches nothing\naudit: 2.0/1.0: a configuration cycle to 00:01.0 reaches 1.0\naudit: 2 problems\n' > wanted.out
 ends_with 'firmware --strict, problems that a line tells' firmware --strict "$boards/main.toml" <<< 'host audit'
 ends_with_fault 'audit --strict, problems' '207 not in order' audit --strict "$boards/main.toml" < /dev/null
 { echo '?: refused 402 unknown guest'; cat wanted.out; } > wanted.more; mv wanted.more wanted.out

@@ -19,7 +19,7 @@ def the_reader_is_firmware(browser, page):
     browser.run("document.querySelector('#as input').focus()")
     browser.press('ArrowRight')
     holds('a key makes the reader firmware', text_of(browser, 'verdict') == 'Driven by firmware: 3 endpoints, 1 bridge', text_of(browser, 'verdict'))
-    wanted = ['2.0/0.0: a cycle for 00:00.0 reaches nothing', '2.0/1.0: a cycle for 00:01.0 reaches 1.0']
+    wanted = ['2.0/0.0: a configuration cycle to 00:00.0 reaches nothing', '2.0/1.0: a configuration cycle to 00:01.0 reaches 1.0']
     holds('at reset the audit tells of what is not found', browser.run(AUDIT) == wanted, browser.run(AUDIT))
     titles = browser.run(f"[...document.querySelectorAll('#tree .lost')].map(one => one.title.split('\\n')[1]{PLAIN})")
     holds('what is not found is marked in the tree', titles == wanted, titles)
@@ -56,7 +56,7 @@ def problems_come_and_go(browser, page):
     write_field(browser, 'bar0', 'base', '0xc0100000')
     browser.run(f"{FIELD % ('Command', 'Memory space')}.click()")
     holds('Command is a line', said_last(browser) == 'host cw 01:00.0 0x4 2 0x2', said_last(browser))
-    text = '2.0/0.0 bar0 at 0xc0100000 size 0x100000: 0xc0100000 is not forwarded by 2.0'
+    text = '2.0/0.0 bar0 at 0xc0100000 size 0x100000: 0xc0100000 is not forwarded by bridge 2.0'
     holds('a problem comes', browser.run(AUDIT) == [text], browser.run(AUDIT))
     holds('the console tells of it', said_last(browser, 'came') == f'+ {text}', text_of(browser, 'transcript'))
     places = "['#tree .troubled', '#addresses .wrong', '#addresses .bang-at'].map(find => document.querySelectorAll(find).length)"
@@ -127,10 +127,10 @@ def firmware_has_a_story(browser, page):
     browser.open(f'{page}#{STORY}&now')
     until(browser, "document.querySelectorAll('#transcript .gone').length >= 6")
     notes = browser.run(f"[...document.querySelectorAll('#transcript .came, #transcript .gone')].map(one => one.textContent{PLAIN})")
-    wanted = ['+ 2.0/0.0: a cycle for 01:00.0 reaches nothing', '− 2.0/0.0: a cycle for 01:00.0 reaches nothing',
-              '+ 2.0/0.0 bar0 at 0xc0000000 size 0x100000: 0xc0000000 is not forwarded by 2.0',
-              '− 2.0/0.0 bar0 at 0xc0000000 size 0x100000: 0xc0000000 is not forwarded by 2.0',
-              '+ 1.0 bar1 and 2.0 both answer memory 0xc0000000', '− 1.0 bar1 and 2.0 both answer memory 0xc0000000']
+    wanted = ['+ 2.0/0.0: a configuration cycle to 01:00.0 reaches nothing', '− 2.0/0.0: a configuration cycle to 01:00.0 reaches nothing',
+              '+ 2.0/0.0 bar0 at 0xc0000000 size 0x100000: 0xc0000000 is not forwarded by bridge 2.0',
+              '− 2.0/0.0 bar0 at 0xc0000000 size 0x100000: 0xc0000000 is not forwarded by bridge 2.0',
+              '+ 1.0 bar1 and 2.0: address conflict at memory 0xc0000000', '− 1.0 bar1 and 2.0: address conflict at memory 0xc0000000']
     holds('problems come and go in the story', [one for one in notes if one in wanted] == wanted, notes)
     holds('the story ends well', text_of(browser, 'total') == 'ok', text_of(browser, 'total'))
     texts = browser.run("[...document.querySelectorAll('[data-space=mem] text')].map(one => one.textContent)")

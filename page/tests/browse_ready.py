@@ -27,8 +27,8 @@ def lines_of(name):
 
 def what_is_left_is_listed(browser, page):
     browser.open(f'{page}#board=main&as=firmware')
-    wanted = ['1.0 bar0 at 0x0 size 0x20 is closed', '1.0 bar1 at 0x0 size 0x1000 is closed', '2.0/0.0 bar0 at 0x0 size 0x100000 is closed',
-              '2.0/0.0 bar1 at 0x0 size 0x8 is closed', '2.0/1.0 bar0 at 0x0 size 0x1000000 is closed']
+    wanted = ['1.0 bar0 at 0x0 size 0x20: I/O decode is disabled', '1.0 bar1 at 0x0 size 0x1000: memory decode is disabled', '2.0/0.0 bar0 at 0x0 size 0x100000: memory decode is disabled',
+              '2.0/0.0 bar1 at 0x0 size 0x8: I/O decode is disabled', '2.0/1.0 bar0 at 0x0 size 0x1000000: memory decode is disabled']
     holds('what is left at reset is counted', text_of(browser, 'left') == '5', text_of(browser, 'left'))
     holds('the first of it is listed', browser.run(LEFT) == [*wanted[:4], '1 more'], browser.run(LEFT))
     browser.run("document.querySelector('#lacking li:last-child button').click()")
@@ -79,10 +79,10 @@ def a_large_board_tells_little(browser, page):
 
 
 # A script of the examples, what it leaves, which functions have signs, and what is drawn in the bars by default.
-KINDS = [('never_opened', '2.0/2.0/0.0 bar0 at 0xc0000000 size 0x1000 is closed', ['2.0/2.0/0.0 ○'], [0, 0, 0]),
+KINDS = [('never_opened', '2.0/2.0/0.0 bar0 at 0xc0000000 size 0x1000: memory decode is disabled', ['2.0/2.0/0.0 ○'], [0, 0, 0]),
          ('outside_apertures', '1.0 bar0 at 0xe0000000 size 0x1000: 0xe0000000 is outside the apertures', ['1.0 ○'], [0, 0, 0]),
-         ('prefetched', '2.0/0.0 bar0 at 0xc0200000 size 0x200000: 2.0 prefetches 0xc0300000', ['2.0 ○', '2.0/0.0 ○'], [1, 1, 1]),
-         ('primary_left', '2.0/2.0: Primary is 00 on bus 01', ['2.0/2.0 ○'], [0, 0, 0])]
+         ('prefetched', '2.0/0.0 bar0 at 0xc0200000 size 0x200000: bridge 2.0 forwards 0xc0300000 as prefetchable', ['2.0 ○', '2.0/0.0 ○'], [1, 1, 1]),
+         ('primary_left', '2.0/2.0: Primary Bus Number is 00, but the bridge is on bus 01', ['2.0/2.0 ○'], [0, 0, 0])]
 
 
 def each_kind_is_marked(browser, page):
@@ -116,7 +116,7 @@ def guests_leave_what_is_left(browser, page):
     browser.open(f'{page}#board=main&as=firmware')
     for place, offset, value in SET_UP:
         type_line(browser, f'host cw {place}.0 {offset} 4 {value}')
-    text = '2.0: Primary is 05 on bus 00'
+    text = '2.0: Primary Bus Number is 05, but the bridge is on bus 00'
     holds('a Primary is left', browser.run(LEFT) == [text], browser.run(LEFT))
     type_line(browser, 'host guests')
     holds('the board is given all the same', said_last(browser, 'reply') == 'host: ok', said_last(browser, 'reply'))
@@ -148,7 +148,7 @@ def many_lines_give_a_board(browser, page):
 def a_board_without_a_report_is_told(browser, page):
     browser.open(f'{page}#board=memory_pool&as=firmware')
     listed = browser.run(LEFT)
-    holds('what a board lacks that set-up refuses is listed', listed != [] and all(line.endswith(' is closed') for line in listed), listed)
+    holds('what a board lacks that set-up refuses is listed', listed != [] and all(line.endswith(' decode is disabled') for line in listed), listed)
     browser.run("window.mistakes = []; addEventListener('error', event => mistakes.push(event.message))")
     browser.run("document.querySelector('#lacking button').focus()")
     browser.press('Enter')

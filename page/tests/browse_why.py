@@ -16,7 +16,7 @@ AT_BAR = "document.activeElement.matches('[data-space=mem] .bars')"
 # A click at a share of a bar's width, which any browser takes.
 CLICK = """(() => { const one = document.querySelector('[data-space=mem] .bars'), box = one.getBoundingClientRect();
   one.dispatchEvent(new MouseEvent('click', { bubbles: true, clientX: box.left + %s * box.width, clientY: box.top + 10 })); })()"""
-REFUSED = "2.0/0.0 bar0 at 0xc0200000 size 0x200000: 2.0 doesn't forward it, memory 0xc0000000..0xc02fffff, prefetchable 0x400000000..0x4000fffff"
+REFUSED = "2.0/0.0 bar0 at 0xc0200000 size 0x200000: bridge 2.0 doesn't forward it: memory window 0xc0000000-0xc02fffff, prefetchable window 0x400000000-0x4000fffff"
 
 
 def a_reply_is_asked(browser, page):
@@ -27,7 +27,7 @@ def a_reply_is_asked(browser, page):
     holds('a reply of all ones can be asked, and no other', asks == [False, True], asks)
     browser.run(f'{LAST}.focus()')
     browser.press('Enter')
-    wanted = ['memory 0xc0000000: nobody answers', "2.0/0.0 bar0 at 0xc0000000 size 0x20000: 2.0 doesn't forward it, Command 0x0000 closes memory"]
+    wanted = ['memory 0xc0000000: nothing responds', "2.0/0.0 bar0 at 0xc0000000 size 0x20000: bridge 2.0 doesn't forward it: memory decode is disabled (Command 0x0000)"]
     holds('its reply tells why', browser.run(LINES) == wanted, browser.run(LINES))
     holds('by a line of firmware', browser.run(ASKED) == 'host why mem 0xc0000000', browser.run(ASKED))
     holds('beside what was read', browser.run(IN % '.row'))
@@ -47,7 +47,7 @@ def a_reply_is_asked(browser, page):
     for line in ['host cw 00:02.0 0x20 4 0xc000c000', 'host cw 00:02.0 4 2 3']:
         type_line(browser, line)
     holds('it says that it answers as registers are now', browser.run("document.querySelector('.question .line').textContent").startswith('now: host why mem 0xc0000000'))
-    holds('it follows what is written', browser.run(LINES) == ['memory 0xc0000000: 2.0/0.0 bar0 offset 0x0 answers', '2.0 forwards it to bus 01'], browser.run(LINES))
+    holds('it follows what is written', browser.run(LINES) == ['memory 0xc0000000: 2.0/0.0 bar0 responds at offset 0x0', 'bridge 2.0 forwards it to bus 01'], browser.run(LINES))
     holds('and what is marked with it', [browser.run(SIGNS), browser.run(BARS)] == [[], [0, 1, 1]], browser.run(BARS))
     holds('what is asked is none of the lines', browser.run("document.querySelectorAll('#transcript .row').length") == count + 2)
     browser.run(f'{LAST}.focus()')
@@ -64,23 +64,23 @@ def numbers_and_ports_are_asked(browser, page):
     browser.open(f'{page}#board=main&as=firmware')
     type_line(browser, 'host cr 01:00.0 0 2')
     browser.run(f'{LAST}.click()')
-    wanted = ['01:00.0 reaches nothing', 'no bridge on bus 00 takes bus 01']
+    wanted = ['01:00.0 reaches nothing', 'no bridge on bus 00 claims bus 01']
     holds('a number that reaches nothing is told', browser.run(LINES) == wanted, browser.run(LINES))
     type_line(browser, 'host cw 00:02.0 0x18 4 0x010100')
-    holds('the way that it takes then is told', browser.run(LINES) == ['01:00.0 reaches 2.0/0.0', '2.0 takes bus 01'], browser.run(LINES))
+    holds('the way that it takes then is told', browser.run(LINES) == ['01:00.0 reaches 2.0/0.0', 'bridge 2.0 claims bus 01'], browser.run(LINES))
     holds('and its bridge marked', browser.run(SIGNS) == ['2.0 ?'], browser.run(SIGNS))
     for line in ['host iw 0xcf8 4 0x80050010', 'host ir 0xcfc 4']:
         type_line(browser, line)
     browser.run(f'{LAST}.click()')
-    wanted = ['I/O 0xcfc: offset 0x10 of 05:00.0 by the latch, 0x80050010', '05:00.0 reaches nothing', 'no bridge on bus 00 takes bus 05']
-    holds('a port of the latch is told', browser.run(LINES) == wanted, browser.run(LINES))
+    wanted = ['I/O 0xcfc: CONFIG_ADDRESS (0x80050010) selects offset 0x10 of 05:00.0', '05:00.0 reaches nothing', 'no bridge on bus 00 claims bus 05']
+    holds('a port of CONFIG_ADDRESS is explained', browser.run(LINES) == wanted, browser.run(LINES))
     holds('one question is told at a time', browser.run("document.querySelectorAll('.question').length") == 1)
     type_line(browser, 'host ir 0xcf8 4')
     holds('the latch stays as it was', said_last(browser, 'reply') == 'host: 0x80050010', said_last(browser, 'reply'))
     browser.open(f'{page}#board=memory_pool&as=firmware')
     type_line(browser, 'host mr 0x10 4')
     browser.run(f'{LAST}.click()')
-    holds('a board without a report is asked too', browser.run(LINES)[0] == 'memory 0x10: nobody answers', browser.run(LINES))
+    holds('a board without a report is asked too', browser.run(LINES)[0] == 'memory 0x10: nothing responds', browser.run(LINES))
 
 
 def a_lost_function_is_asked(browser, page):
@@ -89,7 +89,7 @@ def a_lost_function_is_asked(browser, page):
     browser.run(f'{chip}.focus()')
     holds('a function that is not found says that it can be asked', 'a click or Enter asks why' in text_of(browser, 'told'), text_of(browser, 'told'))
     browser.press('Enter')
-    wanted = ['01:00.0 reaches 2.0/0.0', '2.0 takes bus 01', '3.0 takes bus 01', '3.0/0.0 has this number behind 3.0']
+    wanted = ['01:00.0 reaches 2.0/0.0', 'bridge 2.0 claims bus 01', 'bridge 3.0 claims bus 01', '3.0/0.0 has this BDF but isn't reached']
     holds('it tells what its number reaches', browser.run(LINES) == wanted, browser.run(LINES))
     holds('below the tree', browser.run(IN % '#asked'))
     about = '3.0/0.0 is looked for at %s: the bridge above it, 3.0, has Secondary %s'
@@ -121,17 +121,17 @@ def an_address_is_asked(browser, page):
     browser.run(CLICK % 0.62)
     place = int((browser.run(ASKED) or '0').split()[-1], 16)
     holds('a click asks at its address', 0xc0300000 <= place < 0xc0400000 and browser.run(RANGE) == whole, hex(place))
-    holds('why nobody answers there', browser.run(LINES) == [f'memory {place:#x}: nobody answers', REFUSED], browser.run(LINES))
+    holds('why nobody answers there', browser.run(LINES) == [f'memory {place:#x}: nothing responds', REFUSED], browser.run(LINES))
     holds('below the bar', browser.run(IN % '[data-space=mem]'))
     holds('the region and the windows are drawn', browser.run(BARS) == [3, 1, 1], browser.run(BARS))
     type_line(browser, 'host cw 00:02.0 0x22 2 0xc030')
-    wanted = [f'memory {place:#x}: 2.0/0.0 bar0 offset {place - 0xc0200000:#x} answers', '2.0 forwards it to bus 01']
+    wanted = [f'memory {place:#x}: 2.0/0.0 bar0 responds at offset {place - 0xc0200000:#x}', 'bridge 2.0 forwards it to bus 01']
     holds('the reply follows', browser.run(LINES) == wanted, browser.run(LINES))
     holds('and stays below the bar', browser.run(IN % '[data-space=mem]'))
     browser.run("document.querySelector('[data-space=mem] .bars').focus()")
     for key in ['ArrowRight', 'Enter']:
         browser.press(key)
-    wanted = ['memory 0xc0400000: 3.0/0.0 bar0 offset 0x0 answers', '3.0 forwards it to bus 03']
+    wanted = ['memory 0xc0400000: 3.0/0.0 bar0 responds at offset 0x0', 'bridge 3.0 forwards it to bus 03']
     holds('Enter asks where something begins', browser.run(LINES) == wanted, browser.run(LINES))
     holds('the bar keeps the keys', browser.run(AT_BAR))
     browser.press('+')
@@ -157,12 +157,12 @@ def an_empty_bar_keeps_its_question(browser, page):
     type_line(browser, 'host cr 00:02.0 0 4')
     holds('a question stays below its bar when nothing is left there', browser.run(IN % '[data-space=mem]') and browser.run(ASKED) == asked, browser.run(ASKED))
     holds('and tells all that keeps a region from answering', browser.run(LINES)[1].endswith(
-        "closed, Command 0x0000; 2.0 doesn't forward it, Command 0x0000 closes memory"), browser.run(LINES))
+        "memory decode is disabled (Command 0x0000); bridge 2.0 doesn't forward it: memory decode is disabled (Command 0x0000)"), browser.run(LINES))
 
 
 # What a guest is told of a region that is closed.
-CLOSED = ['memory 0x80000010: nobody answers', 'slot 0 bar1 at 0x80000000 size 0x1000: closed, Command 0x0000']
-ANSWERS = ['memory 0x80000010: slot 0 bar1 offset 0x10 answers']
+CLOSED = ['memory 0x80000010: nothing responds', 'slot 0 bar1 at 0x80000000 size 0x1000: decode is disabled (Command 0x0000)']
+ANSWERS = ['memory 0x80000010: slot 0 bar1 responds at offset 0x10']
 
 
 def a_guest_is_asked(browser, page):
@@ -193,12 +193,12 @@ def a_guest_is_asked(browser, page):
 
 def slots_and_ports_of_a_guest_are_asked(browser, page):
     browser.open(f'{page}#board=main')
-    latch = 'I/O 0xcfc: %s by the latch, 0x%x'
+    latch = 'I/O 0xcfc: CONFIG_ADDRESS (0x%x) %s'
     for lines, wanted in [
             (['a cr 5 0 4'], ['slot 5 offset 0x0: slot 5 is empty']),
-            (['a ir 0xcfc 4'], [latch % ('not enabled', 0), 'I/O 0xcfc: nobody answers']),
-            (['a iw 0xcf8 4 0x80002800', 'a ir 0xcfc 4'], [latch % ('offset 0x0 of 00:05.0', 0x80002800), 'I/O 0xcfc: slot 5 is empty']),
-            (['a iw 0xcf8 4 0x80010000', 'a ir 0xcfc 4'], [latch % ('offset 0x0 of 01:00.0', 0x80010000), 'I/O 0xcfc: 01:00.0 is no slot'])]:
+            (['a ir 0xcfc 4'], [latch % (0, 'is disabled'), 'I/O 0xcfc: nothing responds']),
+            (['a iw 0xcf8 4 0x80002800', 'a ir 0xcfc 4'], [latch % (0x80002800, 'selects offset 0x0 of 00:05.0'), 'I/O 0xcfc: slot 5 is empty']),
+            (['a iw 0xcf8 4 0x80010000', 'a ir 0xcfc 4'], [latch % (0x80010000, 'selects offset 0x0 of 01:00.0'), 'I/O 0xcfc: there is no slot at 01:00.0'])]:
         for line in lines:
             type_line(browser, line)
         browser.run(f'{LAST}.click()')
@@ -228,13 +228,13 @@ def a_bar_of_a_guest_is_asked(browser, page):
     holds("below the guest's bar", browser.run("document.querySelectorAll('#maps svg')[0].nextSibling.querySelector('.question') !== null"))
     browser.run(own % '(b.left + b.right) / 2')
     place = int((browser.run(ASKED) or '0').split()[-1], 16)
-    holds("where another guest's region stands nobody answers", 0x90000000 < place < 0x90100000 and browser.run(LINES) == [f'memory {place:#x}: nobody answers'],
+    holds("where another guest's region stands nobody answers", 0x90000000 < place < 0x90100000 and browser.run(LINES) == [f'memory {place:#x}: nothing responds'],
           [browser.run(ASKED), browser.run(LINES)])
     browser.run("document.querySelector('.joined').focus()")
     browser.press('Enter')
     holds('Enter asks where a region begins', browser.run(ASKED) == 'why a mem 0x80000000', browser.run(ASKED))
     type_line(browser, 'a cw 0 4 2 0')
-    wanted = ['memory 0x80000000: nobody answers', CLOSED[1]]
+    wanted = ['memory 0x80000000: nothing responds', CLOSED[1]]
     holds('what was asked at a region stays when it closes', browser.run(LINES) == wanted, browser.run(LINES))
     holds('below its bar, where the region is drawn in dashes', browser.run("document.querySelector('#maps .question') !== null"))
     type_line(browser, 'a cw 0 0x14 4 0')

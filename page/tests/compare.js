@@ -50,8 +50,8 @@ const is_told = ({ text, of, address, number }) => of.length > 0 && of.every(({ 
 // The text of whether a board is ready, or nothing where its values say otherwise: each has its line, and they are counted.
 function readiness_of(made) {
   const text = made.readiness(), { problems, lacks } = made.findings(), all = [...problems, ...lacks];
-  const counted = (them, word) => them.length === 0 ? [] : [`${them.length} ${word}${them.length === 1 ? '' : 's'}`];
-  const count = [...counted(problems, 'problem'), ...counted(lacks, 'lack')].join(', ') || 'ok';
+  const counted = (them, words) => them.length === 0 ? [] : [`${them.length} ${words}`];
+  const count = [...counted(problems, problems.length === 1 ? 'problem' : 'problems'), ...counted(lacks, 'left to do')].join(', ') || 'ok';
   const is_same = text.endsWith(`ready: ${count}`) && text.split('\n').length === all.length + 1 && all.every(is_told);
   return to_bytes(is_same ? `${text}\n` : '');
 }
@@ -73,8 +73,8 @@ const hexadecimal = (number, digits = 1) => `0x${number.toString(16).padStart(di
 
 // The closed regions of a guest that hold a place, as lines tell them.
 function closed_at(machine, { guest, space, place }) {
-  const told = (slot, register, region) => `why: slot ${slot} bar${register} at ${hexadecimal(region.first)} size ${hexadecimal(region.size)}: closed, Command `
-    + hexadecimal(machine.number(`${guest} cr ${slot} 4 2`), 4);
+  const told = (slot, register, region) => `why: slot ${slot} bar${register} at ${hexadecimal(region.first)} size ${hexadecimal(region.size)}: decode is disabled (Command `
+    + `${hexadecimal(machine.number(`${guest} cr ${slot} 4 2`), 4)})`;
   return Array.from({ length: 32 }, (_, slot) => [0, 1, 2, 3, 4, 5].flatMap(register => {
     const region = machine.region(guest, slot, register), holds = region?.space === space && region.first <= place && place < region.first + region.size;
     return holds && !region.open ? [told(slot, register, region)] : [];
@@ -84,11 +84,11 @@ function closed_at(machine, { guest, space, place }) {
 // Whether what a guest is told of a place is what it read there: what answers gives the reply, and where nothing does the reply is all ones,
 // and all that is closed there is told.
 function told_as_read(machine, call, width, reply) {
-  const lines = machine.why(call).split('\n'), latch = /^why: I\/O 0xcf8: 4 bytes are the latch, (0x[0-9a-f]+)$/.exec(lines[0]);
+  const lines = machine.why(call).split('\n'), latch = /^why: I\/O 0xcf8: 4-byte accesses go to CONFIG_ADDRESS \((0x[0-9a-f]+)\)$/.exec(lines[0]);
   if (latch && width === '4') return BigInt(latch[1]) === BigInt(reply);
-  const nth = lines.findIndex(line => / answers$| is empty$| is no slot$/.test(line)), rest = lines.slice(nth + 1).join('\n');
-  const [, slot, register, offset] = /: slot (\d+) (?:bar(\d)|configuration) offset (0x[0-9a-f]+) answers$/.exec(lines[nth]) ?? [];
-  if (slot === undefined) return /^0x(?:ff)+$/.test(reply) && rest === (lines[nth].endsWith(': nobody answers') ? closed_at(machine, call).join('\n') : '');
+  const nth = lines.findIndex(line => / responds| is empty$|: there is no slot at /.test(line)), rest = lines.slice(nth + 1).join('\n');
+  const [, slot, register, offset] = /: slot (\d+) (?:bar(\d)|configuration space) responds at offset (0x[0-9a-f]+)$/.exec(lines[nth]) ?? [];
+  if (slot === undefined) return /^0x(?:ff)+$/.test(reply) && rest === (lines[nth].endsWith(': nothing responds') ? closed_at(machine, call).join('\n') : '');
   if (register === undefined) return rest === '' && machine.number(`${call.guest} cr ${slot} ${offset} ${width}`) === BigInt(reply);
   const region = machine.region(call.guest, Number(slot), Number(register));
   return rest === '' && region.open && region.space === call.space && region.first + BigInt(offset) === call.place;

@@ -190,17 +190,17 @@ class Shown:
 
 def altered(line):
     """The line with another number in place of its last one, which then isn't so."""
-    *_, last = re.finditer(r"0x[0-9a-f]+|(?<=cycle for )\w\w|(?<=on bus )\w\w", line)
+    *_, last = re.finditer(r"0x[0-9a-f]+|(?<=cycle to )\w\w|(?<=on bus )\w\w", line)
     number = int(last[0], 16) + 1
     return line[:last.start()] + (f"{number:#x}" if last[0][:2] == "0x" else f"{number % 256:02x}") + line[last.end():]
 
 
 FORMS = {
-    rf"audit: {REGION}: (?P<address>\w+) is not forwarded by (?P<bridge>\S+)": Shown.is_not_forwarded,
-    r"audit: (\S+)(?: bar(\d))? and (\S+)(?: bar(\d))? both answer (I/O|memory) (\w+)": Shown.is_contended,
-    r"audit: (\S+): a cycle for (\w+):(\w+)\.(\w) reaches (\S+)": Shown.is_missed,
-    rf"ready: {REGION} is closed": Shown.is_closed,
+    rf"audit: {REGION}: (?P<address>\w+) is not forwarded by bridge (?P<bridge>\S+)": Shown.is_not_forwarded,
+    r"audit: (\S+)(?: bar(\d))? and (\S+?)(?: bar(\d))?: address conflict at (I/O|memory) (\w+)": Shown.is_contended,
+    r"audit: (\S+): a configuration cycle to (\w+):(\w+)\.(\w) reaches (\S+)": Shown.is_missed,
+    rf"ready: {REGION}: .* decode is disabled": Shown.is_closed,
     rf"ready: {REGION}: (?P<address>\w+) is outside the apertures": Shown.is_outside,
-    rf"ready: {REGION}: (?P<bridge>\S+) prefetches (?P<address>\w+)": Shown.is_prefetched,
-    r"ready: (\S+): Primary is (\w\w) on bus (\w\w)": Shown.is_primary,
+    rf"ready: {REGION}: bridge (?P<bridge>\S+) forwards (?P<address>\w+) as prefetchable": Shown.is_prefetched,
+    r"ready: (\S+): Primary Bus Number is (\w\w), but the bridge is on bus (\w\w)": Shown.is_primary,
 }

@@ -159,7 +159,7 @@ def random_state(seed):
 
 def kind_of(line):
     """The kind of a problem, by its line."""
-    return next((words for words in ["is not forwarded by", "both answer", "a cycle for"] if words in line), "its count")
+    return next((words for words in ["is not forwarded by", "address conflict", "a configuration cycle"] if words in line), "its count")
 
 
 def main():

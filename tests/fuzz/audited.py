@@ -146,7 +146,7 @@ def forwarding_problems(state):
             for bridge in [path[:length] for length in range(1, len(path))]:
                 lost = least_left(base, base + size - 1, state.forwarded(bridge, space))
                 if lost is not None:
-                    yield (f"{path_text(path)} bar{index} at {base:#x} size {size:#x}: {lost:#x} is not forwarded by "
+                    yield (f"{path_text(path)} bar{index} at {base:#x} size {size:#x}: {lost:#x} is not forwarded by bridge "
                            f"{path_text(bridge)}")
                     break
 
@@ -171,7 +171,7 @@ def contentions(state):
             meets = [max(first, begin) for first, last in one.ranges for begin, end in other.ranges
                      if max(first, begin) <= min(last, end)]
             if meets:
-                yield f"{one.name} and {other.name} both answer {one.space} {min(meets):#x}"
+                yield f"{one.name} and {other.name}: address conflict at {one.space} {min(meets):#x}"
 
 
 def numbering_problems(state):
@@ -180,7 +180,7 @@ def numbering_problems(state):
         found = state.reached((bus, *path[-1]))
         if found != path:
             at = f"{bus:02x}:{path[-1][0]:02x}.{path[-1][1]}"
-            yield f"{path_text(path)}: a cycle for {at} reaches {path_text(found) if found else 'nothing'}"
+            yield f"{path_text(path)}: a configuration cycle to {at} reaches {path_text(found) if found else 'nothing'}"
 
 
 def audit(state):

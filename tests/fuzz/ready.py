@@ -17,7 +17,7 @@ from audit import audit_json, random_state
 from audited import audit
 from board import Bridge, board_file, path_text
 
-KINDS = ["is closed", "outside the apertures", "prefetches", "Primary is"]
+KINDS = ["decode is disabled", "outside the apertures", "as prefetchable", "Primary Bus Number is"]
 
 
 def regions(state):
@@ -44,7 +44,7 @@ def without(spans, cuts):
 def closed_regions(state):
     for path, bar, space, base, size in regions(state):
         if not state.opens(path, space):
-            yield f"{name_of(path, bar, base, size)} is closed"
+            yield f"{name_of(path, bar, base, size)}: {space} decode is disabled"
 
 
 def regions_outside(board, state):
@@ -74,7 +74,7 @@ def prefetched_regions(state):
             shared = [max(base, first) for first, last in prefetched(state, bridge)
                       if max(base, first) <= min(base + size - 1, last)]
             if shared:
-                yield f"{name_of(path, bar, base, size)}: {path_text(bridge)} prefetches {min(shared):#x}"
+                yield f"{name_of(path, bar, base, size)}: bridge {path_text(bridge)} forwards {min(shared):#x} as prefetchable"
                 break
 
 
@@ -83,7 +83,7 @@ def other_primaries(state):
         if state.is_bridge(path):
             bus = state.byte(path[:-1], 0x19) if len(path) > 1 else 0
             if state.byte(path, 0x18) != bus:
-                yield f"{path_text(path)}: Primary is {state.byte(path, 0x18):02x} on bus {bus:02x}"
+                yield f"{path_text(path)}: Primary Bus Number is {state.byte(path, 0x18):02x}, but the bridge is on bus {bus:02x}"
 
 
 def lacks(board, state):
@@ -93,7 +93,8 @@ def lacks(board, state):
 def ready(board, state):
     """The lines that say whether a board is ready, with the problems of its audit."""
     wrong, lacking = audit(state)[:-1], lacks(board, state)
-    counts = [f"{len(them)} {word}{'s' * (len(them) > 1)}" for them, word in ((wrong, "problem"), (lacking, "lack")) if them]
+    problems, left = f"{len(wrong)} problem{'s' * (len(wrong) > 1)}", f"{len(lacking)} left to do"
+    counts = [count for them, count in ((wrong, problems), (lacking, left)) if them]
     return [*wrong, *(f"ready: {line}" for line in [*lacking, ", ".join(counts) or "ok"])]
 
 

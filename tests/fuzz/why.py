@@ -18,8 +18,9 @@ from pathlib import Path
 from audit import EDGES, random_state
 from board import board_file, path_text
 
-KINDS = ["would answer too", ": closed, ", "; ", "as at reset", "closes ", "no window", "shut", "nobody answers", " answers", "no bridge on bus 00",
-         "no bridge behind", "no function", "takes bus", "forwards it", "no region answers", "has this number", "4 bytes are", "not enabled", " by the latch", "reaches nothing"]
+KINDS = ["decodes it too", "decode is disabled", "; ", "as at reset", "forward it: memory decode", "no window", "window disabled", "nothing responds",
+         " responds at", "no bridge on bus 00", "no bridge behind", "no function", "claims bus", "forwards it", "no BAR responds", "has this BDF",
+         "4-byte accesses", ") is disabled", ") selects", "reaches nothing"]
 
 
 def regions_at(state, space, address):
@@ -43,28 +44,28 @@ def windows_of(state, path, space):
 
 
 def window_text(name, first, last):
-    return f"{name} {first:#x}..{last:#x}" if first <= last else f"{name} shut"
+    return f"{name} window {first:#x}-{last:#x}" if first <= last else f"{name} window disabled"
 
 
-def command_text(state, path):
-    return f"Command 0x{state.read_bytes(path, 4, 2):04x}"
+def disabled(state, path, space):
+    return f"{space} decode is disabled (Command 0x{state.read_bytes(path, 4, 2):04x})"
 
 
 def hindrance(state, path, space):
     """What keeps a bridge from forwarding."""
     if not state.opens(path, space):
-        return f"{command_text(state, path)} closes {space}"
+        return disabled(state, path, space)
     return ", ".join(window_text(name, *window) for name, window in windows_of(state, path, space)) or "no window"
 
 
 def causes(state, path, space, address):
     """All that keeps a region of the function at a path from answering, the nearest to the function first."""
     if not state.opens(path, space):
-        yield f"closed, {command_text(state, path)}"
+        yield disabled(state, path, space)
     for length in range(len(path) - 1, 0, -1):
         bridge = path[:length]
         if not forwards(state, bridge, space, address):
-            yield f"{path_text(bridge)} doesn't forward it, {hindrance(state, bridge, space)}"
+            yield f"bridge {path_text(bridge)} doesn't forward it: {hindrance(state, bridge, space)}"
 
 
 def forwards(state, bridge, space, address):
@@ -85,24 +86,24 @@ def counted(lines):
 def why(state, space, address):
     """The lines of an address."""
     bridges = forwarders(state, space, address)
-    nobody = "no region answers" if bridges else "nobody answers"
-    answer, lines, left = nobody, [f"{path_text(path)} forwards it to bus {state.byte(path, 0x19):02x}" for path in bridges], 0
+    nobody = "no BAR responds" if bridges else "nothing responds"
+    answer, lines, left = nobody, [f"bridge {path_text(path)} forwards it to bus {state.byte(path, 0x19):02x}" for path in bridges], 0
     for path, bar, base in regions_at(state, space, address):
         found = [*causes(state, path, space, address)]
         if base == 0 and not state.opens(path, space):
             left += 1
         elif not found and answer == nobody:
-            answer = f"{path_text(path)} bar{bar.index} offset {address - base:#x} answers"
+            answer = f"{path_text(path)} bar{bar.index} responds at offset {address - base:#x}"
         else:
-            said = "; ".join(found) or "would answer too"
+            said = "; ".join(found) or "decodes it too"
             lines.append(f"{path_text(path)} bar{bar.index} at {base:#x} size {bar.size:#x}: {said}")
     if left:
-        lines.append(f"{left} region{'s' * (left > 1)} at 0x0, closed as at reset")
+        lines.append(f"{left} BAR{'s' * (left > 1)} at 0x0 with decode disabled, as at reset")
     return [f"{space} {address:#x}: {answer}", *lines]
 
 
 def place_text(bridge):
-    return "behind " + path_text(bridge) if bridge else "on bus 00"
+    return "behind bridge " + path_text(bridge) if bridge else "on bus 00"
 
 
 def why_number(state, at):
@@ -113,7 +114,7 @@ def why_number(state, at):
         here = [path for path in state.functions if path[:-1] == on and state.is_bridge(path)
                 and state.byte(path, 0x19) <= bus <= state.byte(path, 0x1A)]
         if not here:
-            missing = f"no bridge {place_text(on)} takes bus {bus:02x}"
+            missing = f"no bridge {place_text(on)} claims bus {bus:02x}"
             break
         takers, on = [*takers, *here], here[0]
     found = None if missing else on + ((device, function),)
@@ -124,20 +125,20 @@ def why_number(state, at):
               and bus == (state.byte(path[:-1], 0x19) if path[:-1] else 0)]
     number = f"{bus:02x}:{device:02x}.{function}"
     return [f"{number} reaches {path_text(found) if found else 'nothing'}",
-            *(f"{path_text(path)} takes bus {bus:02x}" for path in takers), *([missing] if missing else []),
-            *(f"{path_text(path)} has this number {place_text(path[:-1])}" for path in others)]
+            *(f"bridge {path_text(path)} claims bus {bus:02x}" for path in takers), *([missing] if missing else []),
+            *(f"{path_text(path)} has this BDF but isn't reached" for path in others)]
 
 
 def why_port(state, latch, port):
     """The lines of an I/O port, with what the address latch makes of it."""
     if port == 0xCF8:
-        return [f"I/O 0xcf8: 4 bytes are the latch, {latch:#x}", *why(state, "I/O", port)]
+        return [f"I/O 0xcf8: 4-byte accesses go to CONFIG_ADDRESS ({latch:#x})", *why(state, "I/O", port)]
     if 0xCFC <= port <= 0xCFF and latch >> 31:
         at = latch >> 16 & 0xFF, latch >> 11 & 31, latch >> 8 & 7
         shown = f"offset {latch & 0xFC | port & 3:#x} of {at[0]:02x}:{at[1]:02x}.{at[2]}"
-        return [f"I/O {port:#x}: {shown} by the latch, {latch:#x}", *why_number(state, at)]
+        return [f"I/O {port:#x}: CONFIG_ADDRESS ({latch:#x}) selects {shown}", *why_number(state, at)]
     if 0xCFC <= port <= 0xCFF:
-        return [f"I/O {port:#x}: not enabled by the latch, {latch:#x}", *why(state, "I/O", port)]
+        return [f"I/O {port:#x}: CONFIG_ADDRESS ({latch:#x}) is disabled", *why(state, "I/O", port)]
     return why(state, "I/O", port)
 
 

@@ -201,7 +201,7 @@ class Findings(unittest.TestCase):
         self.assertIn("ones: 2.0/0.0 bar0 at 0xffe00000 size 0x200000: Command 0x0002 opens memory over the ones of sizing",
                       seen(*shut, "host cw 01:00.0 4 2 2"))
         both = "host cw 01:00.0 0x10 4 0xc0000000"
-        self.assertIn("overlap: 2.0/0.0 bar0 and 2.0/2.0 both answer memory 0xc0000000", seen(both))
+        self.assertIn("overlap: 2.0/0.0 bar0 and 2.0/2.0: address conflict at memory 0xc0000000", seen(both))
         self.assertEqual(seen(both, "host cw 01:00.0 0x3c 1 5"), [])
 
     def test_windows_of_reset(self):
@@ -230,11 +230,11 @@ class Findings(unittest.TestCase):
         kinds = {kind_of(line) for line in findings(SecondHandBoard(AUDITED))}
         self.assertEqual(kinds, {"unreached", "closed"})
         self.assertLess(kinds, set(KINDS))
-        for line in ("moved: x", "overlap: 1.0 and 2.0 both answer memory 0x0", "sizing: all ones are written", "room: x"):
+        for line in ("moved: x", "overlap: 1.0 and 2.0: address conflict at memory 0x0", "sizing: all ones are written", "room: x"):
             self.assertEqual(kind_of(line), line.partition(":")[0])
 
     def test_the_same_problem(self):
-        one = "ready: 1.0 bar0 at 0x0 size 0x10 is closed"
+        one = "ready: 1.0 bar0 at 0x0 size 0x10: I/O decode is disabled"
         self.assertEqual(same_problem(one), same_problem(one.replace("0x0 ", "0xc0000000 ")))
         self.assertNotEqual(same_problem(one), same_problem(one.replace("bar0", "bar1")))
 
@@ -251,12 +251,12 @@ class Reasons(unittest.TestCase):
         board = after("host cw 01:01.0 4 2 0")
         self.assertEqual(reasons(board, AUDITED, findings(board)[0]), [
             "host why io 0x1000",
-            "why: I/O 0x1000: no region answers",
-            "why: 2.0 forwards it to bus 01",
-            "why: 2.0/1.0 bar0 at 0x1000 size 0x20: closed, Command 0x0000",
+            "why: I/O 0x1000: no BAR responds",
+            "why: bridge 2.0 forwards it to bus 01",
+            "why: 2.0/1.0 bar0 at 0x1000 size 0x20: I/O decode is disabled (Command 0x0000)",
             "why: 3 lines",
         ])
-        both = "audit: 1.0 bar1 and 2.0 both answer I/O 0x1000"
+        both = "audit: 1.0 bar1 and 2.0: address conflict at I/O 0x1000"
         self.assertEqual(reasons(board, AUDITED, both)[0], "host why io 0x1000")
 
     def test_lines(self):
@@ -280,14 +280,14 @@ class WhoWrote(unittest.TestCase):
                  "host iw 0xcf8 4 0x80010004", "host iw 0xcfc 1 2", "host cw 00:02.0 0x22 2 0xc010"]
         command = "2.0/0.0 Command: written last by line 5 of 6: host iw 0xcfc 1 2"
         base = "2.0/0.0 bar0: written last by line 2 of 6: host cw 01:00.0 0x10 4 0xc0000000"
-        self.assertEqual(self.told("ready: 2.0/0.0 bar0 at 0xc0000000 size 0x100000 is closed", *lines), [base, command])
-        told = self.told("audit: 2.0/0.0 bar0 at 0xc0000000 size 0x100000: 0xc0100000 is not forwarded by 2.0", *lines)
+        self.assertEqual(self.told("ready: 2.0/0.0 bar0 at 0xc0000000 size 0x100000: memory decode is disabled", *lines), [base, command])
+        told = self.told("audit: 2.0/0.0 bar0 at 0xc0000000 size 0x100000: 0xc0100000 is not forwarded by bridge 2.0", *lines)
         self.assertEqual(told[:4], [
             base, command, "2.0 Memory Base: written last by line 3 of 6: host cw 00:02.0 0x20 4 0xc000c000",
             "2.0 Memory Limit: written last by line 6 of 6: host cw 00:02.0 0x22 2 0xc010"])
-        self.assertEqual(self.told("audit: 2.0/0.0: a cycle for 01:00.0 reaches nothing", *lines),
+        self.assertEqual(self.told("audit: 2.0/0.0: a configuration cycle to 01:00.0 reaches nothing", *lines),
                          [f"2.0 Secondary, Subordinate: written last by line 1 of 6: {lines[0]}"])
-        self.assertEqual(self.told("ready: 2.0: Primary is 00 on bus 01", *lines),
+        self.assertEqual(self.told("ready: 2.0: Primary Bus Number is 00, but the bridge is on bus 01", *lines),
                          [f"2.0 Primary: written last by line 1 of 6: {lines[0]}"])
         self.assertEqual(self.told("status: 2.0/0.0: Status 0x0100 becomes 0x0000 as Command is written", *lines),
                          ["2.0/0.0 Status: never written"])
@@ -300,8 +300,8 @@ class WhoWrote(unittest.TestCase):
         told = why_unfound(SecondHand(), text_of(AUDITED), lines, "2.0/0.0", story.asked["2.0/0.0"])
         self.assertEqual(told, [
             "the firmware never finds 2.0/0.0: line 3 of 4 asks for it last: host cr 01:00.0 0 4", "host why cfg 01:00.0",
-            "why: 01:00.0 reaches nothing", "why: no bridge on bus 00 takes bus 01",
-            "why: 2.0/0.0 has this number behind 2.0", "why: 3 lines"])
+            "why: 01:00.0 reaches nothing", "why: no bridge on bus 00 claims bus 01",
+            "why: 2.0/0.0 has this BDF but isn't reached", "why: 3 lines"])
         self.assertNotIn("3.0", story.asked)
         self.assertIn("never asks for it", why_unfound(SecondHand(), "", lines, "3.0", None)[0])
 

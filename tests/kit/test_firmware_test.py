@@ -123,7 +123,7 @@ class FirmwareTest(unittest.TestCase):
         self.assertEqual(self.run_command(["cat", str(script)])[0], 0)
 
     def test_a_lack_since_reset(self):
-        told = self.fails("pass", "ready: 1.0 bar0 at 0x0 size 0x[14]0? is closed\n.*so since reset: none of the 0 lines")
+        told = self.fails("pass", "ready: 1.0 bar0 at 0x0 size 0x[14]0?: memory decode is disabled\n.*so since reset: none of the 0 lines")
         self.assertIn('at = "1.0"', told)
         self.assertIn("\n1.0 bar0, Command: never written\nthe firmware never finds 1.0, and never asks for it\n", told)
         self.assertNotIn("2.0", told.split("this board again")[0])
@@ -135,13 +135,13 @@ class FirmwareTest(unittest.TestCase):
         self.assertIn("so since line 5 of 5: host cw 00:01.0 0x10 4 0xe0000000\n"
                       "1.0 bar0: written last by line 5 of 5: host cw 00:01.0 0x10 4 0xe0000000\n"
                       "1.0 Command: written last by line 3 of 5: host cw 00:01.0 4 2 3\n"
-                      "host why mem 0xe0000000\nwhy: memory 0xe0000000: 1.0 bar0 offset 0x0 answers\nwhy: 1 line\n\n", told)
+                      "host why mem 0xe0000000\nwhy: memory 0xe0000000: 1.0 bar0 responds at offset 0x0\nwhy: 1 line\n\n", told)
 
     def test_sizing(self):
         sizing = "ask('host cw 00:01.0 4 2 2'); ask('host cw 00:01.0 0x10 4 0xffffffff');"
         words = "sizing: 00:01.0 bar0: all ones are written while Command 0x0002 opens memory"
         told = self.fails(sizing + PLACE + OPEN, words)
-        self.assertTrue(re.search("host why mem (0xf+0+)\nwhy: memory \\1: 1.0 bar0 offset 0x0 answers\n", told), told)
+        self.assertTrue(re.search("host why mem (0xf+0+)\nwhy: memory \\1: 1.0 bar0 responds at offset 0x0\n", told), told)
         ports = "ask('host iw 0xcf8 4 0x80000810'); ask('host iw 0xcfc 4 0xffffffff');"
         self.fails("ask('host cw 00:01.0 4 2 2');" + ports + PLACE + OPEN, "sizing: 00:01.0 bar0: all ones")
         self.assertEqual(self.run_firmware(ports + PLACE + OPEN)[0], 0)
@@ -327,7 +327,7 @@ class FirmwareTest(unittest.TestCase):
     def test_all_boards(self):
         boards = ["--board", str(self.board)]
         told = self.fails("pass", "2 boards: the firmware fails on 2\n", "--all", *boards)
-        line = f"FAILED on {self.board} (closed 2): ready: 1.0 bar0 at 0x0 size 0x1000 is closed\n"
+        line = f"FAILED on {self.board} (closed 2): ready: 1.0 bar0 at 0x0 size 0x1000: memory decode is disabled\n"
         self.assertEqual(told, 2 * line + "2 boards: the firmware fails on 2\n")
         self.fails("sys.exit(3)", r"\(dies 1\): the firmware ended with status 3", "--all")
 
@@ -343,9 +343,9 @@ class FirmwareTest(unittest.TestCase):
         self.assertNotIn("Traceback", ran.stderr)
 
     def test_junit_of_a_failure(self):
-        self.fails("pass", "is closed")
+        self.fails("pass", "decode is disabled")
         failure = ElementTree.parse(self.junit).getroot().find("testcase/failure")
-        self.assertEqual(failure.get("message"), "ready: 1.0 bar0 at 0x0 size 0x1000 is closed")
+        self.assertEqual(failure.get("message"), "ready: 1.0 bar0 at 0x0 size 0x1000: memory decode is disabled")
         self.assertIn("this board again:", failure.text)
 
     def test_the_commands_that_run_it_again(self):

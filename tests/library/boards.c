@@ -211,14 +211,14 @@ static void audits(void)
     struct pciguest_board board = PCIGUEST_BOARD_INIT;
 
     IS(pciguest_board_new(&board, file, length), 0);
-    audit_is(&board, "audit: 2.0/0.0: a cycle for 00:00.0 reaches nothing\n"
-                     "audit: 2.0/1.0: a cycle for 00:01.0 reaches 1.0\naudit: 2 problems\n",
+    audit_is(&board, "audit: 2.0/0.0: a configuration cycle to 00:00.0 reaches nothing\n"
+                     "audit: 2.0/1.0: a configuration cycle to 00:01.0 reaches 1.0\naudit: 2 problems\n",
              "{" LOST_IN_JSON, 2);
     IS(pciguest_board_write(&board, PCIGUEST_CONFIG, 0, 2, 0, 0x18, 4, 0x00010100), 0);
     audit_is(&board, "audit: ok\n", "{\"problems\":[]}\n", 0);
     IS(pciguest_board_write(&board, PCIGUEST_CONFIG, 1, 1, 0, 0x10, 4, 0xc0000000), 0);
     IS(pciguest_board_write(&board, PCIGUEST_CONFIG, 1, 1, 0, 4, 2, 2), 0);
-    audit_is(&board, "audit: 2.0/1.0 bar0 at 0xc0000000 size 0x1000000: 0xc0000000 is not forwarded by 2.0\n"
+    audit_is(&board, "audit: 2.0/1.0 bar0 at 0xc0000000 size 0x1000000: 0xc0000000 is not forwarded by bridge 2.0\n"
                      "audit: 1 problem\n",
              "{\"problems\":[{\"address\":3221225472,\"bridge\":\"2.0\",\"region\":{\"bar\":0,\"base\":3221225472,"
              "\"path\":\"2.0/1.0\",\"size\":16777216,\"space\":\"mem\"},\"type\":\"not forwarded\"}]}\n", 1);
@@ -261,7 +261,7 @@ static void readiness(void)
     IS(pciguest_board_new(&board, file, length), 0);
     IS(pciguest_board_run_line(&board, "host ready", 10, wanted, sizeof wanted - 1, &written), 0);
     last = strrchr(wanted, ':') + 1;
-    if (sscanf(last, " %lu problem%*[s,] %lu lack", &problems, &lacks) != 2)
+    if (sscanf(last, " %lu problem%*[s,] %lu left", &problems, &lacks) != 2)
         lacks = strtoul(last, NULL, 10) - problems;
     text_is(pciguest_board_ready, &board, wanted, problems + lacks);
     survey_without_memory(pciguest_board_ready, &board);

@@ -51,12 +51,12 @@ static bool by_latch(uint32_t latch, uint64_t port)
     bool shows = port >= 0xcfc && port <= 0xcff && latch >> 31;
 
     if (port == 0xcf8)
-        add("why: I/O 0x%" PRIx64 ": 4 bytes are the latch, 0x%" PRIx32 "\n", port, latch);
+        add("why: I/O 0x%" PRIx64 ": 4-byte accesses go to CONFIG_ADDRESS (0x%" PRIx32 ")\n", port, latch);
     else if (shows)
-        add("why: I/O 0x%" PRIx64 ": offset 0x%" PRIx64 " of %02x:%02x.%u by the latch, 0x%" PRIx32 "\n", port,
-            (latch & 0xfc) + (port - 0xcfc), latch >> 16 & 0xff, latch >> 11 & 0x1f, latch >> 8 & 7, latch);
+        add("why: I/O 0x%" PRIx64 ": CONFIG_ADDRESS (0x%" PRIx32 ") selects offset 0x%" PRIx64 " of %02x:%02x.%u\n", port, latch,
+            (latch & 0xfc) + (port - 0xcfc), latch >> 16 & 0xff, latch >> 11 & 0x1f, latch >> 8 & 7);
     else if (port >= 0xcfc && port <= 0xcff)
-        add("why: I/O 0x%" PRIx64 ": not enabled by the latch, 0x%" PRIx32 "\n", port, latch);
+        add("why: I/O 0x%" PRIx64 ": CONFIG_ADDRESS (0x%" PRIx32 ") is disabled\n", port, latch);
     return shows;
 }
 
@@ -71,7 +71,7 @@ static void closed(struct pciguest *machine, size_t guest, uint32_t space, uint6
                 || place < region.first || place - region.first >= region.size)
                 continue;
             add("why: slot %" PRIu64 " bar%" PRIu32 " at 0x%" PRIx64 " size 0x%" PRIx64, slot, bar, region.first, region.size);
-            add(": closed, Command 0x%04" PRIx32 "\n", read_as(machine, guest, PCIGUEST_CONFIG, slot, 4, 2));
+            add(": decode is disabled (Command 0x%04" PRIx32 ")\n", read_as(machine, guest, PCIGUEST_CONFIG, slot, 4, 2));
         }
 }
 
@@ -84,9 +84,9 @@ static void lost(struct pciguest *machine, size_t guest, uint32_t space, uint64_
     else if (shows && !(latch >> 16 & 0xff) && !(latch >> 8 & 7))
         add("slot %u is empty\n", latch >> 11 & 0x1f);
     else if (shows)
-        add("%02x:%02x.%u is no slot\n", latch >> 16 & 0xff, latch >> 11 & 0x1f, latch >> 8 & 7);
+        add("there is no slot at %02x:%02x.%u\n", latch >> 16 & 0xff, latch >> 11 & 0x1f, latch >> 8 & 7);
     else {
-        add("nobody answers\n");
+        add("nothing responds\n");
         closed(machine, guest, space, place);
     }
 }
@@ -108,9 +108,9 @@ static void expect(struct pciguest *machine, size_t guest, uint32_t space, uint6
     if (!hit.found)
         lost(machine, guest, space, slot, place, shows, latch);
     else if (hit.part == PCIGUEST_PART_CONFIG)
-        add("slot %" PRIu64 " configuration offset 0x%" PRIx64 " answers\n", hit.slot, hit.offset);
+        add("slot %" PRIu64 " configuration space responds at offset 0x%" PRIx64 "\n", hit.slot, hit.offset);
     else
-        add("slot %" PRIu64 " bar%" PRIu32 " offset 0x%" PRIx64 " answers\n", hit.slot, hit.part, hit.offset);
+        add("slot %" PRIu64 " bar%" PRIu32 " responds at offset 0x%" PRIx64 "\n", hit.slot, hit.part, hit.offset);
 }
 
 /* A call that tells a guest why. */

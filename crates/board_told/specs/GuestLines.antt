@@ -16,7 +16,7 @@ head_text t f = target_text t ++ codes ": " ++ finding_text f
 abbrev pub place_line : ClosedInSlot → Text
 place_line c =
     why_line (slot_text c.slot ++ register_text c.register ++ codes " at " ++ hexadecimal c.first ++ codes " size "
-    ++ hexadecimal c.size ++ codes ": closed, ")
+    ++ hexadecimal c.size ++ codes ": ")
 
 abbrev pub closed_line : ClosedInSlot → Text
 closed_line c = ended (why_line (closed_text (closed_told c)))

@@ -10,7 +10,7 @@ ghost use Rattle.board_told.specs.{GuestFindings.finding_told, GuestLines.{head_
 use crate::closed::ClosedInSlot;
 use crate::finding::Finding;
 use accesses::{At, Place};
-use findings_render::{ShownCommand, numbers};
+use findings_render::{ShownDisabled, numbers};
 use monitor::DecodedByte;
 use std::alloc::AllocError;
 use std::fmt;
@@ -42,9 +42,17 @@ impl fmt::Display for ShownHit {
         let slot = self.0.slot;
         let offset = self.0.offset;
         match self.0.place {
-            Place::Cfg => { write!(f, "slot {slot} configuration offset 0x{offset:x} answers") }
+            Place::Cfg => {
+                write!(
+                    f,
+                    "slot {slot} configuration space responds at offset 0x{offset:x}"
+                )
+            }
             Place::Bar(register) => {
-                write!(f, "slot {slot} bar{register} offset 0x{offset:x} answers")
+                write!(
+                    f,
+                    "slot {slot} bar{register} responds at offset 0x{offset:x}"
+                )
             }
         }
     }
@@ -60,9 +68,9 @@ impl<'a> fmt::Display for ShownFinding<'a> {
     fn fmt<W: fmt::Write>(&self, f: &mut fmt::Formatter<W>) -> fmt::Result {
         match self.0 {
             Finding::Answers(hit) => write!(f, "{}", ShownHit(*hit)),
-            Finding::Nobody(_) => write!(f, "nobody answers"),
+            Finding::Nobody(_) => write!(f, "nothing responds"),
             Finding::Empty { slot } => write!(f, "slot {slot} is empty"),
-            Finding::NoSlot { at } => write!(f, "{} is no slot", numbers(*at)),
+            Finding::NoSlot { at } => write!(f, "there is no slot at {}", numbers(*at)),
         }
     }
 }
@@ -85,7 +93,7 @@ fn push_place(text: &mut String, closed: &ClosedInSlot) -> Result<(), AllocError
     let size = closed.size;
     write!(
         text,
-        "why: slot {slot} bar{register} at 0x{first:x} size 0x{size:x}: closed, "
+        "why: slot {slot} bar{register} at 0x{first:x} size 0x{size:x}: "
     )
 }
 
@@ -94,7 +102,7 @@ fn push_closed(text: &mut String, closed: &ClosedInSlot) -> Result<(), AllocErro
     ensures { OnOk result (Adds text.old text.new (closed_line closed.now)) }
 {
     push_place(text, closed)?;
-    write!(text, "{}", ShownCommand(closed.command))?;
+    write!(text, "{}", ShownDisabled(closed.command))?;
     text.push('\n')
 }
 

@@ -25,20 +25,20 @@ address_head space n w = space_text space ++ codes " " ++ hexadecimal n ++ codes
 
 abbrev pub at_reset_text : ℕ → Text
 at_reset_text n =
-    decimal n ++ (if n == 1 then codes " region" else codes " regions") ++ codes " at 0x0, closed as at reset"
+    decimal n ++ (if n == 1 then codes " BAR" else codes " BARs") ++ codes " at 0x0 with decode disabled, as at reset"
 
 abbrev pub number_head : BusAddress → Option Path → Text
 number_head at reached = number_text at ++ codes " reaches " ++ option_map_or path_text reached (codes "nothing")
 
 abbrev pub taking_text : ℕ → Path → Text
-taking_text bus p = path_text p ++ codes " takes bus " ++ hex_digits 2 bus
+taking_text bus p = codes "bridge " ++ path_text p ++ codes " claims bus " ++ hex_digits 2 bus
 
 abbrev pub use_text : ℕ → ℕ → ports.PortUse → Text
-use_text latch n ports.holds_latch = ports.port_text n ++ codes "4 bytes are " ++ ports.latch_text latch
+use_text latch n ports.holds_latch = ports.port_text n ++ codes "4-byte accesses go to " ++ ports.latch_text latch
 use_text latch n (ports.shows_data at off) =
-    ports.port_text n ++ codes "offset " ++ hexadecimal off ++ codes " of " ++ number_text at ++ codes " by "
-    ++ ports.latch_text latch
-use_text latch n ports.hides_data = ports.port_text n ++ codes "not enabled by " ++ ports.latch_text latch
+    ports.port_text n ++ ports.latch_text latch ++ codes " selects offset " ++ hexadecimal off ++ codes " of "
+    ++ number_text at
+use_text latch n ports.hides_data = ports.port_text n ++ ports.latch_text latch ++ codes " is disabled"
 use_text latch n ports.like_others = []
 
 abbrev pub line_text : Line → Text

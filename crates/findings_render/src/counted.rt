@@ -31,7 +31,7 @@ impl CountedText {
     }
 
     /// Renders a line for each problem and each unmet requirement, and a last line such as `ready:
-    /// ok` or `ready: 2 problems, 5 lacks`.
+    /// ok` or `ready: 2 problems, 5 left to do`.
     pub fn of_issues(
         alloc: Global,
         problems: &[Problem],

@@ -6,9 +6,8 @@ ghost use Rattle.findings.specs.Findings.{issue_of};
 ghost use Rattle.findings_render.specs.Lines.{issue_lines};
 ghost use Rattle.model_guests.specs.Text.{ended};
 
-use crate::counts::Counted;
 use crate::problem_lines::ProblemCount;
-use crate::region_texts::ShownRegion;
+use crate::region_texts::{ShownRegion, space_name};
 use findings::ReadinessIssue;
 use report::{ShownPath, TwoDigits};
 use std::alloc::AllocError;
@@ -18,7 +17,10 @@ fn push_description(text: &mut String, issue: &ReadinessIssue) -> Result<(), All
     ensures { OnOk result (Adds text.old text.new (issue_text (issue_of issue.now))) }
 {
     match issue {
-        ReadinessIssue::NotOpen { region } => write!(text, "{} is closed", ShownRegion(region)),
+        ReadinessIssue::NotOpen { region } => {
+            let space = space_name(region.region.kind.space());
+            write!(text, "{}: {space} decode is disabled", ShownRegion(region))
+        }
         ReadinessIssue::OutsideApertures { region, address } => {
             write!(text, "{}", ShownRegion(region))?;
             write!(text, ": 0x{address:x} is outside the apertures")
@@ -30,13 +32,19 @@ fn push_description(text: &mut String, issue: &ReadinessIssue) -> Result<(), All
         } => {
             let bridge = ShownPath(bridge);
             write!(text, "{}", ShownRegion(region))?;
-            write!(text, ": {bridge} prefetches 0x{address:x}")
+            write!(
+                text,
+                ": bridge {bridge} forwards 0x{address:x} as prefetchable"
+            )
         }
         ReadinessIssue::OtherPrimary { path, held, number } => {
             let path = ShownPath(path);
             let held = TwoDigits(*held);
             let number = TwoDigits(*number);
-            write!(text, "{path}: Primary is {held} on bus {number}")
+            write!(
+                text,
+                "{path}: Primary Bus Number is {held}, but the bridge is on bus {number}"
+            )
         }
     }
 }
@@ -74,14 +82,9 @@ pub(crate) fn push_ready_count(
         (ended (ready_line (ready_total problems readiness_issues)))) }
 {
     let found = ProblemCount(problems);
-    let lacking = Counted {
-        count: readiness_issues,
-        one: " lack",
-        more: " lacks",
-    };
     match (problems, readiness_issues) {
         (_, 0) => writeln!(text, "ready: {found}"),
-        (0, _) => writeln!(text, "ready: {lacking}"),
-        _ => writeln!(text, "ready: {found}, {lacking}"),
+        (0, _) => writeln!(text, "ready: {readiness_issues} left to do"),
+        _ => writeln!(text, "ready: {found}, {readiness_issues} left to do"),
     }
 }

@@ -25,5 +25,5 @@ pub use findings::{Bdf, Problem, ReadinessIssue, Space};
 pub use host_bridge::Host;
 pub use problem_lines::push_problem;
 pub use region_texts::numbers;
-pub use why_parts::ShownCommand;
+pub use why_parts::ShownDisabled;
 pub use why_texts::{push_use, why_number_text, why_port_text, why_text};

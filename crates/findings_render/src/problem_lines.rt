@@ -44,7 +44,7 @@ fn push_not_forwarded(
 {
     write!(text, "{}", ShownRegion(region))?;
     write!(text, ": 0x{address:x}")?;
-    write!(text, " is not forwarded by {}", ShownPath(bridge))
+    write!(text, " is not forwarded by bridge {}", ShownPath(bridge))
 }
 
 /// Appends the description of an address conflict between two responders.
@@ -61,7 +61,10 @@ fn push_contended(
     let one = ShownAgent(one);
     let other = ShownAgent(other);
     let address = Hexadecimal(address);
-    write!(text, "{one} and {other} both answer {space} {address}")
+    write!(
+        text,
+        "{one} and {other}: address conflict at {space} {address}"
+    )
 }
 
 /// Appends the description of a function that isn't reached by its BDF.
@@ -81,7 +84,10 @@ fn push_not_found(
         function: at.function,
     };
     let reached = Reached(instead);
-    write!(text, "{path}: a cycle for {number} reaches {reached}")
+    write!(
+        text,
+        "{path}: a configuration cycle to {number} reaches {reached}"
+    )
 }
 
 /// Appends the description of a problem.

@@ -7,7 +7,7 @@ ghost use Rattle.findings.specs.WhyTold.{hindrance_told, cause_told, forwarder_t
 ghost use Rattle.findings_render.specs.WhyLines.{address_head, answer_text};
 
 use crate::region_texts::{ShownRegion, space_name};
-use crate::why_parts::{ShownCommand, ShownWindows};
+use crate::why_parts::{ShownDisabled, ShownWindows};
 use bars::Space;
 use bridge_forward::Claim;
 use findings::{BlockReason, Cause, Forwarder, UnansweredRegion, Why};
@@ -29,8 +29,7 @@ impl fmt::Display for ShownHindrance {
     fn fmt<W: fmt::Write>(&self, f: &mut fmt::Formatter<W>) -> fmt::Result {
         match self.hindrance {
             BlockReason::Closes { command } => {
-                let command = ShownCommand(command);
-                write!(f, "{command} closes {}", space_name(self.space))
+                write!(f, "{} {}", space_name(self.space), ShownDisabled(command))
             }
             BlockReason::Misses { one, other } => write!(f, "{}", ShownWindows { one, other }),
         }
@@ -49,14 +48,16 @@ impl<'a> fmt::Display for ShownCause<'a> {
 
     fn fmt<W: fmt::Write>(&self, f: &mut fmt::Formatter<W>) -> fmt::Result {
         match self.cause {
-            Cause::ClosedBy { command } => write!(f, "closed, {}", ShownCommand(*command)),
+            Cause::ClosedBy { command } => {
+                write!(f, "{} {}", space_name(self.space), ShownDisabled(*command))
+            }
             Cause::StoppedAt { bridge, hindrance } => {
                 let bridge = ShownPath(bridge);
                 let hindrance = ShownHindrance {
                     space: self.space,
                     hindrance: *hindrance,
                 };
-                write!(f, "{bridge} doesn't forward it, {hindrance}")
+                write!(f, "bridge {bridge} doesn't forward it: {hindrance}")
             }
         }
     }
@@ -75,7 +76,7 @@ impl<'a> fmt::Display for ShownCauses<'a> {
     fn fmt<W: fmt::Write>(&self, f: &mut fmt::Formatter<W>) -> fmt::Result {
         let space = self.space;
         let Some((cause, more)) = self.causes.split_first() else {
-            return write!(f, "would answer too");
+            return write!(f, "decodes it too");
         };
         write!(f, "{}", ShownCause { space, cause })?;
         'more: for cause in more {
@@ -117,7 +118,7 @@ impl<'a> fmt::Display for ShownClaim<'a> {
         let path = ShownPath(&claim.path);
         let region = claim.region;
         let offset = claim.offset;
-        write!(f, "{path} bar{region} offset 0x{offset:x} answers")
+        write!(f, "{path} bar{region} responds at offset 0x{offset:x}")
     }
 }
 
@@ -127,8 +128,8 @@ fn no_claim(forwarders: &[Forwarder]) -> &'static str
     ensures { result.now ≡ no_claim_text (map forwarder_told forwarders.now) }
 {
     match forwarders {
-        [] => "nobody answers",
-        [_, ..] => "no region answers",
+        [] => "nothing responds",
+        [_, ..] => "no BAR responds",
     }
 }
 
@@ -173,7 +174,7 @@ pub(crate) fn push_forwarder(text: &mut String, forwarder: &Forwarder) -> Result
     let path = ShownPath(&forwarder.path);
     write!(
         text,
-        "{path} forwards it to bus {}",
+        "bridge {path} forwards it to bus {}",
         TwoDigits(forwarder.bus)
     )
 }

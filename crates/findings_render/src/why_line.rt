@@ -8,7 +8,7 @@ ghost use Rattle.findings_render.specs.WhyLines.{line_text};
 use crate::counts::Counted;
 use crate::region_texts::{Reached, numbers};
 use crate::why_address_lines::{ShownAddress, ShownTold, push_forwarder};
-use crate::why_number_lines::{ShownMissing, push_not_found};
+use crate::why_number_lines::ShownMissing;
 use crate::why_port_lines::push_port;
 use bars::Space;
 use bridge_forward::Path;
@@ -52,21 +52,24 @@ fn push_description(text: &mut String, line: Line) -> Result<(), AllocError>
         Line::Forwarder(forwarder) => push_forwarder(text, forwarder),
         Line::Region(space, told) => write!(text, "{}", ShownTold { space, told }),
         Line::AtReset(count) => {
-            let regions = Counted {
+            let bars = Counted {
                 count,
-                one: " region",
-                more: " regions",
+                one: " BAR",
+                more: " BARs",
             };
-            write!(text, "{regions} at 0x0, closed as at reset")
+            write!(text, "{bars} at 0x0 with decode disabled, as at reset")
         }
         Line::Number(at, why) => {
             write!(text, "{} reaches {}", numbers(*at), Reached(&why.reached))
         }
         Line::Taker(bus, path) => {
-            write!(text, "{} takes bus {}", ShownPath(path), TwoDigits(bus))
+            let bridge = ShownPath(path);
+            write!(text, "bridge {bridge} claims bus {}", TwoDigits(bus))
         }
         Line::Missing(missing) => write!(text, "{}", ShownMissing(missing)),
-        Line::NotFound(path) => push_not_found(text, path),
+        Line::NotFound(path) => {
+            write!(text, "{} has this BDF but isn't reached", ShownPath(path))
+        }
         Line::Total(count) => {
             let lines = Counted {
                 count,

@@ -1,14 +1,11 @@
 //! Renders the explanation of a BDF.
-ghost use Rattle.std.specs.Prelude.{◌≡◌, [], OnOk, Some, unwrap_or};
-ghost use Rattle.lists.specs.Texts.{Adds};
-ghost use Rattle.model_board.specs.Paths.{parent};
-ghost use Rattle.model_lines.specs.WhyText.{bus_text, missing_text, not_found_text};
+ghost use Rattle.std.specs.Prelude.{[], Some, unwrap_or};
+ghost use Rattle.model_lines.specs.WhyText.{bus_text, missing_text};
 ghost use Rattle.findings.specs.WhyTold.{missing_told};
 
 use bridge_forward::Path;
 use findings::Missing;
 use report::{ShownPath, TwoDigits};
-use std::alloc::AllocError;
 use std::fmt;
 
 /// Displays a bus by the bridge above it.
@@ -24,7 +21,7 @@ impl<'a> fmt::Display for ShownBus<'a> {
             Some(path) => {
                 // A path has at least one part.
                 prove!(!path.parts().is_empty());
-                write!(f, "behind {}", ShownPath(path))
+                write!(f, "behind bridge {}", ShownPath(path))
             }
         }
     }
@@ -41,7 +38,7 @@ impl<'a> fmt::Display for ShownMissing<'a> {
         match self.0 {
             Missing::NoBridge { behind, bus } => {
                 let behind = ShownBus(behind);
-                write!(f, "no bridge {behind} takes bus {}", TwoDigits(*bus))
+                write!(f, "no bridge {behind} claims bus {}", TwoDigits(*bus))
             }
             Missing::NoFunction {
                 behind,
@@ -50,33 +47,4 @@ impl<'a> fmt::Display for ShownMissing<'a> {
             } => write!(f, "no function {device}.{function} {}", ShownBus(behind)),
         }
     }
-}
-
-/// Returns the path of the bridge above a function, or `None` if the function is on bus 0.
-fn bridge_above(path: &Path) -> Option<Path>
-    ensures { unwrap_or result [] ≡ parent path.now }
-{
-    let parts = path.parent();
-    if parts.is_empty() {
-        return None;
-    }
-    let mut above = Path::on_root(parts[0]);
-    for index in 1..parts.len() {
-        above.push(parts[index]);
-    }
-    Some(above)
-}
-
-/// Appends the description of a function that has a BDF but isn't reached by it, with the bridge
-/// that its bus number comes from.
-pub(crate) fn push_not_found(text: &mut String, path: &Path) -> Result<(), AllocError>
-    ensures { OnOk result (Adds text.old text.new (not_found_text path.now)) }
-{
-    let above = bridge_above(path);
-    write!(
-        text,
-        "{} has this number {}",
-        ShownPath(path),
-        ShownBus(&above)
-    )
 }

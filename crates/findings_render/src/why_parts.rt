@@ -1,7 +1,7 @@
 //! Displays parts of an explanation: Command values and bridge windows.
 ghost use Rattle.std.specs.{Prelude.{◌≡◌, Some, codes, option_map}, Option.option_map_or};
 ghost use Rattle.bridge_forward.specs.RoutingRows.{window_of};
-ghost use Rattle.model_lines.specs.WhyText.{command_text, name_text, range_text, window_text, windows_text};
+ghost use Rattle.model_lines.specs.WhyText.{disabled_text, name_text, range_text, window_text, windows_text};
 ghost use Rattle.findings.specs.WhyTold.{name_told, window_told, windows_told};
 
 use bridge_forward::Window;
@@ -9,15 +9,15 @@ use findings::{NamedWindow, WindowName};
 use report::FourDigits;
 use std::fmt;
 
-/// Displays the value of a Command register.
+/// Displays that a Command register, given its value, disables decode.
 #[derive(Clone, Copy)]
-pub struct ShownCommand(pub u16);
+pub struct ShownDisabled(pub u16);
 
-impl fmt::Display for ShownCommand {
-    ghost output = { λ c. Some (command_text c.0) };
+impl fmt::Display for ShownDisabled {
+    ghost output = { λ c. Some (disabled_text c.0) };
 
     fn fmt<W: fmt::Write>(&self, f: &mut fmt::Formatter<W>) -> fmt::Result {
-        write!(f, "Command 0x{}", FourDigits(self.0))
+        write!(f, "decode is disabled (Command 0x{})", FourDigits(self.0))
     }
 }
 
@@ -32,22 +32,22 @@ fn window_name(name: WindowName) -> &'static str
     }
 }
 
-/// Displays the addresses of a window, or `shut` if its base is above its limit.
+/// Displays the addresses of a window, or `disabled` if its base is above its limit.
 #[derive(Clone, Copy)]
 struct ShownRange(Option<Window>);
 
 impl fmt::Display for ShownRange {
     ghost output = { λ r. Some
-        (option_map_or range_text (option_map window_of r.0) (codes "shut")) };
+        (option_map_or range_text (option_map window_of r.0) (codes "disabled")) };
 
     fn fmt<W: fmt::Write>(&self, f: &mut fmt::Formatter<W>) -> fmt::Result {
         match self.0 {
             Some(window) => {
                 let first = window.first;
                 let last = window.last;
-                write!(f, "0x{first:x}..0x{last:x}")
+                write!(f, "0x{first:x}-0x{last:x}")
             }
-            None => write!(f, "shut"),
+            None => write!(f, "disabled"),
         }
     }
 }
@@ -61,7 +61,7 @@ impl fmt::Display for ShownWindow {
 
     fn fmt<W: fmt::Write>(&self, f: &mut fmt::Formatter<W>) -> fmt::Result {
         let name = window_name(self.0.name);
-        write!(f, "{name} {}", ShownRange(self.0.window))
+        write!(f, "{name} window {}", ShownRange(self.0.window))
     }
 }
 

@@ -32,7 +32,7 @@ impl fmt::Display for ShownLatch {
 
     fn fmt<W: fmt::Write>(&self, f: &mut fmt::Formatter<W>) -> fmt::Result {
         let latch = self.0;
-        write!(f, "the latch, 0x{latch:x}")
+        write!(f, "CONFIG_ADDRESS (0x{latch:x})")
     }
 }
 
@@ -48,15 +48,12 @@ pub(crate) fn push_port(
     let port = ShownPort(port);
     let latch = ShownLatch(latch);
     match *used {
-        PortUse::HoldsLatch => write!(text, "{port}4 bytes are {latch}"),
+        PortUse::HoldsLatch => write!(text, "{port}4-byte accesses go to {latch}"),
         PortUse::ShowsData { at, offset } => {
-            write!(text, "{port}offset 0x{offset:x}")?;
-            write!(text, " of {} by {latch}", numbers(at))
+            write!(text, "{port}{latch}")?;
+            write!(text, " selects offset 0x{offset:x} of {}", numbers(at))
         }
-        PortUse::HidesData => {
-            write!(text, "{port}not enabled by ")?;
-            write!(text, "{latch}")
-        }
+        PortUse::HidesData => write!(text, "{port}{latch} is disabled"),
         PortUse::LikeOthers => Ok(()),
     }
 }

@@ -111,14 +111,14 @@ pub record WorkedExamples : Type 0 where
   pub text_of_lost :
       audit (reset_state main_board).functions
       ≡ text_of_lines (
-      codes "audit: 2.0/0.0: a cycle for 00:00.0 reaches nothing"
-      ∷ codes "audit: 2.0/1.0: a cycle for 00:01.0 reaches 1.0"
+      codes "audit: 2.0/0.0: a configuration cycle to 00:00.0 reaches nothing"
+      ∷ codes "audit: 2.0/1.0: a configuration cycle to 00:01.0 reaches 1.0"
       ∷ codes "audit: 2 problems" ∷ [])
   pub text_of_straddles :
       audit_text (routing_problems (one_card (between 0xc0000000 0xc00fffff) None 2 0xc0080000))
       ≡ text_of_lines (
-      codes "audit: 2.0/0.0 bar0 at 0xc0080000 size 0x100000: 0xc0100000 is not forwarded by 2.0"
+      codes "audit: 2.0/0.0 bar0 at 0xc0080000 size 0x100000: 0xc0100000 is not forwarded by bridge 2.0"
       ∷ codes "audit: 1 problem" ∷ [])
   pub text_of_overlap :
       audit_text (routing_problems (two_bridges (between 0xc0000000 0xc02fffff) (between 0xc0200000 0xc03fffff)))
-      ≡ text_of_lines (codes "audit: 2.0 and 3.0 both answer memory 0xc0200000" ∷ codes "audit: 1 problem" ∷ [])
+      ≡ text_of_lines (codes "audit: 2.0 and 3.0: address conflict at memory 0xc0200000" ∷ codes "audit: 1 problem" ∷ [])

@@ -34,12 +34,12 @@ number_text at =
 
 abbrev pub problem_text : Problem → Text
 problem_text (not_forwarded q bridge n) =
-    region_text q ++ codes ": " ++ hexadecimal n ++ codes " is not forwarded by " ++ path_text bridge
+    region_text q ++ codes ": " ++ hexadecimal n ++ codes " is not forwarded by bridge " ++ path_text bridge
 problem_text (contended a b n) =
-    agent_text a ++ codes " and " ++ agent_text b ++ codes " both answer " ++ space_text a.space ++ codes " "
+    agent_text a ++ codes " and " ++ agent_text b ++ codes ": address conflict at " ++ space_text a.space ++ codes " "
     ++ hexadecimal n
 problem_text (not_found p at instead) =
-    path_text p ++ codes ": a cycle for " ++ number_text at ++ codes " reaches "
+    path_text p ++ codes ": a configuration cycle to " ++ number_text at ++ codes " reaches "
     ++ option_map_or path_text instead (codes "nothing")
 
 abbrev pub total_text : ℕ → Text

@@ -62,11 +62,11 @@ pub record ReadyExamples : Type 0 where
   pub text_of_reset :
       ready_report main_apertures (reset_state main_board).functions
       ≡ text_of_lines (
-      codes "audit: 2.0/0.0: a cycle for 00:00.0 reaches nothing"
-      ∷ codes "audit: 2.0/1.0: a cycle for 00:01.0 reaches 1.0"
-      ∷ codes "ready: 1.0 bar0 at 0x0 size 0x20 is closed"
-      ∷ codes "ready: 1.0 bar1 at 0x0 size 0x1000 is closed"
-      ∷ codes "ready: 2.0/0.0 bar0 at 0x0 size 0x100000 is closed"
-      ∷ codes "ready: 2.0/0.0 bar1 at 0x0 size 0x8 is closed"
-      ∷ codes "ready: 2.0/1.0 bar0 at 0x0 size 0x1000000 is closed"
-      ∷ codes "ready: 2 problems, 5 lacks" ∷ [])
+      codes "audit: 2.0/0.0: a configuration cycle to 00:00.0 reaches nothing"
+      ∷ codes "audit: 2.0/1.0: a configuration cycle to 00:01.0 reaches 1.0"
+      ∷ codes "ready: 1.0 bar0 at 0x0 size 0x20: I/O decode is disabled"
+      ∷ codes "ready: 1.0 bar1 at 0x0 size 0x1000: memory decode is disabled"
+      ∷ codes "ready: 2.0/0.0 bar0 at 0x0 size 0x100000: memory decode is disabled"
+      ∷ codes "ready: 2.0/0.0 bar1 at 0x0 size 0x8: I/O decode is disabled"
+      ∷ codes "ready: 2.0/1.0 bar0 at 0x0 size 0x1000000: memory decode is disabled"
+      ∷ codes "ready: 2 problems, 5 left to do" ∷ [])

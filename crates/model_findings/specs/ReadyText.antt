@@ -8,18 +8,20 @@ use Rattle.std.specs.Prelude.{List, [], ◌∷◌, ◌++◌, ℕ, ◌==◌, if�
 use Rattle.model_registers.specs.Apertures.{Apertures}
 use Rattle.model_board.specs.State.{BoardFunction}
 use Rattle.model_guests.specs.{Text.{Text, text_of_lines}, Replies.hex_digits, PathTexts.{hexadecimal, path_text}}
-use Rattle.model_findings.specs.{AuditText.{region_text, problem_text, total_text, audit_line}, Problems.{Problem, problems}, ReadinessIssues.{ReadinessIssue, not_open, outside_apertures, prefetched_by, other_primary, readiness_issues}}
+use Rattle.model_findings.specs.{AuditText.{region_text, space_text, problem_text, total_text, audit_line}, Problems.{Problem, problems}, ReadinessIssues.{ReadinessIssue, not_open, outside_apertures, prefetched_by, other_primary, readiness_issues}}
 
 abbrev pub issue_text : ReadinessIssue → Text
-issue_text (not_open q) = region_text q ++ codes " is closed"
+issue_text (not_open q) = region_text q ++ codes ": " ++ space_text q.space ++ codes " decode is disabled"
 issue_text (outside_apertures q n) = region_text q ++ codes ": " ++ hexadecimal n ++ codes " is outside the apertures"
 issue_text (prefetched_by q bridge n) =
-    region_text q ++ codes ": " ++ path_text bridge ++ codes " prefetches " ++ hexadecimal n
+    region_text q ++ codes ": bridge " ++ path_text bridge ++ codes " forwards " ++ hexadecimal n
+    ++ codes " as prefetchable"
 issue_text (other_primary p held number) =
-    path_text p ++ codes ": Primary is " ++ hex_digits 2 held ++ codes " on bus " ++ hex_digits 2 number
+    path_text p ++ codes ": Primary Bus Number is " ++ hex_digits 2 held ++ codes ", but the bridge is on bus "
+    ++ hex_digits 2 number
 
 abbrev pub issues_text : ℕ → Text
-issues_text n = decimal n ++ (if n == 1 then codes " lack" else codes " lacks")
+issues_text n = decimal n ++ codes " left to do"
 
 abbrev pub ready_total : (problems readiness_issues : ℕ) → Text
 ready_total m n =

@@ -13,7 +13,7 @@ use Rattle.model_board.specs.{Cycles.BusAddress, Ports.selected}
 use Rattle.model_guests.specs.{Accesses.{Target, configuration, port, address}, Slots.{Slots, slot_at, Landing, landing}, Lone.{LoneGuest, Destination, own_latch, no_function, at_target, destination}, Text.{Text, text_of_lines}, PathTexts.hexadecimal}
 use Rattle.model_findings.specs.AuditText.{register_text, number_text}
 use Rattle.model_handoff.specs.Located.{located}
-use Rattle.model_lines.specs.{WhyText.{command_text, why_line}, WhyPorts.{port_use, use_lines}}
+use Rattle.model_lines.specs.{WhyText.{disabled_text, why_line}, WhyPorts.{port_use, use_lines}}
 
 -- ---- the target of an access
 
@@ -112,19 +112,19 @@ target_text (port a) = codes "I/O " ++ hexadecimal a
 target_text (address a) = codes "memory " ++ hexadecimal a
 
 abbrev pub place_text : Place → Text
-place_text (config off) = codes " configuration offset " ++ hexadecimal off
-place_text (block n off) = register_text n ++ codes " offset " ++ hexadecimal off
+place_text (config off) = codes " configuration space responds at offset " ++ hexadecimal off
+place_text (block n off) = register_text n ++ codes " responds at offset " ++ hexadecimal off
 
 abbrev pub finding_text : Finding → Text
-finding_text (answers l) = slot_text l.slot ++ place_text l.place ++ codes " answers"
-finding_text (nobody cs) = codes "nobody answers"
+finding_text (answers l) = slot_text l.slot ++ place_text l.place
+finding_text (nobody cs) = codes "nothing responds"
 finding_text (empty slot) = slot_text slot ++ codes " is empty"
-finding_text (no_slot at) = number_text at ++ codes " is no slot"
+finding_text (no_slot at) = codes "there is no slot at " ++ number_text at
 
 abbrev pub closed_text : ClosedRegion → Text
 closed_text c =
     slot_text c.slot ++ register_text c.index ++ codes " at " ++ hexadecimal c.first ++ codes " size "
-    ++ hexadecimal c.size ++ codes ": closed, " ++ command_text c.command
+    ++ hexadecimal c.size ++ codes ": " ++ disabled_text c.command
 
 abbrev pub closed_lines : Finding → List Text
 closed_lines (answers l) = []

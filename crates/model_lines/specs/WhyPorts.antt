@@ -43,14 +43,14 @@ abbrev pub port_text : ℕ → Text
 port_text n = space_text io ++ codes " " ++ hexadecimal n ++ codes ": "
 
 abbrev pub latch_text : ℕ → Text
-latch_text latch = codes "the latch, " ++ hexadecimal latch
+latch_text latch = codes "CONFIG_ADDRESS (" ++ hexadecimal latch ++ codes ")"
 
 abbrev pub use_lines : ℕ → ℕ → PortUse → List Text
-use_lines latch n holds_latch = (port_text n ++ codes "4 bytes are " ++ latch_text latch) ∷ []
+use_lines latch n holds_latch = (port_text n ++ codes "4-byte accesses go to " ++ latch_text latch) ∷ []
 use_lines latch n (shows_data at off) =
-    (port_text n ++ codes "offset " ++ hexadecimal off ++ codes " of " ++ number_text at ++ codes " by "
-    ++ latch_text latch) ∷ []
-use_lines latch n hides_data = (port_text n ++ codes "not enabled by " ++ latch_text latch) ∷ []
+    (port_text n ++ latch_text latch ++ codes " selects offset " ++ hexadecimal off ++ codes " of "
+    ++ number_text at) ∷ []
+use_lines latch n hides_data = (port_text n ++ latch_text latch ++ codes " is disabled") ∷ []
 use_lines latch n like_others = []
 
 abbrev pub found_lines : State → ℕ → PortUse → List Text
@@ -74,21 +74,21 @@ pub record PortExamples : Type 0 where
   pub latch :
       why_port_text (latched_at 0x80000800) 0xcf8
       ≡ text_of_lines (
-      codes "why: I/O 0xcf8: 4 bytes are the latch, 0x80000800"
-      ∷ codes "why: I/O 0xcf8: nobody answers"
+      codes "why: I/O 0xcf8: 4-byte accesses go to CONFIG_ADDRESS (0x80000800)"
+      ∷ codes "why: I/O 0xcf8: nothing responds"
       ∷ codes "why: 2 lines" ∷ [])
   pub shown :
       why_port_text (latched_at 0x80000804) 0xcfe
       ≡ text_of_lines (
-      codes "why: I/O 0xcfe: offset 0x6 of 00:01.0 by the latch, 0x80000804"
+      codes "why: I/O 0xcfe: CONFIG_ADDRESS (0x80000804) selects offset 0x6 of 00:01.0"
       ∷ codes "why: 00:01.0 reaches 1.0"
       ∷ codes "why: 2 lines" ∷ [])
   pub hidden :
       why_port_text (latched_at 0x800) 0xcfc
       ≡ text_of_lines (
-      codes "why: I/O 0xcfc: not enabled by the latch, 0x800"
-      ∷ codes "why: I/O 0xcfc: nobody answers"
+      codes "why: I/O 0xcfc: CONFIG_ADDRESS (0x800) is disabled"
+      ∷ codes "why: I/O 0xcfc: nothing responds"
       ∷ codes "why: 2 lines" ∷ [])
   pub beside :
       why_port_text (latched_at 0x80000800) 0xcf9
-      ≡ text_of_lines (codes "why: I/O 0xcf9: nobody answers" ∷ codes "why: 1 line" ∷ [])
+      ≡ text_of_lines (codes "why: I/O 0xcf9: nothing responds" ∷ codes "why: 1 line" ∷ [])

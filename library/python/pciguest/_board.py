@@ -104,7 +104,7 @@ class Board(Held):
         >>> board.run_line("host cr 00:01.0 0 4")
         'host: 0x00011234'
         >>> print(board.run_line("host guests"))
-        audit: 2.0/0.0: a cycle for 00:00.0 reaches nothing
+        audit: 2.0/0.0: a configuration cycle to 00:00.0 reaches nothing
         host: refused 207 not in order
         """
         return self._reply("board_run_line", line)
@@ -138,7 +138,7 @@ class Board(Held):
         is. It is refused by 299 where memory is out.
 
         >>> print(Board(BOARD).audit().text.splitlines()[0])
-        audit: 2.0/0.0: a cycle for 00:00.0 reaches nothing
+        audit: 2.0/0.0: a configuration cycle to 00:00.0 reaches nothing
         """
         return Audit(*self._counted("board_audit"))
 
@@ -157,7 +157,7 @@ class Board(Held):
         than their bus. The board stays as it is. It is refused by 299 where memory is out.
 
         >>> print(Board(BOARD).ready().text.splitlines()[-2])
-        ready: 2.0/1.0 bar0 at 0x0 size 0x1000000 is closed
+        ready: 2.0/1.0 bar0 at 0x0 size 0x1000000: memory decode is disabled
         """
         return Readiness(*self._counted("board_ready"))
 

@@ -11,12 +11,12 @@ from ._driven import DrivenBoard
 #: each kind of finding about what firmware leaves, and words that its lines have and no other's
 LEFT = {
     "unforwarded": "is not forwarded by",
-    "contended": "both answer",
-    "unreached": "a cycle for",
-    "closed": "is closed",
+    "contended": "address conflict",
+    "unreached": "a configuration cycle",
+    "closed": "decode is disabled",
     "outside": "is outside the apertures",
-    "prefetched": " prefetches ",
-    "primary": "Primary is",
+    "prefetched": "as prefetchable",
+    "primary": "Primary Bus Number is",
 }
 #: kinds about lines, whose lines begin with their names; of a transient nothing need be left at the end
 TRANSIENTS = ["moved", "ones", "reset", "overlap", "status"]
@@ -35,4 +35,4 @@ def findings(board: DrivenBoard) -> List[str]:
 
 def same_problem(finding: str) -> str:
     """What stays of a finding while it is the same problem: not the addresses and numbers that it is told with."""
-    return re.sub(r"0x[0-9a-f]+|a cycle for .*|Primary is .*", "", finding)
+    return re.sub(r"0x[0-9a-f]+|a configuration cycle to .*|Primary Bus Number is .*", "", finding)

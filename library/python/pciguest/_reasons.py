@@ -23,11 +23,11 @@ def reasons(board: DrivenBoard, document: Document, finding: str) -> List[str]:
 
 def question(board: DrivenBoard, document: Document, finding: str) -> Optional[str]:
     """The line that asks why of the first address of a finding, or else of its number."""
-    if found := re.search(r"both answer (I/O|memory) (\S+)", finding):
+    if found := re.search(r"address conflict at (I/O|memory) (\S+)", finding):
         return f"host why {WORDS[found[1]]} {found[2]}"
-    if found := re.search(r"a cycle for (\S+) reaches", finding):
+    if found := re.search(r"a configuration cycle to (\S+) reaches", finding):
         return f"host why cfg {found[1]}"
-    if found := re.search(r"(\S+): Primary is \w\w on bus (\w\w)", finding):
+    if found := re.search(r"(\S+): Primary Bus Number is .* on bus (\w\w)", finding):
         device, function = path_of(found[1])[-1]
         return f"host why cfg {found[2]}:{device:02x}.{function}"
     if found := SIZED.match(finding):

@@ -158,6 +158,6 @@ class Watch:
 
     def overlaps(self) -> Iterator[str]:
         """Who answers an address beside another since this line."""
-        shared = {line.partition(": ")[2] for line in findings(self.board) if "both answer" in line}
+        shared = {line.partition(": ")[2] for line in findings(self.board) if "address conflict" in line}
         yield from (f"overlap: {line}" for line in sorted(shared - self.shared))
         self.shared = shared

@@ -82,7 +82,7 @@ def registers_of(document: Document, finding: str) -> Iterator[Tuple[str, List[R
             upper = [(f"bar{region.index} upper half", range(first + 4, first + 8))] if region.is_64_bit else []
             yield one.at, [(f"bar{region.index}", range(first, first + 4)), *upper, COMMAND]
         elif one.is_bridge and "cycle for" not in finding:
-            yield one.at, NUMBERS[:1] if "Primary is" in finding else [*windows(one, is_io), COMMAND]
+            yield one.at, NUMBERS[:1] if "Primary Bus Number is" in finding else [*windows(one, is_io), COMMAND]
         elif "Status" in finding:
             yield one.at, [STATUS]
     if "cycle for" in finding:

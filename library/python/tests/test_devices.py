@@ -189,7 +189,7 @@ class Acting(Case):
                 call()
         self.a.io[0xCF8:4]
         self.a.config[0][4:2] = 0
-        self.a.memory[0xE0000008:4] = 1  # memory is off: nobody answers
+        self.a.memory[0xE0000008:4] = 1  # memory is off: nothing responds
         self.assertEqual(self.device.told, [])
 
 

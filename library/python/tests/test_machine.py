@@ -85,18 +85,18 @@ class Guests(Case):
         function[0x14:4] = 0xD0000000
         self.assertEqual(
             a.why("memory", 0xD0000010),
-            "why: memory 0xd0000010: nobody answers\n"
-            "why: slot 0 bar1 at 0xd0000000 size 0x1000: closed, Command 0x0000\n",
+            "why: memory 0xd0000010: nothing responds\n"
+            "why: slot 0 bar1 at 0xd0000000 size 0x1000: decode is disabled (Command 0x0000)\n",
         )
-        self.assertEqual(self.b.why("memory", 0xD0000010), "why: memory 0xd0000010: nobody answers\n")
+        self.assertEqual(self.b.why("memory", 0xD0000010), "why: memory 0xd0000010: nothing responds\n")
         function[4:2] = 2
-        self.assertEqual(a.why("memory", 0xD0000010), "why: memory 0xd0000010: slot 0 bar1 offset 0x10 answers\n")
+        self.assertEqual(a.why("memory", 0xD0000010), "why: memory 0xd0000010: slot 0 bar1 responds at offset 0x10\n")
         self.assertEqual(a.why("config", 0, slot=2), "why: slot 2 offset 0x0: slot 2 is empty\n")
         a.io[0xCF8:4] = 0x80010000
         self.assertEqual(
             a.why("io", 0xCFC),
-            "why: I/O 0xcfc: offset 0x0 of 01:00.0 by the latch, 0x80010000\n"
-            "why: I/O 0xcfc: 01:00.0 is no slot\n",
+            "why: I/O 0xcfc: CONFIG_ADDRESS (0x80010000) selects offset 0x0 of 01:00.0\n"
+            "why: I/O 0xcfc: there is no slot at 01:00.0\n",
         )
         with self.assertRaises(ValueError):
             a.why("mem", 0)

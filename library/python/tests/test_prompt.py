@@ -117,14 +117,14 @@ class Lines(Case):
         self.assertEqual(
             asked("why a mem 0xd0000010"),
             [
-                "why: memory 0xd0000010: nobody answers",
-                "why: slot 0 bar1 at 0xd0000000 size 0x1000: closed, Command 0x0000",
+                "why: memory 0xd0000010: nothing responds",
+                "why: slot 0 bar1 at 0xd0000000 size 0x1000: decode is disabled (Command 0x0000)",
             ],
         )
         self.asked("a.command = 2")
-        self.assertEqual(asked("why a mem 0xd0000010"), ["why: memory 0xd0000010: slot 0 bar1 offset 0x10 answers"])
+        self.assertEqual(asked("why a mem 0xd0000010"), ["why: memory 0xd0000010: slot 0 bar1 responds at offset 0x10"])
         self.assertEqual(asked("why a cfg 2 0"), ["why: slot 2 offset 0x0: slot 2 is empty"])
-        self.assertEqual(asked("why a io 0xcfc")[0], "why: I/O 0xcfc: not enabled by the latch, 0x0")
+        self.assertEqual(asked("why a io 0xcfc")[0], "why: I/O 0xcfc: CONFIG_ADDRESS (0x0) is disabled")
         self.assertIn("303 range", asked("why a cfg 32 0")[0])
         self.assertIn("902 argument", asked("why nobody mem 0")[0])
         for line in ("why", "why a", "why a mem", "why a mem x", "why a cfg 1", "why a io 1 2", "why a bar 0"):

@@ -10,7 +10,7 @@ def number(at):
 
 
 def behind(path):
-    return f"behind {path}" if path else "on bus 00"
+    return f"behind bridge {path}" if path else "on bus 00"
 
 
 def bar(one):
@@ -18,61 +18,64 @@ def bar(one):
 
 
 def closed(one):
-    return f"closed, Command {one['command']:#06x}"
+    return f"decode is disabled (Command {one['command']:#06x})"
 
 
 def window(one):
     found = one["range"]
-    return f"{SPACES[one['space']]} {'{first:#x}..{last:#x}'.format(**found) if found else 'shut'}"
+    return f"{SPACES[one['space']]} window {'{first:#x}-{last:#x}'.format(**found) if found else 'disabled'}"
 
 
 def cause(one, space):
+    disabled = "command" in one and f"{SPACES[space]} {closed(one)}"
     if one["type"] == "closed":
-        return closed(one)
-    shut = one["type"] == "bridge closed" and f"Command {one['command']:#06x} closes {SPACES[space]}"
-    return f"{one['bridge']} doesn't forward it, {shut or ', '.join(map(window, one['windows'])) or 'no window'}"
+        return disabled
+    return f"bridge {one['bridge']} doesn't forward it: {disabled or ', '.join(map(window, one['windows'])) or 'no window'}"
 
 
 def at_address(found, what):
     answer, count = found["answer"], found["at_reset"]
-    nobody = f"{'no region' if found['forwards'] else 'nobody'} answers"
-    yield f"{what}: " + ("{path} bar{bar} offset {offset:#x} answers".format(**answer) if answer else nobody)
-    yield from (f"{each['path']} forwards it to bus {each['bus']:02x}" for each in found["forwards"])
+    nobody = f"{'no BAR' if found['forwards'] else 'nothing'} responds"
+    yield f"{what}: " + ("{path} bar{bar} responds at offset {offset:#x}".format(**answer) if answer else nobody)
+    yield from (f"bridge {each['path']} forwards it to bus {each['bus']:02x}" for each in found["forwards"])
     for each in found["regions"]:
         causes = [cause(one, each["region"]["space"]) for one in each["causes"]]
-        yield f"{each['region']['path']} {bar(each['region'])}: {'; '.join(causes) or 'would answer too'}"
+        yield f"{each['region']['path']} {bar(each['region'])}: {'; '.join(causes) or 'decodes it too'}"
     if count:
-        yield f"{count} region{'s' if count > 1 else ''} at 0x0, closed as at reset"
+        yield f"{count} BAR{'s' if count > 1 else ''} at 0x0 with decode disabled, as at reset"
 
 
 def by_number(found, at):
     missing = found["missing"]
     yield f"{at} reaches {found['reached'] or 'nothing'}"
-    yield from (f"{path} takes bus {at[:2]}" for path in found["takers"])
+    yield from (f"bridge {path} claims bus {at[:2]}" for path in found["takers"])
     if missing:
         gone = "function {device}.{function}".format(**missing) if "device" in missing else "bridge"
-        takes = "" if "device" in missing else f" takes bus {missing['bus']:02x}"
+        takes = "" if "device" in missing else f" claims bus {missing['bus']:02x}"
         yield f"no {gone} {behind(missing['behind'])}{takes}"
-    yield from (f"{path} has this number {behind(path.rpartition('/')[0])}" for path in found["not_found"])
+    yield from (f"{path} has this BDF but isn't reached" for path in found["not_found"])
 
 
 def to_guest(found, what):
     kind = found["type"]
     if kind == "answers":
-        part = "configuration" if found["bar"] is None else f"bar{found['bar']}"
-        yield f"{what}: slot {found['slot']} {part} offset {found['offset']:#x} answers"
+        part = "configuration space" if found["bar"] is None else f"bar{found['bar']}"
+        yield f"{what}: slot {found['slot']} {part} responds at offset {found['offset']:#x}"
     elif kind == "nobody":
-        yield f"{what}: nobody answers"
+        yield f"{what}: nothing responds"
         yield from (f"slot {each['slot']} {bar(each)}: {closed(each)}" for each in found["regions"])
     else:
-        lost = f"slot {found['slot']} is empty" if kind == "empty" else f"{number(found['number'])} is no slot"
+        lost = f"slot {found['slot']} is empty" if kind == "empty" else f"there is no slot at {number(found['number'])}"
         yield f"{what}: {lost}"
 
 
 def by_latch(latch, what, value):
-    shown = {"held": "4 bytes are", "not enabled": "not enabled by"}
-    by = shown.get(latch["type"]) or f"offset {latch['offset']:#x} of {number(latch['number'])} by"
-    return f"{what}: {by} the latch, {value:#x}"
+    held = f"CONFIG_ADDRESS ({value:#x})"
+    if latch["type"] == "held":
+        return f"{what}: 4-byte accesses go to {held}"
+    if latch["type"] == "not enabled":
+        return f"{what}: {held} is disabled"
+    return f"{what}: {held} selects offset {latch['offset']:#x} of {number(latch['number'])}"
 
 
 def why_lines(told, what, latch):

@@ -278,7 +278,7 @@ impl Board {
     /// # const BOARD: &str = include_str!("board.toml");
     /// let mut board = pciguest::Board::new(BOARD)?;
     /// let ready = board.ready()?;
-    /// assert!(ready.lacks > 0 && ready.text.ends_with(" is closed\nready: 1 lack\n"));
+    /// assert!(ready.lacks > 0 && ready.text.ends_with(" decode is disabled\nready: 1 left to do\n"));
     /// # Ok::<(), pciguest::Error>(())
     /// ```
     pub fn ready(&mut self) -> Result<Readiness, Error> {

@@ -656,11 +656,11 @@ impl Machine {
     /// machine.write(a, At::Config { slot: 0, offset: 0x10 }, 4, 0x8000_0000)?;
     /// assert_eq!(
     ///     machine.why(a, bell)?,
-    ///     "why: memory 0x80000010: nobody answers\n\
-    ///      why: slot 0 bar0 at 0x80000000 size 0x1000: closed, Command 0x0000\n"
+    ///     "why: memory 0x80000010: nothing responds\n\
+    ///      why: slot 0 bar0 at 0x80000000 size 0x1000: decode is disabled (Command 0x0000)\n"
     /// );
     /// machine.write(a, At::Config { slot: 0, offset: 0x04 }, 2, 2)?;
-    /// assert_eq!(machine.why(a, bell)?, "why: memory 0x80000010: slot 0 bar0 offset 0x10 answers\n");
+    /// assert_eq!(machine.why(a, bell)?, "why: memory 0x80000010: slot 0 bar0 responds at offset 0x10\n");
     /// # Ok::<(), pciguest::Error>(())
     /// ```
     pub fn why(&mut self, guest: Guest, at: At) -> Result<String, Error> {

@@ -259,7 +259,7 @@ fn what_tells_nothing() {
     );
     case.read(At::Io { port: 0xcf8 }, 4);
     case.write(At::Config { slot: 0, offset: 4 }, 2, 0);
-    case.write(memory(0xe000_0008), 4, 1); // memory is off: nobody answers
+    case.write(memory(0xe000_0008), 4, 1); // memory is off: nothing responds
     assert!(case.told().is_empty());
 }
 

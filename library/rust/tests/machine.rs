@@ -199,8 +199,8 @@ fn a_guest_is_told_why() -> Result<(), Error> {
     machine.write(a, config(0, 0x14), 4, 0xd000_0000)?;
     assert_eq!(
         machine.why(a, bell)?,
-        "why: memory 0xd0000010: nobody answers\n\
-         why: slot 0 bar1 at 0xd0000000 size 0x1000: closed, Command 0x0000\n"
+        "why: memory 0xd0000010: nothing responds\n\
+         why: slot 0 bar1 at 0xd0000000 size 0x1000: decode is disabled (Command 0x0000)\n"
     );
     assert_eq!(
         machine.why_json(a, bell)?,
@@ -209,12 +209,12 @@ fn a_guest_is_told_why() -> Result<(), Error> {
     );
     assert_eq!(
         machine.why(b, bell)?,
-        "why: memory 0xd0000010: nobody answers\n"
+        "why: memory 0xd0000010: nothing responds\n"
     );
     machine.write(a, config(0, 4), 2, 2)?;
     assert_eq!(
         machine.why(a, bell)?,
-        "why: memory 0xd0000010: slot 0 bar1 offset 0x10 answers\n"
+        "why: memory 0xd0000010: slot 0 bar1 responds at offset 0x10\n"
     );
     assert_eq!(
         machine.why(a, config(2, 0))?,
@@ -223,8 +223,8 @@ fn a_guest_is_told_why() -> Result<(), Error> {
     machine.write(a, At::Io { port: 0xcf8 }, 4, 0x8000_0840)?;
     assert_eq!(
         machine.why(a, At::Io { port: 0xcfe })?,
-        "why: I/O 0xcfe: offset 0x42 of 00:01.0 by the latch, 0x80000840\n\
-         why: I/O 0xcfe: slot 1 configuration offset 0x42 answers\n"
+        "why: I/O 0xcfe: CONFIG_ADDRESS (0x80000840) selects offset 0x42 of 00:01.0\n\
+         why: I/O 0xcfe: slot 1 configuration space responds at offset 0x42\n"
     );
     Ok(())
 }

@@ -7,7 +7,7 @@ use Rattle.findings_render.proofs.problem_lines.push_contended.Goals as goal
 pub returns : goal.returns
 returns c =
     let old = string_bytes c.args.text.now in
-    let agents = agent_text c.args.one.now ++ codes " and " ++ agent_text c.args.other.now ++ codes " both answer " in
+    let agents = agent_text c.args.one.now ++ codes " and " ++ agent_text c.args.other.now ++ codes ": address conflict at " in
     IfOk-equal c.write.result _ _ _ c.write.ensures.bytes
-    (ap (λ (x : Text). old ++ x) (all_right_to_left (agent_text c.args.one.now) (codes " and ") (agent_text c.args.other.now) (codes " both answer ") c.space_name-space.result.now (codes " ") (hexadecimal c.args.address))
+    (ap (λ (x : Text). old ++ x) (all_right_to_left (agent_text c.args.one.now) (codes " and ") (agent_text c.args.other.now) (codes ": address conflict at ") c.space_name-space.result.now (codes " ") (hexadecimal c.args.address))
     ∙ ap (λ (s : Text). old ++ (agents ++ s ++ codes " " ++ hexadecimal c.args.address)) (c.space_name-space.ensures ∙ ap (λ (a : Agent). space_text a.space) c.one.view_is))

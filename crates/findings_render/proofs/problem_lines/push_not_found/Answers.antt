@@ -8,4 +8,4 @@ use Rattle.findings_render.proofs.problem_lines.push_not_found.Goals as goal
 pub returns : goal.returns
 returns c =
     IfOk-equal c.write.result _ _ _ c.write.ensures.bytes (ap (λ (x : Text). string_bytes c.args.text.now ++ x)
-    (right_to_left (path_text c.args.path.now) (codes ": a cycle for ") (number_text (bus_address_of c.args.at)) (codes " reaches ") (option_map_or path_text c.args.instead.now (codes "nothing"))))
+    (right_to_left (path_text c.args.path.now) (codes ": a configuration cycle to ") (number_text (bus_address_of c.args.at)) (codes " reaches ") (option_map_or path_text c.args.instead.now (codes "nothing"))))
