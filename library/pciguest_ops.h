@@ -94,15 +94,15 @@ static inline void pg_store(uint64_t address, int width, uint32_t value)
 static inline int pg_is_count(const char *line, unsigned long *count)
 {
     int audit = 0, both = 0, ready = 0, why = 0;
-    unsigned long lacks = 0;
+    unsigned long left = 0;
 
     if (sscanf(line, "audit: %lu problem%n", count, &audit) == 1 && audit > 0)
         return 1;
-    if (sscanf(line, "ready: %lu problem%*[s,] %lu lack%n", count, &lacks, &both) == 2 && both > 0) {
-        *count += lacks;
+    if (sscanf(line, "ready: %lu problem%*[s,] %lu left%n", count, &left, &both) == 2 && both > 0) {
+        *count += left;
         return 1;
     }
-    if (sscanf(line, "ready: %lu lack%n", count, &ready) == 1 && ready > 0)
+    if (sscanf(line, "ready: %lu left%n", count, &ready) == 1 && ready > 0)
         return 1;
     if (sscanf(line, "ready: %lu problem%n", count, &ready) == 1 && ready > 0)
         return 1;
@@ -113,8 +113,8 @@ static inline int pg_is_count(const char *line, unsigned long *count)
 }
 
 /* Sends the question `host audit`, `host ready` or `host why ..`, and copies the lines of the reply to a stream such as
- * stderr; if the stream is NULL, the lines are discarded. Returns the number of problems and lacks, or for `host why ..` the
- * number of lines in the answer. */
+ * stderr; if the stream is NULL, the lines are discarded. Returns the number of problems and readiness issues, or for
+ * `host why ..` the number of lines in the answer. */
 static inline unsigned long pg_question(const char *question, FILE *out)
 {
     unsigned long count = 0;

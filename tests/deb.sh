@@ -47,7 +47,7 @@ holds 'Python' same tests/library/device.stdout inside python3 $examples/python/
 holds 'its prompt' inside sh -c "echo a.vendor | python3 -m pciguest $boards/main.toml | grep -qx 'a: 0x1234'"
 firmware=$examples/firmware
 holds 'firmware' inside cc -o /tmp/enumerator $firmware/enumerator.c
-holds 'a test of firmware' same <(echo '42 boards: the firmware leaves 38 of them ready, and says of 4 that they have no room') \
+holds 'a test of firmware' same <(echo '42 boards: 38 ready; the firmware reports no room on 4') \
   inside pciguest-firmware-test --boards 10 -- /tmp/enumerator
 holds 'firmware with a mistake' inside sh -c "
   cd /tmp && python3 $firmware/edited.py $firmware/mistakes/multifunction_bit.edit > mistake.c && cc -o mistake mistake.c

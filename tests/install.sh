@@ -189,7 +189,7 @@ else
 fi
 if command -v cc > /dev/null && python3 -c 'import tomllib' 2> /dev/null; then
   holds 'the enumerator is built' outside cc -O1 -Wall -Wextra -Werror -Iinclude -o enumerator examples/firmware/enumerator.c
-  holds 'a test of firmware' same '42 boards: the firmware leaves 38 of them ready, and says of 4 that they have no room' \
+  holds 'a test of firmware' same '42 boards: 38 ready; the firmware reports no room on 4' \
     outside "PYTHON=$(command -v python3)" bin/pciguest-firmware-test --boards 10 -- ./enumerator
   holds 'firmware that does nothing' sh -c '! bin/pciguest-firmware-test --save failed -- true > told && grep -q "FAILED on" told'
 else

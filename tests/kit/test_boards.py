@@ -183,7 +183,7 @@ class Findings(unittest.TestCase):
                          {"2.0": "000102", "2.0/2.0": "010202", "3.0": "000101"})
 
     def test_sizing_of_each_register(self):
-        line, words = "host cw 01:00.0 {:#x} 4 {:#x}", "sizing: 01:00.0 bar{}: all ones are written while Command"
+        line, words = "host cw 01:00.0 {:#x} 4 {:#x}", "sizing: 01:00.0 bar{}: all ones are written while "
         for offset, register in ((0x10, 0), (0x18, 2), (0x1C, 2)):
             told = seen(line.format(offset, 0xFFFFFFF0))
             self.assertTrue(told[0].startswith(words.format(register)), told)
@@ -193,12 +193,12 @@ class Findings(unittest.TestCase):
 
     def test_transients(self):
         self.assertEqual(seen(), [])
-        moved = "moved: 2.0/0.0 bar0 at 0xc0400000 size 0x200000: moves while Command 0x0002 opens memory, from 0xc0200000"
+        moved = "moved: 2.0/0.0 bar0 at 0xc0400000 size 0x200000: moves from 0xc0200000 while memory decode is enabled (Command 0x0002)"
         self.assertEqual(seen("host cw 01:00.0 0x10 4 0xc0400000"), [moved])
         self.assertEqual(seen("host iw 0xcf8 4 0x80010010", "host iw 0xcfc 4 0xc0400000"), [moved])
         shut = ["host cw 01:00.0 4 2 0", "host cw 01:00.0 0x10 4 0xffffffff"]
         self.assertEqual(seen(*shut), [])
-        self.assertIn("ones: 2.0/0.0 bar0 at 0xffe00000 size 0x200000: Command 0x0002 opens memory over the ones of sizing",
+        self.assertIn("ones: 2.0/0.0 bar0 at 0xffe00000 size 0x200000: memory decode is enabled (Command 0x0002) while the base still has the ones written for sizing",
                       seen(*shut, "host cw 01:00.0 4 2 2"))
         both = "host cw 01:00.0 0x10 4 0xc0000000"
         self.assertIn("overlap: 2.0/0.0 bar0 and 2.0/2.0: address conflict at memory 0xc0000000", seen(both))
@@ -206,7 +206,7 @@ class Findings(unittest.TestCase):
 
     def test_windows_of_reset(self):
         document = SPECIAL["status_bits"]()
-        words = "reset: 3.0: Command 0x0002 opens memory while the {} window is that of reset, 0x0 to 0xfffff"
+        words = "reset: 3.0: memory decode is enabled (Command 0x0002) while the {} window is 0x0-0xfffff, as at reset"
         opening = "host cw 00:03.0 4 2 2"
         self.assertEqual(seen(opening, document=document), [words.format(each) for each in ("memory", "prefetchable")])
         self.assertEqual(seen("host cw 00:03.0 0x20 4 0xfff0", opening, document=document), [words.format("prefetchable")])
@@ -216,13 +216,13 @@ class Findings(unittest.TestCase):
 
     def test_status(self):
         document = SPECIAL["status_bits"]()
-        told = "status: 1.0: Status 0xf900 becomes 0x0100 as Command is written"
+        told = "status: 1.0: a 4-byte write to Command changes Status from 0xf900 to 0x0100"
         self.assertEqual(seen("host cw 00:01.0 4 4 0xf8000000", document=document), [told])
         self.assertEqual(seen("host cw 00:01.0 7 1 0xff", document=document),
-                         ["status: 1.0: Status 0xf900 becomes 0x0000 by a write"])
-        told = "status: 3.0: ones are written to Status, 0xf900, "
-        self.assertEqual(seen("host cw 00:03.0 4 4 0xffff0000", document=document), [told + "as Command is written"])
-        self.assertEqual(seen("host cw 00:03.0 6 2 0xffff", document=document), [told + "by a write"])
+                         ["status: 1.0: a write to Status changes Status from 0xf900 to 0x0000"])
+        told = "status: 3.0: a {} writes ones to Status (0xf900)"
+        self.assertEqual(seen("host cw 00:03.0 4 4 0xffff0000", document=document), [told.format("4-byte write to Command")])
+        self.assertEqual(seen("host cw 00:03.0 6 2 0xffff", document=document), [told.format("write to Status")])
         for line in ("4 4 0x2", "4 2 0x2", "6 2 0x6ff", "7 1 0"):
             self.assertEqual(seen(f"host cw 00:01.0 {line}", document=document), [], line)
 
@@ -266,7 +266,7 @@ class Reasons(unittest.TestCase):
                             ("host cw 01:01.0 0x10 4 0xffffffff", "io 0xffffffe0"),
                             ("host cw 01:00.0 0x10 4 0xc0400000", "mem 0xc0400000")):
             self.assertEqual(reasons(after(line), AUDITED, seen(line)[0])[0], f"host why {asked}")
-        words = "reset: 2.0: Command 0x0001 opens I/O while the I/O window is that of reset, 0x0 to 0xfff"
+        words = "reset: 2.0: I/O decode is enabled (Command 0x0001) while the I/O window is 0x0-0xfff, as at reset"
         self.assertEqual(reasons(after(), AUDITED, words)[0], "host why io 0x0")
 
 
@@ -278,18 +278,18 @@ class WhoWrote(unittest.TestCase):
     def test_each_kind(self):
         lines = ["host cw 00:02.0 0x18 4 0x00010100", "host cw 01:00.0 0x10 4 0xc0000000", "host cw 00:02.0 0x20 4 0xc000c000",
                  "host iw 0xcf8 4 0x80010004", "host iw 0xcfc 1 2", "host cw 00:02.0 0x22 2 0xc010"]
-        command = "2.0/0.0 Command: written last by line 5 of 6: host iw 0xcfc 1 2"
-        base = "2.0/0.0 bar0: written last by line 2 of 6: host cw 01:00.0 0x10 4 0xc0000000"
+        command = "2.0/0.0 Command: last written by line 5 of 6: host iw 0xcfc 1 2"
+        base = "2.0/0.0 bar0: last written by line 2 of 6: host cw 01:00.0 0x10 4 0xc0000000"
         self.assertEqual(self.told("ready: 2.0/0.0 bar0 at 0xc0000000 size 0x100000: memory decode is disabled", *lines), [base, command])
         told = self.told("audit: 2.0/0.0 bar0 at 0xc0000000 size 0x100000: 0xc0100000 is not forwarded by bridge 2.0", *lines)
         self.assertEqual(told[:4], [
-            base, command, "2.0 Memory Base: written last by line 3 of 6: host cw 00:02.0 0x20 4 0xc000c000",
-            "2.0 Memory Limit: written last by line 6 of 6: host cw 00:02.0 0x22 2 0xc010"])
+            base, command, "2.0 Memory Base: last written by line 3 of 6: host cw 00:02.0 0x20 4 0xc000c000",
+            "2.0 Memory Limit: last written by line 6 of 6: host cw 00:02.0 0x22 2 0xc010"])
         self.assertEqual(self.told("audit: 2.0/0.0: a configuration cycle to 01:00.0 reaches nothing", *lines),
-                         [f"2.0 Secondary, Subordinate: written last by line 1 of 6: {lines[0]}"])
+                         [f"2.0 Secondary, Subordinate: last written by line 1 of 6: {lines[0]}"])
         self.assertEqual(self.told("ready: 2.0: Primary Bus Number is 00, but the bridge is on bus 01", *lines),
-                         [f"2.0 Primary: written last by line 1 of 6: {lines[0]}"])
-        self.assertEqual(self.told("status: 2.0/0.0: Status 0x0100 becomes 0x0000 as Command is written", *lines),
+                         [f"2.0 Primary: last written by line 1 of 6: {lines[0]}"])
+        self.assertEqual(self.told("status: 2.0/0.0: a 4-byte write to Command changes Status from 0x0100 to 0x0000", *lines),
                          ["2.0/0.0 Status: never written"])
 
     def test_a_function_that_is_never_found(self):
@@ -299,11 +299,11 @@ class WhoWrote(unittest.TestCase):
         self.assertIsNone(story.unfound("1.0"))
         told = why_unfound(SecondHand(), text_of(AUDITED), lines, "2.0/0.0", story.asked["2.0/0.0"])
         self.assertEqual(told, [
-            "the firmware never finds 2.0/0.0: line 3 of 4 asks for it last: host cr 01:00.0 0 4", "host why cfg 01:00.0",
+            "the firmware never finds 2.0/0.0; it last looks for it at line 3 of 4: host cr 01:00.0 0 4", "host why cfg 01:00.0",
             "why: 01:00.0 reaches nothing", "why: no bridge on bus 00 claims bus 01",
             "why: 2.0/0.0 has this BDF but isn't reached", "why: 3 lines"])
         self.assertNotIn("3.0", story.asked)
-        self.assertIn("never asks for it", why_unfound(SecondHand(), "", lines, "3.0", None)[0])
+        self.assertIn("never looks for it", why_unfound(SecondHand(), "", lines, "3.0", None)[0])
 
 
 if __name__ == "__main__":

@@ -108,7 +108,7 @@ class FirmwareTest(unittest.TestCase):
         return told
 
     def test_ready(self):
-        self.assertEqual(self.run_firmware(PLACE + OPEN), (0, "1 board: the firmware leaves each of them ready\n"))
+        self.assertEqual(self.run_firmware(PLACE + OPEN), (0, "1 board: 1 ready\n"))
         suite = ElementTree.parse(self.junit).getroot()
         self.assertEqual((suite.get("tests"), suite.get("failures"), len(suite)), ("1", "0", 1))
 
@@ -123,23 +123,23 @@ class FirmwareTest(unittest.TestCase):
         self.assertEqual(self.run_command(["cat", str(script)])[0], 0)
 
     def test_a_lack_since_reset(self):
-        told = self.fails("pass", "ready: 1.0 bar0 at 0x0 size 0x[14]0?: memory decode is disabled\n.*so since reset: none of the 0 lines")
+        told = self.fails("pass", "ready: 1.0 bar0 at 0x0 size 0x[14]0?: .* decode is disabled\n.*appeared at reset: none of the 0 lines")
         self.assertIn('at = "1.0"', told)
-        self.assertIn("\n1.0 bar0, Command: never written\nthe firmware never finds 1.0, and never asks for it\n", told)
+        self.assertIn("\n1.0 bar0, Command: never written\nthe firmware never finds 1.0, and never looks for it\n", told)
         self.assertNotIn("2.0", told.split("this board again")[0])
         self.assertIn("size = 0x", self.failed.read_text())
 
     def test_since_which_line(self):
         told = self.fails(PLACE + OPEN + "; ask('host cr 00:01.0 0 4'); ask('host cw 00:01.0 0x10 4 0xe0000000')",
                           "0xe0000000 is outside the apertures\n")
-        self.assertIn("so since line 5 of 5: host cw 00:01.0 0x10 4 0xe0000000\n"
-                      "1.0 bar0: written last by line 5 of 5: host cw 00:01.0 0x10 4 0xe0000000\n"
-                      "1.0 Command: written last by line 3 of 5: host cw 00:01.0 4 2 3\n"
+        self.assertIn("appeared at line 5 of 5: host cw 00:01.0 0x10 4 0xe0000000\n"
+                      "1.0 bar0: last written by line 5 of 5: host cw 00:01.0 0x10 4 0xe0000000\n"
+                      "1.0 Command: last written by line 3 of 5: host cw 00:01.0 4 2 3\n"
                       "host why mem 0xe0000000\nwhy: memory 0xe0000000: 1.0 bar0 responds at offset 0x0\nwhy: 1 line\n\n", told)
 
     def test_sizing(self):
         sizing = "ask('host cw 00:01.0 4 2 2'); ask('host cw 00:01.0 0x10 4 0xffffffff');"
-        words = "sizing: 00:01.0 bar0: all ones are written while Command 0x0002 opens memory"
+        words = r"sizing: 00:01.0 bar0: all ones are written while memory decode is enabled \(Command 0x0002\)"
         told = self.fails(sizing + PLACE + OPEN, words)
         self.assertTrue(re.search("host why mem (0xf+0+)\nwhy: memory \\1: 1.0 bar0 responds at offset 0x0\n", told), told)
         ports = "ask('host iw 0xcf8 4 0x80000810'); ask('host iw 0xcfc 4 0xffffffff');"
@@ -180,11 +180,11 @@ class FirmwareTest(unittest.TestCase):
         self.assertEqual((status, "no line for 2 seconds" in told, len(told) < 8000), (1, True, True))
 
     def test_nonsense(self):
-        self.fails("ask('Hello')", r"a line that is no access \(\?: refused 402 unknown guest\): 'Hello'", "--shrink", "0")
-        self.fails("sys.stdout.buffer.write(b'\\xff\\n')", r"no access .*'\\\\xff'", "--shrink", "0")
-        self.fails("ask('host cr 00:01.0 1 4')", r"an access that no board takes \(host: refused 301 misaligned\)",
+        self.fails("ask('Hello')", r"a line that isn't an access \(\?: refused 402 unknown guest\): 'Hello'", "--shrink", "0")
+        self.fails("sys.stdout.buffer.write(b'\\xff\\n')", r"an access .*'\\\\xff'", "--shrink", "0")
+        self.fails("ask('host cr 00:01.0 1 4')", r"an invalid access \(host: refused 301 misaligned\)",
                    "--shrink", "0")
-        self.fails("ask('host guests')", "no access, and gives the board away: 'host guests'", "--shrink", "0")
+        self.fails("ask('host guests')", "a line that would hand the board over: 'host guests'", "--shrink", "0")
 
     def test_questions_of_the_firmware(self):
         for question in ("host ready", "host why mem 0xc0000000"):
@@ -237,12 +237,12 @@ class FirmwareTest(unittest.TestCase):
         words = ["--special", "no_ports_left", "--save", str(self.failed), "--", "true"]
         with contextlib.redirect_stdout(io.StringIO()) as out:
             self.assertEqual(firmware_test.main(words, SecondHand()), 1)
-        self.assertIn("\nroom: the board has no room for all regions, and the firmware doesn't say so\n", out.getvalue())
+        self.assertIn("\nroom: not all regions fit, and the firmware doesn't report it\n", out.getvalue())
         self.assertIn("--special no_ports_left -- true\n", out.getvalue())
 
     def test_no_room(self):
         self.board.write_text(BOARD.replace("0xdfffffff", "0xc00fffff").replace("size = 4096", "size = 0x200000"))
-        said = "1 board: the firmware leaves 0 of them ready, and says of 1 that they have no room\n"
+        said = "1 board: 0 ready; the firmware reports no room on 1\n"
         full = "ask('host cw 00:01.0 0x14 4 0x1000'); ask('host cw 00:01.0 4 2 1'); sys.stderr.write('no room');"
         for code, options in ((full + "sys.exit(7)", ["--no-room", "7"]), (full + "sys.exit(7)", []), (full, ["--no-room", "no room"]),
                               (full, ["--allow", "room"])):
@@ -254,7 +254,7 @@ class FirmwareTest(unittest.TestCase):
         self.fails("os.kill(os.getpid(), 11)", "was ended by signal 11", "--shrink", "0")
 
     def test_no_room_where_set_up_finds_some(self):
-        said = "1 board: the firmware leaves 0 of them ready, and says of 1 that they have no room; set-up finds room on 1 of these\n"
+        said = "1 board: 0 ready; the firmware reports no room on 1; set-up finds room on 1 of these\n"
         gave_up = "ask('host cw 00:01.0 0x14 4 0x1000'); ask('host cw 00:01.0 4 2 1'); sys.exit('no room')"
         for way in ("1", "0", "no room"):
             self.assertEqual(self.run_firmware(gave_up, "--no-room", way), (0, said))
@@ -264,9 +264,9 @@ class FirmwareTest(unittest.TestCase):
 
     def test_what_is_wrong_beside_no_room(self):
         self.board.write_text(BOARD.replace("0xdfffffff", "0xc00fffff").replace("size = 4096", "size = 0x200000"))
-        told = self.fails("ask('host cw 00:01.0 4 2 2')", "room: the board has no room", "--shrink", "0")
-        self.assertIn("the first of these is so since line 1 of 1: host cw 00:01.0 4 2 2\n", told)
-        self.assertIn("1.0 Command: written last by line 1 of 1: host cw 00:01.0 4 2 2\nhost why mem 0x0\n", told)
+        told = self.fails("ask('host cw 00:01.0 4 2 2')", "room: not all regions fit", "--shrink", "0")
+        self.assertIn("the first of these appeared at line 1 of 1: host cw 00:01.0 4 2 2\n", told)
+        self.assertIn("1.0 Command: last written by line 1 of 1: host cw 00:01.0 4 2 2\nhost why mem 0x0\n", told)
 
     def test_only_roomy_boards(self):
         special = {name: SPECIAL[name] for name in ("top_of_memory", "no_ports_left", "from_zero")}
@@ -280,17 +280,17 @@ class FirmwareTest(unittest.TestCase):
     def test_a_second_run(self):
         sized = "ask('host cw 00:01.0 0x10 4 0xffffffff'); ask('host cw 00:01.0 0x14 4 0xffffffff');"
         self.assertEqual(self.run_firmware(sized + PLACE + OPEN)[0], 0)
-        told = self.fails(sized + PLACE + OPEN, "sizing: 00:01.0 bar0: all ones are written while Command 0x0003 opens memory\n",
+        told = self.fails(sized + PLACE + OPEN, "sizing: 00:01.0 bar0: all ones are written while memory decode is enabled",
                           "--warm", "--shrink", "0")
-        self.assertIn("the firmware begins a second time with line 6\nthe first of these is so since line 6 of 10:", told)
+        self.assertIn("the second run begins at line 6\nthe first of these appeared at line 6 of 10:", told)
         self.assertIn("test --warm --board", told)
         self.assertEqual(self.run_firmware("ask('host cw 00:01.0 4 2 0');" + sized + PLACE + OPEN, "--warm")[0], 0)
 
     def test_a_warning_that_names_the_cause(self):
         code = PLACE + "ask('host cw 00:01.0 4 2 3'); ask('host cw 00:01.0 0x10 4 0xe0000000')"
         told = self.fails(code, "outside the apertures", "--shrink", "0")
-        self.assertIn("\n\nwarning: moved: 1.0 bar0 at 0xe0000000 size 0x1000: moves while Command 0x0003 opens memory, from "
-                      "0xc0000000 (by line 4)\nready: 1.0 bar0 at 0xe0000000", told)
+        self.assertIn("\n\nwarning: moved: 1.0 bar0 at 0xe0000000 size 0x1000: moves from 0xc0000000 "
+                      "while memory decode is enabled (Command 0x0003) (by line 4)\nready: 1.0 bar0 at 0xe0000000", told)
 
     def test_the_time_of_the_kit(self):
         class Slow(SecondHandBoard):
@@ -307,12 +307,12 @@ class FirmwareTest(unittest.TestCase):
 
     def test_transients(self):
         code = "ask('host cw 00:01.0 4 2 3');" + PLACE
-        told = ("moved: 1.0 bar0 at 0xc0000000 size 0x1000: moves while Command 0x0003 opens memory, from 0x0")
+        told = ("moved: 1.0 bar0 at 0xc0000000 size 0x1000: moves from 0x0 while memory decode is enabled (Command 0x0003)")
         status, words = self.run_firmware(code)
         self.assertEqual(status, 0)
         self.assertIn(f"warning: {told}\n  by line 2 of 3 on {self.board}: host cw 00:01.0 0x10 4 0xc0000000\n", words)
-        found = self.fails(code, "so since line 2 of 3: host cw 00:01.0 0x10 4 0xc0000000\n", "--transients")
-        self.assertIn("moves while Command", found)
+        found = self.fails(code, "appeared at line 2 of 3: host cw 00:01.0 0x10 4 0xc0000000\n", "--transients")
+        self.assertIn("moves from", found)
         self.assertIn("test --transients --board", found)
         self.assertEqual(self.run_firmware(code, "--transients", "--allow", "moved")[0], 0)
         self.assertNotIn("warning", self.run_firmware(PLACE + OPEN)[1])
@@ -321,8 +321,8 @@ class FirmwareTest(unittest.TestCase):
         self.board.write_text(BOARD.replace('device = 2', 'device = 2\nstatus = 0xf900'))
         wipes = "old = int(ask('host cr 00:02.0 4 4')[6:], 16); ask(f'host cw 00:02.0 4 4 {old | 0x100:#x}');"
         status, told = self.run_firmware(wipes + PLACE + OPEN)
-        self.assertEqual((status, "warning: status: 2.0: Status 0xf900 becomes 0x0000" in told), (0, True), told)
-        self.fails(wipes + PLACE + OPEN, "2.0 Status: written last by line 2 of", "--transients")
+        self.assertEqual((status, "warning: status: 2.0: a 4-byte write to Command changes Status from 0xf900 to 0x0000" in told), (0, True), told)
+        self.fails(wipes + PLACE + OPEN, "2.0 Status: last written by line 2 of", "--transients")
 
     def test_all_boards(self):
         boards = ["--board", str(self.board)]

@@ -96,7 +96,7 @@ class Firmware:
                                     longest_silence=child.longest_silence)
         left = findings(watch.board)
         if left and (gave_up or not has_room):
-            said = [] if gave_up else ["room: the board has no room for all regions, and the firmware doesn't say so"]
+            said = [] if gave_up else ["room: not all regions fit, and the firmware doesn't report it"]
             left = said + [each for each in left if kind_of(each) != "closed"]
         return self.judged(run._replace(gave_up=gave_up), left)
 
@@ -114,13 +114,13 @@ class Firmware:
         for raw in child.lines():
             line = raw.decode("utf-8", "backslashreplace")
             if line.split()[:2] == ["host", "guests"]:
-                raise Misbehaviour("nonsense", f"writes a line that is no access, and gives the board away: {line[:100]!r}")
+                raise Misbehaviour("nonsense", f"writes a line that would hand the board over: {line[:100]!r}")
             reply = watch.board.run_line(line)
             refusal = REFUSED.match(reply or "")
             if refusal and refusal[1] in NO_ACCESS:
-                raise Misbehaviour("nonsense", f"writes a line that is no access ({reply}): {line[:100]!r}")
+                raise Misbehaviour("nonsense", f"writes a line that isn't an access ({reply}): {line[:100]!r}")
             if refusal:
-                raise Misbehaviour("refused", f"makes an access that no board takes ({reply}): {line}")
+                raise Misbehaviour("refused", f"makes an invalid access ({reply}): {line}")
             run.lines.append(line)
             run.replies.append(reply)
             for told in watch.seen(line):

@@ -10,7 +10,7 @@ from ._driven import DrivenBoard
 from ._judge import TRANSIENTS, kind_of
 
 REGION = re.compile(r"\w+: (?P<path>\S+) bar(?P<register>\d) at (?P<base>0x[0-9a-f]+) size 0x[0-9a-f]+")
-SIZED = re.compile(r"sizing: (?P<number>\S+) bar(?P<register>\d): .* opens (?P<space>\S+)")
+SIZED = re.compile(r"sizing: (?P<number>\S+) bar(?P<register>\d): .* while (?P<space>\S+) decode")
 WORDS = {"I/O": "io", "memory": "mem"}
 
 
@@ -32,7 +32,7 @@ def question(board: DrivenBoard, document: Document, finding: str) -> Optional[s
         return f"host why cfg {found[2]}:{device:02x}.{function}"
     if found := SIZED.match(finding):
         return f"host why {WORDS[found['space']]} {base(board, found['number'], int(found['register'])):#x}"
-    if found := re.search(r"opens (I/O|memory) while .* is that of reset", finding):
+    if found := re.search(r"(I/O|memory) decode is enabled .*, as at reset", finding):
         return f"host why {WORDS[found[1]]} 0x0"
     if found := REGION.match(finding):
         address = None if kind_of(finding) in TRANSIENTS else re.search(r"0x[0-9a-f]+", finding[found.end() :])

@@ -54,6 +54,10 @@ class Kept:
         self.bases = {region.index: 0 for region in function.regions()}
 
 
+def enabled(space: str, command: int) -> str:
+    return f"{space} decode is enabled (Command {command:#06x})"
+
+
 def opens(command: int, region: Region) -> bool:
     return command & (1 if region.is_io else 2) != 0
 
@@ -95,12 +99,12 @@ class Watch:
         """After a write of Command or Status."""
         kept, word = self.kept[one.at], self.follower.read(access.number, COMMAND)
         command, status = word & 0xFFFF, word >> 16
-        how = "as Command is written" if access.width == 4 else "by a write"
+        how = "a 4-byte write to Command" if access.width == 4 else "a write to Status"
         ones = sum(access.byte(each) << 8 * (each - 6) for each in (6, 7) if access.touches(range(each, each + 1)))
         if kept.status & ~status:
-            yield f"status: {one.at}: Status {kept.status:#06x} becomes {status:#06x} {how}"
+            yield f"status: {one.at}: {how} changes Status from {kept.status:#06x} to {status:#06x}"
         elif ones & STATUS_ONES:
-            yield f"status: {one.at}: ones are written to Status, {ones & STATUS_ONES:#06x}, {how}"
+            yield f"status: {one.at}: {how} writes ones to Status ({ones & STATUS_ONES:#06x})"
         opened, kept.command, kept.status = command & ~kept.command & 3, command, status
         if opened:
             yield from self.opened_bridge(one, access, opened) if one.is_bridge else self.opened(one, opened)
@@ -113,8 +117,8 @@ class Watch:
             base = kept.bases[region.index]
             if opens(bits, region) and has_ones(region, base) and not self.is_given_out(region.is_io, base):
                 space = SPACES[1 if region.is_io else 2]
-                yield (f"ones: {one.at} bar{region.index} at {base:#x} size {region.size:#x}: Command {kept.command:#06x} "
-                       f"opens {space} over the ones of sizing")
+                yield (f"ones: {one.at} bar{region.index} at {base:#x} size {region.size:#x}: {enabled(space, kept.command)} "
+                       "while the base still has the ones written for sizing")
 
     def is_given_out(self, is_io: bool, address: int) -> bool:
         """Whether an address is one of an aperture, where ones, or zeros, may be meant."""
@@ -126,8 +130,8 @@ class Watch:
         for window in windows_of(one):
             words = {offset: self.follower.read(access.number, offset) for offset in (window.offset, *window.upper)}
             if bits & window.bit and window.is_at_reset(words) and not self.is_given_out(window.bit == 1, 0):
-                yield (f"reset: {one.at}: Command {command:#06x} opens {SPACES[window.bit]} while the {window.name} window is "
-                       f"that of reset, 0x0 to {window.last:#x}")
+                yield (f"reset: {one.at}: {enabled(SPACES[window.bit], command)} while the {window.name} window is "
+                       f"0x0-{window.last:#x}, as at reset")
 
     # ---- base address registers
 
@@ -144,11 +148,10 @@ class Watch:
             return
         space = SPACES[1 if region.is_io else 2]
         if access.width == 4 and (access.value or 0) | 0xF == ONES:
-            yield (f"sizing: {access.number} bar{region.index}: all ones are written while Command {kept.command:#06x} "
-                   f"opens {space}")
+            yield f"sizing: {access.number} bar{region.index}: all ones are written while {enabled(space, kept.command)}"
         elif base != before and not has_ones(region, before):
-            yield (f"moved: {one.at} bar{region.index} at {base:#x} size {region.size:#x}: moves while Command "
-                   f"{kept.command:#06x} opens {space}, from {before:#x}")
+            yield (f"moved: {one.at} bar{region.index} at {base:#x} size {region.size:#x}: moves from {before:#x} while "
+                   f"{enabled(space, kept.command)}")
             yield from self.overlaps()
 
     def base(self, number: str, region: Region) -> int:

@@ -81,11 +81,11 @@ def registers_of(document: Document, finding: str) -> Iterator[Tuple[str, List[R
             first = 0x10 + 4 * region.index
             upper = [(f"bar{region.index} upper half", range(first + 4, first + 8))] if region.is_64_bit else []
             yield one.at, [(f"bar{region.index}", range(first, first + 4)), *upper, COMMAND]
-        elif one.is_bridge and "cycle for" not in finding:
+        elif one.is_bridge and "configuration cycle" not in finding:
             yield one.at, NUMBERS[:1] if "Primary Bus Number is" in finding else [*windows(one, is_io), COMMAND]
         elif "Status" in finding:
             yield one.at, [STATUS]
-    if "cycle for" in finding:
+    if "configuration cycle" in finding:
         parts = path_of(words.partition(":")[0])
         yield from ((path_text(parts[:length]), NUMBERS[1:]) for length in range(1, len(parts)))
 
@@ -105,7 +105,7 @@ def writers(story: Story, document: Document, finding: str, count: int) -> Itera
             lines = [story.last[at, offset] for offset in bytes_of if (at, offset) in story.last]
             by_line.setdefault(max(lines, default=None), []).append(name)
         for line, names in by_line.items():
-            told = f"written last by line {line.place} of {count}: {line.text}" if line else "never written"
+            told = f"last written by line {line.place} of {count}: {line.text}" if line else "never written"
             yield f"{at} {', '.join(names)}: {told}"
 
 
@@ -122,11 +122,11 @@ def story_of(maker: Maker, text: str, document: Document, lines: List[str]) -> S
 def why_unfound(maker: Maker, text: str, lines: List[str], at: str, asked: Optional[Tuple[Line, str]]) -> List[str]:
     """Why a function was never found, when firmware asked for it last."""
     if asked is None:
-        return [f"the firmware never finds {at}, and never asks for it"]
+        return [f"the firmware never finds {at}, and never looks for it"]
     (place, line), number = asked
     with closing(maker.board(text)) as board:
         for each in lines[:place]:
             board.run_line(each)
         reply = board.run_line(f"host why cfg {number}") or ""
-    return [f"the firmware never finds {at}: line {place} of {len(lines)} asks for it last: {line}",
+    return [f"the firmware never finds {at}; it last looks for it at line {place} of {len(lines)}: {line}",
             f"host why cfg {number}", *reply.splitlines()]

@@ -256,10 +256,9 @@ class Test:
         return f"FAILED on {board.name} ({counts}): {run.wrong[0]}"
 
     def tell_ready(self, without_room: int, gave_up: int) -> None:
-        ready = f"{len(self.results) - without_room} of them ready, and says of {without_room} that they have no room"
-        ready = ready if without_room else "each of them ready"
+        full = f"; the firmware reports no room on {without_room}" if without_room else ""
         found = f"; set-up finds room on {gave_up} of these" if gave_up else ""
-        print(f"{counted(len(self.results), 'board')}: the firmware leaves {ready}{found}")
+        print(f"{counted(len(self.results), 'board')}: {len(self.results) - without_room} ready{full}{found}")
 
     def tell_warnings(self) -> None:
         """The first warning of each kind."""
@@ -282,7 +281,7 @@ class Test:
         first = next((each for each in last.wrong if last.kind in KINDS and kind_of(each) != "room"), None)
         lines = [f"FAILED on {board.name} ({count}), and on this board ({least}):", ""]
         lines += [text_of(small).rstrip(), "", *(self.causes(small, last, first) if first else []), *last.wrong]
-        lines += [f"the firmware begins a second time with line {last.first_lines + 1}"] if last.first_lines else []
+        lines += [f"the second run begins at line {last.first_lines + 1}"] if last.first_lines else []
         lines += self.told_since(small, last, first) if first else []
         lines += self.told_room(last) if last.kind == "dies" and board.refusal is None else []
         lines += ["", "its standard error:", last.last_words] if last.last_words else []
@@ -323,8 +322,8 @@ class Test:
         left = [each for each in run.wrong if each not in run.since and kind_of(each) != "room"]
         named = [finding] if finding in run.since else left
         wrote = list(dict.fromkeys(line for each in named for line in writers(story, document, each, count)))
-        more = [f"... and {len(wrote) - MOST_WRITERS} registers more"] if len(wrote) > MOST_WRITERS else []
-        return [f"the first of these is so since {told}", *wrote[:MOST_WRITERS], *more, *why]
+        more = [f"... and {len(wrote) - MOST_WRITERS} more registers"] if len(wrote) > MOST_WRITERS else []
+        return [f"the first of these appeared at {told}", *wrote[:MOST_WRITERS], *more, *why]
 
     def repeated(self) -> List[str]:
         """The words that say what is asked of firmware."""
