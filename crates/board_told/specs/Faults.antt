@@ -1,8 +1,7 @@
 -- Why the program fails, as numbers and words.
 --     number_of, words_of      the number and the words of a fault
---     fault_numbered n      the fault of a number
 --     of_open, of_run      the fault of a board that is not set up, and of a run
-use Rattle.std.specs.Prelude.{◌==◌, ℕ, List, [], ◌∷◌, Option, codes, find}
+use Rattle.std.specs.Prelude.{ℕ, List, codes}
 use Rattle.lines.specs.declared.runs.RunFault.{RunFault}
 use Rattle.session.specs.declared.opening.OpenFault.{OpenFault}
 use Rattle.board_told.specs.declared.fault.Fault.{Fault, TheVariants.{File, SetUp, NotInOrder, NotReady, RefusedLine, Read, Write, Usage, BoardFile, WordMemory}}
@@ -24,18 +23,6 @@ number_of Write = 502
 number_of Usage = 701
 number_of BoardFile = 702
 number_of WordMemory = 799
-
--- in the order of their numbers, which differ
-abbrev pub all_faults : List Fault
-all_faults =
-    File file.NotToml ∷ File file.Key ∷ File file.UnknownKey ∷ File file.Number ∷ File file.Place ∷ File file.Register
-    ∷ File file.Size ∷ File file.TooMany ∷ File file.GuestName ∷ File file.Slot ∷ File file.Aperture
-    ∷ File file.CellMasks ∷ File file.Memory ∷ SetUp set_up.Buses ∷ SetUp set_up.NoIoWindow ∷ SetUp set_up.IoPool
-    ∷ SetUp set_up.MemoryPool ∷ SetUp set_up.PrefetchablePool ∷ NotInOrder ∷ NotReady ∷ RefusedLine
-    ∷ SetUp set_up.Memory ∷ Read ∷ Write ∷ Usage ∷ BoardFile ∷ WordMemory ∷ []
-
-abbrev pub fault_numbered : ℕ → Option Fault
-fault_numbered n = find (λ f. number_of f == n) all_faults
 
 abbrev pub words_of : Fault → List ℕ
 words_of (File b) = board_file.fault_words b

@@ -14,7 +14,6 @@ mod finding;
 mod finding_lines;
 mod guest_why;
 mod listing;
-mod numbered;
 
 pub use board_fit::WarningLevel;
 pub use checking::{Checked, check_text};

@@ -20,10 +20,11 @@ mod why_parts;
 mod why_port_lines;
 mod why_texts;
 
+pub use accesses::HostAt;
 pub use counted::CountedText;
-pub use findings::{Bdf, Problem, ReadinessIssue, Space};
+pub use findings::{Bdf, Problem, ReadinessIssue};
 pub use host_bridge::Host;
 pub use problem_lines::push_problem;
 pub use region_texts::numbers;
 pub use why_parts::ShownDisabled;
-pub use why_texts::{push_use, why_number_text, why_port_text, why_text};
+pub use why_texts::{host_why_text, push_use};

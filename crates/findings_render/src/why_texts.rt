@@ -3,13 +3,15 @@ ghost use Rattle.std.specs.Prelude.{◌≡◌, ◌++◌, map, IfOk, OnOk, string
 ghost use Rattle.lists.specs.Texts.{Adds};
 ghost use Rattle.bars.specs.Kinds.{named_space};
 ghost use Rattle.paths.specs.BusAddresses.{bus_address_of};
+ghost use Rattle.accesses.specs.Accesses.{host_target_of};
 ghost use Rattle.model_guests.specs.Text.{text_of_lines};
-ghost use Rattle.model_lines.specs.{Why.why, Ways.why_number, WhyText.{why_line, why_lines, number_lines, whole_text, why_text, why_number_text}, WhyPorts.{use_lines, why_port_text}};
+ghost use Rattle.model_lines.specs.{Why.why, Ways.why_number, WhyText.{why_line, why_lines, number_lines, whole_text}, WhyPorts.{use_lines, why_port_text}, Requests.why_written};
 ghost use Rattle.findings.specs.WhyTold.{use_told};
 ghost use Rattle.findings_render.specs.WhyLines.{line_text};
 
 use crate::why_line::{Line, push_lines};
 use crate::why_lines::{add_address, add_number, add_use};
+use accesses::HostAt;
 use bars::Space;
 use findings::{Bdf, PortUse, port_use, why_address, why_number};
 use host_bridge::Host;
@@ -86,43 +88,38 @@ fn number_text(
     counted_text(alloc, &mut lines)
 }
 
-/// Explains which BAR answers an address in the current registers. The text has a line for the
-/// answer, one for each bridge that forwards the address, one for each other BAR that contains the
-/// address with everything that keeps it from answering, one with the number of BARs in their reset
-/// state, and a last line that counts the others.
-pub fn why_text(alloc: Global, host: &Host, space: Space, addr: u64) -> Result<String, AllocError>
-    ensures { let fs = host.now.state.functions in
-        IfOk result (λ t. string_bytes t ≡ why_text fs (named_space space) addr) }
-{
-    address_text(alloc, host, space, addr, &PortUse::LikeOthers)
-}
-
-/// Explains which function a BDF reaches in the current registers. The text has a line for that
-/// function, one for each bridge that claims the cycle, one for what is missing, one for each
-/// function that has this BDF but isn't reached by it, and a last line that counts the others.
-/// Leaves the host unchanged, even if memory is exhausted.
-pub fn why_number_text(alloc: Global, host: &mut Host, at: Bdf) -> Result<String, AllocError>
-    ensures text { let fs = host.old.state.functions in
-        IfOk result (λ t. string_bytes t ≡ why_number_text fs (bus_address_of at)) }
-    ensures after { host.new ≡ host.old }
-{
-    number_text(alloc, host, at, 0, &PortUse::LikeOthers)
-}
-
-/// Explains an access to an I/O port in the current registers. The text has a line about the port's
-/// role in the configuration mechanism (only for CONFIG_ADDRESS and CONFIG_DATA), then the
-/// explanation of the BDF that CONFIG_ADDRESS selects or that of an ordinary port, and a last line
-/// that counts the others. Leaves the host unchanged, even if memory is exhausted.
-pub fn why_port_text(alloc: Global, host: &mut Host, port: u32) -> Result<String, AllocError>
+/// Explains a port in the current registers. The line about the port's role in the configuration
+/// mechanism comes first (only for CONFIG_ADDRESS and CONFIG_DATA), then the explanation of the BDF
+/// that CONFIG_ADDRESS selects or that of an ordinary port.
+fn port_text(alloc: Global, host: &mut Host, port: u64) -> Result<String, AllocError>
     ensures text { IfOk result (λ t. string_bytes t ≡ why_port_text host.old.state port) }
     ensures after { host.new ≡ host.old }
 {
-    let addr = u64::from(port);
-    let used = port_use(host.latch(), addr);
+    let used = port_use(host.latch(), port);
     match used {
-        PortUse::ShowsData { at, .. } => number_text(alloc, host, at, addr, &used),
+        PortUse::ShowsData { at, .. } => number_text(alloc, host, at, port, &used),
         PortUse::HoldsLatch | PortUse::HidesData | PortUse::LikeOthers => {
-            address_text(alloc, host, Space::Io, addr, &used)
+            address_text(alloc, host, Space::Io, port, &used)
         }
+    }
+}
+
+/// Explains where an access by firmware goes in the current registers. For an address, the text has
+/// a line for the answer, one for each bridge that forwards the address, one for each other BAR
+/// that contains it with everything that keeps it from answering, and one with the number of BARs
+/// in their reset state. For a BDF, it has a line for the function reached, one for each bridge that
+/// claims the cycle, one for what is missing, and one for each function that has this BDF but isn't
+/// reached by it. A last line counts the others. The offset into configuration space doesn't
+/// matter. Leaves the host unchanged, even if memory is exhausted.
+pub fn host_why_text(alloc: Global, host: &mut Host, at: HostAt) -> Result<String, AllocError>
+    ensures text { IfOk result (λ t.
+        string_bytes t ≡ why_written host.old.state (host_target_of at)) }
+    ensures after { host.new ≡ host.old }
+{
+    let used = PortUse::LikeOthers;
+    match at {
+        HostAt::Config { bdf, off: _ } => number_text(alloc, host, bdf, 0, &used),
+        HostAt::Io { port } => port_text(alloc, host, port),
+        HostAt::Mem { addr } => address_text(alloc, host, Space::Mem, addr, &used),
     }
 }

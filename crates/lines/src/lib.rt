@@ -26,7 +26,7 @@ pub use firmware_line::{FirmwareCommand, firmware_meaning};
 pub use line::{LONGEST_LINE, Line, What, Who, line_meaning, parse_line};
 pub use reasons::{ArgError, ArgKind, Dialect, Reason};
 pub use replies::{LONGEST_REPLY, LineText, line_text, push_line, push_named};
-pub use requests::{ExplainTarget, HostRequest};
+pub use requests::HostRequest;
 pub use runs::{RunFault, run};
 pub use watching::{BadLine, RunStats, run_watched};
 pub use words::line_feed_in;

@@ -1,23 +1,13 @@
 //! Parsing of firmware's requests other than accesses.
 ghost use Rattle.std.specs.Prelude.{◌≡◌, ◌∷◌, [], map, option_map};
 ghost use Rattle.model_lines.specs.Requests.{why_place, request_of_word, request_of as request_of_words};
-ghost use Rattle.lines.specs.Requests.{why_asked_of, request_of};
+ghost use Rattle.accesses.specs.Accesses.{host_target_of};
+ghost use Rattle.lines.specs.Requests.{request_of};
 
 use crate::firmware_line::value;
 use crate::forms::bus_address;
 use crate::numbers::number_of;
-use accesses::Bdf;
-
-/// The address that a `why` request asks about.
-#[derive(Clone, Copy, Debug, PartialEq, Eq)]
-pub enum ExplainTarget {
-    /// A memory address.
-    Mem { addr: u64 },
-    /// An I/O port.
-    Io { port: u32 },
-    /// The BDF of a function in configuration space.
-    Config { bdf: Bdf },
-}
+use accesses::HostAt;
 
 /// A request to a session other than an access.
 #[derive(Clone, Copy, Debug, PartialEq, Eq)]
@@ -28,25 +18,25 @@ pub enum HostRequest {
     Ready,
     /// The handover of the board to its guests.
     Guests,
-    /// An explanation of what an access to this address reaches.
-    Why(ExplainTarget),
+    /// An explanation of what an access reaches. In configuration space, the offset is 0.
+    Why(HostAt),
 }
 
 /// Parses the arguments of `why`: a space, and an address, a port or a BDF in it.
-pub(crate) fn why_place(space: &[u8], at: &[u8]) -> Option<ExplainTarget>
-    ensures { option_map why_asked_of result ≡ why_place space.now at.now }
+pub(crate) fn why_place(space: &[u8], at: &[u8]) -> Option<HostAt>
+    ensures { option_map host_target_of result ≡ why_place space.now at.now }
 {
     if space == b"mem".as_slice() {
         let addr = number_of(at)?;
-        return Some(ExplainTarget::Mem { addr });
+        return Some(HostAt::Mem { addr });
     }
     if space == b"io".as_slice() {
-        let port = value(at)?;
-        return Some(ExplainTarget::Io { port });
+        let port = u64::from(value(at)?);
+        return Some(HostAt::Io { port });
     }
     if space == b"cfg".as_slice() {
         let bdf = bus_address(at)?;
-        return Some(ExplainTarget::Config { bdf });
+        return Some(HostAt::Config { bdf, off: 0 });
     }
     None
 }

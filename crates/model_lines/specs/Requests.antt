@@ -1,32 +1,26 @@
 -- The session lines that request something of the host: `host audit`, `host ready` and `host guests`, and explanations
 -- by `host why mem ADDR`, `host why io PORT` and `host why cfg BB:DD.F`.
---     ExplainTarget      the address, port or BDF to explain
 --     HostRequest, request line      the request that a line makes, if it has such a form
---     why_written s a      the text of an explanation
+--     why_written s t      the text of an explanation
 --     RequestExamples      the requests that some lines make
 use Rattle.std.specs.{Prelude.{◌≡◌, List, [], ◌∷◌, ℕ, ◌^◌, if◌then◌else◌, Option, Some, None, option_map, codes}, Str.bytes_eq}
 use Rattle.model_registers.specs.Decoding.{memory}
-use Rattle.model_board.specs.{Cycles.BusAddress, State.State}
-use Rattle.model_guests.specs.{Text.{Text, words}, Numbers.{below, number_of}, Grammar.{on_word, bus_address, is_long}}
+use Rattle.model_board.specs.State.{State}
+use Rattle.model_guests.specs.{Text.{Text, words}, Numbers.{below, number_of}, Grammar.{HostTarget, host_configuration, host_port, host_address, on_word, bus_address, is_long}}
 use Rattle.model_lines.specs.{WhyText.{why_text, why_number_text}, WhyPorts.why_port_text}
 
-pub data ExplainTarget : Type 0 where
-  of_address : ℕ → ExplainTarget
-  of_port : ℕ → ExplainTarget
-  of_function : BusAddress → ExplainTarget
-
 -- mem ADDR, io PORT with a port of 32 bits, cfg BB:DD.F
-abbrev pub why_place : Text → Text → Option ExplainTarget
+abbrev pub why_place : Text → Text → Option HostTarget
 why_place space at =
-    if bytes_eq space (codes "mem") then option_map of_address (number_of at)
-    else (if bytes_eq space (codes "io") then option_map of_port (below (2 ^ 32) (number_of at))
-    else on_word space (codes "cfg") (option_map of_function (bus_address at)))
+    if bytes_eq space (codes "mem") then option_map host_address (number_of at)
+    else (if bytes_eq space (codes "io") then option_map host_port (below (2 ^ 32) (number_of at))
+    else on_word space (codes "cfg") (option_map (λ n. host_configuration n 0) (bus_address at)))
 
 pub data HostRequest : Type 0 where
   for_audit : HostRequest
   for_ready : HostRequest
   for_guests : HostRequest
-  for_why : ExplainTarget → HostRequest
+  for_why : HostTarget → HostRequest
 
 abbrev pub request_of_word : Text → Option HostRequest
 request_of_word w =
@@ -47,20 +41,21 @@ request_in (w ∷ ws) = on_word w (codes "host") (request_of ws)
 abbrev pub request : Text → Option HostRequest
 request line = if is_long line then None else request_in (words line)
 
-abbrev pub why_written : State → ExplainTarget → Text
-why_written s (of_address n) = why_text s.functions memory n
-why_written s (of_port n) = why_port_text s n
-why_written s (of_function at) = why_number_text s.functions at
+-- of a number the offset is of no matter
+abbrev pub why_written : State → HostTarget → Text
+why_written s (host_configuration at off) = why_number_text s.functions at
+why_written s (host_port n) = why_port_text s n
+why_written s (host_address n) = why_text s.functions memory n
 
 -- ---- worked examples
 
 pub record RequestExamples : Type 0 where
   pub audit : request (codes "host audit") ≡ Some for_audit
-  pub address : request (codes "host why mem 0x80000010") ≡ Some (for_why (of_address 0x80000010))
-  pub port : request (codes "host why io 0xcf8") ≡ Some (for_why (of_port 0xcf8))
+  pub address : request (codes "host why mem 0x80000010") ≡ Some (for_why (host_address 0x80000010))
+  pub port : request (codes "host why io 0xcf8") ≡ Some (for_why (host_port 0xcf8))
   pub number :
       request (codes "host why cfg 01:02.3")
-      ≡ Some (for_why (of_function (record { bus = 1; part = record { device = 2; function = 3 } })))
+      ≡ Some (for_why (host_configuration (record { bus = 1; part = record { device = 2; function = 3 } }) 0))
   pub far_port : request (codes "host why io 0x100000000") ≡ None
   pub no_number : request (codes "host why cfg 01:20.3") ≡ None
   pub no_place : request (codes "host why mem") ≡ None

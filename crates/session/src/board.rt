@@ -3,26 +3,22 @@ ghost use Rattle.std.specs.{Prelude.{◌≡◌, ◌≢◌, ◌≤◌, ◌++◌, 
 ghost use Rattle.model_board.specs.AtReset.{board_at};
 ghost use Rattle.model_guests.specs.{Accesses.{reads, writes}, Replies.reply_text, World.IsLawfulWorld, WorldNow.{board_state, names_now}};
 ghost use Rattle.model_handoff.specs.Changes.{BeginsIn};
-ghost use Rattle.model_lines.specs.{HostAccesses.answer, FirmwareLines.text_by, Requests.why_written, GivenLaws.IsGiven, Sessions.{at_reset, after_board_access, after_meant}};
-ghost use Rattle.accesses.specs.{Accesses.{host_target_of, reply_of}, Replies.{IsRefusal, IsShown}};
-ghost use Rattle.lines.specs.{FirmwareLines.{host_asked, firmware_meaning_of}, Requests.why_asked_of};
+ghost use Rattle.model_lines.specs.{HostAccesses.answer, FirmwareLines.text_by, GivenLaws.IsGiven, Sessions.{at_reset, after_board_access, after_meant}};
+ghost use Rattle.accesses.specs.{Accesses.reply_of, Replies.{IsRefusal, IsShown}};
+ghost use Rattle.lines.specs.FirmwareLines.{host_asked, firmware_meaning_of};
 ghost use Rattle.board_file.specs.{declared.fault.BoardFault.TheVariants.Memory, Faults.number_of as file_number};
 ghost use Rattle.bus_scan.specs.{declared.fault.Fault.TheVariants.Memory as SetUpMemory, Faults.number_of as set_up_number};
 ghost use Rattle.session.specs.{Boards.IsRefusalOf, Files.{Declares, Refuses, BreaksRule, IsAtFirst}, Refusals.refusal_by};
 ghost use Rattle.monitor.specs.Beginnings.{with_no_slots};
 ghost use Rattle.script.specs.Refusals.{refusal_of};
-ghost use Rattle.json_texts.specs.WhyValue.{host_why_json};
 
 use crate::accessing;
 use crate::opening::begin;
-use accesses::{GuestDecl, HostAccess, HostAt, Refusal, Reply};
-use bars::Space;
+use accesses::{GuestDecl, HostAccess, Refusal, Reply};
 use board_file::{BoardFault, read_board};
-use findings_render::{why_number_text, why_port_text, why_text};
 use headers::Apertures;
 use host_bridge::Host;
-use json_texts::host_why_json;
-use lines::{ExplainTarget, FirmwareCommand, LineText, push_named};
+use lines::{FirmwareCommand, LineText, push_named};
 use monitor::{Monitor, Refused};
 use script::refusal_of;
 use std::alloc::{AllocError, Global};
@@ -205,29 +201,5 @@ impl Board {
                 Err(Refused { board, fault })
             }
         }
-    }
-
-    /// Explains why an address, an I/O port or a BDF reaches a function, or why it reaches none,
-    /// with the registers as they are now. Changes nothing, even if memory is exhausted.
-    pub fn why(&mut self, alloc: Global, at: ExplainTarget) -> Result<String, AllocError>
-        ensures text { IfOk result (λ t.
-            string_bytes t ≡ why_written self.old.state (why_asked_of at)) }
-        ensures after { self.new ≡ self.old }
-    {
-        match at {
-            ExplainTarget::Mem { addr } => why_text(alloc, &self.host, Space::Mem, addr),
-            ExplainTarget::Io { port } => why_port_text(alloc, &mut self.host, port),
-            ExplainTarget::Config { bdf } => why_number_text(alloc, &mut self.host, bdf),
-        }
-    }
-
-    /// Explains where an access by firmware goes, as a JSON object on one line. The offset of a
-    /// configuration access is ignored. Changes nothing, even if memory is exhausted.
-    pub fn why_json(&mut self, alloc: Global, at: HostAt) -> Result<String, AllocError>
-        ensures text { IfOk result (λ t.
-            string_bytes t ≡ host_why_json self.old.state (host_target_of at)) }
-        ensures after { self.new ≡ self.old }
-    {
-        host_why_json(alloc, &mut self.host, at)
     }
 }

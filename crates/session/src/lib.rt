@@ -47,7 +47,7 @@ pub use findings_render::CountedText;
 pub use functions::DrivenFunction;
 pub use headers::Apertures;
 pub use host_bridge::Host;
-pub use lines::{ExplainTarget, LineText, RunFault};
+pub use lines::{LineText, RunFault};
 pub use monitor::{HandoverFault, Monitor, Problem, Refused};
 pub use opening::{OpenFault, open};
 pub use questions::{Question, ReportForm};

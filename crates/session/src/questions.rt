@@ -1,14 +1,15 @@
 //! Questions about the current registers of a board, and their answers as lines or as JSON.
 ghost use Rattle.std.specs.Prelude.{◌≡◌, ◌+◌, IfOk, length, map, string_bytes};
-ghost use Rattle.model_findings.specs.{Problems.problems, ReadinessIssues.readiness_issues};
 ghost use Rattle.findings.specs.Findings.{problem_of, issue_of};
-ghost use Rattle.session.specs.Questions.{audit_in, ready_in, told_by, counted_by};
+ghost use Rattle.accesses.specs.Accesses.{host_target_of};
+ghost use Rattle.session.specs.Questions.{audit_in, ready_in, why_in, told_by, counted_by};
 
 use crate::board::Board;
+use accesses::HostAt;
 use findings::{Problem, ReadinessIssue, problems, readiness_issues};
-use findings_render::CountedText;
+use findings_render::{CountedText, host_why_text};
 use headers::Apertures;
-use json_texts::{lacks_json, problems_json};
+use json_texts::{host_why_json, lacks_json, problems_json};
 use std::alloc::{AllocError, Global};
 
 /// The output format of a report.
@@ -78,47 +79,41 @@ pub(crate) fn ready_in(
 }
 
 impl Board {
-    /// Returns all problems in the registers as they are now, in the order of the audit report.
-    /// Changes nothing, even if memory is exhausted.
-    pub(crate) fn problems(&mut self, alloc: Global) -> Result<Vec<Problem>, AllocError>
-        ensures told { IfOk result (λ v.
-            map problem_of v.items ≡ problems self.old.state.functions) }
-        ensures after { self.new ≡ self.old }
-    {
-        problems(alloc, &mut self.host)
-    }
-
-    /// Returns everything left to do in the registers as they are now, given these apertures, in
-    /// the order of the readiness report. Changes nothing, even if memory is exhausted.
-    pub(crate) fn readiness_issues(
+    /// Answers a question about the registers as they are now, given these apertures. Changes
+    /// nothing, even if memory is exhausted.
+    pub fn ask(
         &mut self,
         alloc: Global,
+        question: Question,
         apertures: &Apertures,
-    ) -> Result<Vec<ReadinessIssue>, AllocError>
-        ensures told { IfOk result (λ v.
-            map issue_of v.items ≡ readiness_issues apertures.now self.old.state.functions) }
-        ensures after { self.new ≡ self.old }
-    {
-        readiness_issues(alloc, &mut self.host, apertures)
-    }
-
-    /// Answers a question about the registers as they are now, given the apertures of the board
-    /// file. Changes nothing, even if memory is exhausted.
-    pub fn ask(&mut self, alloc: Global, question: Question) -> Result<CountedText, AllocError>
-        ensures text { IfOk result (λ t. string_bytes t.text
-            ≡ told_by question self.old.world.apertures self.old.state.functions) }
+    ) -> Result<CountedText, AllocError>
+        ensures text { IfOk result (λ t.
+            string_bytes t.text ≡ told_by question apertures.now self.old.state.functions) }
         ensures count { IfOk result (λ t.
-            t.count ≡ counted_by question self.old.world.apertures self.old.state.functions) }
+            t.count ≡ counted_by question apertures.now self.old.state.functions) }
         ensures after { self.new ≡ self.old }
     {
-        let found = self.problems(alloc)?;
+        let found = problems(alloc, &mut self.host)?;
         match question {
             Question::Audit(form) => audit_in(alloc, form, &found),
             Question::Ready(form) => {
-                let apertures = self.apertures();
-                let lacking = self.readiness_issues(alloc, &apertures)?;
+                let lacking = readiness_issues(alloc, &self.host, apertures)?;
                 ready_in(alloc, form, &found, &lacking)
             }
+        }
+    }
+
+    /// Explains where an access by firmware goes with the registers as they are now: which function
+    /// it reaches, or why it reaches none. The offset of a configuration access is ignored. Changes
+    /// nothing, even if memory is exhausted.
+    pub fn why(&mut self, alloc: Global, form: ReportForm, at: HostAt) -> Result<String, AllocError>
+        ensures text { IfOk result (λ t.
+            string_bytes t ≡ why_in form self.old.state (host_target_of at)) }
+        ensures after { self.new ≡ self.old }
+    {
+        match form {
+            ReportForm::Lines => host_why_text(alloc, &mut self.host, at),
+            ReportForm::Json => host_why_json(alloc, &mut self.host, at),
         }
     }
 }

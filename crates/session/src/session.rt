@@ -1,8 +1,6 @@
 //! A session over a board.
 ghost use Rattle.std.specs.{Prelude.{◌≡◌, ◌≢◌, ◌++◌, [], ⊤, length, map, option_map, string_bytes, is_some, Ok, None, IsOk, IfOk, IfErr, IfSome, OnOk, OnErr, MatchResult, IsFalse}, Borrow.sem, Option.option_copied_mut};
 ghost use Rattle.model_guests.specs.{Text.Text, World.{World, IsLawfulWorld}};
-ghost use Rattle.model_findings.specs.{Problems.problems, ReadinessIssues.readiness_issues};
-ghost use Rattle.findings.specs.Findings.{problem_of, issue_of};
 ghost use Rattle.model_lines.specs.Sessions.{driven, given, at_reset, session_functions, session_protocol, session_output, after_session_line};
 ghost use Rattle.lines.specs.Pieces.{IsBefore, with_more};
 ghost use Rattle.board_file.specs.{declared.fault.BoardFault.TheVariants.Memory, Faults.number_of as file_number};
@@ -13,7 +11,6 @@ use crate::board::Board;
 use crate::questions::{Question, ReportForm, audit_in, ready_in};
 use crate::stage::{Stage, answer_handover, hand_over};
 use board_file::BoardFault;
-use findings::{Problem, ReadinessIssue};
 use findings_render::CountedText;
 use headers::Apertures;
 use lines::{Answer, Answers, HostRequest, LineText};
@@ -134,44 +131,18 @@ impl Session {
             t.count ≡ counted_by question apertures.now (session_functions self.old)) }
         ensures after { self.new ≡ self.old }
     {
-        let found = self.problems(alloc)?;
-        match question {
-            Question::Audit(form) => audit_in(alloc, form, &found),
-            Question::Ready(form) => {
-                let lacking = self.readiness_issues(alloc, apertures)?;
-                ready_in(alloc, form, &found, &lacking)
+        match &mut self.stage {
+            Stage::Driven(board) => board.ask(alloc, question, apertures),
+            Stage::Given(monitor) => {
+                let found = monitor.problems(alloc)?;
+                match question {
+                    Question::Audit(form) => audit_in(alloc, form, &found),
+                    Question::Ready(form) => {
+                        let lacking = monitor.readiness_issues(alloc, apertures)?;
+                        ready_in(alloc, form, &found, &lacking)
+                    }
+                }
             }
-        }
-    }
-
-    /// Returns all problems in the registers as they are now, as values. Changes nothing, even if
-    /// memory is exhausted.
-    fn problems(&mut self, alloc: Global) -> Result<Vec<Problem>, AllocError>
-        ensures told { IfOk result (λ v.
-            map problem_of v.items ≡ problems (session_functions self.old)) }
-        ensures after { self.new ≡ self.old }
-    {
-        match &mut self.stage {
-            Stage::Driven(board) => board.problems(alloc),
-            Stage::Given(monitor) => monitor.problems(alloc),
-            Stage::Between => unreachable!(),
-        }
-    }
-
-    /// Returns everything left to do given these apertures, as values. Changes nothing, even if
-    /// memory is exhausted.
-    fn readiness_issues(
-        &mut self,
-        alloc: Global,
-        apertures: &Apertures,
-    ) -> Result<Vec<ReadinessIssue>, AllocError>
-        ensures told { IfOk result (λ v.
-            map issue_of v.items ≡ readiness_issues apertures.now (session_functions self.old)) }
-        ensures after { self.new ≡ self.old }
-    {
-        match &mut self.stage {
-            Stage::Driven(board) => board.readiness_issues(alloc, apertures),
-            Stage::Given(monitor) => monitor.readiness_issues(alloc, apertures),
             Stage::Between => unreachable!(),
         }
     }
@@ -206,24 +177,29 @@ impl Session {
             }
             Stage::Driven(board) => {
                 let what = meant(line, long);
+                let apertures = board.apertures();
                 match what.request() {
                     None => {
                         let refused = board.answer(what, text);
                         Ok(Answer::short(refused))
                     }
-                    Some(HostRequest::Audit) => {
-                        let told = board.ask(self.alloc, Question::Audit(ReportForm::Lines))?;
-                        Ok(Answer::text(told.text))
-                    }
-                    Some(HostRequest::Ready) => {
-                        let ready = board.ask(self.alloc, Question::Ready(ReportForm::Lines))?;
-                        Ok(Answer::text(ready.text))
-                    }
-                    Some(HostRequest::Why(at)) => {
-                        let told = board.why(self.alloc, at)?;
-                        Ok(Answer::text(told))
-                    }
-                    Some(HostRequest::Guests) => answer_handover(self.alloc, &mut self.stage, text),
+                    Some(request) => match request {
+                        HostRequest::Audit => {
+                            let question = Question::Audit(ReportForm::Lines);
+                            let audit = board.ask(self.alloc, question, &apertures)?;
+                            Ok(Answer::text(audit.text))
+                        }
+                        HostRequest::Ready => {
+                            let question = Question::Ready(ReportForm::Lines);
+                            let ready = board.ask(self.alloc, question, &apertures)?;
+                            Ok(Answer::text(ready.text))
+                        }
+                        HostRequest::Why(at) => {
+                            let told = board.why(self.alloc, ReportForm::Lines, at)?;
+                            Ok(Answer::text(told))
+                        }
+                        HostRequest::Guests => answer_handover(self.alloc, &mut self.stage, text),
+                    },
                 }
             }
             Stage::Between => unreachable!(),

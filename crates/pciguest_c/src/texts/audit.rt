@@ -20,7 +20,8 @@ fn survey_of(alloc: Global, board: &mut Board, question: Question) -> Result<Cou
         unless_out n (surveying question board.old) ≡ refusal n) }
     ensures kept { board.new ≡ board.old }
 {
-    board.ask(alloc, question).map_err(|_| MEMORY)
+    let apertures = board.apertures();
+    board.ask(alloc, question, &apertures).map_err(|_| MEMORY)
 }
 
 /// Writes the problems in the board's current registers to the front of `out`, as lines or as a

@@ -86,7 +86,7 @@ fn board_why_of(
     ensures kept { board.new ≡ board.old }
 {
     let at = host_at(space, bus, device, function, place).ok_or(ARGUMENT)?;
-    board.why_json(alloc, at).map_err(|_| MEMORY)
+    board.why(alloc, ReportForm::Json, at).map_err(|_| MEMORY)
 }
 
 /// Writes a one-line JSON object to the front of `out` that explains which function responds to an
