@@ -5,6 +5,7 @@
 --     region_value      a region, with the path of its endpoint
 --     agent_value      what answers an address, with its register, null of a bridge
 --     number_value      a bus, device and function number
+--     blame_value q bridge n kind      a finding of this kind, which blames a bridge for an address of a region
 --     problem_value      a problem
 --     problems_value, problems_json      the whole value; its text, and a line feed
 --     issue_value      a readiness issue
@@ -52,12 +53,15 @@ number_value at = object (
     member (codes "device") (natural at.part.device) (
     member (codes "function") (natural at.part.function) no_members)))
 
-abbrev pub problem_value : Problem → Data
-problem_value (not_forwarded q bridge n) = object (
+abbrev pub blame_value : PlacedRegion → Path → ℕ → Text → Data
+blame_value q bridge n kind = object (
     member (codes "address") (natural n) (
     member (codes "bridge") (path_value bridge) (
     member (codes "region") (region_value q) (
-    member (codes "type") (string (codes "not forwarded")) no_members))))
+    member (codes "type") (string kind) no_members))))
+
+abbrev pub problem_value : Problem → Data
+problem_value (not_forwarded q bridge n) = blame_value q bridge n (codes "not forwarded")
 problem_value (contended a b n) = object (
     member (codes "address") (natural n) (
     member (codes "agents") (array (items_of (agent_value a ∷ agent_value b ∷ []))) (
@@ -83,11 +87,7 @@ issue_value (outside_apertures q n) = object (
     member (codes "address") (natural n) (
     member (codes "region") (region_value q) (
     member (codes "type") (string (codes "outside apertures")) no_members)))
-issue_value (prefetched_by q bridge n) = object (
-    member (codes "address") (natural n) (
-    member (codes "bridge") (path_value bridge) (
-    member (codes "region") (region_value q) (
-    member (codes "type") (string (codes "prefetched")) no_members))))
+issue_value (prefetched_by q bridge n) = blame_value q bridge n (codes "prefetched")
 issue_value (other_primary p held n) = object (
     member (codes "bus") (natural n) (
     member (codes "path") (path_value p) (

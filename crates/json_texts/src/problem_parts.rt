@@ -3,7 +3,7 @@ ghost use Rattle.std.specs.Prelude.{◌≡◌, IfOk};
 ghost use Rattle.serde_json.specs.View.{view};
 ghost use Rattle.bars.specs.Kinds.{named_space};
 ghost use Rattle.paths.specs.BusAddresses.{bus_address_of};
-ghost use Rattle.json_texts.specs.AuditValue.{path_value, space_text, register_value, reached_value, region_value, agent_value, number_value};
+ghost use Rattle.json_texts.specs.AuditValue.{path_value, space_text, register_value, reached_value, region_value, agent_value, blame_value, number_value};
 
 use bars::Space;
 use findings::{Agent, LiveBar};
@@ -69,6 +69,22 @@ pub(crate) fn agent_value(alloc: Global, agent: &Agent) -> Result<Value, AllocEr
     let path = path_value(alloc, &agent.path)?;
     let bar = register_value(agent.register);
     json!(in alloc; {"bar": bar, "path": path})
+}
+
+/// Returns a finding of the given type, which blames a bridge for an address of a BAR, as JSON.
+pub(crate) fn blame_value(
+    alloc: Global,
+    region: &LiveBar,
+    bridge: &Path,
+    address: u64,
+    kind: &str,
+) -> Result<Value, AllocError>
+    ensures { IfOk result (λ v.
+        view v ≡ blame_value region.now bridge.now address kind.now) }
+{
+    let region = region_value(alloc, region)?;
+    let bridge = path_value(alloc, bridge)?;
+    json!(in alloc; {"address": address, "bridge": bridge, "region": region, "type": kind})
 }
 
 /// Returns a BDF as JSON.

@@ -2,39 +2,19 @@
 ghost use Rattle.std.specs.Prelude.{◌≡◌, IfOk};
 ghost use Rattle.serde_json.specs.View.{view};
 ghost use Rattle.paths.specs.BusAddresses.{bus_address_of};
-ghost use Rattle.model_findings.specs.Problems.{not_forwarded, contended, not_found};
+ghost use Rattle.model_findings.specs.Problems.{contended, not_found};
 ghost use Rattle.model_findings.specs.Problems as model;
 ghost use Rattle.findings.specs.Findings.{problem_of};
 ghost use Rattle.json_texts.specs.AuditValue.{problem_value};
 
 use crate::has_value::HasValue;
 use crate::problem_parts::{
-    agent_value, number_value, path_value, reached_value, region_value, space_text,
+    agent_value, blame_value, number_value, path_value, reached_value, space_text,
 };
-use findings::{Agent, LiveBar, Problem};
+use findings::{Agent, Problem};
 use paths::{Bdf, Path};
 use serde_json::{Value, json};
 use std::alloc::{AllocError, Global};
-
-/// Returns, as JSON, the problem that a bridge doesn't forward a BAR.
-fn not_forwarded(
-    alloc: Global,
-    region: &LiveBar,
-    bridge: &Path,
-    address: u64,
-) -> Result<Value, AllocError>
-    ensures { IfOk result (λ v. view v
-        ≡ problem_value (not_forwarded region.now bridge.now address)) }
-{
-    let region = region_value(alloc, region)?;
-    let bridge = path_value(alloc, bridge)?;
-    json!(in alloc; {
-        "address": address,
-        "bridge": bridge,
-        "region": region,
-        "type": "not forwarded"
-    })
-}
 
 /// Returns, as JSON, the address conflict between two responders.
 fn contended(alloc: Global, one: &Agent, other: &Agent, address: u64) -> Result<Value, AllocError>
@@ -76,7 +56,7 @@ impl HasValue for Problem {
                 region,
                 bridge,
                 address,
-            } => not_forwarded(alloc, region, bridge, *address),
+            } => blame_value(alloc, region, bridge, *address, "not forwarded"),
             Problem::Contended {
                 one,
                 other,

@@ -1,13 +1,13 @@
 //! Unmet requirements as JSON.
 ghost use Rattle.std.specs.Prelude.{◌≡◌, IfOk};
 ghost use Rattle.serde_json.specs.View.{view};
-ghost use Rattle.model_findings.specs.ReadinessIssues.{outside_apertures, prefetched_by, other_primary, not_open};
+ghost use Rattle.model_findings.specs.ReadinessIssues.{outside_apertures, other_primary, not_open};
 ghost use Rattle.model_findings.specs.ReadinessIssues as model;
 ghost use Rattle.findings.specs.Findings.{issue_of};
 ghost use Rattle.json_texts.specs.AuditValue.{issue_value};
 
 use crate::has_value::HasValue;
-use crate::problem_parts::{path_value, region_value};
+use crate::problem_parts::{blame_value, path_value, region_value};
 use findings::{LiveBar, ReadinessIssue};
 use paths::Path;
 use serde_json::{Value, json};
@@ -27,26 +27,6 @@ fn outside(alloc: Global, region: &LiveBar, address: u64) -> Result<Value, Alloc
 {
     let region = region_value(alloc, region)?;
     json!(in alloc; {"address": address, "region": region, "type": "outside apertures"})
-}
-
-/// Returns, as JSON, the requirement not to prefetch a BAR.
-fn prefetched(
-    alloc: Global,
-    region: &LiveBar,
-    bridge: &Path,
-    address: u64,
-) -> Result<Value, AllocError>
-    ensures { IfOk result (λ v. view v
-        ≡ issue_value (prefetched_by region.now bridge.now address)) }
-{
-    let region = region_value(alloc, region)?;
-    let bridge = path_value(alloc, bridge)?;
-    json!(in alloc; {
-        "address": address,
-        "bridge": bridge,
-        "region": region,
-        "type": "prefetched"
-    })
 }
 
 /// Returns, as JSON, the requirement to correct a Primary Bus Number.
@@ -74,7 +54,7 @@ impl HasValue for ReadinessIssue {
                 region,
                 bridge,
                 address,
-            } => prefetched(alloc, region, bridge, *address),
+            } => blame_value(alloc, region, bridge, *address, "prefetched"),
             ReadinessIssue::OtherPrimary { path, held, number } => primary(
                 alloc, path, *held, *number,
             ),

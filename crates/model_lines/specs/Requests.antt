@@ -3,7 +3,7 @@
 --     HostRequest, request line      the request that a line makes, if it has such a form
 --     why_written s t      the text of an explanation
 --     RequestExamples      the requests that some lines make
-use Rattle.std.specs.{Prelude.{◌≡◌, List, [], ◌∷◌, ℕ, ◌^◌, if◌then◌else◌, Option, Some, None, option_map, codes}, Str.bytes_eq}
+use Rattle.std.specs.{Prelude.{◌≡◌, List, [], ◌∷◌, ◌^◌, if◌then◌else◌, Option, Some, None, option_map, codes}, Str.bytes_eq}
 use Rattle.model_registers.specs.Decoding.{memory}
 use Rattle.model_board.specs.State.{State}
 use Rattle.model_guests.specs.{Text.{Text, words}, Numbers.{below, number_of}, Grammar.{HostTarget, host_configuration, host_port, host_address, on_word, bus_address, is_long}}

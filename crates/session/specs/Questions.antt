@@ -1,4 +1,4 @@
--- What answers a question of the registers of a board, in a form.
+-- What answers a question of the registers of a board.
 --     audit_in form ps, ready_in form ps ls      some problems, and also some lacks, in a form
 --     why_in form s t      why an access of firmware goes where it goes
 --     told_by q a fs, counted_by q a fs      the text that answers a question of some functions, by these apertures, and

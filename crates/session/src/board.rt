@@ -1,5 +1,5 @@
 //! A board that firmware drives.
-ghost use Rattle.std.specs.{Prelude.{◌≡◌, ◌≢◌, ◌≤◌, ◌++◌, ◌∷◌, [], false, not, codes, length, map, option_and_then, MatchOption, IfOk, IfErr, IfSome, string_bytes}, Bool.OnTrue};
+ghost use Rattle.std.specs.{Prelude.{◌≡◌, ◌≢◌, ◌≤◌, ◌++◌, ◌∷◌, [], false, not, codes, length, map, option_and_then, MatchOption, IfOk, IfErr, IfSome}, Bool.OnTrue};
 ghost use Rattle.model_board.specs.AtReset.{board_at};
 ghost use Rattle.model_guests.specs.{Accesses.{reads, writes}, Replies.reply_text, World.IsLawfulWorld, WorldNow.{board_state, names_now}};
 ghost use Rattle.model_handoff.specs.Changes.{BeginsIn};
