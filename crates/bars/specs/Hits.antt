@@ -1,6 +1,6 @@
 -- The target of an address: the index of the region's first register, and the offset in the region.
 --     offset_in      the offset of an address in a region, or `None` if the address isn't in the region
---     hit_from      the first region that contains the address, from index n on
+--     hit_from      the hit in the first region that contains the address; the first slot has index n
 --     named_hit      the index and the offset, in the terms of the formal model
 use Rattle.std.specs.Prelude.{List, [], ◌∷◌, ℕ, ◌+◌, ◌-◌, ◌&&◌, nat_le, nat_lt, if◌then◌else◌, Option, Some, None, option_map}
 use Rattle.lists.specs.Elements.{first_of_two}

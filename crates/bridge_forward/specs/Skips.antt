@@ -1,4 +1,4 @@
--- The node at which a search for a bridge continues: it skips endpoints, which have nothing behind them.
+-- The node at which a search for a bridge continues: it skips endpoints that have nothing behind them.
 --     is_passed n i      the node at index i is such an endpoint
 --     first_bridge n i next      the next bridge from index i on, given `next`, the first bridge after index i
 --     AreSkipped nodes i b      the nodes from index i up to b are all such endpoints

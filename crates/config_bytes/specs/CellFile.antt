@@ -3,7 +3,7 @@
 --     file_of cs      the register file of a list of offsets with cells
 --     HasDistinctOffsets cs, differ c d      all offsets are distinct; a test of two cells
 --     KeepsPlaces f      the current cells have the same offsets as the cells given at creation
---     reset_outside first last initial now      the current cells, with those at all offsets outside a range reset
+--     reset_outside first last initial now      the cells of `now`, with those outside a range of offsets replaced by those of `initial`
 --     offsets_from a cs      cells at consecutive offsets, starting at a
 --     IsTable      a table indexed by offset holds the cells of a file, so that no access searches them
 use Rattle.std.specs.Prelude.{
@@ -57,7 +57,7 @@ file_of (c ∷ cs) = record { place = config c.0; cell = c.1 } ∷ file_of cs
 abbrev pub HasDistinctOffsets : List (ℕ × Cell) → Type 0
 HasDistinctOffsets cs = EachPair (λ c d. c.0 ≢ d.0) cs
 
--- `HasDistinctOffsets` as a test
+-- two cells have different offsets
 abbrev pub differ : ℕ × Cell → ℕ × Cell → Bool
 differ c d = not (c.0 == d.0)
 

@@ -15,7 +15,7 @@ FileOfAppend = (xs ys : List (ℕ × Cell)) → file_of (xs ++ ys) ≡ file_of x
 abbrev pub FileOfOffsets : Type 0
 FileOfOffsets = (a : ℕ) (cs : List Cell) → file_of (offsets_from a cs) ≡ cells_from (config a) cs
 
--- consecutive cells are at configuration offsets
+-- the file of any such list has cells at configuration offsets only
 abbrev pub FileOfConfig : Type 0
 FileOfConfig = (cs : List (ℕ × Cell)) → IsConfigFile (file_of cs)
 

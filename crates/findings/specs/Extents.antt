@@ -1,4 +1,4 @@
--- The addresses that responders claim, in the code's types.
+-- The addresses that agents answer, in the code's types.
 --     extent_of, extents_of      a window, both ends included, and up to two of them
 --     least_of      the lesser of two numbers that may be there
 --     first_missed es q      the least address of a region that none of some extents holds

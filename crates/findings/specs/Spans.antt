@@ -1,4 +1,4 @@
--- The addresses that responders claim, as one list of spans with a number for each bus and space.
+-- The addresses that agents answer, as one list of spans with a number for each bus and space.
 --     bus_key, group_of      a number of a bus, and of an agent's bus and space
 --     window_span, agent_spans, spans_from      the spans of a window, of an agent and of agents from an index on
 --     place_of, key_of      a first address; the order of spans: by bus and space, then by first address

@@ -37,7 +37,7 @@ abbrev pub CopiedRaise : Type 0
 CopiedRaise = (own : OwnCopies) (m : ℕ) (p : Place) (file : File)
     → raise m p (with_copies (own_file own) file) ≡ with_copies (own_file own) (raise m p file)
 
--- raising bits in the file at a copied place changes nothing in the guest's file
+-- raising bits at a copied place changes nothing in the guest's file
 abbrev pub HiddenRaise : Type 0
 HiddenRaise = (own : OwnCopies) (m : ℕ) (p : Place) (file : File) → is_own p ≡ true
     → raise m p (with_copies (own_file own) file) ≡ with_copies (own_file own) file
@@ -60,7 +60,7 @@ CopiesHeld = (own file : File) → Each (λ (e : PlacedCell). is_own e.place ≡
 abbrev pub RaisedHeld : Type 0
 RaisedHeld = (own : OwnCopies) (file : File) → HoldsOwn file own → (m : ℕ) (p : Place) → HoldsOwn (raise m p file) own
 
--- a write changes the copies as it would change the file
+-- after a write, the file holds the copies as this write changes them
 abbrev pub WrittenHeld : Type 0
 WrittenHeld = (own new : OwnCopies) (file : File) → HoldsOwn file own → (enables : List Bool) (v : ℕ) (p : Place)
     → own_file new ≡ write enables v p (own_file own) → HoldsOwn (write enables v p file) new
@@ -75,7 +75,7 @@ abbrev pub LawfulCopies : Type 0
 LawfulCopies = (own : OwnCopies) (rs : List Region) → HasLawfulRegions rs → map bare rs ≡ map opened own.bases
     → IsLawfulOwn own
 
--- the copied bytes and the forwarded bytes of a word add up to its enabled bytes
+-- the copied bytes and any forwarded bytes of a word add up to a number whose disabled bytes are 0
 abbrev pub SumOfBytes : Type 0
 SumOfBytes = (own : OwnCopies) → IsLawfulOwn own → (enables : List Bool) (p : Place) (n : ℕ)
     → (let sum : ℕ = read (own_file own) p enables + enabled_bytes (handed_on p enables) n in

@@ -1,6 +1,6 @@
 -- Registers of configuration space as table rows.
 --     row_cells row      the cells of a register
---     IsRow row      it has at most 8 bytes, ends within configuration space, and has no bit that is both writable and write-1-to-clear
+--     IsRow row      it has at most 8 bytes, ends within configuration space, and doesn't have both writable and write-1-to-clear bits
 use Rattle.std.specs.Prelude.{◌≡◌, ◌+◌, ◌<◌, ◌≤◌}
 use Rattle.model_registers.specs.Registers.{config, File, field}
 use Rattle.headers.specs.declared.config_register.ConfigRegister.{ConfigRegister}

@@ -1,4 +1,4 @@
--- Predicates on lists, defined by recursion so that proofs by induction can unfold them.
+-- Predicates and functions on lists, defined by recursion so that proofs by induction can unfold them.
 --     IsIn x xs      x is an element of the list
 --     Each P xs, EachPair R xs      P holds for each element; R holds for each element and each later one
 --     first_some f xs      the first value that f returns for an element

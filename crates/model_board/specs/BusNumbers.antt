@@ -24,7 +24,7 @@ bus_of b p = bus_behind b (parent p)
 abbrev pub bridge_count : Board → ℕ
 bridge_count b = count_by (λ r. is_bridge r.decl) b
 
--- the largest bus number is 255: as a test, and as a proposition
+-- at most 255 bridges, because bus numbers end at 255: as a test, and as a proposition
 abbrev pub numbers_suffice : Board → Bool
 numbers_suffice b = nat_le (bridge_count b) 255
 

@@ -33,7 +33,7 @@ claims_of fs space a f = if is_forwarded fs f.path space a then map (claim_at f.
 abbrev pub claims : List BoardFunction → Space → ℕ → List Claim
 claims fs space a = flat_map (claims_of fs space a) fs
 
--- an endpoint's claim by its own registers, if each bridge on its path forwards the address
+-- an endpoint's hit by its own registers; `claim_of` checks the bridges above
 abbrev pub endpoint_hit : BoardFunction → Space → ℕ → Option Hit
 endpoint_hit f space a = elim f.decl [
   | endpoint d ↦ lone_claim (record { decl = d; file = f.file }) space a

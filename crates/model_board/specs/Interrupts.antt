@@ -1,5 +1,5 @@
 -- The pin on bus 0 that an interrupt pin reaches: PCI-to-PCI Bridge Architecture 1.2, chapter 9.1, with one rule for all bridges.
---     root_device, root_pin      the first device on the path, and its pin
+--     root_device, root_pin      the first device on the path, and the pin that is reached there
 use Rattle.std.specs.Prelude.{[], ◌∷◌, ℕ, ◌-◌, ◌+◌, ◌%◌, sum_by}
 use Rattle.model_board.specs.Paths.{Path}
 

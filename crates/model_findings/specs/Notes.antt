@@ -1,6 +1,6 @@
 -- Facts about a register state that are reported for information and aren't problems: PCI-to-PCI Bridge Architecture 1.2,
 -- chapter 4.
---     Note      a window with no enabled region behind it
+--     Note      an enabled window that contains no address of an enabled region behind its bridge
 --     notes rows      all of them, in path order
 use Rattle.std.specs.{Prelude.{List, [], ◌∷◌, ◌++◌, ◌+◌, Bool, ◌&&◌, nat_lt, if◌then◌else◌, flat_map}, List.list_any}
 use Rattle.model_registers.specs.Decoding.{Space, io, memory, same_space}

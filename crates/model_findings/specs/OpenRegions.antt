@@ -24,7 +24,7 @@ closed_of r = filter (λ q. not (opens_space r.command q.space)) (regions_of r)
 abbrev pub open_regions : List RoutingRow → List PlacedRegion
 open_regions rows = flat_map open_of rows
 
--- no region there answers
+-- these regions answer no address
 abbrev pub closed_regions : List RoutingRow → List PlacedRegion
 closed_regions rows = flat_map closed_of rows
 

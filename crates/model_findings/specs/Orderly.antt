@@ -5,7 +5,7 @@
 --     IsOrderly rows      each enabled region is forwarded, and no two agents conflict
 --     IsStateOfBoard fs      lawful declarations at lawful places, whatever the registers hold
 --     HasClaimsOfRegions fs      the claims are those of the enabled regions, and each address has at most one
---     OrderlyClaims      this holds in each consistent state
+--     OrderlyClaims      an orderly state has such claims
 use Rattle.std.specs.{Prelude.{List, ◌≡◌, ℕ, ◌<◌, IsTrue, IsFalse, map}, Option.option_to_list}
 use Rattle.lists.specs.Elements.{Each, EachPair}
 use Rattle.model_registers.specs.Decoding.{Space}

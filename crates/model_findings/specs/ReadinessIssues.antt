@@ -3,7 +3,7 @@
 --     aperture_extents, is_in_apertures      the addresses of a space that may be assigned
 --     plain_regions      enabled memory regions that aren't prefetchable
 --     prefetches n r      a bridge forwards an address through its prefetchable window only
---     least_held test edges q      the least address of a region that passes a test whose result changes only at these edges
+--     least_held test edges q      the least address of a region that passes a test, if it starts to pass only at these edges
 --     first_outside, first_prefetched      the least address outside the apertures, or that a bridge prefetches
 --     ReadinessIssue      a region that is disabled, outside the apertures or prefetched, or a wrong Primary Bus Number; with a witness
 --     primary_register file      the Primary Bus Number of a bridge
@@ -88,7 +88,7 @@ pub data ReadinessIssue : Type 0 where
   -- an enabled memory region that isn't prefetchable, the first bridge above it that prefetches some of it, and the
   -- least address that it prefetches
   prefetched_by : PlacedRegion → Path → ℕ → ReadinessIssue
-  -- a bridge, its Primary Bus Number register, and the number of the bus that it is on
+  -- a bridge, the value of its Primary Bus Number register, and the number of the bus that it is on
   other_primary : Path → ℕ → ℕ → ReadinessIssue
 
 abbrev pub outside_issue : Apertures → PlacedRegion → List ReadinessIssue

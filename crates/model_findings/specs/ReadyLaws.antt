@@ -3,7 +3,7 @@
 --     IsWithinApertures, PrefetchesNone      each address of a region is in an aperture; a bridge prefetches none of them
 --     IsClosed, IsOutside, IsPrefetched, HasOtherPrimary      the meaning of an issue of each kind
 --     IsRealLack, LacksAreReal      each reported issue is real
---     LacksNothing, LacksDecide      a state has no issues if and only if nothing is missing
+--     LacksNothing, LacksDecide      no region or bridge has an issue; none is reported if and only if this holds
 --     ReadyDecides      ready, as a test and as a proposition, means consistent and without issues
 --     IsUsable, ReadyIsUsable      each byte of each endpoint's regions is claimed, within the apertures
 --     ReadyIsFound      and each function is reached by its own BDF only

@@ -3,7 +3,7 @@
 --     ForwardsAll q r      the bridge forwards each byte of the region
 --     IsNotForwarded, IsContended, IsNotFound      the meaning of a problem of each kind
 --     IsReal, ProblemsAreReal      each reported problem is real
---     IsInOrder fs      consistent windows, and each function is found
+--     IsInOrder fs      an orderly state in which each function is found
 --     RoutingDecides, NumberingDecides, ProblemsDecide      there are no problems if and only if this holds
 use Rattle.std.specs.{Prelude.{List, [], ◌∷◌, ◌++◌, ◌≡◌, ℕ, ◌≤◌, Option, Some, IsTrue, IsFalse, ◌↔◌, ◌⊎◌}, Option.option_map}
 use Rattle.lists.specs.Elements.{IsIn, Each}

@@ -1,4 +1,4 @@
--- The accesses that a guest may make, and the replies to them.
+-- The accesses of a guest, the raises of its devices, and the replies to them.
 --     Access      a read or write, with a width, in a slot's configuration space, at a port or at an address
 --     Raise      bits that the device itself sets in one of its bytes
 --     Event, Reply      an access or a raise; a value, done, or a refusal

@@ -8,15 +8,14 @@ use Rattle.model_registers.specs.{Registers.{Place, File, cell_at, read, raise},
 use Rattle.model_board.specs.{Paths.Path, Board.Board, Lawful.HasLawfulDecls, State.{BoardFunction, State}}
 use Rattle.model_guests.specs.{Text.Text, Guests.{GuestsNow, path_in, function_in, file_of}, Seated.AreSeated}
 
--- a function in a slot: the first file is the handoff's, the second the guest's, and the third the board's. The registers
--- that the guest has copies of are those of the handoff, and every other place is as in the guest's
--- file
+-- the file `left` is the handoff's, `own` the guest's, and `now` the board's: the registers that the guest has copies of
+-- are as in the handoff's, and every other place is as in the guest's
 pub record HoldsFile (left own now : File) : Type 0 where
   pub places : places_of now ≡ places_of left
   pub kept : (p : Place) → IsTrue (is_own p) → cell_at now p ≡ cell_at left p
   pub common : (p : Place) → IsFalse (is_own p) → cell_at now p ≡ cell_at own p
 
--- a function that is the first in the handoff and the second now; in no slot it is unchanged
+-- the function is `left` in the handoff and `now` on the board; if no guest has it, it is unchanged
 pub record AgreesAt (left : BoardFunction) (own : Option File) (now : BoardFunction) : Type 0 where
   pub path : now.path ≡ left.path
   pub decl : now.decl ≡ left.decl

@@ -1,10 +1,10 @@
 -- How a change of a guest's functions changes the board.
 --     ChangesAlike      if a guest's file changes by the first function, the board's changes by the second
---     WritesAlike, RaisesAlike, ResetsAlike      a write, a raise and a reset reach it through the bytes that aren't copied
+--     WritesAlike, RaisesAlike, ResetsAlike      a write, a raise and a reset reach the board's file in the bytes that aren't copied
 --     OverSeated      over any state, whatever guests are seated on its board
 --     OneFile, ChangesOneFunction, LatchKeepsBoard      a guest's change of a function changes the board in that function only
 --     MoveResetsOneFunction      a move resets the function, except for the bytes that guests have copies of
---     lands, EventReachesBoard      the function that an event changes, and its effect on the board's function
+--     lands, EventReachesBoard      the slot and place that an event changes, and its effect on the board there
 use Rattle.std.specs.{Prelude.{List, ◌≡◌, ℕ, Bool, false, if◌then◌else◌, Option, Some, None, option_map, is_some, IsFalse, IsSome}, Option.option_map_or}
 use Rattle.model_registers.specs.{Registers.{Place, File, write, raise, all_bytes}, Declarations.Endpoint, Decoding.Function, EndpointTable.endpoint_reset, OwnCopies.{is_own, handed_on}, CopiedFiles.{agreed_file, after_reset}}
 use Rattle.model_board.specs.{Paths.{Path, path_eq}, AtReset.board_at, State.State}
@@ -33,7 +33,7 @@ OneFile = (own_change board_change : File → File) → ChangesAlike own_change 
     → ((q : Path) → IsFalse (path_eq p q) → new q ≡ old q)
     → (s : State) → with_files new s ≡ with_change_at board_change p (with_files old s)
 
--- a guest's change of the file in a slot and of its CONFIG_ADDRESS
+-- a guest with the file in a slot changed, and a guest with another CONFIG_ADDRESS
 abbrev pub with_slot_changed : (File → File) → ℕ → GuestNow → GuestNow
 with_slot_changed change n g = record g { lone = record g.lone { slots = with_file change n g.lone.slots } }
 
@@ -60,7 +60,7 @@ MoveResetsOneFunction = OverSeated (λ s gs. (m : Move) → IsSome (guest_named 
 
 -- ---- any event
 
--- reading and writing CONFIG_ADDRESS changes no function
+-- a read changes no function, nor does a write to CONFIG_ADDRESS
 abbrev pub landing_at : LoneGuest → Op → Destination → Option Landing
 landing_at g reads d = None
 landing_at g (writes v) own_latch = None

@@ -1,7 +1,7 @@
 -- Laws of a device's reads and writes of its function's registers.
 --     ReadsLeaveGuests      a read changes no guest
 --     ReadsWritten      a read of an existing cell returns the written value
---     byte_change own v p      copies the byte at a place from another file, if the guest's file has a cell there
+--     byte_change own v p      writes the low byte of v at p in a file, if the guest's file `own` has a cell there
 --     WriteReachesBoard      a write changes the board in that byte of the slot's function only
 use Rattle.std.specs.Prelude.{◌≡◌, ◌%◌, ℕ, if◌then◌else◌, Some, None, IsTrue}
 use Rattle.model_registers.specs.{Registers.{Place, File}, FileLaws.has_place, DeviceBytes.set_value, Decoding.Function}

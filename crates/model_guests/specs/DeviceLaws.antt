@@ -1,8 +1,8 @@
 -- Laws of events at devices.
---     ResetByMoves      a reset has the effect of moving the function to an empty slot and back
+--     ResetByMoves      a reset has the effect of moving the function to an empty slot, if there is one, and back
 --     ResetReachesBoard      it resets the function on the board, except for the bytes that guests have copies of
 --     SeatedAfterDevices, NamesAfterDevices      guests stay seated, and keep their names
---     OwnAfterDevice, OthersAfterDevice      the guest's state afterwards depends only on its state before; all other guests are unchanged
+--     OwnAfterDevice, OthersAfterDevice      the guest's state afterwards depends only on its state before and the event; all other guests are unchanged
 use Rattle.std.specs.{Prelude.{◌≡◌, ℕ, Some, None, IsFalse, IsSome}, Str.bytes_eq}
 use Rattle.model_registers.specs.{Decoding.Function, CopiedFiles.after_reset}
 use Rattle.model_board.specs.{Paths.Path, Board.Board}

@@ -52,7 +52,7 @@ demo_world = record {
 abbrev pub writable_byte : Cell
 writable_byte = record { value = 0; writable = 0xff; clearable = 0 }
 
--- two device-specific registers at 40h: one partly writable, and one that the device raises
+-- device-specific registers at 40h (partly writable), 41h (raised by the device) and FFh (constant)
 abbrev pub wide_endpoint : Endpoint
 wide_endpoint = record (plain_endpoint 0x1af4 0x1041 0x020080) {
   revision = 0x5a;

@@ -1,4 +1,4 @@
--- The grammar of a script's lines: the accesses of guests, and the reads of the host.
+-- The grammar of a script's lines: the events of guests, and the reads of the host.
 --     event_of      parses the words of a guest's line after its name
 --     HostRead, host_read_of      a read by the host; parses the words of its line after `host`
 --     Who      the name under which a line is answered

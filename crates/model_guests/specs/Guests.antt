@@ -12,7 +12,7 @@ use Rattle.model_registers.specs.{Registers.File, Declarations.Endpoint, Decodin
 use Rattle.model_board.specs.Paths.{Path, path_eq}
 use Rattle.model_guests.specs.{Accesses.Event, Slots.{Slots, slot_at}, Text.Text, World.{Guest, World, declared}, Lone.{LoneGuest, after_event, reset_guest, filled, emptied}}
 
--- a slot has a path if and only if it has a function
+-- `paths` has, for each slot, the path of its function on the board
 pub record GuestNow : Type 0 where
   pub name : Text
   pub paths : List (Option Path)

@@ -4,7 +4,7 @@
 --     Isolated      over any handoff, each guest's own inputs decide its replies and state
 --     AgreeOn, TwoWorlds      worlds and scripts that agree on a guest's functions and inputs give it the same reply lines
 --     HasNoMove, OwnLinesAlone      in a script without moves the inputs are the own lines
---     IsolatedByOwnLines, TwoWorldsByOwnLines      so the guest's own lines alone decide
+--     IsolatedByOwnLines, TwoWorldsByOwnLines      so there the guest's own lines alone decide
 use Rattle.std.specs.Prelude.{List, ◌≡◌, Bool, true, false, map, IsTrue, IsFalse}
 use Rattle.lists.specs.Elements.{Each}
 use Rattle.model_board.specs.State.{State}
@@ -26,7 +26,7 @@ pub record AgreeOn (name : Text) (v w : World) (s t : Text) : Type 0 where
   pub declarations : declarations v name ≡ declarations w name
   pub inputs : inputs (guests_at_first v) name (lines s) ≡ inputs (guests_at_first w) name (lines t)
 
--- whatever handoff firmware left
+-- whatever firmware handed over
 abbrev pub TwoWorlds : Type 0
 TwoWorlds = (name : Text) (v w : World) (one other : Text) → HasLawfulNames v → HasLawfulNames w
     → AgreeOn name v w one other → (s t : State)

@@ -5,7 +5,7 @@
 --     IsStopped      a failed write or flush ended it
 --     CutIsBeginning, StoppedIsBeginning      in either case a prefix of the output was written
 --     OutputAlong, AfterAlong      the output of pieces and the state after them, one after the other
---     LinesOfPieces      complete lines before more text are its first lines
+--     LinesOfPieces      complete lines followed by more text are the first lines of the whole
 use Rattle.std.specs.{Prelude.{◌≡◌, ◌++◌, List, [], ◌∷◌, Option, take, IsFalse}, List.list_any, Io.{StartsWith, KnownBytes.{Appends, Consumes}}}
 use Rattle.lists.specs.Elements.{Each}
 use Rattle.model_guests.specs.Text.{Text, ends_line, lines, text_of_lines}
@@ -40,7 +40,7 @@ abbrev pub first_output : {S : Type 0} → Protocol S → S → List Text → Te
 first_output p s [] = []
 first_output p s (line ∷ more) = p.writes s line
 
--- the outputs of the lines `whole` were written completely, and that of the next line in part;
+-- the outputs of the lines `whole` were written completely, and a prefix of the next line's;
 -- the events of these lines and of that next one ran
 pub record IsStopped {S : Type 0} (p : Protocol S) (s : S) (lines : List Text) (old new : Option Text) (end : S)
     : Type 0 where

@@ -14,7 +14,7 @@ pub record LoneGuest : Type 0 where
   pub slots : Slots
   pub latch : ℕ
 
--- an offset in the configuration space of a slot
+-- an ordinary port, or CONFIG_DATA of no function or of an offset in a slot's configuration space
 pub data Select : Type 0 where
   ordinary : Select
   nowhere : Select

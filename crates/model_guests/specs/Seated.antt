@@ -1,6 +1,6 @@
 -- The guests' functions are on the board, whatever events and moves occurred.
 --     IsSeatedAt, IsSeat, AreSeats      a slot has a function if and only if it has a path, and it is the endpoint there
---     IsSeatedGuest, AreSeated      32 such slots in each guest, with unique names and paths
+--     IsSeatedGuest, AreSeated      32 such slots in each guest; no two guests have the same name, and no two slots the same path
 --     SeatedAtFirst, SeatedAfterEvents, SeatedAfterMoves, SeatedAlong      this holds at first, and is preserved
 --     ByIndex      a guest by its index
 use Rattle.std.specs.{Prelude.{List, [], ◌∷◌, ◌≡◌, ℕ, false, Option, Some, None, ⊤, IsFalse, length, slice_get, slice_set}, Str.bytes_eq}

@@ -75,7 +75,7 @@ effect reads w slots l = slots
 effect (writes v) w slots None = slots
 effect (writes v) w slots (Some l) = with_file (write (all_bytes w) v l.place) l.slot slots
 
--- the place that a raise names in a function, or `None` if its offset is past the end
+-- the place that a raise names in a function, or `None` if there is no such region or the offset is past the end
 abbrev pub raise_place : Function → RaisePlace → ℕ → Option Place
 raise_place f in_config off = if nat_lt off 256 then Some (config off) else None
 raise_place f (in_region n) off =

@@ -1,5 +1,5 @@
 -- Texts as bytes, split into lines and words.
---     lines, words      the parts of a text that end in LF; the parts of a line between space, tab and CR
+--     lines, words      the parts of a text that LF terminates; the parts of a line between space, tab and CR
 --     ended, text_of_lines      a line followed by LF; several lines, each followed by LF
 use Rattle.std.specs.Prelude.{List, [], ◌∷◌, ℕ, Bool, ◌==◌, ◌++◌, if◌then◌else◌, length, not, ◌||◌, filter, flat_map}
 
@@ -10,7 +10,7 @@ abbrev pub onto : ℕ → List Text → List Text
 onto c [] = (c ∷ []) ∷ []
 onto c (l ∷ ls) = (c ∷ l) ∷ ls
 
--- the parts of a text that end in such a byte; a last part without one counts if it isn't empty
+-- the parts of a text that a byte of this kind terminates; a last part without one counts if it isn't empty
 abbrev pub pieces : (ℕ → Bool) → Text → List Text
 pieces ends [] = []
 pieces ends (c ∷ cs) = if ends c then [] ∷ pieces ends cs else onto c (pieces ends cs)

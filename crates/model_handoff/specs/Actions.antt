@@ -41,7 +41,7 @@ abbrev pub inputs_of_gift : Text → Gift → Option Endpoint → List CallInput
 inputs_of_gift name g None = []
 inputs_of_gift name g (Some d) = if bytes_eq g.to name then moved (gets g.slot d) ∷ [] else []
 
--- a refused action involves no guest
+-- a refused assignment or unassignment involves no guest
 abbrev pub inputs_of_action : Text → WorldNow → Action → List CallInput
 inputs_of_action name w (calls c) = inputs_of_call name w.guests c
 inputs_of_action name w (gives g) =
@@ -57,7 +57,7 @@ pub record AreDecidedBy (is : List CallInput) (w : WorldNow) (name : Text) (acti
   pub replies : all_told_by name w actions ≡ all_alone_told (lone_of w.guests name) is
   pub holds : lone_of (after_actions w actions).guests name ≡ after_own_calls (lone_of w.guests name) is
 
--- in any current world
+-- in any state of a world
 abbrev pub IsolatedByActions : Type 0
 IsolatedByActions = (w : WorldNow) (name : Text) → IsSome (guest_named w.guests name) → (actions : List Action)
     → AreDecidedBy (action_inputs name w actions) w name actions

@@ -1,7 +1,7 @@
 -- When a state of the board agrees with the guests over a handoff, and the parts of it that no guest can change.
 --     OverBoards, OverHandoffs      over any state of a lawful board, over any handoff, whatever guests are seated there
 --     StateAgrees, StateIsOnly      exactly one state agrees with the guests
---     FirstIsReset, FirstIsHandoff      before any event the assigned functions are at reset; if they were before, the state is the handoff
+--     FirstIsReset, FirstIsHandoff      before any event the assigned functions are at reset; if they already were, it is the handoff
 --     KeepsBoard, KeepsRouting      the functions and the routing registers are those of the handoff
 --     KeepsBridges      no guest has a bridge: bus numbers and windows are those of the handoff
 --     KeepsNumbers      so if the bridges hold the board's bus numbers, they keep them

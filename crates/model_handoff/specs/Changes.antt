@@ -10,7 +10,7 @@
 --     MachineNow, after_on_machine      a world with a count for each of its guests, and after an action
 --     after_line_on_machine, after_all_on_machine      and after a line of a script, and after several actions
 --     machine_protocol      the output of a line of a script, and the machine after it, as a protocol
---     BeginsIn P m      P holds for the world of a machine whose counts are 0
+--     BeginsIn P m      P holds for the machine's world, and all its counts are 0
 use Rattle.std.specs.{Prelude.{◌≡◌, ◌+◌, ◌^◌, ◌%◌, ◌&&◌, ◌||◌, ℕ, Bool, false, not, List, [], ◌∷◌, if◌then◌else◌, is_some, map}, Option.option_map_or, Str.bytes_eq}
 use Rattle.model_guests.specs.{Accesses.{Target, Event, access, raises}, Slots.{Landing, fault_of}, Text.Text, Lone.LoneGuest, Guests.{GuestNow, GuestsNow, lone_of, move_fault}, Lines.{nothing, guest_event, host_read, host_move, bad, meaning}, DeviceEvents.{resets, device_reads, device_writes, slot_fault}, Calls.{Call, asks, at_device}, WorldNow.{WorldNow, names_now, line_output}, LineRuns.Protocol}
 use Rattle.model_handoff.specs.{Located.located, StayLaws.{any_tells, is_write}, Giving.{give_fault, take_fault}, Actions.{Action, calls, gives, takes, after_action}}

@@ -39,7 +39,7 @@ pub record WorkedExamples : Type 0 where
   pub passes : problems other_handoff.functions ≡ []
   pub may_be_given : first_fault main_world other_handoff ≡ None
   pub number : address_now other_handoff.functions (behind 2 0) ≡ on_bus 5 0
-  -- the region is claimed at its address in the handoff, and no longer at its address after set-up
+  -- the region is claimed at its address in the handoff, and not at the address where set-up would have placed it
   pub claimed :
       first_claim (state_over other_handoff (guests_at_first main_world)).functions memory 0xd0000010
       ≡ Some (record { path = on_bus_0 1; index = 1; offset = 0x10 })
@@ -58,7 +58,7 @@ pub record WorkedExamples : Type 0 where
       ≡ text_of_lines (
       codes "a: ok" ∷ codes "a: ok" ∷ codes "a: ok" ∷ codes "a: 0x12345678" ∷ codes "host: 0x12345678"
       ∷ codes "host: 0xffffffff" ∷ codes "host: 0x00031234" ∷ codes "host: 0xffffffff" ∷ codes "b: 0x00" ∷ [])
-  -- a disabled region matters only to the guests to which its function is assigned
+  -- a disabled region is a fault only if its function is assigned to a guest
   pub closed : closed_given main_world closed_handoff ≡ closed_one ∷ []
   pub refused : first_fault main_world closed_handoff ≡ Some (closed_region closed_one)
   pub given_to_none : first_fault (record main_world { guests = [] }) closed_handoff ≡ None

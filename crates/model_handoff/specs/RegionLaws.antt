@@ -1,6 +1,6 @@
 -- The effect of a guest's access on a board after a consistent handoff: PCI Local Bus 3.0, chapters 3.2.2.3.2 and
 -- 6.2.5; PCI-to-PCI Bridge Architecture 1.2, chapters 3 and 4.
---     space_reply, after_space_write      an access to the claimant of an address, at a port that isn't CONFIG_ADDRESS or CONFIG_DATA
+--     space_reply, after_space_write      an access to the claimant of an address in a space, regardless of CONFIG_ADDRESS
 --     RegionIsClaimed      a byte of an enabled region is claimed at its address in the handoff, by that region only
 --     HasSlot      a slot of a guest, with its path and its function
 --     HitReachesOver      a hit in a served function corresponds to a byte of such a region, in the same byte lanes

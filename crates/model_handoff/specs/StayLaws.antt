@@ -14,7 +14,7 @@ abbrev pub tells_regions : Place → Bool
 tells_regions (config off) = off == 4 || off == 5 || (nat_le 0x10 off && nat_lt off 0x28)
 tells_regions (block n off) = false
 
--- one of the bytes from a place on
+-- one of w bytes from a place on
 abbrev pub any_tells : ℕ → Place → Bool
 any_tells zero p = false
 any_tells (suc w) p = tells_regions p || any_tells w (after p)

@@ -4,7 +4,7 @@
 --     with_seated_reset s gs      a state with each function in a slot at reset, except for the bytes that guests have copies of
 --     OverReset      guests can't distinguish it from the state itself
 --     ResetShown      the handoff and the board over it give the same state
---     ResetAtFirst, ResetAfterEvents, ResetAfterMoves      at first it is the state of the assigned functions, and it stays the same
+--     ResetAtFirst, ResetAfterEvents, ResetAfterMoves      at first it has the assigned functions at reset, and it stays the same
 use Rattle.std.specs.{Prelude.{◌≡◌, Bool, false, if◌then◌else◌, Option, None, option_map, IsSome}, List.list_any, Option.option_map_or}
 use Rattle.model_registers.specs.Registers.{File}
 use Rattle.model_board.specs.{Paths.{Path, path_eq}, AtReset.board_at, State.State}
@@ -38,7 +38,7 @@ abbrev pub ResetAfterEvents : Type 0
 ResetAfterEvents = (s : State) (gs : GuestsNow) (name : Text) (e : Event)
     → with_seated_reset s (after_guest_event name e gs) ≡ with_seated_reset s gs
 
--- between guests that exist
+-- to a guest that exists
 abbrev pub ResetAfterMoves : Type 0
 ResetAfterMoves = OverSeated (λ s gs. (m : Move) → IsSome (guest_named gs m.to)
     → with_seated_reset s (after_move gs m) ≡ with_seated_reset s gs)

@@ -75,7 +75,7 @@ pub record AreDecidedBy (is : List OwnInput) (w : WorldNow) (name : Text) (reque
   pub replies : all_told_of name w requests ≡ all_told_alone (lone_of w.guests name) is
   pub holds : lone_of (after_requests w requests).guests name ≡ after_all_own (lone_of w.guests name) is
 
--- in any current world
+-- in any state of a world
 abbrev pub IsolatedByRequests : Type 0
 IsolatedByRequests = (w : WorldNow) (name : Text) → IsSome (guest_named w.guests name) → (requests : List Request)
     → AreDecidedBy (request_inputs name w requests) w name requests

@@ -1,6 +1,6 @@
 -- The offset at which bytes that a guest refuses stop fitting.
 --     StopsAt g bytes n      including the byte at this offset, but not without it, they are refused as all of them are
---     OneStop      there is exactly one such offset
+--     OneStop      there is at most one such offset
 --     stop_slot g bytes      the slot that contains it, or 32 if it is before the first slot
 use Rattle.std.specs.Prelude.{List, [], ◌∷◌, ◌≡◌, ℕ, suc, Bool, true, false, ◌==◌, not, Option, Some, None, Ok, Err, take}
 use Rattle.model_guests.specs.{Slots.Slots, Lone.LoneGuest}

@@ -1,6 +1,6 @@
 -- Laws of firmware accesses: PCI Local Bus 3.0, chapter 3.2.2.3.2.
 --     LatchIsPort      writing 4 bytes at CF8h sets CONFIG_ADDRESS, except for the bits that read 0
---     DataIsByNumber      CFCh to CFFh access the register that an enabled CONFIG_ADDRESS selects; an access by BDF leaves CONFIG_ADDRESS 0
+--     DataIsByNumber      an access at CFCh to CFFh, if enabled, equals one by BDF to the selected register, which leaves CONFIG_ADDRESS 0
 --     RefusedChangesNothing, BadLinesChangeNothing      a refused access or line changes nothing
 --     ReadsChangeNoRegister      a read changes no register of a function
 --     LongLinesAlike      a line of more than 200 bytes has the same output whatever its words are, and changes nothing

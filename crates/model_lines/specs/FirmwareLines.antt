@@ -10,7 +10,7 @@ use Rattle.model_board.specs.{Cycles.BusAddress, State.State}
 use Rattle.model_guests.specs.{Accesses.{Op, reads, writes, refused}, Text.{Text, words, text_of_lines}, Numbers.{below, number_of}, Grammar.{given, on_word, HostRead, host_configuration, host_port, host_address, host_at, bus_address, host_read_of, Who, host, nobody, is_comment, is_long}, Replies.line_text, LineRuns.Protocol}
 use Rattle.model_lines.specs.HostAccesses.{HostAccess, answer, after_access}
 
--- a write with the target of a read
+-- an access with the target and width of a read
 abbrev pub done_at : Op → Option HostRead → Option HostAccess
 done_at op place = option_map (λ (r : HostRead). record { target = r.target; width = r.width; op = op }) place
 

@@ -21,7 +21,7 @@ pub record IsGiven (w : World) (s : State) (m : WorldNow) : Type 0 where
   pub can : CanBeGiven w s
   pub begins : m ≡ world_over w (taken_over w s)
 
--- of a handed-over board
+-- for every handed-over board
 abbrev pub OfGiven : (WorldNow → World → Type 0) → Type 0
 OfGiven P = (w : World) (s : State) (m : WorldNow) → IsGiven w s m → P m w
 

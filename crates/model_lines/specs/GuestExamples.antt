@@ -1,5 +1,5 @@
 -- Worked examples: explanations of guests' accesses.
---     first_guest, placed_guest      a guest with one function in slot 1, at reset; its memory region enabled at C0000000h
+--     first_guest, placed_guest      a guest with one function in slot 1, at reset; the same with its memory region enabled at C0000000h
 --     GuestExamples      the explanations of some places
 use Rattle.std.specs.Prelude.{[], ◌∷◌, ◌≡◌, ℕ, Some, None, codes}
 use Rattle.model_board.specs.Examples.{first_endpoint}

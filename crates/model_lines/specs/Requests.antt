@@ -41,7 +41,7 @@ request_in (w ∷ ws) = on_word w (codes "host") (request_of ws)
 abbrev pub request : Text → Option HostRequest
 request line = if is_long line then None else request_in (words line)
 
--- of a number the offset is of no matter
+-- for a BDF the offset doesn't matter
 abbrev pub why_written : State → HostTarget → Text
 why_written s (host_configuration at off) = why_number_text s.functions at
 why_written s (host_port n) = why_port_text s n

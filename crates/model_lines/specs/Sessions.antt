@@ -9,7 +9,7 @@
 --     session_functions x      the functions of the board in their current state
 --     machine_over w s      the guests of a world before any line, over a handoff
 --     handed_over b      the board that guests get
---     handover_lines f      the output for the first fault
+--     handover_lines f      the output for the first fault, if there is one
 --     session_output, after_session_line      the output of a line, and the session after it
 --     session_protocol      both as a protocol, to run several lines
 use Rattle.std.specs.{Prelude.{List, [], ◌∷◌, ℕ, ◌++◌, ◌||◌, Bool, true, false, Option, None, Some, map, codes, decimal}, Option.option_map_or}
@@ -81,7 +81,7 @@ closed_text q = codes "closed: " ++ path_text q.path ++ register_text q.index
 abbrev pub refused_line : ℕ → Text → Text
 refused_line n words = codes "host: refused " ++ decimal n ++ codes " " ++ words
 
--- the fault and its number
+-- the fault and its number, or success
 abbrev pub handover_lines : Option HandoffFault → List Text
 handover_lines None = line_text host done ∷ []
 handover_lines (Some (in_disorder p)) = audit_line (problem_text p) ∷ refused_line 207 (codes "not in order") ∷ []

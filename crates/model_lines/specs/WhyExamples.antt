@@ -12,7 +12,7 @@ abbrev pub changed : ℕ → ℕ → Path → List BoardFunction
 changed word v p = with_file (write (lanes 15) v (config word)) p left
 
 pub record WhyExamples : Type 0 where
-  -- after set-up a region's byte is claimed by the region, and nothing else is reported
+  -- after set-up a region's byte is claimed by the region, and no other region is reported
   pub own :
       why_text left memory 0xc0000010
       ≡ text_of_lines (

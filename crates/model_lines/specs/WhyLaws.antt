@@ -5,7 +5,7 @@
 --     IsAnswering      the meaning of a claim that answers
 --     IsForwarding      the meaning of a bridge that forwards the address
 --     IsExplained, AddressesExplained      the answering region, each bridge that forwards, and each region that contains the address
---     OrderlyAnswersAlone      in a consistent state no other region would answer too
+--     OrderlyAnswersAlone      in an orderly state no other region would answer too
 --     ReadyTellsNothing      in a ready state nothing else is reported: a region that contains an address answers
 --     IsWay, IsPassed      each bridge claims the cycle on the bus behind the one before; a bus on which it is claimed
 --     IsMissing, IsNumberExplained, NumbersExplained      where a cycle ends, who claims it, and what is missing there
@@ -63,7 +63,7 @@ pub record IsTrueTold (fs : List BoardFunction) (space : Space) (n : ℕ) (t : U
   pub too : t.causes ≡ [] → IsIn (claim_there n t.region) (claims fs space n)
   pub at_reset : IsTrue (is_as_at_reset t) → (t.region.first ≡ 0) × IsFalse (is_open function.file space)
 
--- the region of an enabled endpoint that contains the address, with each bridge above forwarding it
+-- an enabled region that contains the address, with each bridge above forwarding it
 pub record IsAnswering (fs : List BoardFunction) (space : Space) (n : ℕ) (c : Claim) : Type 0 where
   pub function : BoardFunction
   pub there : IsIn function fs
@@ -94,7 +94,7 @@ pub record IsExplained (fs : List BoardFunction) (space : Space) (n : ℕ) : Typ
   pub complete : (f : BoardFunction) → IsIn f fs → (q : PlacedRegion) → IsIn q (regions_of (row_of f))
       → IsTrue (holds space n q)
       → IsTrue (is_answer (first_claim fs space n) q) ⊎ ((t : UnansweredRegion) × IsIn t (told fs space n) × (t.region ≡ q))
-  -- those that aren't as at reset are reported one by one, the others only by their number
+  -- those that aren't as at reset are reported one by one, the others are only counted
   pub one_by_one : (why fs space n).told ≡ apart (told fs space n)
   pub by_number : (why fs space n).at_reset ≡ at_reset (told fs space n)
   -- if nobody answers, each has a cause
@@ -123,7 +123,7 @@ abbrev pub bus_after : Path → List BoardFunction → Path
 bus_after bus [] = bus
 bus_after bus (f ∷ fs) = bus_after f.path fs
 
--- bus 0, and each bus behind a bridge that claims the cycle
+-- the first bus, and each bus behind a bridge on the route, except the bus with the number
 abbrev pub IsPassed : ℕ → Path → List BoardFunction → Path → Type 0
 IsPassed n bus ws p =
     (p ≡ bus) ⊎ ((w : BoardFunction) × IsIn w ws × (w.path ≡ p) × IsFalse (secondary_register w.file == n))

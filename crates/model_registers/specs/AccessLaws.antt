@@ -18,7 +18,7 @@ abbrev pub NumberByLanes : Type 0
 NumberByLanes = (file : File) (p : Place) (w : ℕ) → LiesInWord (offset_of p) w
     → number file p w ≡ read file (word_of p) (lanes (enables_of (offset_of p) w)) / 256 ^ (offset_of p % 4)
 
--- a word whose other bytes are 0 contains a number of this width in these lanes
+-- in a word whose other bytes are 0, the number in these lanes is the word shifted down
 abbrev pub LanesFit : Type 0
 LanesFit = (off w word : ℕ) → LiesInWord off w → word ≡ enabled_bytes (lanes (enables_of off w)) word
     → from_lanes off w word ≡ word / 256 ^ (off % 4)

@@ -1,6 +1,6 @@
 -- A function's register file as the guest has it and as the board has it, and the parts they share.
 --     places_of, shape_of      the places of a file; its cells without their values
---     agreed_file left own      the board's file: set-up's values where the guest has copies, and the guest's values elsewhere
+--     agreed_file left own      the board's file: the handoff's cells where the guest has copies, and the guest's cells elsewhere
 --     with_copies copies file      a file with the copies replacing the cells at their places
 --     after_reset d file      the board's file of a function at reset, except for the bytes that guests have copies of
 use Rattle.std.specs.Prelude.{List, if◌then◌else◌, map, false}

@@ -1,6 +1,6 @@
 -- The declarations of a board's functions: PCI Local Bus 3.0, chapter 6; PCI-to-PCI Bridge Architecture 1.2, chapter 3.
---     Kind, Bar      the kind of a base address register, and its size
---     Region      the index of a base address register, and the cells at the beginning of its region
+--     Kind, Bar      the kind of a base address register; a kind with the size of the region
+--     Region      a base address register with its index, and the cells at the beginning of its region
 --     Endpoint, Bridge      the declared values of a function
 --     plain_endpoint      an endpoint that has only an identity and a class code
 use Rattle.std.specs.Prelude.{List, [], ◌≡◌, ℕ, ◌+◌, Bool, ◌≤◌, length, ◌^◌}
@@ -13,7 +13,7 @@ pub data Kind : Type 0 where
   mem32 : Bool → Kind
   mem64 : Bool → Kind
 
--- the kind of a base address register
+-- the kind of a base address register, and the size of its region
 pub record Bar : Type 0 where
   pub kind : Kind
   pub size : ℕ

@@ -1,6 +1,6 @@
 -- The addresses that a function decodes, given its own registers: PCI Local Bus 3.0, chapter 6.2.5.
 --     Space, Function      I/O or memory; a function as a guest sees it
---     base, base_address      the address in a base address register; a region with the current value of its register
+--     base, base_address      the address in a base address register; a region with its current base
 --     opens_space, is_open      the Command register enables decoding in a space
 --     decodes, hit_at      a region at its current base decodes an address; the hit in that region
 --     first_hit, lone_claim      the hit in the first region, in register order, that decodes an address
@@ -49,7 +49,7 @@ command_word file = number file (config 4) 2
 abbrev pub is_open : File → Space → Bool
 is_open file space = opens_space (command_word file) space
 
--- a region with the current value of its register
+-- a region with its current base
 abbrev pub base_address : File → Region → BaseAddress
 base_address file r = record { index = r.index; kind = r.kind; size = r.size; base = base file r.index r.kind }
 

@@ -11,7 +11,7 @@ abbrev pub HitsByBases : Type 0
 HitsByBases = (file : File) (rs : List Region) (space : Space) (a : ℕ)
     → first_hit file rs space a ≡ first_some (hit_at (command_word file) space a) (map (base_address file) rs)
 
--- base address registers read the bases in them
+-- base address registers decode by the bases in them
 abbrev pub HitsOfRegisters : Type 0
 HitsOfRegisters = (bs : List BaseAddress) → HasLawfulBases bs → (command : ℕ) → command < 2 ^ 16
     → (space : Space) (a : ℕ)

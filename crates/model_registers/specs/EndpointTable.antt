@@ -1,7 +1,7 @@
 -- The registers of an endpoint: PCI Local Bus 3.0, chapter 6.
 --     base_cells      the cells of a base address register, with its base and type bits
 --     BaseAddress, base_file      a base address register with its current base, and the cells of base address registers
---     header_cells, config_cells      the header without base address registers; the header with the device-specific blocks
+--     header_cells, config_cells      the header without base address registers; the same with the device-specific blocks
 --     endpoint_file      all cells of an endpoint with this Command and these bases, and all others at reset
 --     endpoint_reset      all cells at reset
 use Rattle.std.specs.Prelude.{List, [], ◌≡◌, ℕ, ◌-◌, ◌+◌, ◌*◌, ◌%◌, ◌<◌, Bool, if◌then◌else◌, ◌^◌, ◌++◌, map, flat_map}
@@ -40,7 +40,7 @@ register_cells b = base_cells b.index b.kind b.size b.base
 abbrev pub base_file : List BaseAddress → File
 base_file bs = flat_map register_cells bs
 
--- the kind and size of a region, without its cells
+-- the region of a base address register, without its cells
 abbrev pub opened : BaseAddress → Region
 opened b = record { index = b.index; kind = b.kind; size = b.size; cells = [] }
 
@@ -48,7 +48,7 @@ opened b = record { index = b.index; kind = b.kind; size = b.size; cells = [] }
 abbrev pub closed : Region → BaseAddress
 closed r = record { index = r.index; kind = r.kind; size = r.size; base = 0 }
 
--- a size that the kind allows, and a base that fits the registers
+-- a size that the kind allows, and a base that is a multiple of the size and fits the registers
 pub record IsLawfulBase (b : BaseAddress) : Type 0 where
   pub size_is_lawful : IsLawfulSize b.kind b.size
   pub aligned : b.base % b.size ≡ 0

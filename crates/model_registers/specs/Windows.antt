@@ -1,5 +1,5 @@
 -- The windows in a bridge's window registers: PCI-to-PCI Bridge Architecture 1.2, chapter 3.2.5.
---     io_window, mem_window, pref_window      the addresses in the registers now; Command isn't taken into account
+--     io_window, mem_window, pref_window      the window in the registers now, if there is one; Command isn't taken into account
 use Rattle.std.specs.Prelude.{ℕ, ◌+◌, ◌*◌, ◌/◌, if◌then◌else◌, ◌^◌, nat_le, Option, Some, None}
 use Rattle.model_registers.specs.{Registers.{config, File, number}, Declarations.{IoDecode, no_io, io16, io32, PrefDecode, no_pref, pref32, pref64}}
 pub use Rattle.model_registers.specs.BridgeTable.{Window}

@@ -6,7 +6,7 @@ use Rattle.model_board.specs.{Paths.Path, Board.{Board, IsBoard}, Lawful.HasLawf
 use Rattle.model_set_up.specs.{Pools.Pool, Placement.{PlacementItem, stands_before, in_order, items_on}}
 use Rattle.model_registers.specs.Apertures.{Apertures}
 
--- no item comes before the one that it follows
+-- no item belongs before the one that it follows
 abbrev pub IsInOrder : List PlacementItem → Type 0
 IsInOrder is = IsSortedBy stands_before is
 

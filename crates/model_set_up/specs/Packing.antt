@@ -1,9 +1,9 @@
 -- On a bus without bridges, the compact placement needs the sum of the sizes rounded up to the unit, and no lawful
--- placement needs less. On any bus it is a run of spots within its computed size.
+-- placement needs less. On any bus it is a run of spots within the bus's `need`.
 --     IsPowerOfTwo, HasPowerSizes      a size is a power of two; all sizes of an endpoint's regions are
 --     Interval, IsPlacement      the range that an item gets; spots for all items of a bus
---     FlatNeed, FlatNeedOnBus      the need is the sum of the sizes, and the least possible; this holds for a bus without bridges
---     IsRun, CompactIsRun      consecutive spots; the compact placement consists of consecutive spots
+--     FlatNeed, FlatNeedOnBus      the need is the rounded sum of the sizes, and the least possible; this holds for a bus without bridges
+--     IsRun, CompactIsRun      spots one after the other; the compact placement is such a run
 use Rattle.std.specs.Prelude.{List, ◌≡◌, ℕ, ◌<◌, ◌+◌, ◌*◌, ◌%◌, ◌≤◌, ◌^◌, map, sum_by, IsFalse}
 use Rattle.lists.specs.Elements.{Each, EachPair}
 use Rattle.model_set_up.specs.{Extents.{IsInside, AreApart}, Pools.{Pool, unit_of}, Placement.{PlacementItem, round_up, PlacedItem, spot_end, spots, need, items_on}}
@@ -47,6 +47,6 @@ pub record IsRun (start stop : ℕ) (ss : List PlacedItem) : Type 0 where
   pub within : Each (λ s. (start ≤ s.first) × (spot_end s ≤ stop)) ss
   pub apart : EachPair (λ s t. spot_end s ≤ t.first) ss
 
--- the compact placement of a bus, including windows, stays within its computed size
+-- the compact placement of a bus, including windows, stays within the bus's `need`
 abbrev pub CompactIsRun : Type 0
 CompactIsRun = (unit : ℕ) (is : List PlacementItem) → 0 < unit → Each (λ i. 0 < i.align) is → IsRun 0 (need unit is) (spots is)

@@ -26,13 +26,13 @@ placed_at b a r = elim r.decl [ endpoint d ↦ map (placed b a r.path) d.regions
 abbrev pub placed_regions : Board → Apertures → List PlacedRegion
 placed_regions b a = flat_map (placed_at b a) b
 
--- the addresses of a pool's space
+-- the space of a pool's addresses
 abbrev pub pool_space : Pool → Space
 pool_space io_pool = io
 pool_space mem_pool = memory
 pool_space pref_pool = memory
 
--- a row of a region, not of a window
+-- the placed region of a row; none if the row is a window
 abbrev pub placed_row : LayoutRow → List PlacedRegion
 placed_row r = elim r.what [
   | a_region n ↦

@@ -28,7 +28,7 @@ abbrev pub register_of : Placed → ℕ
 register_of (a_region n) = n
 register_of a_window = 0
 
--- the items of one function on a bus
+-- one item of a function on a bus, with its alignment and size
 pub record PlacementItem : Type 0 where
   pub part : Part
   pub what : Placed
@@ -67,7 +67,7 @@ pub record PlacedItem : Type 0 where
 abbrev pub spot_end : PlacedItem → ℕ
 spot_end s = s.first + s.item.size
 
--- the items one after the other, each at the smallest multiple of its alignment from the end of the one before it
+-- the items one after the other, each at the smallest multiple of its alignment that isn't before the previous one's end
 abbrev pub spots_from : ℕ → List PlacementItem → List PlacedItem
 spots_from n [] = []
 spots_from n (i ∷ is) = record { item = i; first = round_up i.align n } ∷ spots_from (round_up i.align n + i.size) is
@@ -75,7 +75,7 @@ spots_from n (i ∷ is) = record { item = i; first = round_up i.align n } ∷ sp
 abbrev pub spots : List PlacementItem → List PlacedItem
 spots is = spots_from 0 (in_order is)
 
--- the item belongs to the function at this part
+-- the item is this region or window of the function at this part
 abbrev pub is_item : Part → Placed → PlacementItem → Bool
 is_item p w i = part_eq i.part p && same_placed i.what w
 
@@ -120,7 +120,7 @@ items_within b a pool (suc n) bus = flat_map (items_of b a pool (items_within b 
 abbrev pub items_on : Board → Apertures → Pool → Path → List PlacementItem
 items_on b a pool bus = items_within b a pool 16 bus
 
--- bus 0 starts at the smallest multiple of its alignment in the aperture
+-- bus 0 starts at the smallest multiple of its alignment that isn't before the aperture
 abbrev pub root_first : Apertures → Pool → List PlacementItem → ℕ
 root_first a pool is =
     option_map_or (λ (ap : Aperture). round_up (alignment (unit_of pool) is) ap.first) (aperture_of a pool) 0

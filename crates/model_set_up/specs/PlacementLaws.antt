@@ -37,7 +37,7 @@ abbrev pub window_rows : Board → Apertures → Pool → Path → List Placemen
 window_rows b a pool p [] = []
 window_rows b a pool p (i ∷ is) = window_row b a pool p ∷ []
 
--- the pool's rows for the function at p
+-- the pool's rows for this region or window of the function at p
 abbrev pub rows_at : Board → Apertures → Pool → Path → Placed → List LayoutRow
 rows_at b a pool p w = filter (λ r. path_eq r.path p && same_placed r.what w) (pool_rows b a pool)
 

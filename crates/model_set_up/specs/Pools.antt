@@ -25,7 +25,7 @@ unit_of io_pool = 2 ^ 12
 unit_of mem_pool = 2 ^ 20
 unit_of pref_pool = 2 ^ 20
 
--- the declarations of the bridges on a path
+-- the declarations of the bridges above a path
 abbrev pub bridge_of : Row → List Bridge
 bridge_of r = elim r.decl [ endpoint d ↦ [] | bridge d ↦ d ∷ [] ]
 
@@ -42,7 +42,7 @@ has_pref64 no_pref = false
 has_pref64 pref32 = false
 has_pref64 pref64 = true
 
--- a prefetchable region is in the prefetchable pool if each bridge above it can forward the aperture's addresses
+-- a region can be in the prefetchable aperture if its base can hold the addresses and each bridge above can forward them
 abbrev pub pref_reaches : Aperture → List Bridge → Bool → Bool
 pref_reaches a above wide =
     if nat_lt a.last (2 ^ 32) then list_all (λ d. has_pref d.pref) above

@@ -1,10 +1,10 @@
--- With the board's bus numbers in its bridges, a configuration cycle reaches the function with that BDF:
+-- With the board's bus numbers in its bridges, a configuration cycle reaches the function that its BDF names:
 -- PCI-to-PCI Bridge Architecture 1.2, chapter 3.
 --     HasNumbers b fs      the board's functions, with its bus numbers in the bridges
 --     SetUpHasNumbers      set-up leaves the board in such a state
 --     address_of b p      the BDF of a path
 --     ReachedByNumbers, OnlyNamed      the BDF of a path reaches its function, and no other BDF does
---     OneRoute      at most one route leads to each bus
+--     OneRoute      at most one route leads to each BDF
 use Rattle.std.specs.Prelude.{ℕ, List, [], ◌≡◌, Some, map, IsTrue}
 use Rattle.lists.specs.Elements.{Each}
 use Rattle.model_board.specs.{Paths.{Part, Path, last_part}, Board.{is_bridge, Board, stands_at, IsBoard}, BusNumbers.{secondary, subordinate, bus_of, Enumerates}, State.{BoardFunction, row_at}, Cycles.{secondary_register, subordinate_register, BusAddress, is_route, ends_in, reached}}
@@ -29,12 +29,12 @@ ReachedByNumbers = (b : Board) → IsBoard b → (fs : List BoardFunction) → H
     → IsTrue (stands_at b p)
     → (f : BoardFunction) × (reached fs (address_of b p) ≡ Some f) × (f.path ≡ p)
 
--- no other BDF reaches a function
+-- only a function's own BDF reaches it
 abbrev pub OnlyNamed : Type 0
 OnlyNamed = (b : Board) → IsBoard b → (fs : List BoardFunction) → HasNumbers b fs
     → (at : BusAddress) (f : BoardFunction) → reached fs at ≡ Some f → at ≡ address_of b f.path
 
--- whatever the bridges hold, at most one route leads to the device and function on a bus
+-- whatever the bridges hold, at most one route leads to a device and function on a bus
 abbrev pub OneRoute : Type 0
 OneRoute = (fs : List BoardFunction) (n : ℕ) (t : Part) (p q : Path) → IsTrue (is_route fs n [] p)
     → IsTrue (is_route fs n [] q) → IsTrue (ends_in p t) → IsTrue (ends_in q t) → p ≡ q

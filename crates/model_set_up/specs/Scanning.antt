@@ -7,7 +7,7 @@
 --     scan_state, numbered_state      the board at that time, and after the scan, with all other cells at reset
 --     IsNumbered      a lawful board that can be enumerated, with its bus numbers in the bridges and all other cells at reset
 --     HasOwnNumbers      the bridges hold some bus numbers, and all other cells are at reset
---     HasScanNumbers      the bridges hold those numbers; their other registers may hold anything
+--     HasScanNumbers      the bridges hold the numbers of `scan_numbers`; all other registers may hold anything
 --     ReachedWhileScanning, NumbersOfScanState      with these numbers a cycle reaches its function; a scan state has these numbers
 use Rattle.std.specs.Prelude.{List, [], ◌∷◌, ◌++◌, ◌≡◌, ℕ, ◌≤◌, if◌then◌else◌, map, find, IsTrue, ◌⊎◌}
 use Rattle.lists.specs.Elements.{Each}
@@ -25,7 +25,7 @@ no_numbers = record { primary = 0; secondary = 0; subordinate = 0 }
 abbrev pub board_numbers : Board → Path → BusNumbers
 board_numbers b p = record { primary = bus_of b p; secondary = secondary b p; subordinate = subordinate b p }
 
--- a bridge whose secondary side is being scanned claims all cycles for its own bus number and above
+-- a bridge whose secondary side is being scanned claims all cycles for its Secondary Bus Number and above
 abbrev pub open_numbers : Board → Path → BusNumbers
 open_numbers b p = record (board_numbers b p) { subordinate = 0xff }
 

@@ -1,7 +1,7 @@
 -- After set-up every address has at most one claim, and each byte of a placed region is claimed: PCI-to-PCI Bridge
 -- Architecture 1.2, chapter 4.
 --     CanBePlaced      lawful declarations and apertures, I/O paths, and room in all three pools
---     HasUniqueClaims      an address is claimed by the placed region that contains it
+--     HasUniqueClaims      an address is claimed by the placed region that contains it, and by no other
 --     UniqueClaimant      this holds with the routing registers that set-up leaves
 --     ClaimOfRegion      so a byte of a declared region is claimed at the address where set-up placed it
 --     PlacedWithin      the addresses at which a declared region may be placed

@@ -2,7 +2,7 @@
 --     gift_nth w p i n      the function at the path is assigned to slot n of guest i, by the guest's name
 --     assign_error_number      the number of a refusal
 --     fault_told      the number with which an assignment is refused
---     IsEndpointAt      the endpoint at a path has an index
+--     IsEndpointAt      the function at an index is an endpoint, and has the path
 --     has_index i gs      a slot of any guest has the function at an index
 --     is_closed_base, is_closed_slot      Command doesn't open the space of the region that begins at a register
 --     ComesIn      the function at the path, at reset, as it is kept in a slot

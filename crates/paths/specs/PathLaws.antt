@@ -43,7 +43,7 @@ then_less Less s = refl
 then_less Equal s = refl
 then_less Greater s = refl
 
--- paths that compare as equal are equal
+-- paths are equal if and only if they compare as Equal
 pub paths_tied : (p q : Path) → path_eq p q ≡ is_eq (path_cmp p q)
 paths_tied [] [] = refl
 paths_tied [] (q ∷ qs) = refl

@@ -26,7 +26,7 @@ pack_items unit is = record { spots = spots is; align = alignment unit is; end =
 abbrev pub pack_of : Board → Apertures → Pool → Path → PackedBus
 pack_of b a pool bus = pack_items (unit_of pool) (items_on b a pool bus)
 
--- bus 0, and the bus behind each function in path order; an endpoint has no bus behind it
+-- bus 0, and the bus behind each function in path order; no items are behind an endpoint
 abbrev pub packs_of : Board → Apertures → Pool → List PackedBus
 packs_of b a pool = map (pack_of b a pool) ([] ∷ map (λ r. r.path) b)
 

@@ -3,7 +3,7 @@
 --     PlacedPool, IsPlaced      each bus with its items, and its first address
 --     Placement, IsPlacement      all three pools, placed
 --     pool_in      one of them
---     IsAboveAt      the bridges above the function of a row
+--     IsAboveAt      the bus of the function of a row, and the windows that all bridges above it have
 --     IsRegionAt      a region of the endpoint of a row
 --     is_bar_in, is_port      a register's region lies in a space; it is of I/O
 use Rattle.std.specs.Prelude.{List, [], ◌∷◌, ◌≡◌, ℕ, Bool, false, Option, Some, None, map, slice_get, IsTrue}

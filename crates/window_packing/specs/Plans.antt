@@ -1,4 +1,4 @@
--- Conversions from the code's types to those of the definitions (placement is this project's own rule).
+-- Conversions between the code's types and those of the definitions (placement is this project's own rule).
 --     named_pool, named_placed      a pool; a region's register or a window
 --     placed_named      a region's register or a window, from the definitions' word
 --     fault_of      what is wrong where a pool doesn't fit
