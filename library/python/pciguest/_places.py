@@ -107,8 +107,9 @@ class _Place:
             region = self.machine.guest(self.who).region(self.slot, int(self.part[3]))
         except Refusal as refusal:
             raise WrongPlace(f"{self.who}'s slot {self.slot} has no {self.part}: {refusal}") from None
-        note = None if region.is_open else f"closed: Command doesn't open {region.space} in slot {self.slot}"
-        return self._line("i" if region.space == "io" else "m", self._inside(region.first), note)
+        letter, space = ("i", "I/O") if region.space == "io" else ("m", "memory")
+        note = None if region.is_open else f"{space} decode is disabled in slot {self.slot}"
+        return self._line(letter, self._inside(region.first), note)
 
     def _of_path(self) -> Line:
         one = function_at(self.who, self.machine)

@@ -125,7 +125,7 @@ class Prompt:
                 for index, bar in enumerate(one.regions):
                     if bar is not None:
                         at = guest.region(one.seat[1], index)
-                        how = "open" if at.is_open else "closed"
+                        how = "enabled" if at.is_open else "disabled"
                         yield f"  bar{index} {at.space} at {at.first:#x} size {at.size:#x} {how}"
 
     def _registers(self, words: List[str]) -> None:

@@ -47,7 +47,7 @@ class Lines(Case):
         asked = self.asked
         self.assertEqual(asked("a.vendor"), ["a cr 0 0x0 2", "a: 0x1234"])
         self.assertEqual(asked("a.bar1 = 0xd0000000"), ["a cw 0 0x14 4 0xd0000000", "a: ok"])
-        self.assertEqual(asked("a.bar1[8:4]")[2], "  closed: Command doesn't open memory in slot 0")
+        self.assertEqual(asked("a.bar1[8:4]")[2], "  memory decode is disabled in slot 0")
         self.assertEqual(asked("a.command=2"), ["a cw 0 0x4 2 2", "a: ok"])
         self.assertEqual(asked("a.bar1[8:4] = 0x12345678"), ["a mw 0xd0000008 4 0x12345678", "a: ok"])
         self.assertEqual(asked("a.bar1[0x8:2]"), ["a mr 0xd0000008 2", "a: 0x5678"])
