@@ -4,7 +4,8 @@ _pciguest() {
   COMPREPLY=()
   # by the words before this one
   case "${COMP_WORDS[*]:1:COMP_CWORD-1}" in
-    '') mapfile -t COMPREPLY < <(compgen -W 'audit check demo firmware list ready run --help --version' -- "$word"); return ;;
+    '') mapfile -t COMPREPLY < <(compgen -W 'audit check demo firmware help list ready run --help --version' -- "$word"); return ;;
+    help) mapfile -t COMPREPLY < <(compgen -W 'audit check demo firmware list ready run' -- "$word"); return ;;
     check) flags='--all --plain' ;;
     'check --all') flags=--plain ;;
     'check --plain') flags=--all ;;

@@ -21,21 +21,25 @@ end
 
 set -l first 'test (count (commandline -opc)) = 1'
 complete -c pciguest -f
-complete -c pciguest -n $first -a audit -d 'Run firmware, and then say what is wrong in the registers of a board'
-complete -c pciguest -n $first -a check -d 'Say what is wrong with a board file, or that its board fits'
-complete -c pciguest -n $first -a demo -d 'Run a script over the demo board'
-complete -c pciguest -n $first -a firmware -d 'Run firmware over a board at reset'
-complete -c pciguest -n $first -a list -d 'Set up a board, and report it'
-complete -c pciguest -n $first -a ready -d 'Run firmware, and then say whether a board is ready, or what it lacks'
-complete -c pciguest -n $first -a run -d 'Run a script over a board'
+for row in "audit Run firmware, then report what is wrong in the registers" \
+        "check Check a board file, and report every problem in it" \
+        "demo Run a script on a built-in board" \
+        "firmware Drive a board from reset with firmware commands" \
+        "list Set up a board, and report where everything is" \
+        "ready Run firmware, then report what is wrong and what is left to do" \
+        "run Set up a board, and run a script on it"
+    set -l one (string split -m 1 ' ' $row)
+    complete -c pciguest -n "$first; or test (commandline -opc | string join ' ') = 'pciguest help'" -a $one[1] -d $one[2]
+end
+complete -c pciguest -n $first -a help -d 'Print help'
 complete -c pciguest -n $first -l help -s h -d 'Print help'
 complete -c pciguest -n $first -l version -s V -d 'Print version'
-complete -c pciguest -n '__pciguest_lacks check --all' -l all -d 'Warn also of apertures of more than ten times what their pools use'
-complete -c pciguest -n '__pciguest_lacks check --plain' -l plain -d 'Leave the lines of the file out'
+complete -c pciguest -n '__pciguest_lacks check --all' -l all -d 'Also warn about apertures more than ten times larger than needed'
+complete -c pciguest -n '__pciguest_lacks check --plain' -l plain -d 'Write only one line for each problem'
 complete -c pciguest -n '__pciguest_board; and contains -- (commandline -opc)[-1] list' -l json -d 'Write the report as JSON'
-complete -c pciguest -n '__pciguest_board; and contains -- (commandline -opc)[-1] firmware run' -l strict -d 'End with status 1 where a line was refused'
-complete -c pciguest -n '__pciguest_lacks audit --json' -l json -d 'Write the audit as JSON'
-complete -c pciguest -n '__pciguest_lacks audit --strict' -l strict -d 'End with status 1 where a line was refused or a problem told'
-complete -c pciguest -n '__pciguest_lacks ready --json' -l json -d 'Write what is wrong and lacking as JSON'
-complete -c pciguest -n '__pciguest_lacks ready --strict' -l strict -d 'End with status 1 where a line was refused'
+complete -c pciguest -n '__pciguest_board; and contains -- (commandline -opc)[-1] firmware run' -l strict -d 'Exit with status 1 if a line is refused'
+complete -c pciguest -n '__pciguest_lacks audit --json' -l json -d 'Write the report as JSON'
+complete -c pciguest -n '__pciguest_lacks audit --strict' -l strict -d 'Exit with status 1 if a line is refused or something is wrong'
+complete -c pciguest -n '__pciguest_lacks ready --json' -l json -d 'Write the report as JSON'
+complete -c pciguest -n '__pciguest_lacks ready --strict' -l strict -d 'Exit with status 1 if a line is refused'
 complete -c pciguest -n __pciguest_board -a '(__fish_complete_suffix .toml)'

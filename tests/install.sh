@@ -38,7 +38,8 @@ completed() {
   bash -c 'source "$1"; shift; COMP_WORDS=("$@"); COMP_CWORD=$(($# - 1)); _pciguest; echo "${COMPREPLY[@]}"' - \
     "$at/share/bash-completion/completions/pciguest" "$@"
 }
-holds 'all words' same 'audit check demo firmware list ready run --help --version' completed pciguest ''
+holds 'all words' same 'audit check demo firmware help list ready run --help --version' completed pciguest ''
+holds 'a word of help' same 'run' completed pciguest help ru
 holds 'a word' same 'list' completed pciguest l
 board=$top/boards/chain.toml
 holds 'a board' test "$(completed pciguest list "${board%ain.toml}")" = "$board"
@@ -64,7 +65,8 @@ if command -v zsh > /dev/null; then
       _files() { print -rl -- ${words[CURRENT]}*.toml(N); }
       source $file' - "$at/share/zsh/site-functions/_pciguest" "$@")
   }
-  holds 'all words in zsh' same 'audit check demo firmware list ready run --help --version' in_zsh pciguest ''
+  holds 'all words in zsh' same 'audit check demo firmware list ready run help --help --version' in_zsh pciguest ''
+  holds 'words of help in zsh' same 'audit check demo firmware list ready run' in_zsh pciguest help ''
   holds 'a word of a list in zsh' same '--json chain.toml' in_zsh pciguest list ch
   holds 'a board in zsh' same 'chain.toml' in_zsh pciguest list --json ch
   holds 'a word of a check in zsh' same '--all --plain chain.toml' in_zsh pciguest check ch
@@ -84,7 +86,8 @@ if command -v fish > /dev/null; then
     echo $(cd "$(dirname "$board")" && HOME=$room fish --no-config -c 'source $argv[1]; complete -C "$argv[2]"' \
       "$at/share/fish/vendor_completions.d/pciguest.fish" "$1" | cut -f1)
   }
-  holds 'all words in fish' same 'audit check demo firmware list ready run' in_fish 'pciguest '
+  holds 'all words in fish' same 'audit check demo firmware help list ready run' in_fish 'pciguest '
+  holds 'words of help in fish' same 'audit check demo firmware list ready run' in_fish 'pciguest help '
   holds 'a board in fish' same 'chain.toml' in_fish 'pciguest list ch'
   holds 'a word of a list in fish' same '--json' in_fish 'pciguest list -'
   holds 'a board after this in fish' same 'chain.toml' in_fish 'pciguest list --json ch'

@@ -498,6 +498,12 @@ ends_with '--help' --help
 ends_with '-h' -h
 ends_with 'help' help
 full '--help' --help
+for verb in demo list check run firmware audit ready; do
+  awk -v head="== $verb" '/^== / { inside = $0 == head; next } inside' "$top/tests/help_of_commands.txt" > wanted.out
+  ends_with "help $verb" help $verb
+  ends_with "$verb --help" $verb --help
+  ends_with "$verb -h and more" $verb -h x y
+done
 
 # ---- the version, which is the library's
 sed -n 's/^#define PCIGUEST_VERSION "\(.*\)"/pciguest \1/p' "$top/library/pciguest.h" > wanted.out
@@ -518,40 +524,48 @@ fails_with 'a word too many for list' "$usage" list "$boards/main.toml" y
 fails_with 'a word too many for demo' "$usage" demo demo
 fails_with 'an unknown word' "$usage" x
 fails_with 'another case' "$usage" Demo
-fails_with 'a word after help' "$usage" help list
+fails_with 'two words after help' "$usage" help list x
 fails_with '--version of list' "$usage" list --version
 fails_with 'an unknown option' "$usage" demo --x
 fails_with 'a word that is no text' "$usage" $'\377'
 
-# ---- the second line of a fault
-# hints 'N WORDS' 'LINE' WORDS..: it ends with this fault, and with this line below it, if there is one
+# ---- what follows a fault
+# hints 'N WORDS' 'TEXT' WORDS..: it ends with this fault, and with this text below it, if there is one
 hints() {
-  local fault=$1 line=$2; shift 2
+  local fault=$1 text=$2; shift 2
   timeout 60 "$program" "$@" > /dev/null 2> err < /dev/null; status=$?
   : > out; : > wanted.out; wanted=1
-  { echo "pciguest: fault $fault"; [ -z "$line" ] || echo "$line"; } > wanted.err
-  tell "two lines: $*"
+  { echo "pciguest: fault $fault"; [ -z "$text" ] || echo "$text"; } > wanted.err
+  tell "what follows: $*"
 }
-all='usage: pciguest demo|list|check|run|firmware|audit|ready ..'
-hints "$usage" "$all"
-hints "$usage" "$all; not taken: lst" lst board.toml
-hints "$usage" "$all; not taken: help" help list
-hints "$usage" "$all; not taken: --" -- list board.toml
-hints "$usage" "$all; not taken: a?b??" $'a\tb\303\251'
-hints "$usage" 'usage: pciguest demo; not taken: --x' demo --x
-hints "$usage" 'usage: pciguest list [--json] BOARD' list
-hints "$usage" 'usage: pciguest list [--json] BOARD; not taken: --plain' list --plain board.toml
-hints "$usage" 'usage: pciguest list [--json] BOARD; not taken: y' list -- board.toml y z
-hints "$usage" 'usage: pciguest list [--json] BOARD; not taken: --json' list --json --json board.toml
-hints "$usage" 'usage: pciguest check [--all] [--plain] BOARD' check --all --plain
-hints "$usage" 'usage: pciguest check [--all] [--plain] BOARD; not taken: --plan' check --plan board.toml
-hints "$usage" 'usage: pciguest check [--all] [--plain] BOARD; not taken: --plain' check --plain --plain board.toml
-hints "$usage" 'usage: pciguest check [--all] [--plain] BOARD; not taken: --plain=1' check --plain=1 board.toml
-hints "$usage" 'usage: pciguest check [--all] [--plain] BOARD; not taken: --all' check --all --all board.toml
-hints "$usage" 'usage: pciguest run [--strict] BOARD; not taken: y' run board.toml y
-hints "$usage" 'usage: pciguest firmware [--strict] BOARD' firmware --strict
-hints "$usage" 'usage: pciguest audit [--json] [--strict] BOARD; not taken: -s' audit -s board.toml
-hints "$usage" 'usage: pciguest ready [--json] [--strict] BOARD; not taken: --plain' ready board.toml --plain
+# mistakes 'ERROR' 'USAGE' WORDS..: it ends with a fault of usage, and says what is wrong and how it is used
+mistakes() {
+  local error=$1 use=$2; shift 2
+  hints "$usage" "error: $error
+
+Usage: pciguest $use
+
+For more information, try '--help'." "$@"
+}
+mistakes "'pciguest' requires a subcommand but one was not provided
+  [subcommands: demo, list, check, run, firmware, audit, ready, help]" '<COMMAND>'
+mistakes "unrecognized subcommand 'lst'
+
+  tip: a similar subcommand exists: 'list'" '<COMMAND>' lst board.toml
+mistakes "unrecognized subcommand 'nothing'" '<COMMAND>' help nothing
+mistakes "unrecognized subcommand 'a?b??'" '<COMMAND>' $'a\tb\303\251'
+mistakes "unexpected argument '--x' found" 'demo' demo --x
+mistakes "unexpected argument 'y' found" 'list [OPTIONS] <BOARD>' list -- board.toml y z
+mistakes "unexpected argument '--plain' found
+
+  tip: to pass '--plain' as a value, use '-- --plain'" 'list [OPTIONS] <BOARD>' list --plain board.toml
+mistakes "unexpected argument '-s' found
+
+  tip: to pass '-s' as a value, use '-- -s'" 'audit [OPTIONS] <BOARD>' audit -s board.toml
+mistakes "unexpected value '1' for '--plain' found; no more were expected" 'check --plain <BOARD>' check --plain=1 board.toml
+mistakes "the argument '--json' cannot be used multiple times" 'list [OPTIONS] <BOARD>' list --json --json board.toml
+mistakes 'the following required arguments were not provided:
+  <BOARD>' 'run <BOARD>' run
 hints '702 board file' "cannot read 'nothing.toml': no such file" list nothing.toml
 hints '702 board file' "cannot read '': no such file" run ''
 hints '702 board file' "cannot read '.': it is a folder" check .

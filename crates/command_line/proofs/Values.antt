@@ -8,11 +8,6 @@ pub simple : is_simple_and_free pciguest_app ≡ true
 unfolding clap_on_literals
 simple = refl
 
--- `help` is none of its subcommands
-pub no_help : (w : List ℕ) → is_taken (w ∷ codes "help" ∷ []) ≡ false
-unfolding clap_on_literals
-no_help w = refl
-
 abbrev Entry : Type 0
 Entry = Bor (List ℕ) × MatchedArg
 

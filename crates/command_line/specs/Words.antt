@@ -9,19 +9,17 @@ use Rattle.std.specs.{Prelude.{ℕ, Bool, true, List, [], ◌∷◌, Option, Som
 use Rattle.clap.specs.{declared.builder.action.ArgAction.TheVariants.SetTrue, Walk.{Row, Rule}, Simple.{App, Shape, new_app, new_rule, new_shape, with_subcommand, on_top, subcommand_of}, Takes.takes}
 
 abbrev pub board_rule : Rule
-board_rule = record (new_rule (codes "board")) { required = true }
+board_rule = record (new_rule (codes "board")) { required = true; value_names = 1 }
+
+-- the flag `--NAME`
+abbrev pub flag_rule : List ℕ → Rule
+flag_rule name = record (new_rule name) { long = Some name; action = Some SetTrue }
 
 abbrev pub json_rule : Rule
-json_rule = record (new_rule (codes "json")) { long = Some (codes "json"); action = Some SetTrue }
-
-abbrev pub all_rule : Rule
-all_rule = record (new_rule (codes "all")) { long = Some (codes "all"); action = Some SetTrue }
-
-abbrev pub plain_rule : Rule
-plain_rule = record (new_rule (codes "plain")) { long = Some (codes "plain"); action = Some SetTrue }
+json_rule = flag_rule (codes "json")
 
 abbrev pub strict_rule : Rule
-strict_rule = record (new_rule (codes "strict")) { long = Some (codes "strict"); action = Some SetTrue }
+strict_rule = flag_rule (codes "strict")
 
 -- `list [--json] BOARD`, `check [--all] [--plain] BOARD`, `run [--strict] BOARD`, `firmware [--strict] BOARD`,
 -- `audit [--json] [--strict] BOARD` and `ready [--json] [--strict] BOARD`
@@ -29,7 +27,9 @@ abbrev pub list_shape : Shape
 list_shape = record (new_shape (codes "list")) { rules = json_rule ∷ board_rule ∷ [] }
 
 abbrev pub check_shape : Shape
-check_shape = record (new_shape (codes "check")) { rules = all_rule ∷ plain_rule ∷ board_rule ∷ [] }
+check_shape = record (new_shape (codes "check")) {
+  rules = flag_rule (codes "all") ∷ flag_rule (codes "plain") ∷ board_rule ∷ [];
+}
 
 abbrev pub run_shape : Shape
 run_shape = record (new_shape (codes "run")) { rules = strict_rule ∷ board_rule ∷ [] }

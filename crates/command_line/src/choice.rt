@@ -1,5 +1,5 @@
 //! The command that the program's arguments select.
-ghost use Rattle.std.specs.{Prelude.{◌≡◌, ◌⊎◌, Some, [], true, false, map, option_map, IfOk, IfErr, IfSome, IfNone, Err, MatchResult}, Bool.OnTrue};
+ghost use Rattle.std.specs.Prelude.{◌≡◌, Some, [], true, map, option_map, IfOk, IfSome, IfNone, Err, MatchResult};
 ghost use Rattle.clap.specs.{Faults.fault_of, Matches.{first_value, found_of}, Values.kind_of};
 ghost use Rattle.command_line.specs.{Words.{pciguest_app, is_taken}, Choices.{is_true, board_path, IsAsked, IsAskedBy, IsNoCommand, IsWork, IsHelp}};
 
@@ -7,7 +7,6 @@ use crate::commands::command;
 use clap::error::ErrorKind;
 use clap::{ArgMatches, Error};
 use std::alloc::Global;
-use thiserror::Error;
 
 /// A command of the program.
 #[derive(Drop)]
@@ -74,54 +73,47 @@ impl<'a> Choice<'a> {
 }
 
 /// The reason why arguments are rejected.
-#[derive(Clone, Copy, Debug, PartialEq, Eq, Error)]
+#[derive(Drop)]
 pub enum WordsFault {
-    /// The arguments are invalid.
-    #[error("usage")]
-    Usage,
+    /// The arguments are invalid. The text says why.
+    Usage(String),
     /// Out of memory.
-    #[error("memory")]
     Memory,
 }
 
-/// Converts an error of the argument parser. A help or version text becomes a command.
-fn refusal<'a>(alloc: Global, error: &Error) -> Result<Choice<'a>, WordsFault>
+/// Returns the command that prints the help or version text for which the arguments ask, or fails
+/// with the reason why the arguments are invalid.
+fn help<'a>(alloc: Global, words: &[&str]) -> Result<Choice<'a>, WordsFault>
+    ensures { IfOk result IsHelp }
+{
+    let Ok(command) = command(alloc) else {
+        return Err(WordsFault::Memory);
+    };
+    // `help` and `help NAME` print a text, so they are no subcommand of `command`.
+    let command = command.disable_help_subcommand(false);
+    let Err(error) = command.try_get_matches_from(words) else {
+        return Err(WordsFault::Usage(String::new(alloc)));
+    };
+    let Ok(text) = error.to_string(alloc) else {
+        return Err(WordsFault::Memory);
+    };
+    match error.kind() {
+        ErrorKind::OutOfMemory => Err(WordsFault::Memory),
+        ErrorKind::DisplayHelp | ErrorKind::DisplayVersion => Ok(Choice::Help(text)),
+        _ => Err(WordsFault::Usage(text)),
+    }
+}
+
+/// Returns what follows from an error of the argument parser: the help or version text for which the
+/// arguments ask, or the reason why they are invalid.
+fn refusal<'a>(alloc: Global, error: &Error, words: &[&str]) -> Result<Choice<'a>, WordsFault>
     ensures memory { kind_of error.now ≡ ErrorKind.OutOfMemory →
         result ≡ Err WordsFault.Memory }
     ensures help { IfOk result IsHelp }
 {
     match error.kind() {
         ErrorKind::OutOfMemory => Err(WordsFault::Memory),
-        ErrorKind::DisplayHelp | ErrorKind::DisplayVersion => {
-            let Ok(text) = error.to_string(alloc) else {
-                return Err(WordsFault::Memory);
-            };
-            Ok(Choice::Help(text))
-        }
-        _ => Err(WordsFault::Usage),
-    }
-}
-
-/// Returns whether `help` is the only argument.
-fn is_help(words: &[&str]) -> bool
-    ensures { OnTrue result (is_taken (map (λ w. w.now) words.now) ≡ false) }
-{
-    match words {
-        [_, word] => *word == "help",
-        _ => false,
-    }
-}
-
-/// Returns the command that prints the help text.
-fn help<'a>(alloc: Global) -> Result<Choice<'a>, WordsFault>
-    ensures { IfOk result IsHelp }
-{
-    let Ok(command) = command(alloc) else {
-        return Err(WordsFault::Memory);
-    };
-    match command.try_get_matches_from(&["pciguest", "--help"]) {
-        Ok(_) => Err(WordsFault::Usage),
-        Err(error) => refusal(alloc, &error),
+        _ => help(alloc, words),
     }
 }
 
@@ -168,7 +160,7 @@ fn asked<'a>(name: &str, given: &ArgMatches<'a>, is_terminal: bool) -> Option<Ch
 /// more than lines.
 ///
 /// If the parser rejects the arguments, returns `Help` if they ask for help or for the version, and
-/// otherwise fails with `WordsFault::Usage`. `help` alone does the same as `--help`.
+/// otherwise fails with `WordsFault::Usage`.
 pub fn choose<'a>(
     alloc: Global,
     words: &'a [&'a str],
@@ -182,22 +174,19 @@ pub fn choose<'a>(
     ensures taken { is_taken (map (λ w. w.now) words.entry.now) ≡ true
         → MatchResult result IsWork (λ f. f ≡ WordsFault.Memory) }
 {
-    if is_help(words) {
-        return help(alloc);
-    }
     let Ok(command) = command(alloc) else {
         return Err(WordsFault::Memory);
     };
     match command.try_get_matches_from(words) {
         Ok(matches) => {
             let Some((name, given)) = matches.subcommand() else {
-                return Err(WordsFault::Usage);
+                return Err(WordsFault::Usage(String::new(alloc)));
             };
             match asked(name, given, is_terminal) {
                 Some(choice) => Ok(choice),
-                None => Err(WordsFault::Usage),
+                None => Err(WordsFault::Usage(String::new(alloc))),
             }
         }
-        Err(error) => refusal(alloc, &error),
+        Err(error) => refusal(alloc, &error, words),
     }
 }

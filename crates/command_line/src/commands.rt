@@ -1,7 +1,7 @@
 //! The definition of the command line for `clap`.
 ghost use Rattle.std.specs.Prelude.{◌≡◌, false, codes, IfOk};
 ghost use Rattle.clap.specs.{declared.builder.command.Command.TheViews.out-Command as fields_of, Simple.{app_of, shape_of, new_shape}, Walk.rule_of};
-ghost use Rattle.command_line.specs.Words.{board_rule, json_rule, all_rule, plain_rule, strict_rule, list_shape, check_shape, run_shape, firmware_shape, audit_shape, ready_shape, demo_and_list_app, with_check_app, with_run_app, with_firmware_app, with_audit_app, pciguest_app};
+ghost use Rattle.command_line.specs.Words.{board_rule, flag_rule, json_rule, list_shape, check_shape, run_shape, firmware_shape, audit_shape, ready_shape, demo_and_list_app, with_check_app, with_run_app, with_firmware_app, with_audit_app, pciguest_app};
 
 use clap::{Arg, ArgAction, Command};
 use std::alloc::{AllocError, Global};
@@ -9,22 +9,36 @@ use std::alloc::{AllocError, Global};
 /// The version of the program, which is also the version in the library's header.
 const VERSION: &str = "0.4.0-dev";
 
-const REFUSED: &str = "End with status 1 where a line was refused";
-
-const REPORT_AS_JSON: &str = "Write the report as JSON";
-
-const AUDIT_AS_JSON: &str = "Write the audit as JSON";
-
-const READINESS_AS_JSON: &str = "Write what is wrong and lacking as JSON";
-
-const REFUSED_OR_TOLD: &str = "End with status 1 where a line was refused or a problem told";
+const STRICT: &str = "Exit with status 1 if a line is refused";
 
 /// Returns the argument that names a board file.
 fn board<'a>(alloc: Global) -> Arg<'a>
     ensures rule { rule_of result ≡ board_rule }
     ensures local { result.global ≡ false }
 {
-    Arg::new(alloc, "board").required(true).help("A board file")
+    Arg::new(alloc, "board")
+        .required(true)
+        .value_name("BOARD")
+        .help("The board file")
+}
+
+/// Returns the flag `--NAME` with its help text.
+fn flag<'a>(alloc: Global, name: &'a str, help: &'a str) -> Arg<'a>
+    ensures rule { rule_of result ≡ flag_rule name.entry.now }
+    ensures local { result.global ≡ false }
+{
+    Arg::new(alloc, name)
+        .long(name)
+        .action(ArgAction::SetTrue)
+        .help(help)
+}
+
+/// Returns the flag `--json`, which asks for a report as JSON.
+fn json<'a>(alloc: Global) -> Arg<'a>
+    ensures rule { rule_of result ≡ json_rule }
+    ensures local { result.global ≡ false }
+{
+    flag(alloc, "json", "Write the report as JSON")
 }
 
 /// Returns the subcommand `demo`.
@@ -32,18 +46,9 @@ fn demo<'a>(alloc: Global) -> Command<'a>
     ensures shape { shape_of result ≡ new_shape (codes "demo") }
     ensures local { (fields_of result).has_globals ≡ false }
 {
-    Command::new(alloc, "demo").about("Run the script on standard input over the demo board")
-}
-
-/// Returns the flag `--json` with its help text.
-fn json<'a>(alloc: Global, help: &'a str) -> Arg<'a>
-    ensures rule { rule_of result ≡ json_rule }
-    ensures local { result.global ≡ false }
-{
-    Arg::new(alloc, "json")
-        .long("json")
-        .action(ArgAction::SetTrue)
-        .help(help)
+    Command::new(alloc, "demo")
+        .about("Run a script from standard input on a built-in board")
+        .after_help("Examples:\n  echo 'a cr 0 0 4' | pciguest demo")
 }
 
 /// Returns the subcommand `list [--json] BOARD`.
@@ -52,20 +57,10 @@ fn list<'a>(alloc: Global) -> Result<Command<'a>, AllocError>
     ensures local { IfOk result (λ c. (fields_of c).has_globals ≡ false) }
 {
     Command::new(alloc, "list")
-        .about("Set up the board that the file <board> declares, and report it")
-        .arg(json(alloc, REPORT_AS_JSON))?
+        .about("Set up a board, and report where its functions, regions and windows are")
+        .after_help("Examples:\n  pciguest list board.toml\n  pciguest list --json board.toml")
+        .arg(json(alloc))?
         .arg(board(alloc))
-}
-
-/// Returns the flag `--strict` with its help text.
-fn strict<'a>(alloc: Global, help: &'a str) -> Arg<'a>
-    ensures rule { rule_of result ≡ strict_rule }
-    ensures local { result.global ≡ false }
-{
-    Arg::new(alloc, "strict")
-        .long("strict")
-        .action(ArgAction::SetTrue)
-        .help(help)
 }
 
 /// Returns the subcommand `run [--strict] BOARD`.
@@ -74,31 +69,10 @@ fn run<'a>(alloc: Global) -> Result<Command<'a>, AllocError>
     ensures local { IfOk result (λ c. (fields_of c).has_globals ≡ false) }
 {
     Command::new(alloc, "run")
-        .about("Run the script on standard input over the board that the file <board> declares")
-        .arg(strict(alloc, REFUSED))?
+        .about("Set up a board, and run a script from standard input on it")
+        .after_help("Examples:\n  pciguest run board.toml < guests.script")
+        .arg(flag(alloc, "strict", STRICT))?
         .arg(board(alloc))
-}
-
-/// Returns the flag `--all`, which enables every warning of a check.
-fn all<'a>(alloc: Global) -> Arg<'a>
-    ensures rule { rule_of result ≡ all_rule }
-    ensures local { result.global ≡ false }
-{
-    Arg::new(alloc, "all")
-        .long("all")
-        .action(ArgAction::SetTrue)
-        .help("Warn also of apertures of more than ten times what their pools use")
-}
-
-/// Returns the flag `--plain`, which limits the output of a check to lines.
-fn plain<'a>(alloc: Global) -> Arg<'a>
-    ensures rule { rule_of result ≡ plain_rule }
-    ensures local { result.global ≡ false }
-{
-    Arg::new(alloc, "plain")
-        .long("plain")
-        .action(ArgAction::SetTrue)
-        .help("Write a line for each problem and nothing below it")
 }
 
 /// Returns the subcommand `check [--all] [--plain] BOARD`.
@@ -107,9 +81,14 @@ fn check<'a>(alloc: Global) -> Result<Command<'a>, AllocError>
     ensures local { IfOk result (λ c. (fields_of c).has_globals ≡ false) }
 {
     Command::new(alloc, "check")
-        .about("Say what is wrong with the board file <board>, or that its board fits")
-        .arg(all(alloc))?
-        .arg(plain(alloc))?
+        .about("Check a board file, and report every problem in it")
+        .after_help("Examples:\n  pciguest check board.toml\n  pciguest check --all board.toml")
+        .arg(flag(
+            alloc,
+            "all",
+            "Also warn about apertures more than ten times larger than needed",
+        ))?
+        .arg(flag(alloc, "plain", "Write only one line for each problem"))?
         .arg(board(alloc))
 }
 
@@ -119,10 +98,9 @@ fn firmware<'a>(alloc: Global) -> Result<Command<'a>, AllocError>
     ensures local { IfOk result (λ c. (fields_of c).has_globals ≡ false) }
 {
     Command::new(alloc, "firmware")
-        .about(
-            "Do what firmware asks on standard input, at the board of the file <board>, at reset",
-        )
-        .arg(strict(alloc, REFUSED))?
+        .about("Drive a board from reset with firmware commands read from standard input")
+        .after_help("Examples:\n  echo 'host cr 00:00.0 0 4' | pciguest firmware board.toml")
+        .arg(flag(alloc, "strict", STRICT))?
         .arg(board(alloc))
 }
 
@@ -132,9 +110,14 @@ fn audit<'a>(alloc: Global) -> Result<Command<'a>, AllocError>
     ensures local { IfOk result (λ c. (fields_of c).has_globals ≡ false) }
 {
     Command::new(alloc, "audit")
-        .about("Do the same, and then say what is wrong in the board's registers as they stand")
-        .arg(json(alloc, AUDIT_AS_JSON))?
-        .arg(strict(alloc, REFUSED_OR_TOLD))?
+        .about("Like 'firmware', then report what is wrong in the registers")
+        .after_help("Examples:\n  pciguest audit board.toml < set_up.script")
+        .arg(json(alloc))?
+        .arg(flag(
+            alloc,
+            "strict",
+            "Exit with status 1 if a line is refused or something is wrong",
+        ))?
         .arg(board(alloc))
 }
 
@@ -144,9 +127,10 @@ fn ready<'a>(alloc: Global) -> Result<Command<'a>, AllocError>
     ensures local { IfOk result (λ c. (fields_of c).has_globals ≡ false) }
 {
     Command::new(alloc, "ready")
-        .about("Do the same, and then say whether the board is ready, or all that it lacks")
-        .arg(json(alloc, READINESS_AS_JSON))?
-        .arg(strict(alloc, REFUSED))?
+        .about("Like 'audit', then report what is left to do")
+        .after_help("Examples:\n  pciguest ready board.toml < set_up.script")
+        .arg(json(alloc))?
+        .arg(flag(alloc, "strict", STRICT))?
         .arg(board(alloc))
 }
 
@@ -157,6 +141,8 @@ fn demo_and_list<'a>(alloc: Global) -> Result<Command<'a>, AllocError>
     let demo = demo(alloc);
     let list = list(alloc)?;
     Command::new(alloc, "pciguest")
+        .about("Simulate a PCI board, the firmware that sets it up, and guests that use it")
+        .after_help("Examples:\n  pciguest list board.toml\n  pciguest help run")
         .version(VERSION)
         .disable_help_subcommand(true)
         .subcommand_required(true)

@@ -57,10 +57,10 @@ fn serve(
     let alloc = rt.alloc();
     let choice = match choose(alloc, words, is_terminal) {
         Ok(choice) => choice,
-        Err(WordsFault::Usage) => {
+        Err(WordsFault::Usage(why)) => {
             return Err(Failure {
                 fault: Fault::Usage,
-                hint: usage_hint(alloc, words).ok(),
+                hint: usage_hint(alloc, why.as_str()).ok(),
             });
         }
         Err(WordsFault::Memory) => return Err(Failure::from(Fault::WordMemory)),

@@ -1,22 +1,18 @@
 //! Hints, which are printed below the error message about a fault.
 use board_file::BoardFault;
 use board_told::Fault;
-use command_line::{Choice, refused_word, words_taken};
+use command_line::Choice;
 use diagnostics::Shown;
 use std::alloc::{AllocError, Global};
 use std::io::ErrorKind;
 
-/// Returns the hint about invalid arguments: the usage of the program or subcommand, and the first
-/// unexpected argument.
-pub fn usage_hint(alloc: Global, words: &[&str]) -> Result<String, AllocError> {
-    let taken = words_taken(words);
-    match refused_word(alloc, words)? {
-        Some(word) => {
-            let word = Shown(word.as_bytes());
-            format!(in alloc; "usage: pciguest {taken}; not taken: {word}\n")
-        }
-        None => format!(in alloc; "usage: pciguest {taken}\n"),
+/// Returns the hint about invalid arguments: the reason, in printable ASCII.
+pub fn usage_hint(alloc: Global, why: &str) -> Result<String, AllocError> {
+    let mut hint = String::new(alloc);
+    for line in why.lines() {
+        write!(hint, "{}\n", Shown(line.as_bytes()))?;
     }
+    Ok(hint)
 }
 
 /// Returns the hint about a board file that can't be read: its path, and the system's error.
