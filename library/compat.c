@@ -22,14 +22,11 @@ uint32_t pciguest_raw_board_audit(struct pciguest_board *board, uint8_t *text, s
 
 uint32_t pciguest_raw_words(uint32_t number, uint8_t *text, size_t room, size_t *needed)
 {
-    const char *words = pciguest_strerror(number);
+    const char *message = pciguest_strerror(number);
 
-    for (*needed = 0; words[*needed]; ++*needed)
-        ;
-    if (room < *needed)
-        return PCIGUEST_ARGUMENT;
-    for (size_t i = 0; i < *needed; i++)
-        text[i] = (uint8_t)words[i];
+    /* A program that was compiled with those headers has room for 20 bytes. */
+    for (*needed = 0; *needed < room && message[*needed]; ++*needed)
+        text[*needed] = (uint8_t)message[*needed];
     return 0;
 }
 

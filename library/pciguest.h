@@ -196,7 +196,7 @@ struct pciguest_limits {
  * for a reply. PCIGUEST_GUEST_NAME: enough for every name of pciguest_guest_name. */
 enum { PCIGUEST_REPLY = 48, PCIGUEST_GUEST_NAME = 16 };
 
-/* The error numbers that calls return, each with its text; docs/errors.md explains them. 101 to
+/* The error numbers that calls return, each with its message; docs/errors.md explains them. 101 to
  * 112: the board file is refused. 199, 299: out of memory. 201 to 205: the board can't be set up.
  * 206, 207: functions can't be assigned to guests. 301 to 303: an access or a path is refused. 601:
  * a slot that must be filled is empty. 602: a slot that must be empty is filled. 901 to 904: the
@@ -204,65 +204,66 @@ enum { PCIGUEST_REPLY = 48, PCIGUEST_GUEST_NAME = 16 };
  * a guest or of a machine. 909: another call is running on the struct. */
 enum pciguest_status {
     PCIGUEST_OK = 0,
-    PCIGUEST_NOT_TOML = 101,          /* not TOML */
-    PCIGUEST_BAD_KEY = 102,           /* key */
+    PCIGUEST_NOT_TOML = 101,          /* board file is not valid TOML */
+    PCIGUEST_BAD_KEY = 102,           /* required key is missing, or value has the wrong form */
     PCIGUEST_UNKNOWN_KEY = 103,       /* unknown key */
-    PCIGUEST_BAD_NUMBER = 104,        /* number */
-    PCIGUEST_BAD_PLACE = 105,         /* place */
-    PCIGUEST_BAD_REGISTER = 106,      /* register */
-    PCIGUEST_BAD_SIZE = 107,          /* size */
-    PCIGUEST_TOO_MANY = 108,          /* too many */
-    PCIGUEST_BAD_GUEST_NAME = 109,    /* guest name */
-    PCIGUEST_BAD_SLOT = 110,          /* slot */
-    PCIGUEST_BAD_APERTURE = 111,      /* aperture */
-    PCIGUEST_BAD_CELL_MASKS = 112,    /* cell masks */
-    PCIGUEST_FILE_MEMORY = 199,       /* memory */
-    PCIGUEST_TOO_MANY_BUSES = 201,    /* buses */
-    PCIGUEST_NO_IO_WINDOW = 202,      /* no I/O window */
-    PCIGUEST_IO_POOL = 203,           /* I/O pool */
-    PCIGUEST_MEMORY_POOL = 204,       /* memory pool */
-    PCIGUEST_PREFETCHABLE_POOL = 205, /* prefetchable pool */
-    PCIGUEST_CLOSED_REGION = 206,     /* closed region */
-    PCIGUEST_NOT_IN_ORDER = 207,      /* not in order */
-    PCIGUEST_OUT_OF_MEMORY = 299,     /* memory */
-    PCIGUEST_MISALIGNED = 301,        /* misaligned */
-    PCIGUEST_BAD_WIDTH = 302,         /* width */
-    PCIGUEST_OUT_OF_RANGE = 303,      /* range */
-    PCIGUEST_EMPTY_SLOT = 601,        /* empty slot */
-    PCIGUEST_SLOT_TAKEN = 602,        /* slot taken */
-    PCIGUEST_NO_MACHINE = 901,        /* no machine */
-    PCIGUEST_ARGUMENT = 902,          /* argument */
-    PCIGUEST_IN_USE = 903,            /* in use */
-    PCIGUEST_NOT_AT_RESET = 904,      /* not at reset */
-    PCIGUEST_BAD_IMAGE = 905,         /* image */
-    PCIGUEST_OTHER_FUNCTIONS = 906,   /* other functions */
-    PCIGUEST_OTHER_BOARD = 907,       /* other board */
-    PCIGUEST_IMAGE_VERSION = 908,     /* image version */
-    PCIGUEST_BUSY = 909               /* busy */
+    PCIGUEST_BAD_NUMBER = 104,        /* number is out of range */
+    PCIGUEST_BAD_PLACE = 105,         /* path is invalid, in use, or needs a missing function */
+    PCIGUEST_BAD_REGISTER = 106,      /* BAR index is invalid or already used */
+    PCIGUEST_BAD_SIZE = 107,          /* BAR or block size is invalid */
+    PCIGUEST_TOO_MANY = 108,          /* too many functions, guests, slots or parts of a path */
+    PCIGUEST_BAD_GUEST_NAME = 109,    /* guest name is invalid or already used */
+    PCIGUEST_BAD_SLOT = 110,          /* slot names no endpoint, or one already in a slot */
+    PCIGUEST_BAD_APERTURE = 111,      /* aperture is invalid or overlaps another */
+    PCIGUEST_BAD_CELL_MASKS = 112,    /* rw or w1c pattern is invalid, or config blocks overlap */
+    PCIGUEST_FILE_MEMORY = 199,       /* out of memory while reading the board file */
+    PCIGUEST_TOO_MANY_BUSES = 201,    /* board has more than 255 bridges */
+    PCIGUEST_NO_IO_WINDOW = 202,      /* I/O BAR is behind a bridge without an I/O window */
+    PCIGUEST_IO_POOL = 203,           /* I/O aperture is too small */
+    PCIGUEST_MEMORY_POOL = 204,       /* memory aperture is too small */
+    PCIGUEST_PREFETCHABLE_POOL = 205, /* prefetchable memory aperture is too small */
+    PCIGUEST_CLOSED_REGION = 206,     /* decoding of an assigned function's BAR is disabled */
+    PCIGUEST_NOT_IN_ORDER = 207,      /* audit found a problem in the registers */
+    PCIGUEST_OUT_OF_MEMORY = 299,     /* out of memory */
+    PCIGUEST_MISALIGNED = 301,        /* address is not a multiple of the width */
+    PCIGUEST_BAD_WIDTH = 302,         /* access width is not 1, 2 or 4 (wide calls: 1 to 8) */
+    PCIGUEST_OUT_OF_RANGE = 303,      /* slot, offset, port or path is out of range */
+    PCIGUEST_EMPTY_SLOT = 601,        /* slot is empty */
+    PCIGUEST_SLOT_TAKEN = 602,        /* slot already contains a function */
+    PCIGUEST_NO_MACHINE = 901,        /* struct holds no machine or board */
+    PCIGUEST_ARGUMENT = 902,          /* invalid argument */
+    PCIGUEST_IN_USE = 903,            /* struct already holds a machine or board */
+    PCIGUEST_NOT_AT_RESET = 904,      /* board has been written to since reset */
+    PCIGUEST_BAD_IMAGE = 905,         /* not a valid image */
+    PCIGUEST_OTHER_FUNCTIONS = 906,   /* image is for other functions */
+    PCIGUEST_OTHER_BOARD = 907,       /* image is for another board */
+    PCIGUEST_IMAGE_VERSION = 908,     /* unsupported image version */
+    PCIGUEST_BUSY = 909               /* another call is running on this struct */
 };
 
 /* Error numbers that no call returns. 401 to 403 appear in replies to lines, and the others in the
  * program's last line. */
 enum pciguest_told {
-    PCIGUEST_NOT_READY = 208,     /* not ready */
-    PCIGUEST_REFUSED_LINE = 209,  /* refused line */
-    PCIGUEST_BAD_LINE = 401,      /* bad line */
-    PCIGUEST_UNKNOWN_GUEST = 402, /* unknown guest */
-    PCIGUEST_LONG_LINE = 403,     /* long line */
-    PCIGUEST_READ_FAILED = 501,   /* read failed */
-    PCIGUEST_WRITE_FAILED = 502,  /* write failed */
-    PCIGUEST_USAGE = 701,         /* usage */
-    PCIGUEST_BOARD_FILE = 702,    /* board file */
-    PCIGUEST_WORD_MEMORY = 799    /* memory */
+    PCIGUEST_NOT_READY = 208,     /* board is not ready for an operating system */
+    PCIGUEST_REFUSED_LINE = 209,  /* a line was refused */
+    PCIGUEST_BAD_LINE = 401,      /* malformed line */
+    PCIGUEST_UNKNOWN_GUEST = 402, /* no guest has this name */
+    PCIGUEST_LONG_LINE = 403,     /* line is longer than 200 bytes */
+    PCIGUEST_READ_FAILED = 501,   /* cannot read standard input */
+    PCIGUEST_WRITE_FAILED = 502,  /* cannot write standard output */
+    PCIGUEST_USAGE = 701,         /* invalid command-line arguments */
+    PCIGUEST_BOARD_FILE = 702,    /* cannot read the board file */
+    PCIGUEST_WORD_MEMORY = 799    /* out of memory while reading the arguments */
 };
 
 /* Returns the version of the library that is linked or loaded, in the same form as
  * PCIGUEST_VERSION_NUMBER, which is the version of the header. Since 0.4.0. */
 uint32_t pciguest_version(void);
 
-/* Returns the text of an error number, terminated by a 0. The number can be one that a call returns,
- * or one that appears in a reply or in the program's output. The text is valid as long as the
- * library is loaded. It is empty for a number without a meaning, such as 0. Since 0.4.0. */
+/* Returns a message that says what an error number means, terminated by a 0. The number can be one
+ * that a call returns, or one that appears in a reply or in the program's output, where a shorter
+ * text follows it. The message is valid as long as the library is loaded. It is empty for a number
+ * without a meaning, such as 0. Since 0.4.0. */
 const char *pciguest_strerror(uint32_t number);
 
 /* Stores the upper limits that hold for every board and machine. Needs no machine. Since 0.4.0. */

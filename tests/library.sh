@@ -120,7 +120,8 @@ for kind in "${kinds[@]}"; do
   holds "$kind: the checks are built" build "checks.$kind" "$top/tests/library/checks.c" "${words[@]}"
   for file in "$top"/boards/*.toml "$top"/boards/refused/*.toml; do
     cp "$file" board.toml
-    "$program" check board.toml > wanted.text 2> wanted.fault
+    "$program" check board.toml > wanted.text 2> told
+    cut -d ' ' -f 1-3 told > wanted.fault
     "./checks.$kind" board.toml > found.text 2> found.fault
     holds "$kind: the check of $(basename "$file")" sh -c 'cmp wanted.text found.text && cmp wanted.fault found.fault'
   done

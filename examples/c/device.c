@@ -167,7 +167,7 @@ int main(int argc, char **argv)
     if (!fault)
         run(&machine, guest);
     else
-        fprintf(stderr, "device: fault %" PRIu32 " %s\n", fault, pciguest_strerror(fault));
+        fprintf(stderr, "device: %s (%" PRIu32 ")\n", pciguest_strerror(fault), fault);
     pciguest_free(&machine);
     return fault != 0;
 }

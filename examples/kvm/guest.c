@@ -18,7 +18,7 @@ static void expect(uint32_t number, const char *what)
 {
     if (!number)
         return;
-    fprintf(stderr, "kvm: %s: %u %s\n", what, number, pciguest_strerror(number));
+    fprintf(stderr, "kvm: %s: %s (%u)\n", what, pciguest_strerror(number), number);
     exit(1);
 }
 

@@ -56,7 +56,7 @@ static void open_board(const char *path)
     free(bytes);
     if (!fault)
         return;
-    fprintf(stderr, "kvm: %s: %" PRIu32 " %s\n", path, fault, pciguest_strerror(fault));
+    fprintf(stderr, "kvm: %s: %s (%" PRIu32 ")\n", path, pciguest_strerror(fault), fault);
     exit(1);
 }
 

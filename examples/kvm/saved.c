@@ -140,7 +140,7 @@ void machine_load(struct machine *machine, const char *path)
     fclose(file);
     fault = pciguest_load(&machine->board->guests, machine->guest, image, state->image_length);
     if (fault) {
-        fprintf(stderr, "kvm: %s: %u %s\n", path, fault, pciguest_strerror(fault));
+        fprintf(stderr, "kvm: %s: %s (%u)\n", path, pciguest_strerror(fault), fault);
         exit(1);
     }
     for_parts(machine, state, false);

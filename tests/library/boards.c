@@ -451,7 +451,8 @@ static void access(struct pciguest_board *by_calls, struct pciguest_board *by_li
     number = reads ? pciguest_board_read(by_calls, space, bus, device, 0, place, width, &value)
                    : pciguest_board_write(by_calls, space, bus, device, 0, place, width, value);
     if (number != 0) {
-        snprintf(wanted, sizeof wanted, "host: refused %u %s\n", number, pciguest_strerror(number));
+        snprintf(wanted, sizeof wanted, "host: refused %u %s\n", number,
+                 number == 301 ? "misaligned" : number == 302 ? "width" : "range");
     } else if (reads) {
         snprintf(wanted, sizeof wanted, "host: 0x%0*x\n", (int)width * 2, value);
     }

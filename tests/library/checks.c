@@ -1,5 +1,5 @@
 /* What the program writes for a check, by calls of the library: the text on standard output, and on standard error the
- * fault with which the program ends, by its number and its words.
+ * number of the fault with which the program ends.
  *
  *     checks BOARD
  */
@@ -7,13 +7,6 @@
 
 #include <stdio.h>
 #include <stdlib.h>
-
-/* The fault as the program tells it. */
-static int fault(uint32_t number)
-{
-    fprintf(stderr, "pciguest: fault %u %s\n", (unsigned)number, pciguest_strerror(number));
-    return 1;
-}
 
 int main(int argc, char **argv)
 {
@@ -33,5 +26,7 @@ int main(int argc, char **argv)
     number = pciguest_check(board, length, text, needed, &needed);
     fwrite(text, 1, needed, stdout);
     free(text);
-    return number == 0 ? 0 : fault(number);
+    if (number != 0)
+        fprintf(stderr, "pciguest: fault %u\n", (unsigned)number);
+    return number != 0;
 }

@@ -50,10 +50,10 @@ def try_moved(here, there, tell, file):
 
 def try_refused(here, tell, file):
     before, absent = host(here, "a cr 0 0x40 4"), f"{file}.absent"
-    for line, reply in ((f"host load b {file}", "host: refused 906 other functions"),
-                        ("host load a /dev/null", "host: refused 905 image"),
-                        (f"host load nobody {file}", "host: refused 902 argument"),
-                        (f"host save nobody {file}", "host: refused 902 argument"),
+    for line, reply in ((f"host load b {file}", "host: refused 906 image is for other functions"),
+                        ("host load a /dev/null", "host: refused 905 not a valid image"),
+                        (f"host load nobody {file}", "host: refused 902 invalid argument"),
+                        (f"host save nobody {file}", "host: refused 902 invalid argument"),
                         (f"host load a {absent}", f"host: {absent}: No such file or directory"),
                         (f"host save a {absent}/x", f"host: {absent}/x: No such file or directory"),
                         ("host load a", "host: refused 401 bad line"), ("host store a x", "host: refused 401 bad line")):

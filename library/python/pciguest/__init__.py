@@ -31,11 +31,11 @@ board.toml` is a prompt over a machine.
 ...     try:
 ...         a.memory[0x80000001:4]
 ...     except Refusal as refusal:
-...         print(refusal.number, refusal.words)
+...         print(refusal)
 '0x11234'
 '0x5678'
 '0xc0000000'
-301 misaligned
+address is not a multiple of the width (301)
 
 It stands over the shared library libpciguest.so.0, by ctypes: that of the folder PCIGUEST_LIBRARY_DIR, or the one that
 `make library` leaves two folders above this one, or that of the tarball, or else the one that is installed. Board files,

@@ -200,7 +200,7 @@ class Board(Held):
         >>> board.config[0, 2, 0][0x18:4] = 0x00010100  # the bridge's buses: 0 above it, 1 behind it
         >>> board.into_guests()
         Traceback (most recent call last):
-        pciguest._refusal.Refusal: 206 closed region
+        pciguest._refusal.Refusal: decoding of an assigned function's BAR is disabled (206)
         """
         with self._lock:
             return Machine._made_by(lambda machine: CALLS["board_guests"](byref(self._handle), machine))

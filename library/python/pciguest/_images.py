@@ -82,7 +82,7 @@ class Saved:
         ...     except Refusal as refusal:
         ...         print(refusal)
         2
-        905 image
+        not a valid image (905)
         """
         told = bytes(image)
         with self.machine._lock:
@@ -179,7 +179,7 @@ class SavedMachine(Held):
         ...         other.load_all(image)
         ...     except Refusal as refusal:
         ...         print(refusal)
-        907 other board
+        image is for another board (907)
         """
         told = bytes(image)
         with self._lock:

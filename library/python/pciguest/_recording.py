@@ -20,6 +20,8 @@ class Recorded(Held):
     questions. Calls that no line does, as those of a device, are not kept, nor are those that no line's refusal refuses."""
 
     rows: List[Tuple[str, Optional[str]]]
+    #: the call that runs a line
+    RUN: str
 
     def _line(self, name: str, arguments: Tuple[Any, ...]) -> Optional[str]:
         """The line that does what a call does, if one does."""
@@ -31,15 +33,13 @@ class Recorded(Held):
             super()._call(name, *arguments)
         except Refusal as refusal:
             if line and refusal.number < 900:
-                self._keep(line, f"refused {refusal}")
+                self._reply(self.RUN, line)
             raise
         if line:
             who, verb, *words = line.split()
             is_read = verb in ("cr", "ir", "mr")
-            self._keep(line, f"0x{arguments[-1]._obj.value:0{2 * int(words[-1])}x}" if is_read else "ok")
-
-    def _keep(self, line: str, reply: str) -> None:
-        self.rows.append((line, f"{line.split()[0]}: {reply}"))
+            reply = f"0x{arguments[-1]._obj.value:0{2 * int(words[-1])}x}" if is_read else "ok"
+            self.rows.append((line, f"{who}: {reply}"))
 
     def _reply(self, name: str, line: Union[str, bytes]) -> Optional[str]:
         reply = super()._reply(name, line)
@@ -73,6 +73,8 @@ class RecordedMachine(Recorded, Machine):
     [('a cw 0 0x14 4 0x80000000', 'a: ok'), ('a cr 0 0x14 4', 'a: 0x80000000')]
     """
 
+    RUN = "run_line"
+
     def __init__(self, board: Union[str, bytes], name: str = NAME) -> None:
         self.rows = []
         super().__init__(board, name)
@@ -95,6 +97,8 @@ class RecordedMachine(Recorded, Machine):
 
 class RecordedBoard(Recorded, Board):
     """A board that firmware drives, and that keeps in `rows` what is asked of it."""
+
+    RUN = "board_run_line"
 
     def __init__(self, file: Union[str, bytes], name: str = NAME) -> None:
         self.rows = []

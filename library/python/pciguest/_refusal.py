@@ -1,4 +1,4 @@
-"""Refusals: a number and its words."""
+"""Refusals: an error number and its message."""
 
 from __future__ import annotations
 
@@ -8,9 +8,9 @@ from ._library import CALLS, number
 
 
 class Refusal(Exception):
-    """Why a call is refused. A call that is refused changed nothing.
+    """Why a call was refused. A refused call changes nothing.
 
-    `number` is the number, as docs/errors.md explains it, and `words` are its words.
+    `number` is the error number, which docs/errors.md explains, and `words` is its message.
     """
 
     number: int
@@ -22,23 +22,23 @@ class Refusal(Exception):
         self.words = strerror(number)
 
     def __str__(self) -> str:
-        return f"{self.number} {self.words}"
+        return f"{self.words} ({self.number})"
 
 
 class Problem(NamedTuple):
-    """One thing that a check says of a board file."""
+    """One problem that a check reports in a board file."""
 
-    #: the line of the file, or None where that is not known
+    #: the line of the file, or None if it isn't known
     line: Optional[int]
-    #: what is said
+    #: the message
     text: str
 
 
 class BoardRefusal(Refusal):
-    """Why a board file, or its board, is refused: the number of the first check that fails, and what `check` says, which
-    names each entry that breaks it, with its line.
+    """Why a board file, or its board, was refused: the number of the first check that fails, and every problem that
+    `check` reports.
 
-    `text` is all of that, as `pciguest check board.toml` writes it, and `problems` are its lines.
+    `text` is what `pciguest check --plain board.toml` writes, and `problems` are its lines.
     """
 
     text: str
@@ -54,17 +54,16 @@ class BoardRefusal(Refusal):
 
 
 def strerror(refusal: int) -> str:
-    """The words of a number that a call answers, or that the program or a reply tells. A number that stands for nothing
-    has the empty text.
+    """Returns the message that says what an error number means. It is empty for a number without a meaning.
 
     >>> strerror(602)
-    'slot taken'
+    'slot already contains a function'
     """
     call = cast(Callable[..., bytes], CALLS["strerror"])
     return call(number("number", refusal, 32)).decode("ascii", "replace")
 
 
 def answered(answer: int) -> None:
-    """Raises the refusal that a call answers, if it is not 0."""
+    """Raises the refusal that a call returns, if it isn't 0."""
     if answer != 0:
         raise Refusal(answer)

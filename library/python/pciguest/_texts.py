@@ -54,8 +54,8 @@ def check(board: Union[str, bytes], name: str = NAME) -> Check:
     or 299, out of memory, is raised. Each line begins with the name.
 
     >>> told = check("[host]\\nio = [0x1000, 0xffff]\\nmem = 7\\n")
-    >>> told.refusal.number, told.refusal.words
-    (102, 'key')
+    >>> print(told.refusal.words)
+    required key is missing, or value has the wrong form
     >>> print(told.text.splitlines()[0])
     board.toml:3: host.mem = 7: is not what its key asks: write two integers in brackets, as [0x1000, 0xffff] (102 key)
     >>> told.problems[0].line

@@ -166,7 +166,7 @@ class SetUp(Case):
         self.refused(301, self.board.config[0, 1, 0].__setitem__, slice(5, 2), 2)
         self.board.set_up().close()
         self.board.config[0, 1, 0][4:2] = 0
-        self.assertEqual(str(self.refused(904, self.board.set_up)), "904 not at reset")
+        self.assertEqual(str(self.refused(904, self.board.set_up)), "board has been written to since reset (904)")
 
     def test_a_board_that_does_not_fit(self):
         with Board((REFUSED / "io_pool.toml").read_bytes()) as board:
@@ -195,7 +195,7 @@ class Guests(Case):
 
     def test_a_board_of_ones_own_is_given(self):
         self.set_up_by_hand()
-        self.assertEqual(str(self.refused(206, self.board.into_guests)), "206 closed region")
+        self.assertEqual(str(self.refused(206, self.board.into_guests)), "decoding of an assigned function's BAR is disabled (206)")
         self.board.config[1, 1, 0][4:2] = 2
         with self.board.into_guests() as machine, Machine(MAIN) as other:
             for line in ("a cr 0 0x14 4", "a cw 1 4 2 2", "a mr 0 4", "b cr 0 4 4", "host move a 0 b 3", "b cr 3 0 4"):
@@ -231,7 +231,7 @@ class Guests(Case):
         self.refused(901, self.board.run_line, "a cr 0 0 4")
 
     def test_a_board_that_is_not_in_order_stays(self):
-        self.assertEqual(str(self.refused(207, self.board.into_guests)), "207 not in order")
+        self.assertEqual(str(self.refused(207, self.board.into_guests)), "audit found a problem in the registers (207)")
         self.assertEqual(self.board.audit().problems, 2)
 
 

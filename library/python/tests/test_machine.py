@@ -237,13 +237,14 @@ class Refusals(Case):
     def test_accesses(self):
         a = self.a
         refusal = self.refused(301, lambda: a.memory[0xD0000001:4])
-        self.assertEqual((refusal.words, str(refusal)), ("misaligned", "301 misaligned"))
+        self.assertEqual(str(refusal), f"{refusal.words} (301)")
+        self.assertEqual(refusal.words, "address is not a multiple of the width")
 
     def test_boards(self):
-        self.assertTrue(str(self.refused(101, Machine, "x")).startswith("101 not TOML\nboard.toml:1: refused"))
+        self.assertTrue(str(self.refused(101, Machine, "x")).startswith("board file is not valid TOML (101)\nboard.toml:1: refused"))
         self.refused(101, Machine, b"\xff")
         self.refused(102, Machine, "")
-        self.assertEqual(self.refused(203, Machine, (REFUSED / "io_pool.toml").read_text()).words, "I/O pool")
+        self.assertEqual(self.refused(203, Machine, (REFUSED / "io_pool.toml").read_text()).words, "I/O aperture is too small")
 
     def test_numbers_that_do_not_fit(self):
         space = self.a.config[0]
@@ -268,7 +269,7 @@ class Ends(Case):
     def test_closed(self):
         with Machine(MAIN) as machine:
             guest = machine.guest("a")
-        self.assertEqual(str(self.refused(901, lambda: guest.config[0][0:4])), "901 no machine")
+        self.assertEqual(str(self.refused(901, lambda: guest.config[0][0:4])), "struct holds no machine or board (901)")
         self.refused(901, machine.run_line, "a cr 0 0 4")
         machine.close()
 

@@ -65,10 +65,10 @@ class Lines(Case):
 
     def test_places_that_are_none(self):
         for text, part in (
-            ("a.bar5[0:4]", "a's slot 0 has no bar5: 303 range"),
-            ("a.31.bar0[0:4]", "601 empty slot"),
-            ("nobody.command", "902 argument"),
-            ("nobody.bar0[0:4]", "902 argument"),
+            ("a.bar5[0:4]", "a's slot 0 has no bar5: slot, offset, port or path is out of range (303)"),
+            ("a.31.bar0[0:4]", "slot is empty (601)"),
+            ("nobody.command", "invalid argument (902)"),
+            ("nobody.bar0[0:4]", "invalid argument (902)"),
             ("a.secondary", "and no secondary"),
             ("host.command", "host has io and mem here"),
             ("host.mem[0:4] = 1", "the host only reads"),
@@ -125,8 +125,8 @@ class Lines(Case):
         self.assertEqual(asked("why a mem 0xd0000010"), ["why: memory 0xd0000010: slot 0 bar1 responds at offset 0x10"])
         self.assertEqual(asked("why a cfg 2 0"), ["why: slot 2 offset 0x0: slot 2 is empty"])
         self.assertEqual(asked("why a io 0xcfc")[0], "why: I/O 0xcfc: CONFIG_ADDRESS (0x0) is disabled")
-        self.assertIn("303 range", asked("why a cfg 32 0")[0])
-        self.assertIn("902 argument", asked("why nobody mem 0")[0])
+        self.assertIn("slot, offset, port or path is out of range (303)", asked("why a cfg 32 0")[0])
+        self.assertIn("invalid argument (902)", asked("why nobody mem 0")[0])
         for line in ("why", "why a", "why a mem", "why a mem x", "why a cfg 1", "why a io 1 2", "why a bar 0"):
             self.assertIn("write a guest and a place", asked(line)[0])
 

@@ -25,7 +25,7 @@ class Refused(unittest.TestCase):
                 error = self.raised(call, path.read_bytes())
                 self.assertIsInstance(error, BoardRefusal)
                 self.assertEqual((error.number, error.text), (told.refusal.number, told.text))
-                self.assertEqual(str(error), f"{error.number} {error.words}\n{told.text.rstrip()}")
+                self.assertEqual(str(error), f"{error.words} ({error.number})\n{told.text.rstrip()}")
                 self.assertGreater(len(error.problems), 0)
         self.assertGreater(refused, 30)
 

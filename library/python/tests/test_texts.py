@@ -1,4 +1,4 @@
-"""Reports, checks and words over all boards of the folder `boards`; and the examples in docstrings."""
+"""Reports, checks and error messages over all boards of the folder `boards`; and the examples in docstrings."""
 
 import doctest
 import json
@@ -53,11 +53,11 @@ class Texts(unittest.TestCase):
             paths = [line.split()[1] for line in lines[1:] if line[0] not in " g"]
             self.assertEqual([each["path"] for each in told["functions"]], paths)
 
-    def test_words(self):
+    def test_messages(self):
         self.assertEqual(sum(strerror(each) != "" for each in range(1000)), 45)
-        self.assertEqual(strerror(205), "prefetchable pool")
-        last = ["image", "other functions", "other board", "image version", "busy"]
-        self.assertEqual([strerror(each) for each in range(905, 910)], last)
+        self.assertEqual(strerror(205), "prefetchable memory aperture is too small")
+        last = ["not a valid image", "image is for other functions", "image is for another board", "unsupported image version"]
+        self.assertEqual([strerror(each) for each in range(905, 909)], last)
         self.assertEqual(strerror(0xFFFFFFFF), "")
         with self.assertRaises(ValueError):
             strerror(-1)

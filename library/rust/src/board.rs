@@ -68,7 +68,7 @@ impl Board {
     ///
     /// ```
     /// let refused = pciguest::Board::new("x = 1").unwrap_err();
-    /// assert_eq!(refused.to_string(), "102 key");
+    /// assert_eq!(refused.to_string(), "required key is missing, or value has the wrong form (102)");
     /// ```
     pub fn new(file: impl AsRef<[u8]>) -> Result<Board, Error> {
         let file = file.as_ref();
@@ -365,7 +365,7 @@ impl Board {
     /// let mut machine = board.set_up()?;
     /// assert_eq!(machine.host_read(register, 4)?, 0xc000_0000);
     /// board.write(register, 4, 0)?;
-    /// assert_eq!(board.set_up().unwrap_err().to_string(), "904 not at reset");
+    /// assert_eq!(board.set_up().unwrap_err().to_string(), "board has been written to since reset (904)");
     /// # Ok::<(), pciguest::Error>(())
     /// ```
     pub fn set_up(&mut self) -> Result<Machine, Error> {
@@ -390,7 +390,7 @@ impl Board {
     /// let register = |offset| HostAt::Config { bus: 0, device: 1, function: 0, offset };
     /// board.write(register(0x10), 4, 0xd000_0000)?;
     /// let NotGiven { mut board, error } = board.into_guests().unwrap_err();
-    /// assert_eq!(error.to_string(), "206 closed region");
+    /// assert_eq!(error.to_string(), "decoding of an assigned function's BAR is disabled (206)");
     /// board.write(register(4), 2, 2)?; // memory on
     /// let mut machine = board.into_guests()?;
     /// let a = machine.guest("a")?;

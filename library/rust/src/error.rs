@@ -1,9 +1,9 @@
-//! Refusals: a number and its words.
+//! Refusals: an error number and its message.
 
 use crate::text::strerror;
 use core::fmt;
 
-/// The number of a refusal, with the words that the program has for it.
+/// An error number, with the message that says what it means.
 #[derive(Clone, Copy, PartialEq, Eq)]
 pub struct Refusal {
     number: u32,
@@ -15,7 +15,7 @@ impl Refusal {
         self.number
     }
 
-    /// The words of the number, as `misaligned` for 301. A number that stands for nothing has none.
+    /// The message, such as `slot is empty` for 601. It is empty for a number without a meaning.
     pub fn words(&self) -> &'static str {
         strerror(self.number)
     }
@@ -23,7 +23,7 @@ impl Refusal {
 
 impl fmt::Display for Refusal {
     fn fmt(&self, f: &mut fmt::Formatter<'_>) -> fmt::Result {
-        write!(f, "{} {}", self.number, self.words())
+        write!(f, "{} ({})", self.words(), self.number)
     }
 }
 
@@ -33,7 +33,7 @@ impl fmt::Debug for Refusal {
     }
 }
 
-/// Why a call is refused. A call that is refused changed nothing.
+/// Why a call was refused. A refused call changes nothing.
 ///
 /// ```
 /// # const BOARD: &str = include_str!("board.toml");
@@ -42,7 +42,7 @@ impl fmt::Debug for Refusal {
 /// let mut machine = Machine::new(BOARD)?;
 /// let a = machine.guest("a")?;
 /// match machine.read(a, At::Memory { address: 0x8000_0001 }, 4) {
-///     Err(Error::Access(refusal)) => assert_eq!((refusal.number(), refusal.words()), (301, "misaligned")),
+///     Err(Error::Access(refusal)) => assert_eq!(refusal.words(), "address is not a multiple of the width"),
 ///     other => panic!("{other:?}"),
 /// }
 /// # Ok::<(), Error>(())
@@ -54,32 +54,31 @@ pub enum Error {
     BoardFile(Refusal),
     /// 201 to 205: the board can't be set up.
     SetUp(Refusal),
-    /// 206: a region of a function that is to be given to a guest is closed.
+    /// 206: Command disables a region of a function that would be assigned to a guest.
     ClosedRegion(Refusal),
-    /// 207: the board doesn't pass its audit.
+    /// 207: an audit of the board finds a problem.
     NotInOrder(Refusal),
     /// 199, 299: out of memory.
     Memory(Refusal),
-    /// 301, 302, 303: a place that is no multiple of the width, a width that is not 1, 2 or 4, or a slot or a place
-    /// out of range.
+    /// 301, 302, 303: an access is misaligned, its width is invalid, or it is out of range.
     Access(Refusal),
-    /// 601, 602: a slot that is empty and must not be, or one that is taken.
+    /// 601, 602: a slot that must contain a function is empty, or one that must be empty isn't.
     Slot(Refusal),
-    /// 902: a guest, a region, a device or a function that can't be there, or a name that no guest has.
+    /// 902: a guest, region, device or function doesn't exist, or no guest has the name.
     Argument(Refusal),
-    /// 904: a write was done on a board since reset.
+    /// 904: the board has been written to since reset.
     NotAtReset(Refusal),
-    /// 905: bytes are no image of a guest, or of a machine.
+    /// 905: the bytes aren't a valid image of a guest or of a machine.
     Image(Refusal),
-    /// 906: an image is of other functions than the guest has, or gives a slot what no guest can be given there.
+    /// 906: the image is for a guest with other functions, or puts a function into a slot to which it can't be assigned.
     OtherFunctions(Refusal),
-    /// 907: an image is of another board, of other guests, or of a board that is set up otherwise.
+    /// 907: the image is for a machine with another board, other guests or another set-up.
     OtherBoard(Refusal),
-    /// 908: an image is of another version of the format.
+    /// 908: the library doesn't support the version of the image.
     ImageVersion(Refusal),
-    /// 909: another call runs on the machine or the board. A call of this crate has it for itself, so none meets this.
+    /// 909: another call is running on the machine or the board. This can't happen to calls of this crate, which borrow it.
     Busy(Refusal),
-    /// Any other number. The library has none today that a call of this crate meets.
+    /// Any other number. Calls of this crate return none today.
     Other(Refusal),
 }
 
@@ -105,7 +104,7 @@ impl Error {
         }
     }
 
-    /// The number with its words.
+    /// The number with its message.
     pub fn refusal(&self) -> Refusal {
         match *self {
             Error::BoardFile(refusal)
@@ -132,7 +131,7 @@ impl Error {
     }
 }
 
-/// The number and the words, as `301 misaligned`.
+/// The message and the number, such as `slot is empty (601)`.
 impl fmt::Display for Error {
     fn fmt(&self, f: &mut fmt::Formatter<'_>) -> fmt::Result {
         self.refusal().fmt(f)
@@ -142,7 +141,7 @@ impl fmt::Display for Error {
 #[cfg(feature = "std")]
 impl std::error::Error for Error {}
 
-/// What a call answers: 0, or the number of a refusal.
+/// Converts the result of a call, which is 0 or an error number.
 pub(crate) fn answered(number: u32) -> Result<(), Error> {
     match number {
         0 => Ok(()),

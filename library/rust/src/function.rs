@@ -210,7 +210,7 @@ impl Machine {
     /// assert_eq!((function.bus, function.device, function.function), (0, 1, 0));
     /// assert_eq!((function.interrupt.pin, function.interrupt.is_disabled), (0, false));
     /// assert!(!function.is_bridge());
-    /// assert_eq!(machine.function(1).unwrap_err().to_string(), "902 argument");
+    /// assert_eq!(machine.function(1).unwrap_err().to_string(), "invalid argument (902)");
     /// # Ok::<(), pciguest::Error>(())
     /// ```
     pub fn function(&mut self, index: usize) -> Result<Function, Error> {
@@ -250,7 +250,7 @@ impl Machine {
     /// let mut machine = pciguest::Machine::new(BOARD)?;
     /// let a = machine.guest("a")?;
     /// assert_eq!(machine.slot_function(a, 0)?.path, "1.0");
-    /// assert_eq!(machine.slot_function(a, 1).unwrap_err().to_string(), "601 empty slot");
+    /// assert_eq!(machine.slot_function(a, 1).unwrap_err().to_string(), "slot is empty (601)");
     /// # Ok::<(), pciguest::Error>(())
     /// ```
     pub fn slot_function(&mut self, guest: Guest, slot: u64) -> Result<Function, Error> {

@@ -86,9 +86,9 @@ impl Machine {
     /// let mut other = pciguest::Machine::new(BOARD)?; // the guest goes on there
     /// other.load_image(a, &image)?;
     /// assert_eq!(other.run_line("a cr 0 4 2")?.as_deref(), Some("a: 0x0002"));
-    /// assert_eq!(other.load_image(a, &image[1..]).unwrap_err().to_string(), "905 image");
+    /// assert_eq!(other.load_image(a, &image[1..]).unwrap_err().to_string(), "not a valid image (905)");
     /// other.take(a, 0)?;
-    /// assert_eq!(other.load_image(a, &image).unwrap_err().to_string(), "906 other functions");
+    /// assert_eq!(other.load_image(a, &image).unwrap_err().to_string(), "image is for other functions (906)");
     /// # Ok::<(), pciguest::Error>(())
     /// ```
     pub fn load_image(&mut self, guest: Guest, image: impl AsRef<[u8]>) -> Result<(), Error> {
@@ -115,7 +115,7 @@ impl Machine {
     /// assert_eq!(machine.image_fault(a, &image)?, None);
     ///
     /// let mut other = pciguest::Machine::new(BOARD.replace("size = 4096", "size = 8192"))?;
-    /// assert_eq!(other.load_image(a, &image).unwrap_err().to_string(), "906 other functions");
+    /// assert_eq!(other.load_image(a, &image).unwrap_err().to_string(), "image is for other functions (906)");
     /// let fault = other.image_fault(a, &image)?.unwrap();
     /// assert_eq!(fault.to_string(), "slot 0: the size of bar0");
     /// # Ok::<(), pciguest::Error>(())
@@ -209,10 +209,10 @@ impl Machine {
     /// let mut other = pciguest::Machine::new(BOARD)?; // all guests go on there
     /// other.load_all(&image)?;
     /// assert_eq!(other.run_line("a cr 5 4 2")?.as_deref(), Some("a: 0x0002"));
-    /// assert_eq!(other.load_all(&image[1..]).unwrap_err().to_string(), "905 image");
+    /// assert_eq!(other.load_all(&image[1..]).unwrap_err().to_string(), "not a valid image (905)");
     /// let renamed = BOARD.replace("\"a\"", "\"z\"");
     /// let refused = pciguest::Machine::new(renamed)?.load_all(&image);
-    /// assert_eq!(refused.unwrap_err().to_string(), "907 other board");
+    /// assert_eq!(refused.unwrap_err().to_string(), "image is for another board (907)");
     /// # Ok::<(), pciguest::Error>(())
     /// ```
     pub fn load_all(&mut self, image: impl AsRef<[u8]>) -> Result<(), Error> {

@@ -59,7 +59,7 @@ impl Machine {
     ///
     /// ```
     /// let refused = pciguest::Machine::new("x = 1").unwrap_err();
-    /// assert_eq!(refused.to_string(), "102 key");
+    /// assert_eq!(refused.to_string(), "required key is missing, or value has the wrong form (102)");
     /// ```
     pub fn new(board: impl AsRef<[u8]>) -> Result<Machine, Error> {
         let board = board.as_ref();
@@ -84,7 +84,7 @@ impl Machine {
     /// # const BOARD: &str = include_str!("board.toml");
     /// let mut machine = pciguest::Machine::new(BOARD)?;
     /// assert_eq!(machine.guest("a")?.index(), 0);
-    /// assert_eq!(machine.guest("nobody").unwrap_err().to_string(), "902 argument");
+    /// assert_eq!(machine.guest("nobody").unwrap_err().to_string(), "invalid argument (902)");
     /// # Ok::<(), pciguest::Error>(())
     /// ```
     pub fn guest(&mut self, name: &str) -> Result<Guest, Error> {
@@ -121,7 +121,7 @@ impl Machine {
     /// let mut machine = Machine::new(BOARD)?;
     /// let a = machine.guest("a")?;
     /// assert_eq!(machine.guest_name(a)?, "a");
-    /// assert_eq!(machine.guest_name(Guest::of_index(1)).unwrap_err().to_string(), "902 argument");
+    /// assert_eq!(machine.guest_name(Guest::of_index(1)).unwrap_err().to_string(), "invalid argument (902)");
     /// # Ok::<(), pciguest::Error>(())
     /// ```
     pub fn guest_name(&mut self, guest: Guest) -> Result<String, Error> {
@@ -148,7 +148,7 @@ impl Machine {
     /// let a = machine.guest("a")?;
     /// assert_eq!(machine.read(a, At::Config { slot: 0, offset: 0 }, 4)?, 0x0001_1234);
     /// assert_eq!(machine.read(a, At::Memory { address: 0x8000_0000 }, 2)?, 0xffff); // nothing answers
-    /// assert_eq!(machine.read(a, At::Io { port: 1 }, 4).unwrap_err().to_string(), "301 misaligned");
+    /// assert_eq!(machine.read(a, At::Io { port: 1 }, 4).unwrap_err().to_string(), "address is not a multiple of the width (301)");
     /// # Ok::<(), pciguest::Error>(())
     /// ```
     pub fn read(&mut self, guest: Guest, at: At, width: u32) -> Result<u32, Error> {
@@ -275,7 +275,7 @@ impl Machine {
     /// let identity = |device| HostAt::Config { bus: 0, device, function: 0, offset: 0 };
     /// assert_eq!(machine.host_read(identity(1), 4)?, 0x0001_1234);
     /// assert_eq!(machine.host_read(identity(2), 4)?, 0xffff_ffff); // nobody
-    /// assert_eq!(machine.host_read(identity(32), 4).unwrap_err().to_string(), "902 argument");
+    /// assert_eq!(machine.host_read(identity(32), 4).unwrap_err().to_string(), "invalid argument (902)");
     /// # Ok::<(), pciguest::Error>(())
     /// ```
     pub fn host_read(&mut self, at: HostAt, width: u32) -> Result<u32, Error> {
@@ -313,7 +313,7 @@ impl Machine {
     /// let a = machine.guest("a")?;
     /// machine.move_function(a, 0, a, 7)?;
     /// assert_eq!(machine.read(a, At::Config { slot: 7, offset: 0 }, 4)?, 0x0001_1234);
-    /// assert_eq!(machine.move_function(a, 0, a, 1).unwrap_err().to_string(), "601 empty slot");
+    /// assert_eq!(machine.move_function(a, 0, a, 1).unwrap_err().to_string(), "slot is empty (601)");
     /// # Ok::<(), pciguest::Error>(())
     /// ```
     pub fn move_function(
@@ -372,7 +372,7 @@ impl Machine {
     /// # const BOARD: &str = include_str!("board.toml");
     /// let mut machine = pciguest::Machine::new(BOARD)?;
     /// let a = machine.guest("a")?;
-    /// assert_eq!(machine.give("1.0", a, 5).unwrap_err().to_string(), "602 slot taken");
+    /// assert_eq!(machine.give("1.0", a, 5).unwrap_err().to_string(), "slot already contains a function (602)");
     /// machine.take(a, 0)?;
     /// machine.give("1.0", a, 5)?;
     /// # Ok::<(), pciguest::Error>(())
@@ -403,7 +403,7 @@ impl Machine {
     /// let a = machine.guest("a")?;
     /// machine.take(a, 0)?;
     /// assert_eq!(machine.read(a, At::Config { slot: 0, offset: 0 }, 4)?, 0xffff_ffff); // nobody
-    /// assert_eq!(machine.take(a, 0).unwrap_err().to_string(), "601 empty slot");
+    /// assert_eq!(machine.take(a, 0).unwrap_err().to_string(), "slot is empty (601)");
     /// # Ok::<(), pciguest::Error>(())
     /// ```
     pub fn take(&mut self, guest: Guest, slot: u64) -> Result<(), Error> {
@@ -429,7 +429,7 @@ impl Machine {
     /// let mut machine = Machine::new(BOARD)?;
     /// let a = machine.guest("a")?;
     /// assert_eq!(machine.device_read(a, 0, Part::Region(0), 8)?, 0);
-    /// assert_eq!(machine.device_read(a, 0, Part::Config, 4).unwrap_err().to_string(), "303 range"); // the guest's own
+    /// assert_eq!(machine.device_read(a, 0, Part::Config, 4).unwrap_err().to_string(), "slot, offset, port or path is out of range (303)"); // the guest's own
     /// # Ok::<(), pciguest::Error>(())
     /// ```
     pub fn device_read(
@@ -483,7 +483,7 @@ impl Machine {
     /// let a = machine.guest("a")?;
     /// machine.device_write(a, 0, Part::Region(0), 9, 0x5a)?;
     /// assert_eq!(machine.device_read_wide(a, 0, Part::Region(0), 8, 4)?, 0x5a00);
-    /// assert_eq!(machine.device_read_wide(a, 0, Part::Region(0), 4093, 4).unwrap_err().to_string(), "303 range");
+    /// assert_eq!(machine.device_read_wide(a, 0, Part::Region(0), 4093, 4).unwrap_err().to_string(), "slot, offset, port or path is out of range (303)");
     /// # Ok::<(), pciguest::Error>(())
     /// ```
     pub fn device_read_wide(

@@ -20,7 +20,7 @@ impl Guest {
     ///
     /// let mut machine = Machine::new(BOARD)?;
     /// assert_eq!(machine.guest("a")?, Guest::of_index(0));
-    /// assert_eq!(machine.changed(Guest::of_index(1)).unwrap_err().to_string(), "902 argument");
+    /// assert_eq!(machine.changed(Guest::of_index(1)).unwrap_err().to_string(), "invalid argument (902)");
     /// # Ok::<(), pciguest::Error>(())
     /// ```
     pub fn of_index(index: usize) -> Guest {

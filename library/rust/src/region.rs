@@ -26,7 +26,7 @@ impl Machine {
     /// machine.write(a, At::Config { slot: 0, offset: 0x04 }, 2, 2)?; // memory on, wherever the region stands
     /// machine.region_write(a, 0, 0, 0x10, 4, 0x1234_5678)?;
     /// assert_eq!(machine.region_read(a, 0, 0, 0x11, 2)?, 0x3456);
-    /// assert_eq!(machine.region_read(a, 0, 0, 4093, 4).unwrap_err().to_string(), "303 range");
+    /// assert_eq!(machine.region_read(a, 0, 0, 4093, 4).unwrap_err().to_string(), "slot, offset, port or path is out of range (303)");
     /// # Ok::<(), pciguest::Error>(())
     /// ```
     pub fn region_read(

@@ -62,7 +62,7 @@ pub fn report_json(board: impl AsRef<[u8]>) -> Result<String, Error> {
 ///
 /// ```
 /// let check = pciguest::check("[host]\nio = [0x1000, 0xffff]\nmem = 7\n")?;
-/// assert_eq!(check.refusal.unwrap().to_string(), "102 key");
+/// assert_eq!(check.refusal.unwrap().to_string(), "required key is missing, or value has the wrong form (102)");
 /// assert!(check.text.starts_with("board.toml:3: host.mem"));
 /// # Ok::<(), pciguest::Error>(())
 /// ```
@@ -81,11 +81,10 @@ pub fn check(board: impl AsRef<[u8]>) -> Result<Check, Error> {
     }
 }
 
-/// The words of a number that a call answers, or that the program or a reply tells. A number that stands for nothing has
-/// the empty text.
+/// Returns the message that says what an error number means. It is empty for a number without a meaning.
 ///
 /// ```
-/// assert_eq!(pciguest::strerror(602), "slot taken");
+/// assert_eq!(pciguest::strerror(602), "slot already contains a function");
 /// assert_eq!(pciguest::strerror(0), "");
 /// ```
 pub fn strerror(number: u32) -> &'static str {

@@ -24,7 +24,7 @@ impl Machine {
     /// let a = machine.guest("a")?;
     /// let identity = At::Config { slot: 0, offset: 0 };
     /// assert_eq!(machine.read_wide(a, identity, 3)?, 0x01_1234);
-    /// assert_eq!(machine.read_wide(a, identity, 9).unwrap_err().to_string(), "302 width");
+    /// assert_eq!(machine.read_wide(a, identity, 9).unwrap_err().to_string(), "access width is not 1, 2 or 4 (wide calls: 1 to 8) (302)");
     /// # Ok::<(), pciguest::Error>(())
     /// ```
     pub fn read_wide(&mut self, guest: Guest, at: At, width: u32) -> Result<u64, Error> {

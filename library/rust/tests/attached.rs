@@ -23,7 +23,7 @@ fn what_is_not_attached() {
     let answer = case.machine.attach(a, 0, Other(declared.clone()));
     assert_eq!(answer, Err(NotAttached::Taken));
     let answer = case.machine.attach(a, 2, Other(declared.clone()));
-    assert_eq!(answer.unwrap_err().to_string(), "601 empty slot");
+    assert_eq!(answer.unwrap_err().to_string(), "slot is empty (601)");
     assert_eq!(case.machine.attach(a, 1, Other(declared)), Ok(()));
     case.machine.write(a, memory(0xe000_0008), 4, 1).unwrap();
     assert_eq!(case.machine.registers(a, 1).unwrap().get(RINGS), 0);

@@ -115,7 +115,10 @@ fn set_up_takes_a_board_at_reset() -> Result<(), Error> {
     board.write(config(0, 1, 4), 2, 0)?;
     let refused = board.set_up().err().expect("a refusal");
     assert!(matches!(refused, Error::NotAtReset(_)));
-    assert_eq!(refused.to_string(), "904 not at reset");
+    assert_eq!(
+        refused.to_string(),
+        "board has been written to since reset (904)"
+    );
     Ok(())
 }
 
@@ -147,7 +150,10 @@ fn guests_over_a_board_of_ones_own() -> Result<(), Error> {
     let refused = Board::new(BOARD)?
         .into_guests()
         .expect_err("nothing behind the bridge is found");
-    assert_eq!(refused.to_string(), "207 not in order");
+    assert_eq!(
+        refused.to_string(),
+        "audit found a problem in the registers (207)"
+    );
     let refused = set_up_by_hand()?
         .into_guests()
         .expect_err("a closed region");

@@ -37,7 +37,7 @@ fn a_refused_board_says_why() {
         );
         assert_eq!(
             error.to_string(),
-            format!("104 number\n{}", text.trim_end())
+            format!("number is out of range (104)\n{}", text.trim_end())
         );
         assert!(error.source().is_some());
     }
@@ -46,7 +46,7 @@ fn a_refused_board_says_why() {
     assert!(Machine::load(&file)
         .unwrap_err()
         .to_string()
-        .starts_with("203 I/O pool\n"));
+        .starts_with("I/O aperture is too small (203)\n"));
     assert!(Board::load(&file).is_ok());
 }
 

@@ -314,10 +314,10 @@ fn accesses_are_refused() -> Result<(), Error> {
     };
     assert_eq!(
         machine.read(a, memory, 4).unwrap_err().to_string(),
-        "301 misaligned"
+        "address is not a multiple of the width (301)"
     );
     assert!(
-        matches!(machine.read(a, memory, 3), Err(Error::Access(refusal)) if refusal.words() == "width")
+        matches!(machine.read(a, memory, 3), Err(Error::Access(refusal)) if refusal.words() == "access width is not 1, 2 or 4 (wide calls: 1 to 8)")
     );
     assert!(matches!(
         machine.read(Guest::of_index(2), config(0, 0), 4),
@@ -329,12 +329,18 @@ fn accesses_are_refused() -> Result<(), Error> {
 #[test]
 fn boards_are_refused() {
     let refused = |board: &[u8]| Machine::new(board).unwrap_err();
-    assert_eq!(refused(b"x").to_string(), "101 not TOML");
-    assert_eq!(refused(b"\xff").to_string(), "101 not TOML");
+    assert_eq!(
+        refused(b"x").to_string(),
+        "board file is not valid TOML (101)"
+    );
+    assert_eq!(
+        refused(b"\xff").to_string(),
+        "board file is not valid TOML (101)"
+    );
     assert!(matches!(refused(b""), Error::BoardFile(refusal) if refusal.number() == 102));
     let io_pool = include_bytes!("../../../boards/refused/io_pool.toml");
     assert!(
-        matches!(refused(io_pool), Error::SetUp(refusal) if refusal.to_string() == "203 I/O pool")
+        matches!(refused(io_pool), Error::SetUp(refusal) if refusal.to_string() == "I/O aperture is too small (203)")
     );
 }
 
@@ -362,10 +368,13 @@ fn many_machines_come_and_go() -> Result<(), Error> {
 #[test]
 fn errors_go_where_errors_go() {
     let error: Box<dyn std::error::Error + Send + Sync> = Machine::new("").unwrap_err().into();
-    assert_eq!(error.to_string(), "102 key");
+    assert_eq!(
+        error.to_string(),
+        "required key is missing, or value has the wrong form (102)"
+    );
     assert_eq!(
         format!("{:?}", Machine::new("").unwrap_err()),
-        "BoardFile(Refusal(102 \"key\"))"
+        "BoardFile(Refusal(102 \"required key is missing, or value has the wrong form\"))"
     );
 }
 

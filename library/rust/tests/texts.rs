@@ -1,4 +1,4 @@
-//! Reports, checks and words, over all boards of the folder `boards`.
+//! Reports, checks and error messages, over all boards of the folder `boards`.
 
 use pciguest::{check, report, report_json, strerror, Machine};
 use std::ffi::OsStr;
@@ -53,21 +53,21 @@ fn long_texts_come_whole() {
 }
 
 #[test]
-fn numbers_have_words() {
+fn numbers_have_messages() {
     let known = (0..1 << 16)
         .filter(|&number| !strerror(number).is_empty())
         .count();
     assert_eq!(known, 45);
-    assert_eq!(strerror(205), "prefetchable pool");
+    assert_eq!(strerror(205), "prefetchable memory aperture is too small");
     let last = [905, 906, 907, 908, 909].map(strerror);
     assert_eq!(
         last,
         [
-            "image",
-            "other functions",
-            "other board",
-            "image version",
-            "busy"
+            "not a valid image",
+            "image is for other functions",
+            "image is for another board",
+            "unsupported image version",
+            "another call is running on this struct"
         ]
     );
     assert_eq!(strerror(u32::MAX), "");
