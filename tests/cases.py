@@ -301,7 +301,7 @@ def difference(case, status, out, err):
         wrong.append("the last line has no line feed")
     fault = f"pciguest: fault {case.fault}" if case.fault else ""
     # a line may tell more below it
-    err = re.sub(r"(?m)^pciguest: (line \d+: .*|\d+ more lines?)\n", "", err)
+    err = re.sub(r"(?m)^script:.*\n", "", err)
     first = fault if case.fault == ANY_FAULT and status == 1 else err.partition("\n")[0]
     if (status, first) != (1 if fault else 0, fault):
         wrong.append(f"standard error: wanted {told(fault)}, came {told(err)} with status {status}")

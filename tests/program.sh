@@ -34,7 +34,7 @@ tell() {
 
 # without_reasons: what was told beside why lines have none of the forms
 without_reasons() {
-  grep -v -e '^pciguest: line ' -e '^pciguest: [0-9]* more lines\{0,1\}$' told
+  grep -v '^script:' told
 }
 
 # ends_with NAME WORDS..: the program ends well, with the output in wanted.out
@@ -345,34 +345,34 @@ END
 ends_with 'run, lines at the ends of what they may say' run "$boards/main.toml" < ends.script
 cp told err
 cat > wanted.err <<'END'
-pciguest: line 6: word 2: 0x10000000000000000 is no number below 2^64
-pciguest: line 9: word 5: 0x100000000 is no number below 2^32
-pciguest: line 13: word 2: +0 is no number below 2^64
-pciguest: line 14: word 2: 0x is no number below 2^64
-pciguest: line 15: word 1: ? is none of cr, cw, ir, iw, mr, mw and raise
-pciguest: line 20: word 1: cr?0 is none of cr, cw, ir, iw, mr, mw and raise
-pciguest: line 21: word 2: 0?0 is no number below 2^64
-pciguest: line 36: word 4 is missing: the width
+script:6: error: invalid address '0x10000000000000000' (expected a decimal or 0x-prefixed number below 2^64)
+script:9: error: invalid value '0x100000000' (expected a decimal or 0x-prefixed number below 2^32)
+script:13: error: invalid slot '+0' (expected a decimal or 0x-prefixed number below 2^64)
+script:14: error: invalid slot '0x' (expected a decimal or 0x-prefixed number below 2^64)
+script:15: error: unknown command '?' (expected cr, cw, ir, iw, mr, mw or raise)
+script:20: error: unknown command 'cr?0' (expected cr, cw, ir, iw, mr, mw or raise)
+script:21: error: invalid slot '0?0' (expected a decimal or 0x-prefixed number below 2^64)
+script:36: error: missing width (expected 'cr SLOT OFFSET WIDTH')
 END
 tell 'run, why lines at the ends have no form'
 for i in {1..23}; do echo 'host audit'; done > bad.script
 for i in {1..23}; do echo 'host: refused 401 bad line'; done > wanted.out
 timeout 60 "$program" run --strict "$boards/main.toml" < bad.script > out 2> err; status=$?
 {
-  for i in {1..20}; do echo "pciguest: line $i: word 1: audit is none of cr, ir, mr and move"; done
-  printf 'pciguest: 3 more lines\npciguest: fault 209 refused line\n'
+  for i in {1..20}; do echo "script:$i: error: unknown command 'audit' (expected cr, ir, mr or move)"; done
+  printf 'script: 3 more malformed lines\npciguest: fault 209 refused line\n'
 } > wanted.err
 wanted=1
 tell 'run, more lines without a form than are told of'
 timeout 60 "$program" ready "$boards/main.toml" < /dev/null 2> /dev/null | cat <(echo 'host: refused 401 bad line') - > wanted.out
 timeout 60 "$program" ready "$boards/main.toml" <<< 'host cr 1.0 0 4' > out 2> err; status=$?
-printf 'pciguest: line 1: word 2: 1.0 is no number BB:DD.F\npciguest: fault 208 not ready\n' > wanted.err
+printf "script:1: error: invalid function '1.0' (expected BB:DD.F)\npciguest: fault 208 not ready\n" > wanted.err
 wanted=1
 tell 'ready, why a line has no form before the fault'
 printf '\xef\xbb\xbfa cr 0 0 4\na cr 0 0 4\n' > marked.script
 printf '?: refused 402 unknown guest\na: 0x00011234\n' > wanted.out
 timeout 60 "$program" run "$boards/main.toml" < marked.script > out 2> err; status=$?
-echo 'pciguest: line 1: word 0 begins with a byte order mark' > wanted.err
+echo 'script:1: error: the line begins with a byte order mark' > wanted.err
 wanted=0
 tell 'run, a script that begins with a byte order mark'
 
@@ -383,50 +383,50 @@ reasons() {
   sed 's/ -> .*//' reasons.rows > reasons.script
   timeout 60 "$program" "$1" "$boards/main.toml" < reasons.script > told 2> err; status=$?
   : > out; : > wanted.out; wanted=0
-  awk -F ' -> ' '{ print "pciguest: line " NR ": " $2 }' reasons.rows > wanted.err
+  awk -F ' -> ' '{ print "script:" NR ": error: " $2 }' reasons.rows > wanted.err
   tell "$1, each reason for which a line has no form"
 }
 reasons run << 'END'
-a -> word 1 is missing: what to do
-a CR 0 0 4 -> word 1: CR is none of cr, cw, ir, iw, mr, mw and raise
-a cr -> word 2 is missing: the slot
-a cr s -> word 2: s is no number below 2^64
-a cr 0 -> word 3 is missing: the offset
-a cr 0 0 -> word 4 is missing: the width
-a cr 0 0 4 w -> word 5: w is a word too many
-a cw 0 0 4 -> word 5 is missing: the value
-a cw 0 0 4 -1 -> word 5: -1 is no number below 2^32
-a ir -> word 2 is missing: the port
-a iw 0 4 1 2 3 4 5 6 -> word 5: 2 is a word too many
-a mr -> word 2 is missing: the address
-a mw 0 4 abcdefghijklmnopqrstuvwxyz0123456789 -> word 4: abcdefghijklmnopqrstuvwxyz012345 is no number below 2^32
-a raise 0 -> word 3 is missing: the part
-a raise 0 bar6 0 1 -> word 3: bar6 is none of cfg and bar0 to bar5
-a raise 0 cfg 0 -> word 5 is missing: the mask
-a raise 0 cfg 0 256 -> word 5: 256 is no number below 2^8
+a -> missing command (expected cr, cw, ir, iw, mr, mw or raise)
+a CR 0 0 4 -> unknown command 'CR' (expected cr, cw, ir, iw, mr, mw or raise)
+a cr -> missing slot (expected 'cr SLOT OFFSET WIDTH')
+a cr s -> invalid slot 's' (expected a decimal or 0x-prefixed number below 2^64)
+a cr 0 -> missing offset (expected 'cr SLOT OFFSET WIDTH')
+a cr 0 0 -> missing width (expected 'cr SLOT OFFSET WIDTH')
+a cr 0 0 4 w -> unexpected word 'w' (expected 'cr SLOT OFFSET WIDTH')
+a cw 0 0 4 -> missing value (expected 'cw SLOT OFFSET WIDTH VALUE')
+a cw 0 0 4 -1 -> invalid value '-1' (expected a decimal or 0x-prefixed number below 2^32)
+a ir -> missing port (expected 'ir PORT WIDTH')
+a iw 0 4 1 2 3 4 5 6 -> unexpected word '2' (expected 'iw PORT WIDTH VALUE')
+a mr -> missing address (expected 'mr ADDRESS WIDTH')
+a mw 0 4 abcdefghijklmnopqrstuvwxyz0123456789 -> invalid value 'abcdefghijklmnopqrstuvwxyz012345' (expected a decimal or 0x-prefixed number below 2^32)
+a raise 0 -> missing part (expected 'raise SLOT PART OFFSET MASK')
+a raise 0 bar6 0 1 -> invalid part 'bar6' (expected cfg or bar0 to bar5)
+a raise 0 cfg 0 -> missing mask (expected 'raise SLOT PART OFFSET MASK')
+a raise 0 cfg 0 256 -> invalid mask '256' (expected a decimal or 0x-prefixed number below 2^8)
 END
 reasons run << 'END'
-host -> word 1 is missing: what to do
-host cw 00:01.0 0 4 1 -> word 1: cw is none of cr, ir, mr and move
-host cr -> word 2 is missing: the function
-host cr 1.0 0 4 -> word 2: 1.0 is no number BB:DD.F
-host ir 0 4 4 -> word 4: 4 is a word too many
-host mr 0 -> word 3 is missing: the width
-host move -> word 2 is missing: the guest
-host move a 0 z 1 -> word 4: z is no guest
+host -> missing command (expected cr, ir, mr or move)
+host cw 00:01.0 0 4 1 -> unknown command 'cw' (expected cr, ir, mr or move)
+host cr -> missing function (expected 'cr FUNCTION OFFSET WIDTH')
+host cr 1.0 0 4 -> invalid function '1.0' (expected BB:DD.F)
+host ir 0 4 4 -> unexpected word '4' (expected 'ir PORT WIDTH')
+host mr 0 -> missing width (expected 'mr ADDRESS WIDTH')
+host move -> missing guest (expected 'move GUEST SLOT GUEST SLOT')
+host move a 0 z 1 -> invalid guest 'z' (expected a guest's name)
 END
 reasons firmware << 'END'
-host -> word 1 is missing: what to do
-host move a 0 b 1 -> word 1: move is none of cr, cw, ir, iw, mr, mw, why, audit, ready and guests
-host cw 00:01.0 0 4 -> word 5 is missing: the value
-host iw 0 4 v -> word 4: v is no number below 2^32
-host mw 0 -> word 3 is missing: the width
-host why -> word 2 is missing: the space
-host why pref 0 -> word 2: pref is none of mem, io and cfg
-host why mem -> word 3 is missing: the place
-host why cfg 0 -> word 3: 0 is no place in that space
-host why io 0 4 -> word 4: 4 is a word too many
-host guests a -> word 2: a is a word too many
+host -> missing command (expected cr, cw, ir, iw, mr, mw, why, audit, ready or guests)
+host move a 0 b 1 -> unknown command 'move' (expected cr, cw, ir, iw, mr, mw, why, audit, ready or guests)
+host cw 00:01.0 0 4 -> missing value (expected 'cw FUNCTION OFFSET WIDTH VALUE')
+host iw 0 4 v -> invalid value 'v' (expected a decimal or 0x-prefixed number below 2^32)
+host mw 0 -> missing width (expected 'mw ADDRESS WIDTH VALUE')
+host why -> missing space (expected 'why SPACE PLACE')
+host why pref 0 -> invalid space 'pref' (expected mem, io or cfg)
+host why mem -> missing address (expected 'why SPACE PLACE')
+host why cfg 0 -> invalid function '0' (expected BB:DD.F)
+host why io 0 4 -> unexpected word '4' (expected 'why SPACE PLACE')
+host guests a -> unexpected word 'a' (expected 'guests')
 END
 head -c 201 /dev/zero | tr '\0' '\r' > returns
 echo '?: refused 403 long line' > wanted.out
@@ -566,22 +566,22 @@ mistakes "unexpected value '1' for '--plain' found; no more were expected" 'chec
 mistakes "the argument '--json' cannot be used multiple times" 'list [OPTIONS] <BOARD>' list --json --json board.toml
 mistakes 'the following required arguments were not provided:
   <BOARD>' 'run <BOARD>' run
-hints '702 board file' "cannot read 'nothing.toml': no such file" list nothing.toml
-hints '702 board file' "cannot read '': no such file" run ''
-hints '702 board file' "cannot read '.': it is a folder" check .
-hints '702 board file' "cannot read 'board.toml/x': a part of the path is no folder" firmware board.toml/x
+hints '702 board file' "error: cannot read 'nothing.toml': no such file" list nothing.toml
+hints '702 board file' "error: cannot read '': no such file" run ''
+hints '702 board file' "error: cannot read '.': is a directory" check .
+hints '702 board file' "error: cannot read 'board.toml/x': not a directory" firmware board.toml/x
 ln -s loop.toml loop.toml
-hints '702 board file' "cannot read 'loop.toml': too many links" audit loop.toml
+hints '702 board file' "error: cannot read 'loop.toml': too many levels of symbolic links" audit loop.toml
 long=$(printf 'n%.0s' {1..256})
-hints '702 board file' "cannot read '$long': a name is too long" ready "$long"
+hints '702 board file' "error: cannot read '$long': file name too long" ready "$long"
 python3 -c "import socket; socket.socket(socket.AF_UNIX).bind('socket.toml')"
-hints '702 board file' "cannot read 'socket.toml': the system refuses it" check socket.toml
+hints '702 board file' "error: cannot read 'socket.toml': the system refuses to read it" check socket.toml
 : > locked.toml
 chmod 0 locked.toml
-[ -r locked.toml ] || hints '702 board file' "cannot read 'locked.toml': permission denied" list locked.toml
-hints '101 not TOML' 'see: pciguest check ff.toml' list ff.toml
-hints '102 key' 'see: pciguest check empty.toml' audit empty.toml
-hints '204 memory pool' "see: pciguest check $boards/refused/memory_pool.toml" run "$boards/refused/memory_pool.toml"
+[ -r locked.toml ] || hints '702 board file' "error: cannot read 'locked.toml': permission denied" list locked.toml
+hints '101 not TOML' "help: run 'pciguest check ff.toml' to list all problems" list ff.toml
+hints '102 key' "help: run 'pciguest check empty.toml' to list all problems" audit empty.toml
+hints '204 memory pool' "help: run 'pciguest check $boards/refused/memory_pool.toml' to list all problems" run "$boards/refused/memory_pool.toml"
 hints '101 not TOML' '' check ff.toml
 hints '208 not ready' '' ready "$boards/main.toml"
 

@@ -40,7 +40,7 @@ holds 'an audit of broken firmware' sh -c 'echo "$1" | grep -q "not forwarded by
 holds 'a session' same examples/session/session.stdout \
   outside sh -c './pciguest firmware examples/session/board.toml < examples/session/session.script 2> session.told'
 holds 'why lines of it have no form' same session.told \
-  printf 'pciguest: line %s: word 1: %s is none of cr, ir, mr and move\n' 21 audit 22 ready 23 why
+  printf "script:%s: error: unknown command '%s' (expected cr, ir, mr or move)\n" 21 audit 22 ready 23 why
 
 # ---- firmware: an enumerator on many boards, and with each of its mistakes, by the words of firmware-testing.md
 testing=docs/firmware-testing.md

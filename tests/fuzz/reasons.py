@@ -15,21 +15,23 @@ def is_number(word, bits):
     return bool(match) and (int(match[1], 16) if match[1] else int(match[2])) >> bits == 0
 
 
-def complaint(name, word, before, guests):
-    """What is said of a word that isn't what it has to be, or None."""
-    if name == "function":
-        return None if PLACE.match(word) else "is no number BB:DD.F"
-    if name == "guest":
-        return None if word in guests else "is no guest"
-    if name == "part":
-        return None if word in PLACES else "is none of cfg and bar0 to bar5"
-    if name == "space":
-        return None if word in (b"mem", b"io", b"cfg") else "is none of mem, io and cfg"
-    if name == "place":
-        is_place = PLACE.match(word) if before == b"cfg" else is_number(word, 32 if before == b"io" else 64)
-        return None if is_place else "is no place in that space"
-    bits = LIMITS.get(name, 64)
-    return None if is_number(word, bits) else f"is no number below 2^{bits}"
+def kind_of(name, before):
+    """The kind of a word, and what it is called: a place is of the space before it."""
+    return {b"io": ("value", "port"), b"cfg": ("function", "function")}.get(before, ("address", "address")) if name == "place" else (name, name)
+
+
+def complaint(kind, word, guests):
+    """What a word has to be, if it isn't."""
+    if kind == "function":
+        return None if PLACE.match(word) else "BB:DD.F"
+    if kind == "guest":
+        return None if word in guests else "a guest's name"
+    if kind == "part":
+        return None if word in PLACES else "cfg or bar0 to bar5"
+    if kind == "space":
+        return None if word in (b"mem", b"io", b"cfg") else "mem, io or cfg"
+    bits = LIMITS.get(kind, 64)
+    return None if is_number(word, bits) else f"a decimal or 0x-prefixed number below 2^{bits}"
 
 
 def shown(word):
@@ -38,21 +40,24 @@ def shown(word):
 
 def reason(forms, words, guests):
     """What is wrong first in the words after the name, or None."""
+    *others, last = forms
+    verbs = f"(expected {', '.join(others)} or {last})"
     if not words:
-        return "word 1 is missing: what to do"
+        return f"missing command {verbs}"
     verb = words[0].decode("latin-1")
     if verb not in forms:
-        *others, last = forms
-        return f"word 1: {shown(words[0])} is none of {', '.join(others)} and {last}"
+        return f"unknown command '{shown(words[0])}' {verbs}"
     names = forms[verb].split()
+    form = f"(expected '{' '.join([verb, *(name.upper() for name in names)])}')"
     for place, name in enumerate(names):
+        kind, name = kind_of(name, words[place])
         if place + 1 == len(words):
-            return f"word {place + 2} is missing: the {name}"
-        wrong = complaint(name, words[place + 1], words[place], guests)
-        if wrong:
-            return f"word {place + 2}: {shown(words[place + 1])} {wrong}"
+            return f"missing {name} {form}"
+        wanted = complaint(kind, words[place + 1], guests)
+        if wanted:
+            return f"invalid {name} '{shown(words[place + 1])}' (expected {wanted})"
     if len(words) > len(names) + 1:
-        return f"word {len(names) + 2}: {shown(words[len(names) + 1])} is a word too many"
+        return f"unexpected word '{shown(words[len(names) + 1])}' {form}"
     return None
 
 
@@ -65,12 +70,12 @@ def reasons(lines, guests=None):
         if len(line) > 200 or not line.startswith(MARK) and (not words or words[0] not in {b"host", *(guests or ())}):
             continue
         forms = FIRMWARE if guests is None else HOST if words[0] == b"host" else GUEST
-        why = "word 0 begins with a byte order mark" if line.startswith(MARK) else reason(forms, words[1:], guests)
+        why = "the line begins with a byte order mark" if line.startswith(MARK) else reason(forms, words[1:], guests)
         if why:
-            told.append(f"pciguest: line {number}: {why}\n")
+            told.append(f"script:{number}: error: {why}\n")
     return told
 
 
 def text_of(told):
     more = len(told) - 20
-    return "".join(told[:20] + [f"pciguest: {more} more line{'s' * (more > 1)}\n"] * (more > 0))
+    return "".join(told[:20] + [f"script: {more} more malformed line{'s' * (more > 1)}\n"] * (more > 0))

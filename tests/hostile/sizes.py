@@ -117,9 +117,10 @@ def scripts(room, whole):
         piped(room, f"script: one line of {size} of NUL bytes", f"head -c {size} /dev/zero", 1, long_line)
     for count in [10**5, 10**6] + ([10**7] if whole else []):
         piped(room, f"script: {count} lines", f"yes 'a cr 0 0 4' | head -n {count}", count, REPLY.strip())
-        told = [b"line %d: word 2 is missing: the slot" % it for it in range(1, 21)] + [b"%d more lines" % (count - 20)]
+        told = [b"script:%d: error: missing slot (expected 'cr SLOT OFFSET WIDTH')" % it for it in range(1, 21)]
+        told.append(b"script: %d more malformed lines" % (count - 20))
         piped(room, f"script: {count} bad lines", f"yes 'a cr' | head -n {count}", count, b"a: refused 401 bad line",
-              b"".join(b"pciguest: %s\n" % it for it in told))
+              b"".join(b"%s\n" % it for it in told))
         piped(room, f"script: {count} blank lines", f"yes '' | head -n {count}", 0, b"")
         piped(room, f"script: {count} raises", f"yes 'a raise 0 cfg 7 0xff' | head -n {count}", count, b"a: ok")
 

@@ -121,7 +121,7 @@ def as_nobody(room):
     os.chmod(room.folder, 0o755)
     user = 65534 if os.geteuid() == 0 else None
     run = subprocess.run([room.program, "list", board], capture_output=True, user=user, stdin=subprocess.DEVNULL)
-    told = fault_line(702) + f"cannot read '{board}': permission denied\n".encode()
+    told = fault_line(702) + f"error: cannot read '{board}': permission denied\n".encode()
     room.expect("an unreadable board file", (run.returncode, run.stdout, run.stderr) == (1, b"", told), run)
     print("| a board file that its user can't read | 702 |")
 

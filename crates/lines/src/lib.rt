@@ -24,7 +24,7 @@ mod words;
 pub use answers::{Answer, Answers};
 pub use firmware_line::{FirmwareCommand, firmware_meaning};
 pub use line::{LONGEST_LINE, Line, What, Who, line_meaning, parse_line};
-pub use reasons::{ArgError, ArgKind, Dialect, Reason};
+pub use reasons::{Reason, reason_of};
 pub use replies::{LONGEST_REPLY, LineText, line_text, push_line, push_named};
 pub use requests::HostRequest;
 pub use runs::{RunFault, run};

@@ -1,20 +1,20 @@
-//! Explanations of malformed lines, based on the first word that is wrong.
+//! Explanations of refused lines, based on the first word that is wrong.
 ghost use Rattle.std.specs.Prelude.{◌≡◌};
 ghost use Rattle.lines.specs.Refusals.{is_marked};
 
 use crate::cursor::name_word;
 use crate::firmware_line::value;
 use crate::forms::{bus_address, mask, place};
-use crate::line::is_guest;
+use crate::line::{LONGEST_LINE, is_comment, is_guest};
 use crate::numbers::number_of;
-use crate::requests::why_place;
 use crate::words::first_words;
 use accesses::Names;
-use arrayvec::ArrayVec;
+use arrayvec::ArrayString;
+use std::fmt::{self, Write};
 
 /// The author of a line, which determines the valid forms.
-#[derive(Clone, Copy, Debug, PartialEq, Eq)]
-pub enum Dialect {
+#[derive(Clone, Copy)]
+enum Dialect {
     /// A guest.
     Guest,
     /// The host, in a script.
@@ -24,10 +24,8 @@ pub enum Dialect {
 }
 
 /// The kind of a word in a form.
-#[derive(Clone, Copy, Debug, PartialEq, Eq)]
-pub enum ArgKind {
-    /// The word after the name, which selects the form.
-    Verb(Dialect),
+#[derive(Clone, Copy)]
+enum ArgKind {
     Function,
     Slot,
     Offset,
@@ -44,39 +42,81 @@ pub enum ArgKind {
     Space,
     /// An address, a port or a BDF, depending on the space before it.
     Place,
+    /// A port about which firmware asks, a 32-bit number.
+    AskedPort,
     Guest,
 }
 
-/// The error in a word.
-#[derive(Clone, Copy, Debug, PartialEq, Eq)]
-pub enum ArgError {
-    Missing(ArgKind),
-    Unfit(ArgKind),
-    /// The form has no word at this position.
-    TooMany,
-    /// The line begins with a byte order mark.
-    Marked,
-}
-
-/// The reason why a line is malformed.
+/// The reason why a line is refused.
 #[derive(Drop)]
 pub struct Reason {
-    /// The position of the word: 0 is the name, and 1 the first word after it.
+    /// The position of the wrong word: 0 is the name, and 1 the first word after it.
     pub at: usize,
-    pub wrong: ArgError,
-    /// The beginning of the word, at most 32 bytes. Empty if there is no word to show.
-    pub word: ArrayVec<u8, 32>,
+    /// The error message. Empty if the line has one of the valid forms.
+    pub text: ArrayString<128>,
 }
 
-impl Reason {
-    fn new(at: usize, wrong: ArgError, word: &[u8]) -> Reason {
-        let mut beginning = ArrayVec::new();
-        let _ = beginning.try_extend_from_slice(&word[..word.len().min(32)]);
-        Reason {
-            at,
-            wrong,
-            word: beginning,
+/// Displays the beginning of a word, with `?` for each byte that isn't printable ASCII.
+#[derive(Clone, Copy)]
+struct Word<'a>(&'a [u8]);
+
+impl<'a> fmt::Display for Word<'a> {
+    fn fmt<W: fmt::Write>(&self, f: &mut fmt::Formatter<W>) -> fmt::Result {
+        for byte in &self.0[..self.0.len().min(32)] {
+            let shown = match *byte {
+                b' '..=b'~' => char::from(*byte),
+                _ => '?',
+            };
+            write!(f, "{shown}")?;
         }
+        Ok(())
+    }
+}
+
+/// Displays a form: its verb, and the names of the words after the verb.
+#[derive(Clone, Copy)]
+struct Form<'a>(&'a [u8], &'a [ArgKind]);
+
+impl<'a> fmt::Display for Form<'a> {
+    fn fmt<W: fmt::Write>(&self, f: &mut fmt::Formatter<W>) -> fmt::Result {
+        write!(f, "{}", Word(self.0))?;
+        for role in self.1 {
+            write!(f, " ")?;
+            for byte in words_of(*role).0.as_bytes() {
+                write!(f, "{}", char::from(*byte).to_ascii_uppercase())?;
+            }
+        }
+        Ok(())
+    }
+}
+
+/// Returns what a word of this kind is called, and what it must be.
+fn words_of(role: ArgKind) -> (&'static str, &'static str) {
+    let number = "a decimal or 0x-prefixed number below 2^64";
+    let short = "a decimal or 0x-prefixed number below 2^32";
+    match role {
+        ArgKind::Function => ("function", "BB:DD.F"),
+        ArgKind::Slot => ("slot", number),
+        ArgKind::Offset => ("offset", number),
+        ArgKind::Width => ("width", number),
+        ArgKind::Port => ("port", number),
+        ArgKind::Address => ("address", number),
+        ArgKind::Value => ("value", short),
+        ArgKind::Mask => ("mask", "a decimal or 0x-prefixed number below 2^8"),
+        ArgKind::Part => ("part", "cfg or bar0 to bar5"),
+        ArgKind::Space => ("space", "mem, io or cfg"),
+        ArgKind::Place => ("place", ""),
+        ArgKind::AskedPort => ("port", short),
+        ArgKind::Guest => ("guest", "a guest's name"),
+    }
+}
+
+/// Returns the commands of a speaker.
+fn commands(speaker: Dialect) -> &'static str {
+    match speaker {
+        Dialect::Guest => "cr, cw, ir, iw, mr, mw or raise",
+        Dialect::Host => "cr, ir, mr or move",
+        Dialect::Firmware => "cr, cw, ir, iw, mr, mw, why, audit, ready or guests",
     }
 }
 
@@ -101,43 +141,67 @@ fn roles_after(speaker: Dialect, verb: &[u8]) -> Option<&'static [ArgKind]> {
     }
 }
 
-/// Returns whether a word is of the given kind. `before` is the word before it.
-fn fits(role: ArgKind, names: &Names, before: &[u8], word: &[u8]) -> bool {
+/// Returns the kind of a word, given the word before it, which determines the kind of a place.
+fn role_after(role: ArgKind, before: &[u8]) -> ArgKind {
+    match (role, before) {
+        (ArgKind::Place, b"io") => ArgKind::AskedPort,
+        (ArgKind::Place, b"cfg") => ArgKind::Function,
+        (ArgKind::Place, _) => ArgKind::Address,
+        _ => role,
+    }
+}
+
+/// Returns whether a word is of the given kind.
+fn fits(role: ArgKind, names: &Names, word: &[u8]) -> bool {
     match role {
-        ArgKind::Verb(_) => false,
         ArgKind::Function => bus_address(word).is_some(),
-        ArgKind::Slot | ArgKind::Offset | ArgKind::Width | ArgKind::Port | ArgKind::Address => {
+        ArgKind::Slot | ArgKind::Offset | ArgKind::Width | ArgKind::Port => {
             number_of(word).is_some()
         }
-        ArgKind::Value => value(word).is_some(),
+        ArgKind::Address | ArgKind::Place => number_of(word).is_some(),
+        ArgKind::Value | ArgKind::AskedPort => value(word).is_some(),
         ArgKind::Mask => mask(word).is_some(),
         ArgKind::Part => place(word).is_some(),
         ArgKind::Space => matches!(word, b"mem" | b"io" | b"cfg"),
-        ArgKind::Place => why_place(before, word).is_some(),
         ArgKind::Guest => is_guest(word, names),
     }
 }
 
-/// Returns the first error in the words after a name.
-fn wrong_in(speaker: Dialect, names: &Names, words: &[&[u8]]) -> Reason {
+/// Appends the first error in the words after a name, and returns the position of the wrong word.
+fn push_wrong(
+    text: &mut ArrayString<128>,
+    speaker: Dialect,
+    names: &Names,
+    words: &[&[u8]],
+) -> Result<usize, fmt::Error> {
+    let verbs = commands(speaker);
     let [verb, words @ ..] = words else {
-        return Reason::new(1, ArgError::Missing(ArgKind::Verb(speaker)), &[]);
+        write!(text, "missing command (expected {verbs})")?;
+        return Ok(1);
     };
     let Some(roles) = roles_after(speaker, verb) else {
-        return Reason::new(1, ArgError::Unfit(ArgKind::Verb(speaker)), verb);
+        write!(text, "unknown command '{}' (expected {verbs})", Word(verb))?;
+        return Ok(1);
     };
     let mut before = *verb;
     for (i, role) in roles.iter().enumerate() {
+        let role = role_after(*role, before);
+        let (name, wanted) = words_of(role);
         let Some(word) = words.get(i) else {
-            return Reason::new(i + 2, ArgError::Missing(*role), &[]);
+            write!(text, "missing {name} (expected '{}')", Form(verb, roles))?;
+            return Ok(i + 2);
         };
-        if !fits(*role, names, before, word) {
-            return Reason::new(i + 2, ArgError::Unfit(*role), word);
+        if !fits(role, names, word) {
+            write!(text, "invalid {name} '{}' (expected {wanted})", Word(word))?;
+            return Ok(i + 2);
         }
         before = *word;
     }
-    let word = words.get(roles.len()).copied().unwrap_or(&[]);
-    Reason::new(roles.len() + 2, ArgError::TooMany, word)
+    if let Some(word) = words.get(roles.len()) {
+        let form = Form(verb, roles);
+        write!(text, "unexpected word '{}' (expected '{form}')", Word(word))?;
+    }
+    Ok(roles.len() + 2)
 }
 
 /// Returns whether a line begins with the UTF-8 byte order mark.
@@ -150,20 +214,51 @@ pub(crate) fn is_marked(line: &[u8]) -> bool
     }
 }
 
-/// Returns why a line is malformed. The valid forms are those of guests with these names and of
-/// their host, or those of firmware if `guests` is `None`. A byte order mark is reported first. No
-/// form has more than five words after the name, so the first seven are enough.
-pub(crate) fn reason_of(guests: Option<&Names>, line: &[u8]) -> Reason {
+/// Appends the error in a line, and returns the position of the wrong word.
+fn push_reason(
+    text: &mut ArrayString<128>,
+    guests: Option<&Names>,
+    line: &[u8],
+) -> Result<usize, fmt::Error> {
+    if line.len() > LONGEST_LINE {
+        write!(
+            text,
+            "the line has {} bytes (at most {LONGEST_LINE})",
+            line.len()
+        )?;
+        return Ok(0);
+    }
+    let Some((name, rest)) = name_word(line) else {
+        return Ok(0);
+    };
     if is_marked(line) {
-        return Reason::new(0, ArgError::Marked, &[]);
+        write!(text, "the line begins with a byte order mark")?;
+        return Ok(0);
     }
-    let (name, rest) = name_word(line).unwrap_or((&[], &[]));
     let words = first_words(rest);
+    let words = words.as_slice();
+    let is_host = name == b"host".as_slice();
     match guests {
-        None => wrong_in(Dialect::Firmware, &Names::new(), words.as_slice()),
-        Some(names) if name == b"host".as_slice() => {
-            wrong_in(Dialect::Host, names, words.as_slice())
+        _ if is_comment(name) => Ok(0),
+        None if is_host => push_wrong(text, Dialect::Firmware, &Names::new(), words),
+        Some(names) if is_host => push_wrong(text, Dialect::Host, names, words),
+        Some(names) if is_guest(name, names) => push_wrong(text, Dialect::Guest, names, words),
+        _ => {
+            let names = match guests {
+                None => "host",
+                Some(_) => "host or a guest's name",
+            };
+            write!(text, "unknown guest '{}' (expected {names})", Word(name))?;
+            Ok(0)
         }
-        Some(names) => wrong_in(Dialect::Guest, names, words.as_slice()),
     }
+}
+
+/// Returns why a line is malformed, too long, or not from a guest. The valid forms are those of
+/// guests with these names and of their host, or those of firmware if `guests` is `None`. No form
+/// has more than five words after the name, so the first seven are enough.
+pub fn reason_of(guests: Option<&Names>, line: &[u8]) -> Reason {
+    let mut text = ArrayString::new();
+    let at = push_reason(&mut text, guests, line).unwrap_or(0);
+    Reason { at, text }
 }

@@ -5,11 +5,11 @@ ghost use Rattle.lines.specs.{Faults.{read_failures_of, write_failures_of}, Piec
 
 use crate::answers::{Answer, Answers};
 use crate::line::LONGEST_LINE;
-use crate::reasons::{ArgError, Reason, is_marked, reason_of};
+use crate::reasons::{is_marked, reason_of};
 use crate::replies::LineText;
 use crate::runs::{RunFault, run};
 use accesses::Names;
-use arrayvec::ArrayVec;
+use arrayvec::{ArrayString, ArrayVec};
 use std::alloc::AllocError;
 use std::marker::Model;
 use streams::{Reader, Writer};
@@ -19,7 +19,7 @@ use streams::{Reader, Writer};
 pub struct BadLine {
     /// The number of the line, counted from 1. Contracts see only this field.
     pub line: u64,
-    pub reason: Reason,
+    pub reason: ArrayString<128>,
 }
 
 impl Model for BadLine {
@@ -34,11 +34,7 @@ impl Default for BadLine {
     fn default() -> BadLine {
         BadLine {
             line: 0,
-            reason: Reason {
-                at: 0,
-                wrong: ArgError::TooMany,
-                word: ArrayVec::new(),
-            },
+            reason: ArrayString::new(),
         }
     }
 }
@@ -79,7 +75,7 @@ impl RunStats {
         }
         self.first.push(BadLine {
             line: self.lines,
-            reason: reason_of(guests, line),
+            reason: reason_of(guests, line).text,
         });
     }
 

@@ -20,15 +20,15 @@ pub(crate) fn file_hint(alloc: Global, path: &str, why: ErrorKind) -> Result<Str
     let why = match why {
         ErrorKind::NotFound => "no such file",
         ErrorKind::PermissionDenied => "permission denied",
-        ErrorKind::IsADirectory => "it is a folder",
-        ErrorKind::NotADirectory => "a part of the path is no folder",
-        ErrorKind::FilesystemLoop => "too many links",
-        ErrorKind::InvalidFilename => "a name is too long",
+        ErrorKind::IsADirectory => "is a directory",
+        ErrorKind::NotADirectory => "not a directory",
+        ErrorKind::FilesystemLoop => "too many levels of symbolic links",
+        ErrorKind::InvalidFilename => "file name too long",
         ErrorKind::OutOfMemory => "out of memory",
-        _ => "the system refuses it",
+        _ => "the system refuses to read it",
     };
     let path = Shown(path.as_bytes());
-    format!(in alloc; "cannot read '{path}': {why}\n")
+    format!(in alloc; "error: cannot read '{path}': {why}\n")
 }
 
 /// Returns the hint about a refused file or board: the `check` command that lists all problems.
@@ -50,7 +50,9 @@ pub fn check_hint(
     match path {
         Some(path) if is_refusal => {
             let path = Shown(path.as_bytes());
-            let hint = format!(in alloc; "see: pciguest check {path}\n")?;
+            let hint = format!(in alloc;
+                "help: run 'pciguest check {path}' to list all problems\n"
+            )?;
             Ok(Some(hint))
         }
         _ => Ok(None),
