@@ -223,7 +223,7 @@ library/libpciguest.a library/libpciguest.so.0:
 # A page that runs the proved code in a browser: pciguest.html. Node or Chromium compares what the page answers with the
 # program and the library for C; where neither is there, that is said, and not compared.
 PROVED := $(addprefix pciguest_raw_,new free guest guest_count guest_name count function slot region why_in report_in check \
-  run_line host_read save load give take board_new board_free board_anew board_guests board_write board_run_line board_survey \
+  run_line explain_line host_read save load give take board_new board_free board_anew board_guests board_write board_run_line board_survey \
   board_why_json board_function)
 # what JavaScript calls: the proved calls, and those of library/machines.c over them
 EXPORTS := $(PROVED) pciguest_raw_save_all pciguest_raw_load_all

@@ -610,6 +610,15 @@ uint32_t pciguest_slot(struct pciguest *machine, size_t guest, uint64_t slot,
 uint32_t pciguest_run_line(struct pciguest *machine, const char *line, size_t length, char *reply,
                            size_t room, size_t *written);
 
+/* Explains why a line of a script is refused with 401, 402 or 403: writes a sentence without a line
+ * feed, such as "missing width (expected 'cr SLOT OFFSET WIDTH')", and stores its length in
+ * `needed` and the position of the wrong word in `word`: 0 for the name, 1 for the word after it.
+ * For any other line, the text is empty. The text isn't terminated by a 0. The line isn't run, and
+ * may end with its line feed. Allocates no memory and changes nothing.
+ * Returns 0 on success; 902 if the buffer is too small (only the length is stored). Since 0.4.0. */
+uint32_t pciguest_explain_line(struct pciguest *machine, const char *line, size_t length,
+                               size_t *word, char *text, size_t room, size_t *needed);
+
 /* Writes the report of a board file, as `pciguest list` does, and stores the length of the text in
  * `needed`. The text isn't terminated by a 0. Needs no machine.
  * Returns 0 on success; 101 to 112 or 201 to 205 for the first check that the file or its board

@@ -2,7 +2,7 @@
 
 import { hex } from './report.js';
 import { called } from './names.js';
-import { number_of, words_in } from './reasons.js';
+import { number_of, words_in } from './forms.js';
 import { register_at } from './register_names.js';
 import { owner_in_words } from './marks.js';
 

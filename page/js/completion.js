@@ -1,7 +1,7 @@
 // The words that fit where one types in a line: guests, what they do, functions by path or number, registers by name.
 
 import { hex, two_digits } from './report.js';
-import { form_of, forms_of, number_of, shape_of, words_in } from './reasons.js';
+import { form_of, forms_of, number_of, shape_of, words_in } from './forms.js';
 import { register_at, registers_of } from './register_names.js';
 
 const DOES = { cr: 'reads configuration bytes', cw: 'writes configuration bytes', ir: 'reads ports', iw: 'writes ports', mr: 'reads memory', mw: 'writes memory',

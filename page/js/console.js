@@ -4,7 +4,7 @@ import { count_in_words } from './report.js';
 import { asked_of } from './asked.js';
 import { make, make_button } from './marks.js';
 import { with_numbers } from './names.js';
-import { why_bad, why_refused } from './reasons.js';
+import { why_bad, why_refused } from './forms.js';
 import { checked, explained } from './meant.js';
 import { question_after } from './why.js';
 import { HANDS_OVER, move_in } from './replay.js';
@@ -89,9 +89,9 @@ export class Console {
     row.append(' ', one);
     if (this.marks.has(who)) one.style.setProperty('--hue', this.marks.get(who).hue);
     one.classList.toggle('refused', reply.includes(': refused '));
-    const { as, guests, functions } = this.whose(), numbers = / refused (?!30[12] )/.test(reply) ? null : checked(line, guests, as), why = numbers ?? why_refused(line, reply, guests, as);
+    const whose = this.whose(), { as, guests, functions } = whose, numbers = / refused (?!30[12] )/.test(reply) ? null : checked(line, guests, as), why = numbers ?? why_refused(line, reply, whose);
     if (why !== null) {
-      const bad = / refused 40[123] /.test(reply) ? why_bad(line, guests, as) : null;
+      const bad = / refused 40[123] /.test(reply) ? why_bad(line, whose) : null;
       this.put('why', bad === null ? why : explained(bad, functions));
       this.mark_word(row.firstChild, line, bad?.word);
     }

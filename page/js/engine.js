@@ -9,6 +9,7 @@ const NONE_THERE = 901;
 const TOO_SMALL = 902;
 const LONGEST_REPLY = 48;
 const LONGEST_LINE = 256;
+const LONGEST_REASON = 128;
 const LONGEST_NAME = 16;
 // what stands where in what is told of a function: its number, its regions and windows, each with its length, who has it, and of firmware's
 // board what its Command opens
@@ -126,6 +127,13 @@ class Held {
 
   // What a line wrote; nothing where it was refused for want of memory.
   written_in(out, number) { return this.engine.bytes(out, number === 0 ? this.engine.word(this.written) : 0).slice(); }
+
+  // Why a line is refused for its words, and which word is wrong: { why, at }. There is no text for any other line.
+  explain(line) {
+    const { engine, handle, written } = this, call = engine.exports.pciguest_raw_explain_line;
+    const { text } = engine.with_bytes(TO_BYTES.encode(line), (...bytes) => engine.told((...rooms) => call(handle, ...bytes, written, ...rooms), LONGEST_REASON));
+    return { why: TO_TEXT.decode(text), at: engine.word(written) };
+  }
 
   // The number that a line reads.
   number(line) {

@@ -5,7 +5,7 @@
 //   -> REPLY         a line of the reader's was answered so since the task began, while the conditions above held that are no replies
 
 import { asked_of, keeping_latch } from './asked.js';
-import { why_bad } from './reasons.js';
+import { why_bad } from './forms.js';
 
 const ARROW = /^(.*?)\s*->\s*(.+)$/;
 
@@ -25,22 +25,26 @@ function condition_of(text) {
 }
 
 // Why a condition is none, or null.
-function why_none({ kind, line }, guests, as) {
+function why_none({ kind, line }, whose) {
   if (kind === null) return 'write ready, audit: ok, LINE -> REPLY or -> REPLY';
-  if (kind !== 'read') return kind !== 'told' && as !== 'firmware' ? 'only firmware can run an audit' : null;
-  const bad = why_bad(line, guests, as);
+  if (kind !== 'read') return kind !== 'told' && whose.as !== 'firmware' ? 'only firmware can run an audit' : null;
+  const bad = why_bad(line, whose);
   if (bad !== null) return bad.why;
   return /^\s*\S+\s+[cim]r\s/.test(line) ? null : 'this has to be a read, because it runs after each line';
 }
 
-// The conditions of a goal, and what is wrong with it: { rows, wrong }.
-export function read_goal(text, guests, as) {
-  const rows = text.split('\n').map(line => line.trim()).filter(line => line !== '' && !line.startsWith('#')).map(line => {
+// The conditions of a goal.
+function rows_of(text) {
+  return text.split('\n').map(line => line.trim()).filter(line => line !== '' && !line.startsWith('#')).map(line => {
     const [condition, ...words] = line.split(/\s+#\s+/), one = condition_of(condition);
     return { ...one, words: words.join(' # ') || (one.kind === null ? line : IN_WORDS[one.kind](one)) };
   });
-  const wrong = rows.flatMap(one => { const why = why_none(one, guests, as); return why === null ? [] : [`${one.text}: ${why}`]; });
-  return { rows, wrong: rows.length === 0 ? ['a goal has at least one condition, each on a line of its own'] : wrong };
+}
+
+// What is wrong with a goal, a text for each condition that is none.
+export function wrong_in_goal(text, whose) {
+  const rows = rows_of(text), wrong = rows.flatMap(one => { const why = why_none(one, whose); return why === null ? [] : [`${one.text}: ${why}`]; });
+  return rows.length === 0 ? ['a goal has at least one condition, each on a line of its own'] : wrong;
 }
 
 // A board that was given to its guests was in order then, and stays so; it is asked no more. Where firmware drives nothing there is no audit.
@@ -51,8 +55,8 @@ function lines_of_audit(held) {
 }
 
 export class Goals {
-  constructor(text, guests, as) {
-    const { rows } = read_goal(text, guests, as);
+  constructor(text, as) {
+    const rows = rows_of(text);
     Object.assign(this, { rows, as, told: new Set(), lacks: [], wants_ready: rows.some(one => one.kind === 'ready') });
   }
 

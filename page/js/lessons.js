@@ -52,7 +52,7 @@ export class Lessons {
     this.page.open(task.board, task.as, { lines: of.lines, state: task.state ?? null }, task.parts === undefined);
     if (task.elsewhere) this.page.move_live(task.elsewhere);
     this.opening = false;
-    Object.assign(this, { task, part, key: task.name ? this.key_of(task, part) : '', goals: new Goals(task.goal, this.page.guests(), task.as) });
+    Object.assign(this, { task, part, key: task.name ? this.key_of(task, part) : '', goals: new Goals(task.goal, task.as) });
     this.view.draw_task(this);
     this.look();
   }

@@ -52,6 +52,7 @@ const give = line => script_console.give(line);
 const answers = () => (as === 'firmware' ? firmware.driven : machine);
 const speaking = () => (given() ? 'guests' : as);
 const guests = () => (speaking() === 'firmware' ? [] : [...marks.keys()]);
+const whose = () => ({ as: speaking(), guests: guests(), functions: functions_now(), explain: line => answers()?.explain(line) ?? { why: '', at: 0 } });
 // What is asked of firmware's board, or of a guest: why something finds what it finds.
 const question = new Question(part.heard, { light, choose, path_in: (guest, slot) => path_in(owners, { guest, slot }), held: answers, driven: () => (speaking() === 'firmware' ? firmware.driven : null), functions: () => functions_now(),
   reveal: one => reveal(one, part), changed: () => { if (as !== 'firmware') question.look(); draw(); } });
@@ -63,13 +64,13 @@ const guest_registers = new GuestRegisters(part, registers, board, give);
 const firmware = new Firmware(part, board, addresses, registers, light, give);
 const box = new ScriptBox(part, known, follow_register);
 const script_console = new Console(part, box,
-  { machine: answers, whose: () => ({ as: speaking(), guests: guests(), functions: functions_now() }), moved, heard: reply => lessons.hear(reply), begins, ran, question });
+  { machine: answers, whose, moved, heard: reply => lessons.hear(reply), begins, ran, question });
 const lacks = () => (firmware.now === null ? ['only firmware can ask'] : [...firmware.now.problems, ...firmware.now.lacks].map(one => with_numbers(one.text, functions_now())));
 const lessons = new Lessons(part, TASKS, { open: open_task, move_live, held: answers, guests, left: set_up, lacks });
 const shown = () => ({ board: part.board.value, as });
 const file_view = new FileView(part, { changed: set_up, tell: (...words) => keeper.tell(...words) });
 const keeper = new Keeper(part, { held, as_it_is, is_refused: () => answers() === null, open: open_beginning, begin_task: task => lessons.take_up(task), run: text => scripts.run(text) });
-new TaskForm(part, { shown: () => ({ ...shown(), guests: guests() }), with_lines, as_it_is, save: made => keeper.save(made) });
+new TaskForm(part, { shown: () => ({ ...whose(), ...shown() }), with_lines, as_it_is, save: made => keeper.save(made) });
 // The width up to which guests' registers begin folded, and what a file is refused by that is no TOML.
 const NARROW = 640, NOT_TOML = 101;
 let following = false, unseen = false, has_moved = false, has_marks = false, wired = null, sent = null;
@@ -85,7 +86,7 @@ function known() {
   if (answers() === null) return null;
   const those = functions_now();
   const open_of = who => open_among(all_placed(answers(), those, owners)).filter(one => one.owner.guest === who);
-  return { as: speaking(), guests: guests(), functions: those, owners, places: who => places_on(who === 'host' ? those : open_of(who)) };
+  return { ...whose(), owners, places: who => places_on(who === 'host' ? those : open_of(who)) };
 }
 
 function moved(from, to) {

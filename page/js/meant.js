@@ -1,7 +1,7 @@
 // What the reader may have meant by a word that is wrong, and what a line that has its form will be refused for, told while it is typed.
 
 import { hex } from './report.js';
-import { form_of, forms_of, number_of, words_in } from './reasons.js';
+import { form_of, forms_of, number_of, words_in } from './forms.js';
 
 const WIDTHS = [1n, 2n, 4n];
 const PLACES = ['the offset', 'the port', 'the address'];

@@ -1,6 +1,6 @@
 // The register that a line names, as far as the line is typed.
 
-import { number_of, words_in } from './reasons.js';
+import { number_of, words_in } from './forms.js';
 
 // { path, offset, width, value } of a read or write of configuration space: the offset is null if it isn't typed yet, and so is the value. Null
 // if the line names no function.

@@ -3,7 +3,7 @@
 import { hex } from './report.js';
 import { make, put_text } from './marks.js';
 import { number_shown } from './names.js';
-import { number_of } from './reasons.js';
+import { number_of } from './forms.js';
 import { groups_of, identity_of, number_in } from './fields.js';
 import { Bytes } from './bytes_view.js';
 import { Bits } from './bits_view.js';

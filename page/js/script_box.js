@@ -1,7 +1,7 @@
 // The box in which a line is typed: while one types, it tells which word is wrong, and offers what fits there.
 
 import { make } from './marks.js';
-import { why_bad } from './reasons.js';
+import { why_bad } from './forms.js';
 import { checked, explained, meant_by } from './meant.js';
 import { completions } from './completion.js';
 
@@ -21,7 +21,7 @@ export class ScriptBox {
   look() {
     const board = this.board(), text = this.line.value, ends = this.line.selectionStart === text.length;
     if (board === null || text === '') { this.tell('', false); this.show([]); return; }
-    const bad = why_bad(text, board.guests, board.as), { from, offers } = ends ? this.offered(bad, text, board) : { from: 0, offers: [] };
+    const bad = why_bad(text, board), { from, offers } = ends ? this.offered(bad, text, board) : { from: 0, offers: [] };
     // a word by which something is offered in its place is a name, and not wrong
     const is_name = offers.length > 0 && bad?.word?.at === from, check = bad === null || bad.begun || is_name ? checked(text, board.guests, board.as) : null;
     if (check !== null) this.tell(check, true);

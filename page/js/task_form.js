@@ -1,11 +1,11 @@
 // A teacher's own task: the board that is shown and the lines that were run, with words and a goal, in a link or a file.
 
 import { make } from './marks.js';
-import { read_goal } from './goals.js';
+import { wrong_in_goal } from './goals.js';
 import { fragment_of, is_too_long, kilobytes, link_of, PASTE, TOO_LONG } from './keep.js';
 
 export class TaskForm {
-  // `parts` are its elements. `page` has `shown`, the board, whose lines one writes and the guests' names; and two beginnings: `with_lines`,
+  // `parts` are its elements. `page` has `shown`, the board, whose lines one writes, the guests' names and what explains a line; and two beginnings: `with_lines`,
   // all lines that were run, and `as_it_is`, the state that they left; and `save`, which keeps a file.
   constructor(parts, page) {
     Object.assign(this, { parts, page });
@@ -21,7 +21,7 @@ export class TaskForm {
 
   // Tells what is wrong with the goal; whether it is fine.
   look() {
-    const { as, guests } = this.page.shown(), { wrong } = read_goal(this.parts.own_goal.value, guests, as);
+    const wrong = wrong_in_goal(this.parts.own_goal.value, this.page.shown());
     this.parts.goal_wrong.replaceChildren(...wrong.map(one => make('li', '', one)));
     this.parts.own_goal.setAttribute('aria-invalid', wrong.length > 0);
     return wrong.length === 0;

@@ -1,7 +1,7 @@
 // The way of a configuration number, an address or a port down the tree, bus by bus: which register of whom takes it there, and which drop it.
 
 import { hex, parent_of, regions_of, two_digits, windows_of } from './report.js';
-import { number_of, words_in } from './reasons.js';
+import { number_of, words_in } from './forms.js';
 import { called } from './names.js';
 import { SPACE_READ } from './why.js';
 

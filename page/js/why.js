@@ -2,7 +2,7 @@
 
 import { party } from './findings.js';
 import { read_json } from './json.js';
-import { number_of, words_in } from './reasons.js';
+import { number_of, words_in } from './forms.js';
 
 const HEAD = 'why: '.length;
 const ALL_ONES = /^(\S+): 0x(?:ff){1,4}$/;

@@ -1,13 +1,8 @@
 """The lessons of the page and its views of registers and lines, used in any browser as a reader does, for page/tests/browse."""
 import json
-import random
-import re
 import shutil
-import sys
 import tempfile
-import time
 import tomllib
-import types
 
 import browse_boards
 import browse_firmware
@@ -20,10 +15,8 @@ import browse_scripts
 import browse_sight
 import browse_state
 import browse_why
-from tried import CUT, FIELD, PAGE, PAINTED, TOP, holds, said_last, text_of, type_line, until, write_field
-from one_script import one_script
+from tried import CUT, FIELD, PAGE, PAINTED, holds, said_last, text_of, type_line, until, write_field
 
-PYTHON = TOP / 'library/python/pciguest'
 TASKS = tomllib.loads((PAGE / 'tasks.toml').read_text())['task']
 
 # What a reader may type in each lesson, or in each part of one.
@@ -151,7 +144,7 @@ def a_teacher_hands_out(browser, page):
     type_line(browser, 'host cw 00:02.0 0x18 4 0x00010100')
     write = "(() => { const one = document.getElementById('%s'); one.value = %s; one.dispatchEvent(new Event('input')); })()"
     browser.run("document.getElementById('own').open = true")
-    for wrong, why in [('host cr 01:00.0 0 -> host: 0x1', 'the width is missing: host cr FUNCTION OFFSET WIDTH'), ('host cw 01:00.0 4 2 2 -> host: ok', 'has to be a read'),
+    for wrong, why in [('host cr 01:00.0 0 -> host: 0x1', "missing width (expected 'cr FUNCTION OFFSET WIDTH')"), ('host cw 01:00.0 4 2 2 -> host: ok', 'has to be a read'),
                        ('everything', 'write ready'), ('', 'a goal has at least one condition')]:
         browser.run(write % ('own_goal', json.dumps(wrong)))
         holds(f'the goal {wrong!r} is refused', why in text_of(browser, 'goal_wrong'), text_of(browser, 'goal_wrong'))
@@ -195,10 +188,10 @@ def fill(browser, text):
 
 def lines_are_explained(browser, page):
     browser.open(f'{page}#board=main')
-    for text, why, wrong in [('a mr 0x1000', 'the width is missing: a mr ADDRESS WIDTH', False), ('c cr 0 0 4', "'c' isn't a guest: a, b, host", True),
-                             ('a cw 0 4 2 0xg', "the value, '0xg', isn't a number: write decimal digits, or 0x and hexadecimal digits, below 2^64", True),
-                             ('host cw', "host has no command 'cw': cr, ir, mr, move", True), ('host mo', '', False),
-                             ('a cr 0 0 4 4', "one word too many, '4': a cr SLOT OFFSET WIDTH", True), ('a cr 0 0 4', '', False)]:
+    for text, why, wrong in [('a mr 0x1000', "missing width (expected 'mr ADDRESS WIDTH')", False), ('c cr 0 0 4', "unknown guest 'c' (expected host or a guest's name)", True),
+                             ('a cw 0 4 2 0xg', "invalid value '0xg' (expected a decimal or 0x-prefixed number below 2^32)", True),
+                             ('host cw', "unknown command 'cw' (expected cr, ir, mr or move)", True), ('host mo', '', False),
+                             ('a cr 0 0 4 4', "unexpected word '4' (expected 'cr SLOT OFFSET WIDTH')", True), ('a cr 0 0 4', '', False)]:
         fill(browser, text)
         found = browser.run("[document.getElementById('why').textContent, document.getElementById('line').getAttribute('aria-invalid')]")
         holds(f'{text} is explained while it is typed', found == [why, str(wrong).lower()], found)
@@ -240,39 +233,7 @@ def lines_are_explained(browser, page):
     fill(browser, 'host re')
     holds('firmware is offered what tells whether the board is ready', browser.run(OFFERS) == ['ready'], browser.run(OFFERS))
     fill(browser, 'a cr 0 0 4')
-    holds('firmware has no guests', text_of(browser, 'why') == "'a' isn't a guest: host", text_of(browser, 'why'))
-
-
-# The prompt's words, and what the page says in their place.
-IN_OTHER_WORDS = [(r'is no number: write decimal digits, or 0x and hexadecimal ones,', "isn't a number: write decimal digits, or 0x and hexadecimal digits,"),
-                  (r'is no part of a function', "isn't a part of a function"), (r"is no function: write bus, device and function, as", "isn't a function's number: write bus, device and function, such as"),
-                  (r'is no guest', "isn't a guest"), (r"'([^']*)' is a word too many", r"one word too many, '\1'"), (r"^'([^']*)' is nothing that (\S+) does", r"\2 has no command '\1'"),
-                  (r'the line has (\d+) bytes, and may have 200', r'the line has \1 bytes; the most is 200')]
-
-
-def in_other_words(why):
-    for found, said in IN_OTHER_WORDS:
-        why = why and re.sub(found, said, why)
-    return why
-
-
-def prompts_reasons():
-    """Why a line is bad, as the prompt for Python says it: that module alone, without the library below it."""
-    package, calls = types.ModuleType('pciguest'), types.ModuleType('pciguest._calls')
-    package.__path__, calls.CONFIG, calls.IO, calls.MEMORY = [str(PYTHON)], 0, 1, 2
-    sys.modules.update({'pciguest': package, 'pciguest._calls': calls})
-    from pciguest._explain import why_bad
-    return why_bad
-
-
-def reasons_are_the_prompts(browser, page):
-    chance, guests, why_bad = random.Random(3), ['a', 'b'], prompts_reasons()
-    words = ['a', 'b', 'c', 'host', 'cr', 'cw', 'ir', 'iw', 'mr', 'mw', 'raise', 'move', '0', '1', '4', '0x10', '0xg', '0x', '0XfF', '18446744073709551616', '0xffffffff',
-             '0x100000000', '01:02.0', '00:20.0', '1:02.0', 'AB:1f.7', 'cfg', 'bar0', 'bar6', '#', 'é']
-    lines = [chance.choice(['', ' ']) + chance.choice([' ', '  ', '\t']).join(chance.choices(words, k=chance.randrange(9))) for _ in range(10000)] + ['a cr 0 0 4' + 200 * ' ']
-    said = browser.run(f"(() => {{ {one_script(PAGE / 'js/reasons.js')}\nreturn {json.dumps(lines)}.map(one => why_bad(one, {json.dumps(guests)}, 'guests')?.why ?? null); }})()")
-    differ = [(line, why_bad(line, guests), why) for line, why in zip(lines, said) if in_other_words(why_bad(line, guests)) != why]
-    holds('for random lines the page finds the word that the prompt for Python finds', differ == [], differ[:3])
+    holds('firmware has no guests', text_of(browser, 'why') == "unknown guest 'a' (expected host)", text_of(browser, 'why'))
 
 
 def registers_have_words(browser, page):
@@ -358,7 +319,7 @@ def everything_has_a_name(browser, page):
         holds(f'all controls of {link} have names', browser.run(UNNAMED) == [], browser.run(UNNAMED))
 
 
-ALL = [lessons_are_done, a_reply_counts_in_its_place, a_lesson_leads_on, a_teacher_hands_out, lines_are_explained, reasons_are_the_prompts, registers_have_words, functions_can_be_told_apart, everything_has_a_name]
+ALL = [lessons_are_done, a_reply_counts_in_its_place, a_lesson_leads_on, a_teacher_hands_out, lines_are_explained, registers_have_words, functions_can_be_told_apart, everything_has_a_name]
 
 
 def in_browser(browser, page, folder, shot=''):

@@ -6,7 +6,7 @@ import { Engine, run } from '../js/engine.js';
 import { joined, same } from './compare_bytes.js';
 import { images_hold } from './compare_images.js';
 import { ways_astray } from './compare_ways.js';
-import { words_in } from '../js/reasons.js';
+import { words_in } from '../js/forms.js';
 import { question_at, question_of, read_why, read_why_of_guest, SPACE_READ } from '../js/why.js';
 
 const to_bytes = text => new TextEncoder().encode(text);

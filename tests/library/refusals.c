@@ -23,6 +23,7 @@ static void without_a_machine(void)
     IS(pciguest_count(&none, &count), 901);
     IS(pciguest_guest_count(&none, &count), 901);
     IS(pciguest_run_line(&none, "a cr 0 0 4", 10, reply, sizeof reply, &count), 901);
+    IS(pciguest_explain_line(&none, "a cr", 4, &count, reply, sizeof reply, &count), 901);
     pciguest_free(&none);
     pciguest_free(&none);
     IS(none.live, 0);
@@ -103,9 +104,16 @@ static void null_pointers(struct pciguest *machine)
     IS(pciguest_guest_name(machine, 0, reply, sizeof reply, NULL), 902);
     IS(pciguest_run_line(machine, "", 0, NULL, 0, &count), 902);
     IS(pciguest_run_line(machine, "", 0, reply, sizeof reply, NULL), 902);
+    IS(pciguest_explain_line(NULL, "", 0, &count, reply, sizeof reply, &count), 902);
+    IS(pciguest_explain_line(machine, NULL, 1, &count, reply, sizeof reply, &count), 902);
+    IS(pciguest_explain_line(machine, "", 0, NULL, reply, sizeof reply, &count), 902);
+    IS(pciguest_explain_line(machine, "", 0, &count, NULL, 1, &count), 902);
+    IS(pciguest_explain_line(machine, "", 0, &count, reply, sizeof reply, NULL), 902);
     IS(pciguest_report(NULL, 1, NULL, 0, &count), 902);
     IS(pciguest_report_json(NULL, 1, NULL, 0, &count), 902);
 }
+
+#define WRONG_OFFSET "invalid offset '0x' (expected a decimal or 0x-prefixed number below 2^64)"
 
 /* What Rust and Python can't ask; tests/library/refusals.txt has what they can. */
 static void bad_arguments(struct pciguest *machine, const uint8_t *board, size_t length)
@@ -113,7 +121,8 @@ static void bad_arguments(struct pciguest *machine, const uint8_t *board, size_t
     uint32_t value = 7;
     size_t count = 8;
     uint64_t wide = 5;
-    char reply[PCIGUEST_REPLY] = {0};
+    size_t word = 0;
+    char reply[PCIGUEST_REPLY] = {0}, told[128];
 
     IS(pciguest_new(machine, board, length), 903);
     IS(pciguest_read(machine, 0, 3, 0, 0, 4, &value), 902);
@@ -126,6 +135,13 @@ static void bad_arguments(struct pciguest *machine, const uint8_t *board, size_t
     IS(wide, 5);
     IS(pciguest_run_line(machine, "# a comment", 11, reply, sizeof reply, &count), 0);
     IS(count, 0);
+    IS(pciguest_explain_line(machine, "a cr 0 0 4\n", 11, &word, reply, 0, &count), 0);
+    IS(count, 0);
+    IS(pciguest_explain_line(machine, "a cr 0 0x\n", 10, &word, reply, sizeof reply, &count), 902);
+    IS(count, strlen(WRONG_OFFSET));
+    IS(pciguest_explain_line(machine, "a cr 0 0x\n", 10, &word, told, sizeof told, &count), 0);
+    IS(word, 3);
+    IS(count == strlen(WRONG_OFFSET) && memcmp(told, WRONG_OFFSET, count) == 0, 1);
 }
 
 /* How large things can be; what is kept for later is 0. */

@@ -100,6 +100,7 @@ static void ask_machine(void)
     BUSY(pciguest_function(&machine, 0, &row));
     BUSY(pciguest_slot(&machine, 0, 0, &row));
     BUSY(pciguest_run_line(&machine, "a cw 0 4 2 3", 12, text, sizeof text, &told));
+    BUSY(pciguest_explain_line(&machine, "a cr", 4, &told, text, sizeof text, &told));
     BUSY(pciguest_set_up(&board, &machine));
     BUSY(pciguest_board_guests(&board, &machine));
     IS(value == 7 && wide == 7 && told == 7 && text[0] == 0 && row.vendor_id == 0, 1);

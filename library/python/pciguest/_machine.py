@@ -157,6 +157,15 @@ class Machine(Attaching):
                 return self._reply("run_line", line)
             return reply
 
+    def explain_line(self, line: Union[str, bytes]) -> Optional[str]:
+        """Explains why a line is refused with 401, 402 or 403. Returns None for any other line. The line isn't run.
+
+        >>> Machine(BOARD).explain_line("a cr 0 0")
+        "missing width (expected 'cr SLOT OFFSET WIDTH')"
+        """
+        text = as_bytes(line)
+        return self._told("explain_line", 128, text, len(text), byref(c_size_t())) or None
+
     def _index_of(self, name: bytes) -> Optional[int]:
         """The index of the guest of a name, if there is one."""
         index = c_size_t(0)

@@ -5,7 +5,6 @@ from __future__ import annotations
 import re
 from typing import Callable, Dict, Iterator, List, Sequence, Tuple
 
-from ._explain import GUEST, MEANING, why_bad
 from ._functions import Function
 from ._lines import number_of
 from ._machine import Machine
@@ -23,6 +22,17 @@ a.mem[0x80000000:4] as a guest; 2.0.command, 2.0/1.0.bar0[0:4], host.mem[0xc0000
   why a mem 0x80000000      why a guest's access finds what it finds, or nobody; so why a io 0xcfc, why a cfg 1 0x10
   undo           takes back the last line that may have changed something
   quit           ends, as the end of input does"""
+
+GUEST_COMMANDS = ("cr", "cw", "ir", "iw", "mr", "mw", "raise")
+
+#: what the numbers mean by which a line that has a lawful form is refused
+MEANING = {
+    301: "the address, port or offset isn't a multiple of the width",
+    302: "the width isn't 1, 2 or 4",
+    303: "a slot above 31, an offset above 255 or outside its region, or a port above 0xffffffff",
+    601: "the slot is empty",
+    602: "the slot already has a function",
+}
 
 # the space that a word means, and how many numbers stand behind it
 SPACES: Dict[str, Tuple[str, int]] = {"cfg": ("config", 2), "io": ("io", 1), "mem": ("memory", 1)}
@@ -83,7 +93,7 @@ class Prompt:
         if refused is None:
             self.done.append(text)
             return
-        why = why_bad(text, self.guests) or MEANING.get(int(refused[1]))
+        why = self.machine.explain_line(text) or MEANING.get(int(refused[1]))
         if why is not None:
             self._write(f"  {why}")
 
@@ -159,7 +169,7 @@ class Prompt:
         if before[:2] == ["host", "move"]:
             return self.guests
         if len(before) == 1:
-            return ["cr", "ir", "mr", "move"] if before[0] == "host" else [*GUEST] if before[0] in self.guests else []
+            return ["cr", "ir", "mr", "move"] if before[0] == "host" else [*GUEST_COMMANDS] if before[0] in self.guests else []
         if before:
             return []
         who, dot, _ = word.rpartition(".")

@@ -707,6 +707,24 @@ impl Machine {
         answered(number).map(|()| text)
     }
 
+    /// Why a line is refused with 401, 402 or 403; `None` for any other line. The line isn't run.
+    ///
+    /// ```
+    /// # const BOARD: &str = include_str!("board.toml");
+    /// let why = pciguest::Machine::new(BOARD)?.explain_line("a cr 0 0")?;
+    /// assert_eq!(why.as_deref(), Some("missing width (expected 'cr SLOT OFFSET WIDTH')"));
+    /// # Ok::<(), pciguest::Error>(())
+    /// ```
+    pub fn explain_line(&mut self, line: impl AsRef<[u8]>) -> Result<Option<String>, Error> {
+        let line = line.as_ref();
+        // SAFETY: the machine is there, `line` has as many bytes as is said, and so has the text; nothing overlaps.
+        let (number, text) = told(128, |text, room, needed| unsafe {
+            let (bytes, length) = (line.as_ptr(), line.len());
+            raw::pciguest_explain_line(&mut self.handle, bytes, length, &mut 0, text, room, needed)
+        });
+        answered(number).map(|()| Some(text).filter(|text| !text.is_empty()))
+    }
+
     /// Runs one line of a script, with its line feed or without; a line feed elsewhere makes it a bad line. The reply
     /// stands without its line feed, and a blank line or a comment has none. A line that is refused is answered by its
     /// reply.

@@ -1,11 +1,12 @@
-//! The calls that run one line of a script or of a firmware session.
-ghost use Rattle.std.specs.Prelude.{◌≡◌, ◌≤◌, Some, length};
-ghost use Rattle.pciguest_c.specs.{Calls.{Answers, AnswersLine, run_line, buffer}, Handles.session_of, TextsTold.at_front};
+//! The calls that run one line of a script or of a firmware session, or explain its refusal.
+ghost use Rattle.std.specs.Prelude.{◌≡◌, ◌≢◌, ◌≤◌, Some, None, length};
+ghost use Rattle.model_guests.specs.Text.{Text};
+ghost use Rattle.pciguest_c.specs.{Calls.{Answers, AnswersLine, run_line, buffer}, Handles.session_of, TextsTold.{IsTold, at_front}};
 
 use crate::handle::Handle;
-use crate::texts::reports::{put, tell};
+use crate::texts::reports::{put, tell, tell_counted};
 use crate::values::numbers::{ARGUMENT, MEMORY, NO_MACHINE};
-use lines::{LONGEST_REPLY, LineText};
+use lines::{Answers, LONGEST_REPLY, LineText, reason_of};
 use script::run_line;
 use session::Session;
 use std::alloc::Global;
@@ -92,4 +93,32 @@ pub extern "C" fn pciguest_raw_board_run_line(
     let number = run_on(&mut session, line, out, written);
     *handle = Handle::of(session);
     number
+}
+
+/// Explains why a line is refused because it is malformed, too long, or not from a guest. Writes the
+/// explanation, which is empty for any other line, to the front of `out`. Stores its length even if
+/// `out` is too small, and the position of the wrong word. Runs nothing.
+#[unsafe(no_mangle)]
+pub extern "C" fn pciguest_raw_explain_line(
+    alloc: Global,
+    handle: &mut Handle,
+    line: &[u8],
+    word: &mut usize,
+    out: &mut [u8],
+    needed: &mut usize,
+) -> u32
+    ensures empty { session_of handle.old ≡ None → result ≡ 901 }
+    ensures told { result ≢ 901 → (text : Text)
+        × IsTold text out.old out.new result × (needed.new ≡ length text) }
+    ensures untold { result ≡ 901 → (session_of handle.old ≡ None) × (out.new ≡ out.old)
+        × (needed.new ≡ needed.old) }
+    ensures word { result ≢ 0 → word.new ≡ word.old }
+    ensures kept { session_of handle.new ≡ session_of handle.old }
+{
+    let Some(held) = handle.take(alloc) else {
+        return NO_MACHINE;
+    };
+    let reason = reason_of(held.guests(), line);
+    *handle = Handle::of(held);
+    tell_counted(reason.text.as_bytes(), reason.at, out, needed, word)
 }
