@@ -46,6 +46,9 @@ int main(int argc, char **argv)
     COST("write a byte as the device", 1000000, pciguest_device_write_wide(&machine, 0, 0, 1, 0x10, 1, (uint8_t)i));
     pciguest_write(&machine, 0, PCIGUEST_CONFIG, 0, 0x14, 4, 0xc0100000);
     pciguest_write(&machine, 0, PCIGUEST_CONFIG, 0, 4, 2, 2);
+    COST("read memory by region", 1000000, pciguest_region_read(&machine, 0, 0, 1, 0x10, 4, &wide));
+    COST("write memory by region", 1000000, pciguest_region_write(&machine, 0, 0, 1, 0x10, 4, i));
+    COST("read Command", 1000000, pciguest_read(&machine, 0, PCIGUEST_CONFIG, 0, 4, 2, &value));
     COST("tell where a region stands", 1000000, pciguest_region(&machine, 0, 0, 1, &region));
     COST("tell how often regions may have moved", 1000000, pciguest_changed(&machine, 0, &changes));
     COST("tell what an address hits", 1000000, pciguest_locate(&machine, 0, PCIGUEST_MEMORY, 0, 0xc0100010, &hit));

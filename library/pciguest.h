@@ -596,7 +596,9 @@ uint32_t pciguest_function(struct pciguest *machine, size_t index,
 
 /* Stores a row that describes the function in a slot of a guest, the same row that
  * pciguest_function stores for it. The row's bus, device and function numbers and regions come from
- * the board's own registers, which no guest writes. Allocates no memory and changes nothing.
+ * the board's own registers, which no guest writes. To find out only whether the guest has set
+ * Interrupt Disable, read Command with pciguest_read, which is faster. Allocates no memory and
+ * changes nothing.
  * Returns 0 on success; 303 if the slot is above 31; 601 if the slot is empty; 902 if there is no
  * such guest. Since 0.4.0. */
 uint32_t pciguest_slot(struct pciguest *machine, size_t guest, uint64_t slot,
