@@ -1,21 +1,25 @@
 -- An access of one byte of a region by slot and register: the checks in their order, where it lands, and the machine after it.
-use Rattle.std.{proofs.{Common.{◌≡◌, ◌<◌, ℕ, Bool, true, false, cond, List, [], Some, None, Option, Ok, Err, refl, sym, ap, ◌∙◌, subst, arith}, lemmas.Bool.Decides.nat_tests}, specs.{Prelude.{nat_lt, option_map, Result}, Option.{option_map_or, ok_or}}}
+use Rattle.std.{proofs.{Common.{◌≡◌, ◌<◌, ℕ, Bool, true, false, cond, List, [], Some, None, Option, Ok, Err, refl, sym, ap, ◌∙◌, subst, arith}, lemmas.Bool.Decides.nat_tests}, specs.{Prelude.{nat_lt, Result}, Option.{option_map_or, ok_or}}}
 use Rattle.lists.{specs.Elements.IsIn, proofs.Indices.{found_at, index_in}}
-use Rattle.model_registers.specs.{OwnCopies.IsLawfulOwn, Declarations.Region, Decoding.{Function}}
+use Rattle.model_registers.specs.{OwnCopies.IsLawfulOwn, Declarations.{Kind, Region}, Decoding.{Function, space_of, is_open}}
 use Rattle.model_board.specs.{Paths.Path, State.State}
 use Rattle.model_guests.specs.{Accesses.{RaisePlace, in_config, in_region, Op, reads, writes, refused}, Slots.{slot_at, perform}, Lone.LoneGuest, Text.Text, WorldNow.WorldNow, DeviceEvents.DeviceByte}
-use Rattle.model_handoff.specs.{GuestRegions.{LiveBar, region_at, region_now}, RegionBytes.{opening, byte_opening, byte_reply, reply_there, after_there, register_of}, Changes.MachineNow}
+use Rattle.model_handoff.specs.{GuestRegions.region_at, RegionBytes.{opening, byte_opening, byte_reply, reply_there, after_there, register_of}, Changes.MachineNow}
+use Rattle.bars.specs.declared.region.BarWithBase.{BarWithBase}
 use Rattle.bridge_forward.specs.declared.bus.BarOffset.{BarOffset}
 use Rattle.host_bridge.specs.{HostState.HostState, Landings.IsLanding}
 use Rattle.accesses.specs.Accesses.{part_of}
-use Rattle.monitor.{specs.{declared.guest.{AssignedFunction.AssignedFunction, Guest.Guest}, ByIndex.{lone_nth, with_lone_nth}, Counts.after_byte_nth, Keeping.IsHeld, DeviceBytes.device_byte, InSlots.{IsInSlot, IsSlotFault}}, proofs.{Steps.{GuestAt, SlotAt, slot_lent, slots_lent, with_same}, Reached.byte_landing_there, ConfigSteps.seen, Checks.low_slot, Machines.untouched}}
+use Rattle.monitor.{specs.{declared.guest.{AssignedFunction.AssignedFunction, Guest.Guest}, ByIndex.{lone_nth, with_lone_nth}, Counts.after_byte_nth, Keeping.IsHeld, DeviceBytes.device_byte, InSlots.{IsInSlot, IsSlotFault}}, proofs.{QuerySteps.IsRegionAt, Steps.{GuestAt, SlotAt, slot_lent, slots_lent, with_same}, Reached.byte_landing_there, ConfigSteps.seen, Checks.low_slot, Machines.untouched}}
 use Rattle.headers.specs.declared.place.Place as headers
 
--- ---- what is told of a region, and what it opens
+-- ---- what a region opens
 
-pub opening_told : (f : Function) (n off : ℕ) (o : Option LiveBar) → o ≡ option_map (region_now f.file) (region_at f n)
-    → option_map_or (λ (r : LiveBar). cond {A = Option Bool} (nat_lt off r.size) (Some r.is_open) None) o None ≡ opening f (in_region n) off
-opening_told f n off o is = grind arith
+pub opening_kept : (f : Function) (n off : ℕ) (x : BarWithBase) → IsRegionAt f n x → (k : Kind) → k ≡ x.decl.kind → {size : ℕ} → size ≡ x.decl.size
+    → cond {A = Option Bool} (nat_lt off size) (Some (is_open f.file (space_of k))) None ≡ opening f (in_region n) off
+opening_kept f n off x is k kind size = grind arith
+
+pub opening_none : (f : Function) (n off : ℕ) → region_at f n ≡ None → None ≡ opening f (in_region n) off
+opening_none f n off is = grind arith
 
 -- a region that opens, or is closed, to a byte
 pub record HasByte (f : Function) (n off : ℕ) : Type 0 where

@@ -10,7 +10,7 @@ ghost use Rattle.monitor.specs.{Keeping.IsHeld, ByIndex.lone_nth, Counts.after_b
 use crate::access::config::function_in;
 use crate::engine::Engine;
 use crate::guest::AssignedFunction;
-use crate::queries::regions::region_kept;
+use crate::queries::regions::opens;
 use accesses::{Op, Place, Refusal, Reply, master_abort};
 use host_bridge::{BarOffset, Route};
 
@@ -23,13 +23,17 @@ fn opening(held: &AssignedFunction, place: Place, off: u64) -> Option<bool>
     let Place::Bar(register) = place else {
         return None;
     };
-    let Some(region) = region_kept(held, usize::from(register)) else {
-        return None;
-    };
-    if off < region.size {
-        Some(region.is_open)
-    } else {
-        None
+    match held.placed.get(usize::from(register)) {
+        Some(Some(region)) => {
+            let size = region.decl.size();
+            if off < size {
+                Some(opens(held, region.decl.kind().space()))
+            } else {
+                None
+            }
+        }
+        Some(None) => None,
+        None => None,
     }
 }
 

@@ -57,7 +57,7 @@ pub(crate) fn base_of(held: &AssignedFunction, bar: u16, kind: Kind) -> u64
 }
 
 /// Returns whether the guest's Command enables decoding in a space.
-fn opens(held: &AssignedFunction, space: Space) -> bool
+pub(crate) fn opens(held: &AssignedFunction, space: Space) -> bool
     ensures { (file : File) → HoldsOwn file held.now.own →
         result ≡ is_open file (named_space space) }
 {
@@ -66,7 +66,7 @@ fn opens(held: &AssignedFunction, space: Space) -> bool
 }
 
 /// Returns the region that begins at a base address register of a function in a slot.
-pub(crate) fn region_kept(held: &AssignedFunction, bar: usize) -> Option<GuestRegion>
+fn region_kept(held: &AssignedFunction, bar: usize) -> Option<GuestRegion>
     ensures { (s : State) (p : Path) (f : Function) → IsHeld s p f held.now
         → IsLawfulOwn held.now.own →
         option_map region_named result ≡ option_map (region_now f.file) (region_at f bar) }
