@@ -56,11 +56,11 @@ export class FileView {
     board.scrollTop = (line - 1) * parseFloat(getComputedStyle(board).lineHeight) - board.clientHeight / 2;
   }
 
-  // What a check says, line by line; one that names a line of the file leads there. Firmware is told no warnings: they speak of what set-up makes
+  // What a check says, message by message; one that names a line of the file leads there. Firmware is told no warnings: they speak of what set-up makes
   // of the file. Gives the first line that is told, or null.
   tell_check(text, as) {
-    const told = text.split('\n').filter(one => one !== '' && one !== 'ok').map(one => {
-      const [, line, warning] = /^board\.toml:(\d+): (warning: )?/.exec(one) ?? [];
+    const told = text.split(/\n(?!  help: )/).filter(one => one !== '' && one !== 'ok').map(one => {
+      const [, line, warning] = /^board\.toml:(\d+):\d+: (warning: )?/.exec(one) ?? [];
       return { one, line: Number(line ?? 0), warns: warning !== undefined };
     }).filter(({ warns }) => !warns || as !== 'firmware');
     this.parts.check.replaceChildren(...told.map(({ one, line, warns }) => {

@@ -29,16 +29,17 @@ def a_board_is_typed(browser, page):
     wanted = "103 unknown key: the file contains a key that its table doesn't have"
     holds('a key that is not known is refused', text_of(browser, 'verdict') == wanted, text_of(browser, 'verdict'))
     told = text_of(browser, 'check')
-    holds('the key is told', told.startswith('board.toml:4: ') and 'unknown = 1: ' in told, told)
+    holds('the key is told', told.startswith("board.toml:4:11: error: unknown key 'unknown' (103)"), told)
 
 
 def what_is_wrong_is_told(browser, page):
     browser.open(f'{page}#board=many_numbers')
     lines = browser.run("[...document.querySelectorAll('#check li')].map(one => one.textContent)")
-    told = [int(line.split(':')[1]) for line in lines if re.match(r'board\.toml:\d+: ', line)]
+    told = [int(line.split(':')[1]) for line in lines if re.match(r'board\.toml:\d+:\d+: ', line)]
     marked = browser.run("[...document.querySelectorAll('#numbers b')].map(one => Number(one.textContent))")
     holds('of a board that was never taken nothing is drawn', browser.run("document.getElementById('figures').checkVisibility()") is False)
-    holds('each number that is wrong is told', len(told) > 5 and 'vendor' in lines[0], lines)
+    said = re.search(r'^== check many_numbers.toml\n(.*?)^fault ', (TOP / 'boards/refused/expected.txt').read_text(), re.MULTILINE | re.DOTALL)[1]
+    holds('the page says what the program says', lines == said.replace('many_numbers.toml', 'board.toml').splitlines(), lines)
     holds('the lines that are told are marked', marked == sorted(set(told)), f'{marked} in place of {told}')
     browser.run("document.querySelector('#check button').click()")
     chosen = browser.run("(() => { const b = document.getElementById('board'); return b.value.slice(b.selectionStart, b.selectionEnd); })()")

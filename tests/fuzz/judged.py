@@ -2,7 +2,7 @@
 takes, what may be a mistake, and why its board can't be set up."""
 from board import Bar, Board, Bridge, Endpoint
 from placement import REFUSALS, Layout, up
-from rules import Problem, entries, problem
+from rules import entries, problem
 
 POOLS = {"io": "I/O pool", "mem": "memory pool", "pref": "prefetchable pool"}
 
@@ -31,32 +31,29 @@ def pool_line(layout, pool):
     return f"{POOLS[pool]}: {end:#x} of {last + 1 - at:#x} bytes used, from {at:#x} on"
 
 
-def remark(label, entry, key, words, *others):
-    """A line as that of a problem, without the number of a fault."""
-    told = problem(entry, key, words, 102)
-    text = label + told.text.removesuffix(" (102 key)") + "".join(f": {other.name}" for other in others)
-    return Problem(text, told.table, told.outer, [(other.table, "io") for other in others], 0)
-
-
 def warning(entry, key, words):
     """What may be a mistake."""
-    return remark("warning: ", entry, key, words)
+    return problem(entry, key, words, 0, label="warning")
 
 
 def reasons(document, number):
     """The entries that are why a board can't be set up."""
     every = list(entries(document))
     bridges = [entry for entry in every if entry.kind == "bridge"]
+    if number > 202:
+        return [shortage(document, number)]
     if number == 201:
-        return [remark("", bridges[255], "at", "is the first bridge for which no bus number is left")]
+        return [problem(bridges[255], "at", "is one bridge too many (at most 255)", 201)]
     found = []
     for entry in every:
         if number == 202 and entry.kind == "bar" and entry.values["kind"] == "io":
             above = [bridge for bridge in bridges if bridge.values["io"] == "none"
                      and entry.owner.startswith(bridge.values["at"] + "/")]
             if above:
-                words = "is behind a bridge without an I/O window"
-                found.append(remark("", entry, "kind", words, above[0]))
+                told = problem(entry, "kind", 'requires an I/O window, but {} above it has none (io = "none")', 202, above[0],
+                               remedy='give the bridge io = "16" or "32", or the BAR a memory kind')
+                told.others = [(above[0].table, "io")]
+                found.append(told)
     return found
 
 
@@ -66,8 +63,9 @@ def shortage(document, number):
     layout = Layout(board_of(document), is_placed=False)
     (end, alignment), (first, last) = layout.pack((), pool), document["host"][pool]
     at = up(first, alignment)
-    return (f"the {POOLS[pool]} needs {end:#x} bytes from {at:#x} on, and its aperture has {max(0, last + 1 - at):#x}"
-            f" ({number} {POOLS[pool]})")
+    host = next(entry for entry in entries(document) if entry.kind == "host")
+    words = f"{pool} has {max(0, last + 1 - at):#x} bytes from {at:#x} on, but the {POOLS[pool]} needs {end:#x}"
+    return problem(host, pool, words, number, has_subject=False)
 
 
 def warnings_of(document, layout):
@@ -77,10 +75,10 @@ def warnings_of(document, layout):
     slots = {path_of(entry.values[""]) for entry in every if entry.kind == "slot"}
     for entry in every:
         if entry.kind == "bridge" and not any(path[:-1] == path_of(entry.values["at"]) for path in paths):
-            found.append(warning(entry, "at", "nothing stands behind it"))
+            found.append(warning(entry, "at", "is a bridge with nothing behind it"))
     for entry in every:
         if entry.kind == "endpoint" and document.get("guest") and path_of(entry.values["at"]) not in slots:
-            found.append(warning(entry, "at", "is in no slot of a guest"))
+            found.append(warning(entry, "at", "is not in the slots of any guest"))
     found += [warning(entry, "name", "has no slots") for entry in every
               if entry.kind == "guest" and not entry.values["slots"]]
     host = next(entry for entry in every if entry.kind == "host")
@@ -88,7 +86,7 @@ def warnings_of(document, layout):
         if pool in document["host"]:
             (first, last), (end, _) = document["host"][pool], layout.pack((), pool)
             if 0 < 10 * end < last + 1 - first:
-                found.append(warning(host, pool, "is more than ten times what its pool uses"))
+                found.append(warning(host, pool, "is more than ten times as large as its pool needs"))
     return found
 
 

@@ -21,7 +21,7 @@ except ImportError:
     sys.exit(0)
 
 from board import board_file, random_board
-from judged import judged, reasons, shortage
+from judged import judged, reasons
 from rules import all_faults, place_of
 
 NUMBERS = [-1, 0, 1, 4, 5, 6, 17, 63, 64, 192, 255, 256, 3000, 4096, 4097, 0xF900, 0xFFFE, 0xFFFF, 0x10000,
@@ -131,7 +131,7 @@ def wanted_line(where, table, key):
     return min(lines, default=None)
 
 
-IN_LINE = re.compile(r" in line (\d+)(?=$| \(\d+ [A-Za-z ]+\)$| takes a register of | is of a 64-bit kind)")
+IN_LINE = re.compile(r" \(line (\d+)\)")
 
 
 def without_others(text):
@@ -139,16 +139,17 @@ def without_others(text):
     return IN_LINE.sub("", text), [int(line) for line in IN_LINE.findall(text)]
 
 
-VALUE = re.compile(r'([\w.\[\]]+\.(\w+) = )([+-]?\w+)(?=: | of ")')
+VALUE = re.compile(r'((?:error|warning): (?:[\w.\[\]]+(?: \("[^"]*"\))?: )?(\w+) = )([+-]?\w+)(?= )')
 
 
-def with_decimal(lines, number, text):
-    """What a line says, with its integer in decimal, if the line of the file has that integer so at the key."""
+def with_decimal(lines, number, column, text):
+    """What a line says, with its integer in decimal, if the file has that integer at the line and column, after the key."""
     told = VALUE.match(text)
     if not told:
         return text
-    if number is None or not re.search(rf"(?<!\w){told[2]} = {re.escape(told[3])}(?!\w)", lines[number - 1]):
-        return f"{text} (not as in line {number})"
+    key = f"{told[2]} = "
+    if number is None or not lines[number - 1][column - 1 - len(key):].startswith(key + told[3]):
+        return f"{text} (not as in line {number}, column {column})"
     return f"{told[1]}{int(told[3], 0)}{text[told.end():]}"
 
 
@@ -174,10 +175,12 @@ def differs(lines, told, problems):
 
 
 def with_numbers(lines, said):
-    """Lines of a check, each with the number of its line in the file, and with its integer in decimal."""
-    found = [re.match(r"board\.toml(?::(\d+))?: (.*)$", line) for line in said]
-    told = [(int(line[1]) if line[1] else None, line[2]) for line in found]
-    return [(number, with_decimal(lines, number, text)) for number, text in told]
+    """Messages of a check, each with the number of its line in the file, its integer in decimal, and its help."""
+    found = re.findall(r"^board\.toml(?::(\d+):(\d+))?: (.*(?:\n  help: .*)?)$", "\n".join(said), re.MULTILINE)
+    if sum(1 + text.count("\n") for _, _, text in found) != len(said):
+        raise ValueError(said)
+    told = [(int(line) if line else None, int(column or 0), text) for line, column, text in found]
+    return [(number, with_decimal(lines, number, column, text)) for number, column, text in told]
 
 
 def told_lines(lines, out):
@@ -209,13 +212,7 @@ def remarks_differ(lines, told, remarks):
 
 def misfit_differs(lines, text, number, out):
     """What is wrong with what a check said of a board that can't be set up, if anything is."""
-    first, *said = out.split("\n")[:-1]
-    if number > 202:
-        wanted = [f"board.toml: {shortage(tomllib.loads(text), number)}"]
-        return None if [first, *said] == wanted else f"{[first, *said]}, not {wanted}"
-    if not first.startswith(f"board.toml: cannot be set up ({number} "):
-        return first
-    return remarks_differ(lines, with_numbers(lines, said), reasons(tomllib.loads(text), number))
+    return remarks_differ(lines, with_numbers(lines, out.split("\n")[:-1]), reasons(tomllib.loads(text), number))
 
 
 class Files:
@@ -256,12 +253,12 @@ class Files:
             if judged_so:
                 self.differ(seed, judged_so)
             self.warned += done.stdout.count(": warning: ")
-        if number == 101 and not re.fullmatch(r"board\.toml:\d+: refused: .+ \(101 not TOML\)\n", done.stdout):
+        if number == 101 and not re.fullmatch(r"board\.toml:\d+:\d+: error: invalid TOML: .+ \(101\)\n", done.stdout):
             self.differ(seed, done.stdout)
         if number > 101:
             told, count = told_lines(lines, done.stdout)
             wrong = differs(lines, told, problems)
-            if wrong or count != (f"{len(told)} problems" if len(told) != 1 else "1 problem"):
+            if wrong or count != (f"{len(told)} errors" if len(told) != 1 else "1 error"):
                 self.differ(seed, wrong or count)
             self.told += len(told)
 

@@ -6,8 +6,6 @@ from dataclasses import dataclass
 
 from keys import CHOICES, KEYS, NEEDED, OPTIONAL, RANGES
 
-WORDS = {102: "key", 103: "unknown key", 104: "number", 105: "place", 106: "register", 107: "size", 108: "too many",
-         109: "guest name", 110: "slot", 111: "aperture", 112: "cell masks"}
 TEXTS = {"at", "name", "reset", "rw", "w1c"}
 SIZES = {"io": (4, 256), "mem32": (16, 1 << 31), "mem32p": (16, 1 << 31), "mem64": (16, 1 << 40),
          "mem64p": (16, 1 << 40)}
@@ -15,8 +13,8 @@ SIZES = {"io": (4, 256), "mem32": (16, 1 << 31), "mem32p": (16, 1 << 31), "mem64
 
 @dataclass
 class Problem:
-    """What a line says, the table with a header that it is about, and the key of that table; the same places of the
-    other entries that it names; and the number of the check."""
+    """What a message says, with its help below, but without places; the table with a header that it is about, and the key of
+    that table; the same places of the other entries that it names; and the number of the check."""
     text: str
     table: tuple
     outer: str
@@ -88,31 +86,36 @@ def entries(document):
             yield Entry("slot", f"guest[{index}].slots[{inner}]", {"": slot}, table, "slots", owner)
 
 
-def problem(entry, key, words, number, *others):
+def problem(entry, key, words, number, *others, has_subject=True, remedy="", label="error"):
+    """A message: of `words`, each {} is the name of another entry."""
+    name, _, last = entry.name.rpartition(".") if entry.kind == "slot" else (entry.name, "", key)
     value = entry.values.get(key)
     shown = f" = {value}" if is_integer(value) else f' = "{value}"' if isinstance(value, str) else ""
-    owner = "" if entry.owner is None or key in {"at", "name"} else f' of "{entry.owner}"'
-    place = f"{entry.name}.{key}" if key else entry.name
-    beside = ": " + " takes a register of ".join(other.name for other in others) if others else ""
-    text = f"{place}{shown}{owner}: {words}{beside} ({number} {WORDS[number]})"
+    owner = "" if entry.owner is None or key in {"at", "name"} else f' ("{entry.owner}")'
+    place = f"{name}{owner}: " if entry.kind else ""
+    subject = f"{last}{shown} " if has_subject else ""
+    said = words.format(*(other.name for other in others)) if others else words
+    text = f"{label}: {place}{subject}{said}" + (f" ({number})" if number else "") + (f"\n  help: {remedy}" if remedy else "")
     named = [(other.table, other.outer or key) for other in others]
     return Problem(text, entry.table, entry.outer or key, named, number)
 
 
-FORMS = {"host": "a table, its header in brackets", "slots": "texts in brackets, each in quotes",
-         ("bar", "kind"): "one of io, mem32, mem32p, mem64, mem64p in quotes",
-         ("bridge", "io"): "one of none, 16, 32 in quotes", ("bridge", "pref"): "one of none, 32, 64 in quotes"}
+FORMS = {"host": "a table: write [host]", "slots": 'an array of strings such as ["1.0", "2.0/0.0"]',
+         ("bar", "kind"): '"io", "mem32", "mem32p", "mem64" or "mem64p"',
+         ("bridge", "io"): '"none", "16" or "32"', ("bridge", "pref"): '"none", "32" or "64"'}
 
 
 def asked(kind, key):
-    """What to write at a key."""
+    """What the value of a key must be."""
     if (kind, key) in FORMS:
         return FORMS[kind, key]
     if kind == "host":
-        return "two integers in brackets, as [0x1000, 0xffff]"
+        return "an array of two integers such as [0x1000, 0xffff]"
     if key in {"endpoint", "bridge", "guest", "bar", "config"}:
-        return "tables, each header in double brackets"
-    return FORMS.get(key) or ("a text in quotes" if key in TEXTS else "an integer, as 16 or 0x10, without quotes")
+        return f"an array of tables: write [[{'endpoint.' if kind == 'endpoint' else ''}{key}]]"
+    if key in {"reset", "rw", "w1c"}:
+        return 'hexadecimal digits in quotes, such as "ff"'
+    return FORMS.get(key) or ("a string in quotes" if key in TEXTS else "an integer such as 16 or 0x10, without quotes")
 
 
 def distance(word, other):
@@ -131,8 +134,8 @@ def meant(kind, key):
     for letters in [1, 2]:
         for one in keys:
             if 2 * letters <= len(one) and distance(key, one) <= letters:
-                return f": is {one} meant?"
-    return f", which has {', '.join(keys)}"
+                return f"did you mean '{one}'?"
+    return f"the keys of this table are {', '.join(keys)}"
 
 
 def key_problems(every):
@@ -142,16 +145,16 @@ def key_problems(every):
         for key in NEEDED[entry.kind] + OPTIONAL[entry.kind]:
             if key not in entry.values:
                 if key in NEEDED[entry.kind]:
-                    yield problem(entry, key, "is missing", 102)
+                    yield problem(entry, key, f"missing key '{key}'", 102, has_subject=False)
             elif not has_form(entry.kind, key, entry.values[key]):
-                yield problem(entry, key, f"is not what its key asks: write {asked(entry.kind, key)}", 102)
+                yield problem(entry, key, f"must be {asked(entry.kind, key)}", 102)
 
 
 def unknown_keys(every):
     for entry in every:
         if entry.kind != "slot":
             for key in entry.values.keys() - set(NEEDED[entry.kind] + OPTIONAL[entry.kind]):
-                yield problem(entry, key, f"is no key of its table{meant(entry.kind, key)}", 103)
+                yield problem(entry, key, f"unknown key '{key}'", 103, has_subject=False, remedy=meant(entry.kind, key))
 
 
 def number_problems(every):
@@ -160,19 +163,19 @@ def number_problems(every):
         if entry.kind in {"endpoint", "bridge"}:
             for key, greatest in RANGES.items():
                 if not 0 <= values.get(key, 0) <= greatest:
-                    yield problem(entry, key, f"is not from 0 to {greatest if key == 'pin' else hex(greatest)}", 104)
+                    yield problem(entry, key, f"is out of range (0 to {greatest if key == 'pin' else hex(greatest)})", 104)
             status = values.get("status", 0)
             if not 0 <= status <= 0xFFFF or status & ~0xF900:
                 yield problem(entry, "status", "has bits outside 0xf900", 104)
         if entry.kind == "bar" and not 0 <= values.get("block", 0) <= 4096:
-            yield problem(entry, "block", "is not from 0 to 4096", 104)
+            yield problem(entry, "block", "is out of range (0 to 4096)", 104)
         if entry.kind == "config":
             if not 0x40 <= values["off"] <= 0xFF:
-                yield problem(entry, "off", "is not from 0x40 to 0xff", 104)
+                yield problem(entry, "off", "is out of range (0x40 to 0xff)", 104)
             if not 1 <= values["block"] <= 192:
-                yield problem(entry, "block", "is not from 1 to 192", 104)
+                yield problem(entry, "block", "is out of range (1 to 192)", 104)
             if values["off"] + values["block"] > 256:
-                yield problem(entry, "block", "ends after offset 0xff", 104)
+                yield problem(entry, "block", "extends past offset 0xff", 104)
 
 
 def count_problems(every):
@@ -180,7 +183,7 @@ def count_problems(every):
         if entry.kind in {"endpoint", "bridge"} and entry.values.get("at", "").count("/") > 15:
             yield problem(entry, "at", "has more than 16 parts", 108)
         if entry.kind == "guest" and len(entry.values["slots"]) > 32:
-            yield problem(entry, "slots", "more than 32 slots", 108)
+            yield problem(entry, "slots", "too many slots (at most 32)", 108, has_subject=False)
 
 
 def is_path(text):
@@ -195,14 +198,17 @@ def standing(every):
 
 
 def meant_path(text):
-    """The path that may be meant by a text, or what a path is."""
+    """The path that may be meant by a text, or what a path is. Nothing of a path."""
     short = text.removeprefix("00:")
     padded = re.fullmatch(r"0([0-9a-f])\.([0-7])", short)
+    if is_path(text):
+        return ""
     if is_path(short):
-        return f": is {short} meant?"
+        return f'did you mean "{short}"?'
     if padded:
-        return f": is {int(padded[1], 16)}.{padded[2]} meant?"
-    return (": write parts of device and function, as 2.0/1.0: devices are 0 to 15, functions 0 to 7, "
+        return (f'did you mean "{int(padded[1], 16)}.{padded[2]}"? '
+                "numbers in a path are decimal, without leading zeros")
+    return ('write DEVICE.FUNCTION for each bus, for example "2.0/1.0": devices are 0 to 15, functions 0 to 7, '
             "without leading zeros")
 
 
@@ -215,46 +221,43 @@ def place_problems(every):
         at = entry.values.get("at", "")
         *above, part = at.split("/")
         if not is_path(at):
-            yield problem(entry, "at", f"is no path{meant_path(at)}", 105)
+            yield problem(entry, "at", "is not a valid path", 105, remedy=meant_path(at))
             continue
         if at in earlier:
-            yield problem(entry, "at", "is the path of an earlier function", 105, earlier[at])
+            yield problem(entry, "at", "is already used by {}", 105, earlier[at])
         if above and "/".join(above) not in bridges:
             gap = next(path for count in range(len(above)) for path in ["/".join(above[:count + 1])] if path not in bridges)
-            yield problem(entry, "at", f"leads through something else than bridges: no bridge at {gap}", 105)
+            yield problem(entry, "at", f"requires a bridge at {gap}, but there is none", 105)
         zero = "/".join([*above, part.split(".")[0] + ".0"])
         if zero not in stands:
-            yield problem(entry, "at", f"is in a device without function 0: no function at {zero}", 105)
+            yield problem(entry, "at", f"requires a function at {zero}, but there is none", 105)
         earlier.setdefault(at, entry)
 
 
-WIDE = " is of a 64-bit kind, which takes two registers, and begins at the last"
+WIDE = "a 64-bit BAR uses two registers, index and index + 1"
 
 
 def register_problems(every):
     for entry in every:
         if entry.kind == "bar" and not 0 <= entry.values["index"] <= 5:
-            yield problem(entry, "index", "is not from 0 to 5", 106)
+            yield problem(entry, "index", "is out of range (0 to 5)", 106)
         if entry.kind == "endpoint":
             bars = [bar for bar in every if bar.kind == "bar" and bar.table == entry.table]
             if all(0 <= bar.values["index"] <= 5 for bar in bars):
-                yield from own_registers(entry, bars)
+                yield from own_registers(bars)
 
 
-def own_registers(entry, bars):
+def own_registers(bars):
     """The first region that takes a register of an earlier one, or has no second register."""
     taken = {}
     for bar in bars:
         registers = [bar.values["index"] + more for more in range(2 if bar.values["kind"].startswith("mem64") else 1)]
         met = [taken[register] for register in registers if register in taken]
-        words = "not each region has registers of its own"
         if met:
-            yield problem(entry, "bar", words, 106, bar, min(met, key=bars.index))
+            yield problem(bar, "index", "shares a register with {}", 106, min(met, key=bars.index), remedy=WIDE)
             return
         if 6 in registers:
-            told = problem(entry, "bar", words, 106, bar)
-            told.text = told.text.removesuffix(" (106 register)") + WIDE + " (106 register)"
-            yield told
+            yield problem(bar, "index", "is out of range for a 64-bit BAR (0 to 4)", 106, remedy=WIDE)
             return
         taken |= dict.fromkeys(registers, bar)
 
@@ -262,11 +265,11 @@ def own_registers(entry, bars):
 def size_cause(kind, size):
     """Why a kind doesn't allow a size."""
     least, greatest = SIZES[kind]
-    space = {"io": "I/O", "mem32": "32-bit memory", "mem64": "64-bit memory"}[kind.removesuffix("p")]
+    space = {"io": "an I/O", "mem32": "a 32-bit memory", "mem64": "a 64-bit memory"}[kind.removesuffix("p")]
     if least <= size <= greatest:
         power = 1 << size.bit_length() - 1
-        return f": no power of two, as {hex(power)} and {hex(2 * power)} are"
-    return f": too {'small' if size < least else 'large'}, {space} takes {least} to {hex(greatest)} bytes"
+        return f"is not a power of two (nearest: {hex(power)} and {hex(2 * power)})"
+    return f"is too {'small' if size < least else 'large'} for {space} BAR ({least} to {hex(greatest)})"
 
 
 def size_problems(every):
@@ -274,9 +277,12 @@ def size_problems(every):
         if entry.kind == "bar":
             size, (least, greatest) = entry.values["size"], SIZES[entry.values["kind"]]
             if not least <= size <= greatest or size & (size - 1):
-                yield problem(entry, "size", f"is no size of its kind{size_cause(entry.values['kind'], size)}", 107)
+                yield problem(entry, "size", size_cause(entry.values["kind"], size), 107)
             if entry.values.get("block", 0) > size:
-                yield problem(entry, "block", "is longer than the region", 107)
+                yield problem(entry, "block", f"is larger than the BAR (at most {size})", 107)
+
+
+NAME = 'a name is 1 to 16 lowercase letters and digits, and begins with a letter; "host" is reserved'
 
 
 def name_problems(every):
@@ -285,9 +291,9 @@ def name_problems(every):
         if entry.kind == "guest":
             name = entry.values.get("name", "")
             if not re.fullmatch(r"[a-z][a-z0-9]{0,15}", name) or name == "host":
-                yield problem(entry, "name", "is no name that a guest may have: write up to 16 of a to z and 0 to 9, a letter first, and not host", 109)
+                yield problem(entry, "name", "is not a valid guest name", 109, remedy=NAME)
             if name in earlier:
-                yield problem(entry, "name", "is the name of an earlier guest", 109, earlier[name])
+                yield problem(entry, "name", "is already used by {}", 109, earlier[name])
             earlier.setdefault(name, entry)
 
 
@@ -297,11 +303,13 @@ def slot_problems(every):
         if entry.kind == "slot":
             slot = entry.values[""]
             if not is_path(slot) or stands.get(slot) != "endpoint":
-                there = ": a bridge is there" if stands.get(slot) == "bridge" else ": no function is there"
-                why = there if is_path(slot) else meant_path(slot)
-                yield problem(entry, "", f"is no path of an endpoint{why}", 110)
+                there = "is not the path of any endpoint"
+                if stands.get(slot) == "bridge":
+                    is_both = any(other.kind == "endpoint" and other.values["at"] == slot for other in every)
+                    there = "is the path of " + ("both an endpoint and a bridge" if is_both else "a bridge, not of an endpoint")
+                yield problem(entry, "", there if is_path(slot) else "is not a valid path", 110, remedy=meant_path(slot))
             if is_path(slot) and slot in earlier:
-                yield problem(entry, "", "is in an earlier slot", 110, earlier[slot])
+                yield problem(entry, "", "is already used by {}", 110, earlier[slot])
             earlier.setdefault(slot, entry)
 
 
@@ -312,19 +320,20 @@ def is_of_units(unit, first, last):
 def aperture_cause(unit, example, bounds, *others):
     """The first rule that an aperture breaks."""
     first, last = map(abs, bounds)
-    rules = [("an address is negative", min(bounds) >= 0), ("empty, the last address is below the first", first <= last),
-             (f"not whole units of {example} are", first % unit == 0 and (last + 1) % unit == 0), *others]
-    return next((f": {words}" for words, is_kept in rules if not is_kept), "")
+    rules = [("has a negative address", min(bounds) >= 0),
+             ("ends before it begins: write the first and the last address, not a length", first <= last),
+             (f"must begin and end on a {example} (the last address is included)",
+              first % unit == 0 and (last + 1) % unit == 0), *others]
+    return next((words for words, is_kept in rules if not is_kept), "")
 
 
 def io_cause(io):
-    return aperture_cause(1 << 12, "4 KB, as 0x1000 to 0xffff", io,
-                          ("too low, it begins below 0x1000", abs(io[0]) >= 0x1000),
-                          ("too high, it ends above 0xffff", abs(io[1]) <= 0xFFFF))
+    return aperture_cause(1 << 12, "4 KB boundary, such as [0x1000, 0xffff]", io,
+                          ("begins below 0x1000", abs(io[0]) >= 0x1000), ("ends above 0xffff", abs(io[1]) <= 0xFFFF))
 
 
 def memory_cause(bounds, *others):
-    return aperture_cause(1 << 20, "1 MB, as 0xc0000000 to 0xdfffffff", bounds, *others)
+    return aperture_cause(1 << 20, "1 MB boundary, such as [0xc0000000, 0xdfffffff]", bounds, *others)
 
 
 def aperture_problems(every):
@@ -332,40 +341,40 @@ def aperture_problems(every):
         io, mem, pref = host.values["io"], host.values["mem"], host.values.get("pref")
         is_memory = is_of_units(1 << 20, *map(abs, mem)) and abs(mem[1]) < 1 << 32
         if not is_of_units(1 << 12, *io) or io[0] < 0x1000 or io[1] > 0xFFFF:
-            yield problem(host, "io", f"is no lawful aperture{io_cause(io)}", 111)
+            yield problem(host, "io", io_cause(io), 111)
         if min(mem) < 0 or not is_memory:
-            high = ("too high, it ends above 0xffffffff", abs(mem[1]) < 1 << 32)
-            yield problem(host, "mem", f"is no lawful aperture{memory_cause(mem, high)}", 111)
+            high = ("ends above 0xffffffff", abs(mem[1]) < 1 << 32)
+            yield problem(host, "mem", memory_cause(mem, high), 111)
         if pref is None:
             continue
         sides = pref[1] < 1 << 32 or pref[0] >= 1 << 32
         apart = abs(mem[1]) < pref[0] or pref[1] < abs(mem[0])
         if min(pref) < 0 or is_memory and not (is_of_units(1 << 20, *pref) and sides and apart):
-            across = ("across 4 GB, it begins below 0x100000000 and ends above", sides)
-            why = memory_cause(pref, across, ("meets mem", apart))
-            yield problem(host, "pref", f"is no lawful aperture{why}", 111)
+            across = ("begins below 4 GB (0x100000000) and ends above it", sides)
+            yield problem(host, "pref", memory_cause(pref, across, ("overlaps mem", apart)), 111)
 
 
 def pattern_cause(length, text):
     """Why a text is no pattern of a block, if it is none."""
-    rules = [("begins with 0x, write the digits alone", not text.startswith("0x")),
-             ("has a character that is no hexadecimal digit", re.fullmatch(r"[0-9a-fA-F]*", text)),
-             ("has an odd number of digits, a byte has two", len(text) % 2 == 0), ("is empty", text),
-             ("has bytes, and block is missing or 0", length), ("has more bytes than block", len(text) <= 2 * length)]
+    rules = [("begins with 0x: write only the hexadecimal digits", not text.startswith("0x")),
+             ("contains a character that is not a hexadecimal digit", re.fullmatch(r"[0-9a-fA-F]*", text)),
+             ("has an odd number of digits: write two for each byte", len(text) % 2 == 0), ("is empty", text),
+             ("needs the key 'block' (how many bytes there are), which is missing or 0", length),
+             (f"has {len(text) // 2} bytes, but block is {length}", len(text) <= 2 * length)]
     return next((words for words, is_kept in rules if not is_kept), None)
 
 
 def mask_cause(values):
-    """Why the patterns of a block aren't lawful, if they aren't: one is no pattern, or a bit is in both masks."""
+    """The key of the pattern of a block that isn't lawful, and why: it is no pattern, or a bit is in both masks."""
     length, given = values.get("block", 0), {}
     for key in ["reset", "rw", "w1c"]:
         text = values.get(key)
         why = None if text is None else pattern_cause(length, text)
         if why:
-            return f"{key} {why}"
+            return key, why
         given[key] = bytes.fromhex(text) if text else b"\0"
     meet = any(given["rw"][n % len(given["rw"])] & given["w1c"][n % len(given["w1c"])] for n in range(length))
-    return "a bit is in both rw and w1c" if meet else None
+    return ("w1c", "has a bit that is also in rw: a bit can be in only one of them") if meet else None
 
 
 def mask_problems(every):
@@ -373,14 +382,16 @@ def mask_problems(every):
     for entry in every:
         why = mask_cause(entry.values) if entry.kind in {"bar", "config"} else None
         if why:
-            yield problem(entry, "block", f"patterns that are not lawful: {why}", 112)
+            yield problem(entry, *why, 112)
         if entry.kind == "config":
             begin, blocks = entry.values["off"], earlier.setdefault(entry.table, [])
             end = begin + entry.values["block"]
             met = [other for other in blocks if begin < other.values["off"] + other.values["block"]
                    and other.values["off"] < end]
             if met:
-                yield problem(entry, "off", "overlaps an earlier block", 112, met[0])
+                first, size = (met[0].values[key] for key in ["off", "block"])
+                words = f"with block = {entry.values['block']} overlaps {{}}, which is at {first:#x} to {first + size - 1:#x}"
+                yield problem(entry, "off", words, 112, met[0])
             blocks.append(entry)
 
 

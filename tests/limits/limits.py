@@ -121,7 +121,7 @@ def placed(program, name, text, key, fault):
     line = text[:text.rindex(key)].count("\n") + 1
     program.write(name, text)
     said = program.run(["check", name], wanted=fault)
-    program.tally.expect(f"check {name}: the line", said.startswith(f"{name}:{line}: "), f"{said[:100]!r}, not line {line}")
+    program.tally.expect(f"check {name}: the line", said.startswith(f"{name}:{line}:"), f"{said[:100]!r}, not line {line}")
     for verb in ("list", "run", "firmware", "audit", "ready"):
         program.run([verb, name], wanted=fault)
 

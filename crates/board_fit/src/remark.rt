@@ -25,7 +25,7 @@ pub enum Remark {
 }
 
 /// Returns the key of a pool's aperture in the host table.
-fn aperture_key(pool: Pool) -> &'static str
+pub(crate) fn aperture_key(pool: Pool) -> &'static str
     ensures { result.now ≡ aperture_key pool }
 {
     match pool {

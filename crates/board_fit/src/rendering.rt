@@ -2,9 +2,10 @@
 use crate::judging::Verdict;
 use crate::placed_remark::PlacedRemark;
 use crate::pool_fit::PoolFit;
-use crate::remark::Remark;
-use board_file::Source;
-use diagnostics::{Beside, Head, RenderOptions, push_below};
+use crate::remark::{Remark, aperture_key};
+use board_file::{Entry, Source};
+use bus_scan::Fault;
+use diagnostics::{Head, Places, RenderOptions, Subject, TextPlace, place_of, push_below};
 use std::alloc::{AllocError, Global};
 use std::fmt;
 use window_packing::Pool;
@@ -34,93 +35,132 @@ impl fmt::Display for PoolFit {
     }
 }
 
-/// Appends how much a pool needs if it doesn't fit its aperture.
+const OPEN_IT: &str = "  help: give the bridge io = \"16\" or \"32\", or the BAR a memory kind\n";
+
+/// Appends what is wrong with the entry of a remark.
+fn push_said(text: &mut String, placed: &PlacedRemark) -> Result<(), AllocError> {
+    text.push_str(match placed.remark {
+        Remark::EmptyBridge(_) => "is a bridge with nothing behind it",
+        Remark::EndpointOfNone(_) => "is not in the slots of any guest",
+        Remark::GuestWithoutSlots(_) => "has no slots",
+        Remark::WideAperture(_) => "is more than ten times as large as its pool needs",
+        Remark::BridgeTooMany(_) => "is one bridge too many (at most 255)",
+        Remark::ClosedRegion(_, _, _) => "requires an I/O window, but ",
+    })?;
+    match placed.other {
+        Some(bridge) => write!(text, "{bridge} above it has none (io = \"none\")"),
+        None => Ok(()),
+    }
+}
+
+/// Appends why a pool doesn't fit its aperture.
 fn push_need(text: &mut String, fit: &PoolFit) -> Result<(), AllocError> {
     let pool = name_of(fit.pool);
     match fit.used {
-        None => write!(text, "the {pool} needs more than 0x8000000000000000 bytes"),
+        None => write!(
+            text,
+            "is too small: the {pool} needs more than 0x8000000000000000 bytes"
+        ),
         Some(used) => write!(
             text,
-            "the {pool} needs 0x{:x} bytes from 0x{:x} on, and its aperture has 0x{:x}",
-            used.extent, used.first, used.room
+            "has 0x{:x} bytes from 0x{:x} on, but the {pool} needs 0x{:x}",
+            used.room, used.first, used.extent
         ),
     }
 }
 
-/// Displays the remark without the entry.
-impl fmt::Display for Remark {
-    fn fmt<W: fmt::Write>(&self, f: &mut fmt::Formatter<W>) -> fmt::Result {
-        let said = match self {
-            Remark::EmptyBridge(_) => "nothing stands behind it",
-            Remark::EndpointOfNone(_) => "is in no slot of a guest",
-            Remark::GuestWithoutSlots(_) => "has no slots",
-            Remark::WideAperture(_) => "is more than ten times what its pool uses",
-            Remark::BridgeTooMany(_) => "is the first bridge for which no bus number is left",
-            Remark::ClosedRegion(_, _, _) => "is behind a bridge without an I/O window",
-        };
-        write!(f, "{said}")
+/// Returns the beginning of an error, if there is a fault, or else of a warning.
+fn head_at<'a>(
+    telling: &RenderOptions<'a>,
+    source: &Source<'a>,
+    fault: Option<Fault>,
+    entry: Entry,
+    key: &'static str,
+    place: Option<TextPlace>,
+) -> Head<'a> {
+    Head {
+        telling: *telling,
+        label: if fault.is_some() { "error" } else { "warning" },
+        bytes: source.bytes,
+        document: source.document,
+        entry,
+        key,
+        place,
     }
 }
 
-/// Returns the label before the entry: `warning: ` unless the remark explains a fault.
-fn label_of(remark: Remark) -> &'static str {
-    match remark {
-        Remark::BridgeTooMany(_) | Remark::ClosedRegion(_, _, _) => "",
-        _ => "warning: ",
+/// Appends the end of a message, with the number of the fault, and the line of the file if excerpts
+/// are shown.
+fn push_end(
+    alloc: Global,
+    text: &mut String,
+    fault: Option<Fault>,
+    head: &Head<'_>,
+) -> Result<(), AllocError> {
+    if let Some(fault) = fault {
+        write!(text, " ({})", fault.number())?;
     }
+    text.push('\n')?;
+    push_below(alloc, text, head)
 }
 
-/// Appends the line of a remark, followed by the line of the file if excerpts are shown.
-fn push_remark<'a>(
+/// Appends the message that a pool doesn't fit its aperture.
+fn push_misfit<'a>(
     alloc: Global,
     text: &mut String,
     telling: &RenderOptions<'a>,
     source: &Source<'a>,
-    placed: &PlacedRemark,
+    fault: Fault,
+    fit: &PoolFit,
 ) -> Result<(), AllocError> {
-    let remark = placed.remark;
-    let head = Head {
-        telling: *telling,
-        label: label_of(remark),
-        bytes: source.bytes,
-        document: source.document,
-        entry: remark.entry(),
-        key: remark.key(),
-        place: placed.place,
-    };
-    writeln!(text, "{head}: {remark}{}", Beside(placed.other))?;
-    push_below(alloc, text, &head)
+    let key = aperture_key(fit.pool);
+    let places = Places::new(alloc, source.bytes, source.document)?;
+    let place = place_of(alloc, &places, Entry::Host, key)?;
+    let head = head_at(telling, source, Some(fault), Entry::Host, key, place);
+    write!(text, "{head}{key} ")?;
+    push_need(text, fit)?;
+    push_end(alloc, text, Some(fault), &head)
 }
 
-/// Appends the line of the fault, or `ok` and a line for each pool if there is no fault.
-fn push_head(text: &mut String, name: &str, verdict: &Verdict) -> Result<(), AllocError> {
-    let Some(fault) = verdict.fault else {
-        text.push_str("ok\n")?;
-        for fit in &verdict.fits {
-            writeln!(text, "{fit}")?;
-        }
-        return Ok(());
-    };
-    write!(text, "{name}: ")?;
-    match verdict.fits.first() {
-        Some(fit) => push_need(text, fit)?,
-        None => text.push_str("cannot be set up")?,
-    }
-    writeln!(text, " ({} {})", fault.number(), fault.words())
-}
-
-/// Renders a verdict: the line of the fault, or `ok` and a line for each pool, and then a line for
-/// each remark. Fails only if memory is exhausted.
-pub fn verdict_text(
+/// Appends how the pools fit: `ok` and a line for each pool, or the pool that doesn't fit.
+fn push_fits<'a>(
     alloc: Global,
-    telling: &RenderOptions<'_>,
-    source: &Source<'_>,
+    text: &mut String,
+    telling: &RenderOptions<'a>,
+    source: &Source<'a>,
+    verdict: &Verdict,
+) -> Result<(), AllocError> {
+    if verdict.fault.is_none() {
+        text.push_str("ok\n")?;
+    }
+    for fit in &verdict.fits {
+        match verdict.fault {
+            Some(fault) => push_misfit(alloc, text, telling, source, fault, fit)?,
+            None => writeln!(text, "{fit}")?,
+        }
+    }
+    Ok(())
+}
+
+/// Renders a verdict: `ok` and a line for each pool, or the pool that doesn't fit; and then a
+/// message for each remark. Fails only if memory is exhausted.
+pub fn verdict_text<'a>(
+    alloc: Global,
+    telling: &RenderOptions<'a>,
+    source: &Source<'a>,
     verdict: &Verdict,
 ) -> Result<String, AllocError> {
     let mut text = String::new(alloc);
-    push_head(&mut text, telling.name, verdict)?;
+    push_fits(alloc, &mut text, telling, source, verdict)?;
     for placed in &verdict.remarks {
-        push_remark(alloc, &mut text, &*telling, &*source, placed)?;
+        let (entry, key) = (placed.remark.entry(), placed.remark.key());
+        let head = head_at(telling, source, verdict.fault, entry, key, placed.place);
+        write!(text, "{head}{} ", Subject(head))?;
+        push_said(&mut text, placed)?;
+        push_end(alloc, &mut text, verdict.fault, &head)?;
+        if let Remark::ClosedRegion(_, _, _) = placed.remark {
+            text.push_str(OPEN_IT)?;
+        }
     }
     Ok(text)
 }

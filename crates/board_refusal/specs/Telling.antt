@@ -1,5 +1,5 @@
 -- What is told of a board file that is refused.
---     HasPlace text ms t      its place, where it is known, is that of its value, and so are those of the other entries
+--     HasPlace text ms t      its place, where it is known, is that of its value, and so are those of its cause and of the other entry
 --     ArePlaced text ms problems told      these problems with their places, in the order of their lines
 --     AreOfCheck text ms check told      all that break a rule of a check
 --     phase fault      the checks that are made together with that of the fault
@@ -20,7 +20,7 @@ problem_of t = t.problem
 
 pub record HasPlace (text : List ℕ) (ms : Members) (t : PlacedBreach) : Type 0 where
   pub own : IfSome t.place (IsPlaceOf text ms t.problem.entry t.problem.key.now)
-  pub taker : IfSome t.taker (λ o. IfSome o.place (IsPlaceOf text ms o.entry t.problem.key.now))
+  pub cause : IfSome t.cause (λ o. IfSome o.place (IsPlaceOf text ms o.entry t.cause_key.now))
   pub other : IfSome t.other (λ o. IfSome o.place (IsPlaceOf text ms o.entry t.problem.key.now))
 
 -- a part of the text, with its line

@@ -1,4 +1,4 @@
-//! Causes of unknown keys and of values with the wrong form.
+//! Keys that were probably meant, and the form that the value of a key must have.
 
 use board_file::keys::fields;
 use board_file::schema::{Field, Keyword, TableKind, ValueType, form_at};
@@ -31,9 +31,9 @@ pub(crate) fn push_known(
 ) -> Result<(), AllocError> {
     let fields = fields(level);
     if let Some(meant) = nearest(alloc, key, fields)? {
-        return write!(text, ": is {meant} meant?");
+        return write!(text, "did you mean '{meant}'?");
     }
-    let mut before = ", which has ";
+    let mut before = "the keys of this table are ";
     for field in fields {
         text.push_str(before)?;
         text.push_str(field.key)?;
@@ -42,20 +42,35 @@ pub(crate) fn push_known(
     Ok(())
 }
 
-/// Returns a hint on how to write the value of a key.
-pub(crate) fn asked(level: TableKind, key: &str) -> &'static str {
+/// Returns what an array of tables of this kind must be.
+fn tables_words(inner: TableKind) -> &'static str {
+    match inner {
+        TableKind::Top | TableKind::Host => " an array of tables",
+        TableKind::Endpoint => " an array of tables: write [[endpoint]]",
+        TableKind::Bar => " an array of tables: write [[endpoint.bar]]",
+        TableKind::Config => " an array of tables: write [[endpoint.config]]",
+        TableKind::Bridge => " an array of tables: write [[bridge]]",
+        TableKind::Guest => " an array of tables: write [[guest]]",
+    }
+}
+
+/// Returns what the value of a key must be.
+pub(crate) fn form_words(level: TableKind, key: &str) -> &'static str {
     match form_at(level, key) {
-        Some(ValueType::Integer) => ": write an integer, as 16 or 0x10, without quotes",
-        Some(ValueType::Text) => ": write a text in quotes",
+        Some(ValueType::Integer) => " an integer such as 16 or 0x10, without quotes",
+        Some(ValueType::Text) => match key {
+            "reset" | "rw" | "w1c" => " hexadecimal digits in quotes, such as \"ff\"",
+            _ => " a string in quotes",
+        },
         Some(ValueType::Word(Keyword::RegionKind)) => {
-            ": write one of io, mem32, mem32p, mem64, mem64p in quotes"
+            " \"io\", \"mem32\", \"mem32p\", \"mem64\" or \"mem64p\""
         }
-        Some(ValueType::Word(Keyword::IoDecode)) => ": write one of none, 16, 32 in quotes",
-        Some(ValueType::Word(Keyword::PrefDecode)) => ": write one of none, 32, 64 in quotes",
-        Some(ValueType::Pair) => ": write two integers in brackets, as [0x1000, 0xffff]",
-        Some(ValueType::Texts) => ": write texts in brackets, each in quotes",
-        Some(ValueType::Table(_)) => ": write a table, its header in brackets",
-        Some(ValueType::Tables(_)) => ": write tables, each header in double brackets",
+        Some(ValueType::Word(Keyword::IoDecode)) => " \"none\", \"16\" or \"32\"",
+        Some(ValueType::Word(Keyword::PrefDecode)) => " \"none\", \"32\" or \"64\"",
+        Some(ValueType::Pair) => " an array of two integers such as [0x1000, 0xffff]",
+        Some(ValueType::Texts) => " an array of strings such as [\"1.0\", \"2.0/0.0\"]",
+        Some(ValueType::Table(_)) => " a table: write [host]",
+        Some(ValueType::Tables(inner)) => tables_words(inner),
         None => "",
     }
 }

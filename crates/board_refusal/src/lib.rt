@@ -1,16 +1,17 @@
 //! Layer: files. Below: diagnostics. Above: board_told.
 //!
-//! Error messages for a board file that is refused: a line for each problem, with its line in the
-//! file and its cause. Problems of values are reported only when the keys have none.
+//! Error messages for a board file that is refused: for each problem its place in the file, a
+//! sentence, and a remedy. Problems of values are reported only when the keys have none.
 #![tactic(auto)]
 
-mod causes;
+mod helps;
 mod key_causes;
 mod others;
 mod path_causes;
 mod placed_breach;
 mod problems;
 mod refusals;
+mod sentences;
 mod value_causes;
 
 pub use placed_breach::PlacedBreach;

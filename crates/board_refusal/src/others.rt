@@ -1,5 +1,6 @@
-//! The other entries that a problem involves.
+//! The entries that a problem involves.
 
+use crate::value_causes::pattern_key;
 use bars::Kind;
 use board_file::blocks::are_apart;
 use board_file::entries::{BarEntry, FileEntries};
@@ -43,19 +44,28 @@ fn taker(bars: &[BarEntry<'_>]) -> Option<(usize, Option<usize>)> {
     None
 }
 
-/// Returns the BAR that breaks `OwnRegisters`, or `None` for other rules.
-pub(crate) fn taker_of(file: &FileEntries<'_>, entry: Entry, rule: Rule) -> Option<Entry> {
+/// Returns the first BAR of an endpoint that has no registers of its own.
+fn taker_of(file: &FileEntries<'_>, endpoint: usize) -> Option<Entry> {
+    let (bar, _) = taker(&file.endpoints.get(endpoint)?.bars)?;
+    Some(Entry::Bar(endpoint, bar))
+}
+
+/// Returns the entry and the key that cause a problem, if they aren't those of the rule: the BAR
+/// without registers of its own, or the pattern that isn't valid.
+pub(crate) fn cause_of(
+    file: &FileEntries<'_>,
+    entry: Entry,
+    rule: Rule,
+) -> (Option<Entry>, &'static str) {
     match (rule, entry) {
-        (Rule::OwnRegisters, Entry::Endpoint(i)) => {
-            let (index, _) = taker(&file.endpoints.get(i)?.bars)?;
-            Some(Entry::Bar(i, index))
-        }
-        _ => None,
+        (Rule::OwnRegisters, Entry::Endpoint(i)) => (taker_of(file, i), "index"),
+        (Rule::BarMasks | Rule::ConfigMasks, _) => (Some(entry), pattern_key(file, entry)),
+        _ => (None, ""),
     }
 }
 
 /// Returns the first function with this path.
-fn function_at(file: &FileEntries<'_>, at: &PathText<'_>) -> Option<Entry> {
+pub(crate) fn function_at(file: &FileEntries<'_>, at: &PathText<'_>) -> Option<Entry> {
     let endpoint = file
         .endpoints
         .iter()

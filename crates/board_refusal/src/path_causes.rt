@@ -1,29 +1,42 @@
-//! Causes of invalid paths, and of paths without the required function.
+//! Paths that were probably meant, and paths at which a function is missing.
 
-use board_file::path_text::path_of;
+use crate::others::function_at;
+use board_file::path_text::{PathText, path_of};
 use board_file::places::{FunctionPath, has_bridge};
+use board_file::{Entry, Source};
 use diagnostics::Shown;
 use std::alloc::AllocError;
 
-/// Appends the path that was probably meant by an invalid text, or else the syntax of paths.
-/// Recognises the form of `lspci` and leading zeros.
-pub(crate) fn push_path_form(text: &mut String, at: &[u8]) -> Result<(), AllocError> {
+const DECIMAL: &str = "numbers in a path are decimal, without leading zeros";
+
+/// Appends the path that was probably meant by an invalid one, or else the syntax of paths. Appends
+/// nothing for a valid path. Recognises the form of `lspci` and leading zeros.
+pub(crate) fn push_meant(text: &mut String, at: &[u8]) -> Result<(), AllocError> {
     let short = match at {
         [b'0', b'0', b':', rest @ ..] => rest,
         _ => at,
     };
+    if path_of(at).is_some() {
+        return Ok(());
+    }
     if path_of(short).is_some() {
-        return write!(text, ": is {} meant?", Shown(short));
+        return write!(text, "did you mean \"{}\"?", Shown(short));
     }
     match short {
         [b'0', b'0'..=b'9', b'.', b'0'..=b'7'] => {
-            write!(text, ": is {} meant?", Shown(&short[1..]))
+            write!(text, "did you mean \"{}\"? {}", Shown(&short[1..]), DECIMAL)
         }
         [b'0', digit @ b'a'..=b'f', b'.', b'0'..=b'7'] => {
-            write!(text, ": is 1{}{} meant?", *digit - b'a', Shown(&short[2..]))
+            write!(
+                text,
+                "did you mean \"1{}{}\"? {}",
+                *digit - b'a',
+                Shown(&short[2..]),
+                DECIMAL
+            )
         }
         _ => text.push_str(
-            ": write parts of device and function, as 2.0/1.0: devices are 0 to 15, functions 0 to 7, without leading zeros",
+            "write DEVICE.FUNCTION for each bus, for example \"2.0/1.0\": devices are 0 to 15, functions 0 to 7, without leading zeros",
         ),
     }
 }
@@ -38,7 +51,7 @@ pub(crate) fn push_bridge(
         let above = &at[..count];
         if let (b'/', Some(path)) = (*byte, path_of(above)) {
             if !has_bridge(functions, &path) {
-                return write!(text, ": no bridge at {}", Shown(above));
+                return write!(text, " {}, but there is none", Shown(above));
             }
         }
     }
@@ -48,20 +61,19 @@ pub(crate) fn push_bridge(
 /// Appends the path of the missing function 0.
 pub(crate) fn push_zero(text: &mut String, at: &[u8]) -> Result<(), AllocError> {
     match at.split_last() {
-        Some((_, device)) => write!(text, ": no function at {}0", Shown(device)),
+        Some((_, device)) => write!(text, " {}0, but there is none", Shown(device)),
         None => Ok(()),
     }
 }
 
-/// Appends why a slot isn't the path of an endpoint.
-pub(crate) fn push_slot(
-    text: &mut String,
-    functions: &[FunctionPath],
-    at: &[u8],
-) -> Result<(), AllocError> {
-    match path_of(at) {
-        None => push_path_form(text, at),
-        Some(path) if has_bridge(functions, &path) => text.push_str(": a bridge is there"),
-        Some(_) => text.push_str(": no function is there"),
+/// Returns why a slot isn't the path of an endpoint alone.
+pub(crate) fn slot_words(source: &Source<'_>, at: &PathText<'_>) -> &'static str {
+    match path_of(at.text().as_bytes()) {
+        None => "is not a valid path",
+        Some(path) if has_bridge(&source.functions, &path) => match function_at(&source.file, at) {
+            Some(Entry::Endpoint(_)) => "is the path of both an endpoint and a bridge",
+            _ => "is the path of a bridge, not of an endpoint",
+        },
+        Some(_) => "is not the path of any endpoint",
     }
 }

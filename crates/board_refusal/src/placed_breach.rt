@@ -3,7 +3,7 @@ ghost use Rattle.std.specs.Prelude.{◌≡◌, IfOk};
 ghost use Rattle.toml.specs.View.{table_view};
 ghost use Rattle.board_refusal.specs.Telling.{HasPlace, line_or_zero, ArePlaced};
 
-use crate::others::{other_of, taker_of};
+use crate::others::{cause_of, other_of};
 use board_file::Violation;
 use board_file::entries::FileEntries;
 use diagnostics::{Other, Places, TextPlace, place_of, with_place};
@@ -14,8 +14,10 @@ use std::alloc::{AllocError, Global};
 pub struct PlacedBreach<'a> {
     pub problem: Violation<'a>,
     pub place: Option<TextPlace>,
-    /// The BAR without registers of its own, if that is the problem.
-    pub taker: Option<Other>,
+    /// The entry that causes the problem, if it or its key isn't that of the rule.
+    pub cause: Option<Other>,
+    /// The key of that entry.
+    pub cause_key: &'static str,
     /// The other entry involved in the problem, such as an earlier function with the same path.
     pub other: Option<Other>,
 }
@@ -32,14 +34,15 @@ fn placed<'a>(
         (HasPlace places.now.text.now (table_view places.now.document.now)) }
 {
     let place = place_of(alloc, places, problem.entry, problem.key)?;
-    let taker = taker_of(file, problem.entry, problem.rule);
-    let taker = with_place(alloc, places, taker, problem.key)?;
+    let (cause, cause_key) = cause_of(file, problem.entry, problem.rule);
+    let cause = with_place(alloc, places, cause, cause_key)?;
     let other = other_of(file, problem.entry, problem.rule);
     let other = with_place(alloc, places, other, problem.key)?;
     Ok(PlacedBreach {
         problem: *problem,
         place,
-        taker,
+        cause,
+        cause_key,
         other,
     })
 }

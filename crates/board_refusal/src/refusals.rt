@@ -3,45 +3,64 @@ ghost use Rattle.std.specs.Prelude.{IfSome};
 ghost use Rattle.toml.specs.Errors.{IsWithin};
 ghost use Rattle.board_refusal.specs.Telling.{IsPlaceIn};
 
-use crate::causes::{push_cause, rule_words};
+use crate::helps::push_remedy;
 use crate::placed_breach::PlacedBreach;
 use crate::problems::placed_problems;
+use crate::sentences::push_sentence;
 use board_file::{BoardFault, Source};
 use diagnostics::{
-    Head, LineNumber, RenderOptions, Style, TextPlace, line_of, push_below, push_shown_line,
+    Head, Position, RenderOptions, Style, TextPlace, line_of, push_below, push_shown_line,
 };
 use std::alloc::{AllocError, Global};
 use toml::de::Error;
 
-/// Appends the message of a problem: the place and the entry, the problem and its cause, and the
-/// line of the file below.
-fn push_problem(
-    alloc: Global,
-    text: &mut String,
-    telling: RenderOptions<'_>,
-    source: &Source<'_>,
-    told: &PlacedBreach<'_>,
-) -> Result<(), AllocError> {
-    let problem = told.problem;
-    let fault = problem.rule.fault();
-    let head = Head {
+/// Returns the beginning of the message of a problem. It points at the cause of the problem, if
+/// that isn't the value that the rule is about.
+fn head_of<'a>(
+    telling: RenderOptions<'a>,
+    source: &Source<'a>,
+    told: &PlacedBreach<'a>,
+) -> Head<'a> {
+    let (entry, key, place) = match told.cause {
+        Some(cause) => (cause.entry, told.cause_key, cause.place),
+        None => (told.problem.entry, told.problem.key, told.place),
+    };
+    Head {
         telling,
-        label: "",
+        label: "error",
         bytes: source.bytes,
         document: source.document,
-        entry: problem.entry,
-        key: problem.key,
-        place: told.place,
-    };
-    write!(text, "{head}: {}", rule_words(problem.rule))?;
-    push_cause(alloc, text, source, told)?;
-    writeln!(text, " ({} {fault})", fault.number())?;
-    push_below(alloc, text, &head)
+        entry,
+        key,
+        place,
+    }
 }
 
-/// Returns the messages for a board file that is refused with this fault: a line for each problem,
-/// and then their number. `name` is the file name to show. With excerpts, the line of the file is
-/// shown below each message if it is known.
+/// Appends the message of a problem: the place and the entry, a sentence, the line of the file, and
+/// a remedy.
+fn push_problem<'a>(
+    alloc: Global,
+    text: &mut String,
+    telling: RenderOptions<'a>,
+    source: &Source<'a>,
+    told: &PlacedBreach<'a>,
+) -> Result<(), AllocError> {
+    let head = head_of(telling, source, told);
+    write!(text, "{head}")?;
+    push_sentence(text, source, told, head)?;
+    writeln!(text, " ({})", told.problem.rule.fault().number())?;
+    push_below(alloc, text, &head)?;
+    let mut remedy = String::new(alloc);
+    push_remedy(alloc, &mut remedy, &source.file, told.problem)?;
+    if remedy.is_empty() {
+        return Ok(());
+    }
+    writeln!(text, "  help: {remedy}")
+}
+
+/// Returns the messages for a board file that is refused with this fault, and then their number.
+/// `name` is the file name to show. With excerpts, the line of the file is shown below each message
+/// if it is known.
 pub fn refusal_text(
     alloc: Global,
     style: Style,
@@ -56,12 +75,12 @@ pub fn refusal_text(
             alloc,
             &mut text,
             RenderOptions { style, name },
-            source,
-            problem,
+            &*source,
+            &*problem,
         )?;
     }
     let count = problems.len();
-    let noun = if count == 1 { "problem" } else { "problems" };
+    let noun = if count == 1 { "error" } else { "errors" };
     writeln!(text, "{count} {noun}")?;
     Ok(text)
 }
@@ -93,14 +112,13 @@ pub fn unread_text(
     requires { IsWithin bytes.now error.now }
 {
     let place = place_of_error(bytes, error);
-    let line = LineNumber(place);
+    let position = Position(bytes, place);
     let reason = error.message();
-    let fault = BoardFault::NotToml;
+    let number = BoardFault::NotToml.number();
     let mut text = String::new(alloc);
     writeln!(
         text,
-        "{name}{line}: refused: {reason} ({} {fault})",
-        fault.number()
+        "{name}{position}: error: invalid TOML: {reason} ({number})"
     )?;
     push_shown_line(alloc, &mut text, style, bytes, true, place)?;
     Ok(text)

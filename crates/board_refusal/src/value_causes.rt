@@ -1,7 +1,9 @@
 //! Causes of invalid sizes, apertures and patterns.
 
 use bars::Kind;
-use board_file::entries::{BarEntry, Bounds, PatternTexts};
+use board_file::Entry;
+use board_file::entries::{BarEntry, Bounds, ConfigEntry, FileEntries, PatternTexts};
+use diagnostics::Other;
 use std::alloc::AllocError;
 
 /// Returns the text for the first rule that isn't kept, or an empty string.
@@ -14,29 +16,41 @@ fn first_words(rules: &[(&'static str, bool)]) -> &'static str {
     ""
 }
 
+/// Returns the BAR of an entry, if it is one.
+pub(crate) fn bar_of<'f, 'a>(file: &'f FileEntries<'a>, entry: Entry) -> Option<&'f BarEntry<'a>> {
+    match entry {
+        Entry::Bar(i, j) => file.endpoints.get(i)?.bars.get(j),
+        _ => None,
+    }
+}
+
 /// Appends why a BAR can't have its size.
 pub(crate) fn push_size(text: &mut String, bar: &BarEntry<'_>) -> Result<(), AllocError> {
     let (least, greatest, limits) = match bar.kind {
-        Kind::Io => (4, 1 << 8, "I/O takes 4 to 0x100 bytes"),
-        Kind::Mem32 { .. } => (16, 1 << 31, "32-bit memory takes 16 to 0x80000000 bytes"),
-        Kind::Mem64 { .. } => (16, 1 << 40, "64-bit memory takes 16 to 0x10000000000 bytes"),
+        Kind::Io => (4, 1 << 8, "an I/O BAR (4 to 0x100)"),
+        Kind::Mem32 { .. } => (16, 1 << 31, "a 32-bit memory BAR (16 to 0x80000000)"),
+        Kind::Mem64 { .. } => (16, 1 << 40, "a 64-bit memory BAR (16 to 0x10000000000)"),
     };
     if bar.size < least {
-        return write!(text, ": too small, {limits}");
+        return write!(text, "is too small for {limits}");
     }
     if greatest < bar.size {
-        return write!(text, ": too large, {limits}");
+        return write!(text, "is too large for {limits}");
     }
     let next = bar.size.unsigned_abs().next_power_of_two();
     let power = next / 2;
-    write!(text, ": no power of two, as 0x{power:x} and 0x{next:x} are")
+    write!(
+        text,
+        "is not a power of two (nearest: 0x{power:x} and 0x{next:x})"
+    )
 }
 
-const NEGATIVE: &str = ": an address is negative";
+const NEGATIVE: &str = "has a negative address";
 
-const EMPTY: &str = ": empty, the last address is below the first";
+const EMPTY: &str = "ends before it begins: write the first and the last address, not a length";
 
-const MEGABYTES: &str = ": not whole units of 1 MB, as 0xc0000000 to 0xdfffffff are";
+const MEGABYTES: &str =
+    "must begin and end on a 1 MB boundary, such as [0xc0000000, 0xdfffffff] (the last address is included)";
 
 /// Returns whether neither address is negative.
 fn is_natural(bounds: Bounds) -> bool {
@@ -54,11 +68,11 @@ pub(crate) fn io_words(io: Bounds) -> &'static str {
         (NEGATIVE, is_natural(io)),
         (EMPTY, io.first <= io.last),
         (
-            ": not whole units of 4 KB, as 0x1000 to 0xffff are",
+            "must begin and end on a 4 KB boundary, such as [0x1000, 0xffff] (the last address is included)",
             io.first % 0x1000 == 0 && io.last % 0x1000 == 0xfff,
         ),
-        (": too low, it begins below 0x1000", 0x1000 <= io.first),
-        (": too high, it ends above 0xffff", io.last <= 0xffff),
+        ("begins below 0x1000", 0x1000 <= io.first),
+        ("ends above 0xffff", io.last <= 0xffff),
     ])
 }
 
@@ -68,7 +82,7 @@ pub(crate) fn mem_words(mem: Bounds) -> &'static str {
         (NEGATIVE, is_natural(mem)),
         (EMPTY, mem.first <= mem.last),
         (MEGABYTES, has_megabytes(mem)),
-        (": too high, it ends above 0xffffffff", mem.last < 1 << 32),
+        ("ends above 0xffffffff", mem.last < 1 << 32),
     ])
 }
 
@@ -79,60 +93,137 @@ pub(crate) fn pref_words(mem: Bounds, pref: Bounds) -> &'static str {
         (EMPTY, pref.first <= pref.last),
         (MEGABYTES, has_megabytes(pref)),
         (
-            ": across 4 GB, it begins below 0x100000000 and ends above",
+            "begins below 4 GB (0x100000000) and ends above it",
             pref.last < 1 << 32 || 1 << 32 <= pref.first,
         ),
         (
-            ": meets mem",
+            "overlaps mem",
             mem.last < pref.first || pref.last < mem.first,
         ),
     ])
 }
 
+const TOO_LONG: &str = "has more bytes than block";
+
 /// Returns why a pattern isn't valid for `block` bytes. Returns an empty string if the pattern is
 /// valid.
-fn pattern_words(block: i64, pattern: Option<&str>) -> &'static str {
-    let Some(pattern) = pattern else {
-        return "";
-    };
+fn pattern_words(block: i64, pattern: &str) -> &'static str {
     let digits = pattern.as_bytes();
     first_words(&[
         (
-            " begins with 0x, write the digits alone",
+            "begins with 0x: write only the hexadecimal digits",
             !pattern.starts_with("0x"),
         ),
         (
-            " has a character that is no hexadecimal digit",
+            "contains a character that is not a hexadecimal digit",
             digits.iter().all(|digit| digit.is_ascii_hexdigit()),
         ),
         (
-            " has an odd number of digits, a byte has two",
+            "has an odd number of digits: write two for each byte",
             digits.len() % 2 == 0,
         ),
-        (" is empty", !digits.is_empty()),
-        (" has bytes, and block is missing or 0", block != 0),
+        ("is empty", !digits.is_empty()),
         (
-            " has more bytes than block",
-            digits.len() as u64 / 2 <= block.unsigned_abs(),
+            "needs the key 'block' (how many bytes there are), which is missing or 0",
+            block != 0,
         ),
+        (TOO_LONG, digits.len() as u64 / 2 <= block.unsigned_abs()),
     ])
 }
 
-/// Appends why the patterns of a register block aren't valid.
-pub(crate) fn push_masks(
-    text: &mut String,
-    block: i64,
-    patterns: &PatternTexts<'_>,
-) -> Result<(), AllocError> {
+/// Returns the size and the patterns of a register block.
+fn patterns_of<'f, 'a>(
+    file: &'f FileEntries<'a>,
+    entry: Entry,
+) -> Option<(i64, &'f PatternTexts<'a>)> {
+    match entry {
+        Entry::Config(_, _) => {
+            let config = config_of(file, entry)?;
+            Some((config.block, &config.patterns))
+        }
+        _ => {
+            let bar = bar_of(file, entry)?;
+            Some((bar.block, &bar.patterns))
+        }
+    }
+}
+
+/// Returns the key and the text of the first pattern of a register block that isn't valid, and the
+/// size of the block.
+fn invalid_pattern<'a>(
+    file: &FileEntries<'a>,
+    entry: Entry,
+) -> Option<(&'static str, &'a str, i64)> {
+    let (block, patterns) = patterns_of(file, entry)?;
     for (key, pattern) in &[
         ("reset", patterns.reset),
         ("rw", patterns.rw),
         ("w1c", patterns.w1c),
     ] {
-        let words = pattern_words(block, *pattern);
-        if !words.is_empty() {
-            return write!(text, ": {key}{words}");
+        if let Some(pattern) = *pattern {
+            if !pattern_words(block, pattern).is_empty() {
+                return Some((*key, pattern, block));
+            }
         }
     }
-    text.push_str(": a bit is in both rw and w1c")
+    None
+}
+
+/// Returns the key of the first pattern of a register block that isn't valid.
+pub(crate) fn pattern_key(file: &FileEntries<'_>, entry: Entry) -> &'static str {
+    match invalid_pattern(file, entry) {
+        Some((key, _, _)) => key,
+        None => "w1c",
+    }
+}
+
+/// Appends why a pattern of a register block is invalid, or that its masks share a bit.
+pub(crate) fn push_pattern(
+    text: &mut String,
+    file: &FileEntries<'_>,
+    entry: Entry,
+) -> Result<(), AllocError> {
+    let Some((_, pattern, block)) = invalid_pattern(file, entry) else {
+        return text.push_str("has a bit that is also in rw: a bit can be in only one of them");
+    };
+    let words = pattern_words(block, pattern);
+    if words == TOO_LONG {
+        return write!(
+            text,
+            "has {} bytes, but block is {block}",
+            pattern.len() / 2
+        );
+    }
+    text.push_str(words)
+}
+
+/// Returns the configuration registers of an entry, if it has any.
+fn config_of<'f, 'a>(file: &'f FileEntries<'a>, entry: Entry) -> Option<&'f ConfigEntry<'a>> {
+    match entry {
+        Entry::Config(i, j) => file.endpoints.get(i)?.configs.get(j),
+        _ => None,
+    }
+}
+
+/// Appends the size of a block of configuration registers, and the block that it overlaps.
+pub(crate) fn push_overlap(
+    text: &mut String,
+    file: &FileEntries<'_>,
+    entry: Entry,
+    other: Other,
+) -> Result<(), AllocError> {
+    let Some(config) = config_of(file, entry) else {
+        return Ok(());
+    };
+    let Some(met) = config_of(file, other.entry) else {
+        return Ok(());
+    };
+    let first = met.off.unsigned_abs();
+    let end = first.saturating_add(met.block.unsigned_abs());
+    write!(
+        text,
+        " {} overlaps {other}, which is at 0x{first:x} to 0x{:x}",
+        config.block,
+        end.saturating_sub(1)
+    )
 }

@@ -24,21 +24,8 @@ impl fmt::Display for Other {
     fn fmt<W: fmt::Write>(&self, f: &mut fmt::Formatter<W>) -> fmt::Result {
         let entry = EntryText(self.entry);
         match self.place {
-            Some(place) => write!(f, "{entry} in line {}", place.line),
+            Some(place) => write!(f, "{entry} (line {})", place.line),
             None => write!(f, "{entry}"),
-        }
-    }
-}
-
-/// Displays the second entry after a colon. Displays nothing if there isn't one.
-#[derive(Clone, Copy)]
-pub struct Beside(pub Option<Other>);
-
-impl fmt::Display for Beside {
-    fn fmt<W: fmt::Write>(&self, f: &mut fmt::Formatter<W>) -> fmt::Result {
-        match self.0 {
-            Some(other) => write!(f, ": {other}"),
-            None => Ok(()),
         }
     }
 }

@@ -58,14 +58,19 @@ fn push_marks(text: &mut String, bytes: &[u8]) -> Result<(), AllocError> {
     Ok(())
 }
 
+/// Returns the part of a line before an offset.
+pub(crate) fn line_before(text: &[u8], offset: usize) -> &[u8] {
+    let before = front(text, offset);
+    match before.iter().rposition(|byte| *byte == b'\n') {
+        Some(feed) => from(before, feed + 1),
+        None => before,
+    }
+}
+
 /// Returns the part of a line before an offset, in printable form and truncated on the left.
 fn shown_before(alloc: Global, text: &[u8], offset: usize) -> Result<String, AllocError> {
     let mut shown = String::new(alloc);
-    let before = front(text, offset);
-    let line = match before.iter().rposition(|byte| *byte == b'\n') {
-        Some(feed) => from(before, feed + 1),
-        None => before,
-    };
+    let line = line_before(text, offset);
     if line.len() > MOST {
         shown.push_str("...")?;
     }

@@ -1,6 +1,7 @@
-//! Headers of messages about entries.
+//! The beginnings of messages about entries.
 
 use crate::entry_texts::EntryText;
+use crate::excerpts::line_before;
 use crate::shown::Shown;
 use crate::style::RenderOptions;
 use crate::text_place::TextPlace;
@@ -10,14 +11,18 @@ use std::fmt;
 use toml::Table;
 use toml::value::Value;
 
-/// Displays a colon and the line number of a place. Displays nothing if the place is unknown.
+/// Displays the line and column of a place in a text, each after a colon. Displays nothing if the
+/// place is unknown. Columns count bytes, from 1.
 #[derive(Clone, Copy)]
-pub struct LineNumber(pub Option<TextPlace>);
+pub struct Position<'a>(pub &'a [u8], pub Option<TextPlace>);
 
-impl fmt::Display for LineNumber {
+impl<'a> fmt::Display for Position<'a> {
     fn fmt<W: fmt::Write>(&self, f: &mut fmt::Formatter<W>) -> fmt::Result {
-        match self.0 {
-            Some(place) => write!(f, ":{}", place.line),
+        match self.1 {
+            Some(place) => {
+                let before = line_before(self.0, place.start).len();
+                write!(f, ":{}:{}", place.line, before.saturating_add(1))
+            }
             None => Ok(()),
         }
     }
@@ -28,8 +33,8 @@ fn is_one_word(bytes: &[u8]) -> bool {
     bytes.iter().all(|byte| b' ' < *byte && *byte != b'#')
 }
 
-/// The header of a message: file name, line number, label, entry with key and value, and the owner
-/// of the entry. The value is shown as it is written in the file.
+/// The beginning of a message: file name, position, `error` or `warning`, the entry, and the path or
+/// name of the entry's owner.
 #[derive(Clone, Copy)]
 pub struct Head<'a> {
     pub telling: RenderOptions<'a>,
@@ -51,7 +56,7 @@ impl<'a> Head<'a> {
     }
 
     /// Returns the path or name of the endpoint, bridge or guest that the entry belongs to. Returns
-    /// `None` for the keys `at` and `name`, whose value is already shown.
+    /// `None` for the keys `at` and `name`, whose value is shown anyway.
     fn owner(&self) -> Option<&'a str> {
         match self.key {
             "at" | "name" => None,
@@ -62,25 +67,40 @@ impl<'a> Head<'a> {
 
 impl<'a> fmt::Display for Head<'a> {
     fn fmt<W: fmt::Write>(&self, f: &mut fmt::Formatter<W>) -> fmt::Result {
-        let name = self.telling.name;
-        let line = LineNumber(self.place);
-        let label = self.label;
-        write!(f, "{name}{line}: {label}{}", EntryText(self.entry))?;
-        if !self.key.is_empty() {
-            write!(f, ".{}", Shown(self.key.as_bytes()))?;
+        let position = Position(self.bytes, self.place);
+        write!(f, "{}{position}: {}: ", self.telling.name, self.label)?;
+        match self.entry {
+            Entry::File => return Ok(()),
+            Entry::Slot(guest, _) => write!(f, "{}", EntryText(Entry::Guest(guest)))?,
+            entry => write!(f, "{}", EntryText(entry))?,
+        }
+        if let Some(owner) = self.owner() {
+            write!(f, " (\"{}\")", Shown(owner.as_bytes()))?;
+        }
+        write!(f, ": ")
+    }
+}
+
+/// Displays the key of a message, and its value if that is a string or an integer. An integer is
+/// shown as it is written in the file.
+#[derive(Clone, Copy)]
+pub struct Subject<'a>(pub Head<'a>);
+
+impl<'a> fmt::Display for Subject<'a> {
+    fn fmt<W: fmt::Write>(&self, f: &mut fmt::Formatter<W>) -> fmt::Result {
+        let head = self.0;
+        match head.entry {
+            Entry::Slot(_, slot) => write!(f, "slots[{slot}]")?,
+            _ => write!(f, "{}", Shown(head.key.as_bytes()))?,
         }
         match (
-            value_at(self.document, self.entry, self.key),
-            self.written(),
+            value_at(head.document, head.entry, head.key),
+            head.written(),
         ) {
-            (Some(Value::Integer(_)), Some(word)) => write!(f, " = {}", Shown(word))?,
-            (Some(Value::Integer(number)), None) => write!(f, " = {number}")?,
-            (Some(Value::String(text)), _) => write!(f, " = \"{}\"", Shown(text.as_bytes()))?,
-            _ => {}
-        }
-        match self.owner() {
-            Some(owner) => write!(f, " of \"{}\"", Shown(owner.as_bytes())),
-            None => Ok(()),
+            (Some(Value::Integer(_)), Some(word)) => write!(f, " = {}", Shown(word)),
+            (Some(Value::Integer(number)), None) => write!(f, " = {number}"),
+            (Some(Value::String(text)), _) => write!(f, " = \"{}\"", Shown(text.as_bytes())),
+            _ => Ok(()),
         }
     }
 }

@@ -1,7 +1,7 @@
 //! Layer: files. Below: board_file. Above: board_refusal, board_fit.
 //!
-//! Diagnostics for board files: the places of entries and values in the text, message headers, and
-//! excerpts of lines with marks below a value.
+//! Diagnostics for board files: the places of entries and values in the text, the beginnings of
+//! messages, and excerpts of lines with marks below a value.
 #![tactic(auto)]
 
 mod confirmation;
@@ -20,9 +20,9 @@ mod style;
 mod text_place;
 
 pub use confirmation::Places;
-pub use entry_places::{Beside, Other, place_of, with_place};
+pub use entry_places::{Other, place_of, with_place};
 pub use excerpts::{push_below, push_shown_line};
-pub use heads::{Head, LineNumber};
+pub use heads::{Head, Position, Subject};
 pub use line_numbers::line_of;
 pub use shown::{Shown, push_shown};
 pub use steps::Step;

@@ -30,15 +30,19 @@ class Problem(NamedTuple):
 
     #: the line of the file, or None if it isn't known
     line: Optional[int]
-    #: the message
+    #: `error` or `warning`, the entry, what is wrong, and for an error its number
     text: str
+    #: the column in that line, counted in bytes from 1, or None if it isn't known
+    column: Optional[int] = None
+    #: what to write instead, or None
+    help: Optional[str] = None
 
 
 class BoardRefusal(Refusal):
     """Why a board file, or its board, was refused: the number of the first check that fails, and every problem that
     `check` reports.
 
-    `text` is what `pciguest check --plain board.toml` writes, and `problems` are its lines.
+    `text` is all of that, as `pciguest check board.toml` writes it, and `problems` are its messages.
     """
 
     text: str

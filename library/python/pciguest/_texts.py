@@ -22,7 +22,7 @@ class Check(NamedTuple):
     text: str
     #: what the file or its board is refused by, or None
     refusal: Optional[Refusal]
-    #: what is wrong, or may be a mistake, line by line
+    #: what is wrong, or may be a mistake, message by message
     problems: Tuple[Problem, ...] = ()
 
 
@@ -57,7 +57,7 @@ def check(board: Union[str, bytes], name: str = NAME) -> Check:
     >>> print(told.refusal.words)
     required key is missing, or value has the wrong form
     >>> print(told.text.splitlines()[0])
-    board.toml:3: host.mem = 7: is not what its key asks: write two integers in brackets, as [0x1000, 0xffff] (102 key)
+    board.toml:3:7: error: host: mem = 7 must be an array of two integers such as [0x1000, 0xffff] (102)
     >>> told.problems[0].line
     3
     """
@@ -83,5 +83,7 @@ def explained(board: bytes, name: str) -> Iterator[None]:
 
 
 def _problems(text: str) -> Iterator[Problem]:
-    for line in re.finditer(rf"^{re.escape(NAME)}(?::([0-9]+))?: (.*)$", text, re.MULTILINE):
-        yield Problem(int(line[1]) if line[1] else None, line[2])
+    message = rf"^{re.escape(NAME)}(?::([0-9]+):([0-9]+))?: (.*)(?:\n  help: (.*))?$"
+    for found in re.finditer(message, text, re.MULTILINE):
+        line, column = (int(it) if it else None for it in found.group(1, 2))
+        yield Problem(line, found[3], column, found[4])

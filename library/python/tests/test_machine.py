@@ -241,7 +241,7 @@ class Refusals(Case):
         self.assertEqual(refusal.words, "address is not a multiple of the width")
 
     def test_boards(self):
-        self.assertTrue(str(self.refused(101, Machine, "x")).startswith("board file is not valid TOML (101)\nboard.toml:1: refused"))
+        self.assertTrue(str(self.refused(101, Machine, "x")).startswith("board file is not valid TOML (101)\nboard.toml:1:"))
         self.refused(101, Machine, b"\xff")
         self.refused(102, Machine, "")
         self.assertEqual(self.refused(203, Machine, (REFUSED / "io_pool.toml").read_text()).words, "I/O aperture is too small")

@@ -1,5 +1,6 @@
 """What a refused board tells, and files at a path."""
 
+import re
 import tempfile
 import unittest
 from pathlib import Path
@@ -29,19 +30,27 @@ class Refused(unittest.TestCase):
                 self.assertGreater(len(error.problems), 0)
         self.assertGreater(refused, 30)
 
+    def test_a_check_says_what_the_program_says(self):
+        sections = re.findall(r"^== check (\S+)\n(.*?)^fault ", (REFUSED / "expected.txt").read_text(), re.MULTILINE | re.DOTALL)
+        self.assertGreater(len(sections), 20)
+        for name, text in sections:
+            self.assertEqual(check((REFUSED / name).read_bytes(), name).text, text)
+
     def test_lines(self):
         problems = self.raised(Machine, (REFUSED / "many_places.toml").read_bytes()).problems
-        self.assertEqual([problem.line for problem in problems], [13, 19, 25, 31])
-        self.assertTrue(problems[0].text.startswith('endpoint[1].at = "01.0": is no path'))
+        self.assertEqual([(problem.line, problem.column) for problem in problems], [(13, 6), (19, 6), (25, 6), (31, 6)])
+        self.assertEqual(problems[0][1::2], ('error: endpoint[1]: at = "01.0" is not a valid path (105)',
+                                             'did you mean "1.0"? numbers in a path are decimal, without leading zeros'))
+        self.assertIsNone(problems[1].help)
         pool = self.raised(Machine, (REFUSED / "io_pool.toml").read_bytes())
-        self.assertEqual((pool.number, [problem.line for problem in pool.problems]), (203, [None]))
+        self.assertEqual((pool.number, [problem.line for problem in pool.problems]), (203, [2]))
 
     def test_a_board_of_firmware(self):
         self.assertEqual(self.raised(Board, "x = 1").number, 102)
         with Board((REFUSED / "io_pool.toml").read_bytes(), "mine.toml") as board:
             error = self.raised(board.set_up)
         self.assertEqual(error.number, 203)
-        self.assertTrue(error.text.startswith("mine.toml: the I/O pool needs "))
+        self.assertTrue(error.text.startswith("mine.toml:2:7: error: host: io has "))
 
     def test_warnings_are_no_refusal(self):
         told = check((BOARDS / "warnings.toml").read_bytes())

@@ -66,7 +66,7 @@ impl Board {
     /// # std::fs::write(&path, "[host]\nio = [0x1000, 0xffff]\nmem = 7\n")?;
     /// let error = pciguest::Board::load(&path).unwrap_err();
     /// # std::fs::remove_file(&path)?;
-    /// assert!(error.to_string().starts_with(&format!("required key is missing, or value has the wrong form (102)\n{}:3: host.mem", path.display())));
+    /// assert!(error.to_string().starts_with(&format!("required key is missing, or value has the wrong form (102)\n{}:3:7: error: host: mem", path.display())));
     /// # Ok::<(), std::io::Error>(())
     /// ```
     pub fn load(path: impl AsRef<Path>) -> Result<Board, LoadError> {

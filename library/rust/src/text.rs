@@ -63,7 +63,7 @@ pub fn report_json(board: impl AsRef<[u8]>) -> Result<String, Error> {
 /// ```
 /// let check = pciguest::check("[host]\nio = [0x1000, 0xffff]\nmem = 7\n")?;
 /// assert_eq!(check.refusal.unwrap().to_string(), "required key is missing, or value has the wrong form (102)");
-/// assert!(check.text.starts_with("board.toml:3: host.mem"));
+/// assert!(check.text.starts_with("board.toml:3:7: error: host: mem = 7"));
 /// # Ok::<(), pciguest::Error>(())
 /// ```
 pub fn check(board: impl AsRef<[u8]>) -> Result<Check, Error> {

@@ -43,6 +43,24 @@ fn a_check_a_report_and_a_machine_agree() {
 }
 
 #[test]
+fn a_check_says_what_the_program_says() {
+    let refused = folder().join("refused");
+    let golden = fs::read_to_string(refused.join("expected.txt")).expect("what the program says");
+    let mut compared = 0;
+    for section in golden.split("== check ").skip(1) {
+        let (name, rest) = section.split_once('\n').expect("a section");
+        let wanted = rest.split("fault ").next().expect("its lines");
+        // (the file that a section with excerpts names isn't there)
+        if let Ok(board) = fs::read(refused.join(name)) {
+            let text = check(&board).expect("memory").text;
+            assert_eq!(text.replace("board.toml", name), wanted, "{name}");
+            compared += 1;
+        }
+    }
+    assert!(compared > 20);
+}
+
+#[test]
 fn long_texts_come_whole() {
     let board = fs::read(folder().join("largest.toml")).unwrap();
     let json = report_json(&board).unwrap();

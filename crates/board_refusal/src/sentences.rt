@@ -1,0 +1,129 @@
+//! The sentence that says what is wrong with an entry.
+
+use crate::key_causes::form_words;
+use crate::others::path_of;
+use crate::path_causes::{push_bridge, push_zero, slot_words};
+use crate::placed_breach::PlacedBreach;
+use crate::value_causes::{
+    bar_of, io_words, mem_words, pref_words, push_overlap, push_pattern, push_size,
+};
+use board_file::entries::FileEntries;
+use board_file::tables::level_of;
+use board_file::{Entry, Rule, Source};
+use diagnostics::{Head, Other, Shown, Subject};
+use std::alloc::AllocError;
+
+/// Returns the words of a rule that are the same for every value.
+fn rule_words(rule: Rule) -> &'static str {
+    match rule {
+        Rule::Needed => "missing key",
+        Rule::Form => "must be",
+        Rule::Known => "unknown key",
+        Rule::Vendor => "is out of range (0 to 0xfffe)",
+        Rule::Device | Rule::Subvendor | Rule::Subsystem => "is out of range (0 to 0xffff)",
+        Rule::Revision | Rule::MinGnt | Rule::MaxLat => "is out of range (0 to 0xff)",
+        Rule::Class => "is out of range (0 to 0xffffff)",
+        Rule::Pin => "is out of range (0 to 4)",
+        Rule::Status => "has bits outside 0xf900",
+        Rule::BarBlock => "is out of range (0 to 4096)",
+        Rule::ConfigOff => "is out of range (0x40 to 0xff)",
+        Rule::ConfigBlock => "is out of range (1 to 192)",
+        Rule::ConfigEnd => "extends past offset 0xff",
+        Rule::Slashes => "has more than 16 parts",
+        Rule::Functions => "too many endpoints and bridges (at most 1024)",
+        Rule::Guests => "too many guests (at most 32)",
+        Rule::Slots => "too many slots (at most 32)",
+        Rule::Index => "is out of range (0 to 5)",
+        Rule::BlockFits => "is larger than the BAR",
+        Rule::Name => "is not a valid guest name",
+        Rule::Path => "is not a valid path",
+        Rule::OwnPlace | Rule::OwnName | Rule::OwnSlot => "is already used by",
+        Rule::BehindBridge => "requires a bridge at",
+        Rule::FunctionZero => "requires a function at",
+        Rule::OwnOffsets => "with block =",
+        Rule::Size | Rule::BarMasks | Rule::ConfigMasks | Rule::OwnRegisters => "",
+        Rule::NamesEndpoint | Rule::IoAperture | Rule::MemAperture | Rule::PrefAperture => "",
+    }
+}
+
+/// Appends the rest of the sentence about the path of a function or slot.
+fn push_path(
+    text: &mut String,
+    source: &Source<'_>,
+    entry: Entry,
+    rule: Rule,
+) -> Result<(), AllocError> {
+    let Some(at) = path_of(&source.file, entry) else {
+        return Ok(());
+    };
+    let path = at.text().as_bytes();
+    match rule {
+        Rule::BehindBridge => push_bridge(text, &source.functions, path),
+        Rule::FunctionZero => push_zero(text, path),
+        _ => text.push_str(slot_words(source, at)),
+    }
+}
+
+/// Appends the rest of the sentence about a BAR or a register block.
+fn push_block(
+    text: &mut String,
+    file: &FileEntries<'_>,
+    entry: Entry,
+    rule: Rule,
+) -> Result<(), AllocError> {
+    match (rule, bar_of(file, entry)) {
+        (Rule::Size, Some(bar)) => push_size(text, bar),
+        (Rule::BlockFits, Some(bar)) => write!(text, " (at most {})", bar.size),
+        _ => push_pattern(text, file, entry),
+    }
+}
+
+/// Appends the rest of the sentence about a conflict with another entry. A 64-bit BAR at the last
+/// register has no registers of its own without such an entry.
+fn push_conflict(
+    text: &mut String,
+    file: &FileEntries<'_>,
+    entry: Entry,
+    rule: Rule,
+    other: Option<Other>,
+) -> Result<(), AllocError> {
+    match (rule, other) {
+        (Rule::OwnRegisters, Some(other)) => write!(text, "shares a register with {other}"),
+        (Rule::OwnRegisters, None) => text.push_str("is out of range for a 64-bit BAR (0 to 4)"),
+        (Rule::OwnOffsets, Some(other)) => push_overlap(text, file, entry, other),
+        (_, Some(other)) => write!(text, " {other}"),
+        (_, None) => Ok(()),
+    }
+}
+
+/// Appends what is wrong with an entry: the key with its value, the words of the rule, and what
+/// depends on the value.
+pub(crate) fn push_sentence(
+    text: &mut String,
+    source: &Source<'_>,
+    told: &PlacedBreach<'_>,
+    head: Head<'_>,
+) -> Result<(), AllocError> {
+    let problem = told.problem;
+    let (entry, key, rule) = (problem.entry, problem.key, problem.rule);
+    match rule {
+        Rule::Needed | Rule::Known | Rule::Functions | Rule::Guests | Rule::Slots => {}
+        _ => write!(text, "{} ", Subject(head))?,
+    }
+    text.push_str(rule_words(rule))?;
+    let file = &source.file;
+    match (rule, level_of(entry), file.pref) {
+        (Rule::Needed | Rule::Known, _, _) => write!(text, " '{}'", Shown(key.as_bytes())),
+        (Rule::Form, Some(level), _) => text.push_str(form_words(level, key)),
+        (Rule::IoAperture, _, _) => text.push_str(io_words(file.io)),
+        (Rule::MemAperture, _, _) => text.push_str(mem_words(file.mem)),
+        (Rule::PrefAperture, _, Some(pref)) => text.push_str(pref_words(file.mem, pref)),
+        (Rule::Size | Rule::BlockFits | Rule::BarMasks | Rule::ConfigMasks, _, _) => {
+            push_block(text, file, entry, rule)
+        }
+        (Rule::BehindBridge | Rule::FunctionZero | Rule::NamesEndpoint, _, _) => {
+            push_path(text, source, entry, rule)
+        }
+        _ => push_conflict(text, file, entry, rule, told.other),
+    }
+}
