@@ -8,6 +8,9 @@ use Rattle.findings_render.specs.Lines.{problem_lines}
 pub right_to_left : (a b c d e : Text) → a ++ (b ++ (c ++ (d ++ e))) ≡ a ++ b ++ c ++ d ++ e
 right_to_left a b c d e = simp append_assoc
 
+pub six_right_to_left : (a b c d e f : Text) → a ++ (b ++ (c ++ (d ++ (e ++ f)))) ≡ a ++ b ++ c ++ d ++ e ++ f
+six_right_to_left a b c d e f = simp append_assoc
+
 pub all_right_to_left : (a b c d e f g : Text) → a ++ (b ++ (c ++ (d ++ (e ++ (f ++ g))))) ≡ a ++ b ++ c ++ d ++ e ++ f ++ g
 all_right_to_left a b c d e f g = simp append_assoc
 

@@ -1,16 +1,36 @@
 //! Renders unmet requirements, and the line that counts them and the problems.
 ghost use Rattle.std.specs.Prelude.{OnOk};
 ghost use Rattle.lists.specs.Texts.{Adds};
-ghost use Rattle.model_findings.specs.ReadyText.{issue_text, ready_total, ready_line};
+ghost use Rattle.model_findings.specs.{ReadinessIssues.prefetched_by, ReadyText.{issue_text, ready_total, ready_line}};
 ghost use Rattle.findings.specs.Findings.{issue_of};
 ghost use Rattle.findings_render.specs.Lines.{issue_lines};
 ghost use Rattle.model_guests.specs.Text.{ended};
 
 use crate::problem_lines::ProblemCount;
-use crate::region_texts::{ShownRegion, space_name};
-use findings::ReadinessIssue;
+use crate::region_texts::{Hexadecimal, ShownRegion, space_name};
+use findings::{LiveBar, ReadinessIssue};
+use paths::Path;
 use report::{ShownPath, TwoDigits};
 use std::alloc::AllocError;
+
+/// Appends the description of a BAR that a bridge forwards as prefetchable but isn't.
+fn push_prefetched(
+    text: &mut String,
+    region: &LiveBar,
+    bridge: &Path,
+    address: u64,
+) -> Result<(), AllocError>
+    ensures { OnOk result (Adds text.old text.new
+        (issue_text (prefetched_by region.now bridge.now address))) }
+{
+    let region = ShownRegion(region);
+    let bridge = ShownPath(bridge);
+    let address = Hexadecimal(address);
+    write!(
+        text,
+        "{region}: bridge {bridge} forwards {address} as prefetchable"
+    )
+}
 
 /// Appends the description of an unmet requirement.
 fn push_description(text: &mut String, issue: &ReadinessIssue) -> Result<(), AllocError>
@@ -29,14 +49,7 @@ fn push_description(text: &mut String, issue: &ReadinessIssue) -> Result<(), All
             region,
             bridge,
             address,
-        } => {
-            let bridge = ShownPath(bridge);
-            write!(text, "{}", ShownRegion(region))?;
-            write!(
-                text,
-                ": bridge {bridge} forwards 0x{address:x} as prefetchable"
-            )
-        }
+        } => push_prefetched(text, region, bridge, *address),
         ReadinessIssue::OtherPrimary { path, held, number } => {
             let path = ShownPath(path);
             let held = TwoDigits(*held);

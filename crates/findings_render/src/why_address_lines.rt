@@ -1,7 +1,8 @@
 //! Renders the explanation of an address.
-ghost use Rattle.std.specs.Prelude.{◌≡◌, OnOk, Some, map};
+ghost use Rattle.std.specs.Prelude.{◌≡◌, ◌++◌, OnOk, Some, codes, map};
 ghost use Rattle.lists.specs.Texts.{Adds};
 ghost use Rattle.bars.specs.Kinds.{named_space};
+ghost use Rattle.model_guests.specs.PathTexts.{path_text};
 ghost use Rattle.model_lines.specs.WhyText.{hindrance_text, cause_text, causes_text, told_text, forwarder_text, claim_text, no_claim_text};
 ghost use Rattle.findings.specs.WhyTold.{hindrance_told, cause_told, forwarder_told, region_told, why_told};
 ghost use Rattle.findings_render.specs.WhyLines.{address_head, answer_text};
@@ -11,6 +12,7 @@ use crate::why_parts::{ShownDisabled, ShownWindows};
 use bars::Space;
 use bridge_forward::Claim;
 use findings::{BlockReason, Cause, Forwarder, UnansweredRegion, Why};
+use paths::Path;
 use report::{ShownPath, TwoDigits};
 use std::alloc::AllocError;
 use std::fmt;
@@ -36,6 +38,18 @@ impl fmt::Display for ShownHindrance {
     }
 }
 
+/// Displays a bridge by its path.
+#[derive(Clone, Copy)]
+struct ShownBridge<'a>(&'a Path);
+
+impl<'a> fmt::Display for ShownBridge<'a> {
+    ghost output = { λ b. Some (codes "bridge " ++ path_text b.0.now) };
+
+    fn fmt<W: fmt::Write>(&self, f: &mut fmt::Formatter<W>) -> fmt::Result {
+        write!(f, "bridge {}", ShownPath(self.0))
+    }
+}
+
 /// Displays a reason why a BAR doesn't answer.
 #[derive(Clone, Copy)]
 struct ShownCause<'a> {
@@ -52,12 +66,12 @@ impl<'a> fmt::Display for ShownCause<'a> {
                 write!(f, "{} {}", space_name(self.space), ShownDisabled(*command))
             }
             Cause::StoppedAt { bridge, hindrance } => {
-                let bridge = ShownPath(bridge);
+                let bridge = ShownBridge(bridge);
                 let hindrance = ShownHindrance {
                     space: self.space,
                     hindrance: *hindrance,
                 };
-                write!(f, "bridge {bridge} doesn't forward it: {hindrance}")
+                write!(f, "{bridge} doesn't forward it: {hindrance}")
             }
         }
     }
@@ -115,10 +129,10 @@ impl<'a> fmt::Display for ShownClaim<'a> {
 
     fn fmt<W: fmt::Write>(&self, f: &mut fmt::Formatter<W>) -> fmt::Result {
         let claim = self.0;
-        let path = ShownPath(&claim.path);
         let region = claim.region;
         let offset = claim.offset;
-        write!(f, "{path} bar{region} responds at offset 0x{offset:x}")
+        write!(f, "{} bar{region}", ShownPath(&claim.path))?;
+        write!(f, " responds at offset 0x{offset:x}")
     }
 }
 
@@ -171,10 +185,6 @@ pub(crate) fn push_forwarder(text: &mut String, forwarder: &Forwarder) -> Result
     ensures { OnOk result (Adds text.old text.new
         (forwarder_text (forwarder_told forwarder.now))) }
 {
-    let path = ShownPath(&forwarder.path);
-    write!(
-        text,
-        "bridge {path} forwards it to bus {}",
-        TwoDigits(forwarder.bus)
-    )
+    write!(text, "bridge {}", ShownPath(&forwarder.path))?;
+    write!(text, " forwards it to bus {}", TwoDigits(forwarder.bus))
 }

@@ -1,12 +1,16 @@
 //! Renders the role of an I/O port in the configuration mechanism.
-ghost use Rattle.std.specs.Prelude.{OnOk, Some};
+ghost use Rattle.std.specs.Prelude.{◌++◌, OnOk, Some, codes};
 ghost use Rattle.lists.specs.Texts.{Adds};
+ghost use Rattle.paths.specs.BusAddresses.{bus_address_of};
+ghost use Rattle.model_guests.specs.PathTexts.{hexadecimal};
+ghost use Rattle.model_findings.specs.AuditText.{number_text};
 ghost use Rattle.model_lines.specs.WhyPorts.{port_text, latch_text};
 ghost use Rattle.findings.specs.WhyTold.{use_told};
 ghost use Rattle.findings_render.specs.WhyLines.{use_text};
 
-use crate::region_texts::numbers;
-use findings::PortUse;
+use crate::region_texts::Hexadecimal;
+use findings::{Bdf, PortUse};
+use report::Numbers;
 use std::alloc::AllocError;
 use std::fmt;
 
@@ -36,6 +40,27 @@ impl fmt::Display for ShownLatch {
     }
 }
 
+/// Appends the byte of configuration space that CONFIG_ADDRESS selects.
+fn push_selected(
+    text: &mut String,
+    port: ShownPort,
+    latch: ShownLatch,
+    at: Bdf,
+    offset: u8,
+) -> Result<(), AllocError>
+    ensures { OnOk result (Adds text.old text.new
+        (port_text port.0 ++ latch_text latch.0 ++ codes " selects offset " ++ hexadecimal offset
+        ++ codes " of " ++ number_text (bus_address_of at))) }
+{
+    let offset = Hexadecimal(u64::from(offset));
+    let number = Numbers {
+        bus: at.bus,
+        device: at.device,
+        function: at.function,
+    };
+    write!(text, "{port}{latch} selects offset {offset} of {number}")
+}
+
 /// Appends the role of a port. Appends nothing for an ordinary port.
 pub(crate) fn push_port(
     text: &mut String,
@@ -49,10 +74,7 @@ pub(crate) fn push_port(
     let latch = ShownLatch(latch);
     match *used {
         PortUse::HoldsLatch => write!(text, "{port}4-byte accesses go to {latch}"),
-        PortUse::ShowsData { at, offset } => {
-            write!(text, "{port}{latch}")?;
-            write!(text, " selects offset 0x{offset:x} of {}", numbers(at))
-        }
+        PortUse::ShowsData { at, offset } => push_selected(text, port, latch, at, offset),
         PortUse::HidesData => write!(text, "{port}{latch} is disabled"),
         PortUse::LikeOthers => Ok(()),
     }
