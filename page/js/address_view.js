@@ -12,7 +12,7 @@ import { same_list, same_owners } from './same.js';
 
 const ROW = 20, TICKS = 36, NAMED_BESIDE = 6;
 const NAMES = { io: 'I/O', mem: 'Memory', pref: 'Prefetchable memory' };
-const keys_in_words = can_ask => `arrow keys go from one to the next, ${can_ask ? 'Enter asks who answers there and why, +' : 'Enter or +'} zooms into it, Escape shows all`;
+const keys_in_words = can_ask => `arrow keys go from one to the next, ${can_ask ? 'Enter asks what responds there and why, +' : 'Enter or +'} zooms into it, Escape shows all`;
 
 // Where an address is in a width, and what is at a share of it.
 const place_of = (address, [first, last], width) => Number((address - first) * 1000000n / (last - first + 1n)) / 1000000 * width;

@@ -7,7 +7,7 @@ import { register_at, registers_of } from './register_names.js';
 const DOES = { cr: 'reads configuration bytes', cw: 'writes configuration bytes', ir: 'reads ports', iw: 'writes ports', mr: 'reads memory', mw: 'writes memory',
   raise: 'its device sets status bits', move: 'reassigns a function',
   audit: 'lists what is wrong', ready: 'lists what is wrong and what is left to do', guests: 'hands the board over to its guests',
-  why: 'says what answers, or why nothing does' };
+  why: 'says what responds, or why nothing does' };
 
 // An offer has what is put in, what is told beside it, and the names by which it is found.
 const offer = (text, told, ...names) => ({ text, told, names: [text, ...names] });

@@ -1,7 +1,7 @@
 // One name for each function: its number, bus, device and function, as lines take it. Its path, by which the board file and the library's texts name
 // it, stands below it in the tree.
 
-const PATH_IN_TEXT = /(?<![\w.:/-])\d+\.\d(?:\/\d+\.\d)*(?![\w.:/])/g;
+const PATH_IN_TEXT = /(?<![\w.:/-])\d+\.\d(?:\/\d+\.\d)*(?![\w./]|:\S)/g;
 export const UNNUMBERED = '–';
 
 // The number of a function, or its path if no cycle for that number reaches it.

@@ -1,5 +1,5 @@
-// Why something finds what it finds: the question that the reader asked last, where he asked it. It is asked again after each line, as
-// registers may have changed, until he closes it or asks another one.
+// The reader's last question about why something responds to an access or nothing does, shown where it was asked. It is asked again after each
+// line, since registers may have changed, until the reader closes it or asks another one.
 
 import { make, make_button, put_text } from './marks.js';
 import { Findings } from './findings_view.js';

@@ -1,4 +1,4 @@
-// The way of a configuration number, an address or a port down the tree, bus by bus: which register of whom takes it there, and which drop it.
+// The route of a configuration cycle, an address or a port down the tree, bus by bus: which register forwards it or responds to it, and which doesn't.
 
 import { hex, parent_of, regions_of, two_digits, windows_of } from './report.js';
 import { number_of, words_in } from './forms.js';
@@ -43,35 +43,35 @@ function sent_by_latch(at, latch) {
   return { space: 'cfg', place, words: `I/O port ${hex(at)}, by CONFIG_ADDRESS configuration ${place}` };
 }
 
-// How a function takes what is sent to a bus, or why not: { takes, text, down }, where `down` tells that it goes to the bus behind.
+// What a function does with an access on its bus, and why: { takes, text, down }, where `down` is whether it forwards the access to the bus behind it.
 function met_by_window(one, { space, place }) {
   const those = windows_of(one).filter(window => (window.space === 'io') === (space === 'io'));
   const window = those.find(each => each.open && is_in(each, place));
-  if (window) return { takes: true, down: true, text: `takes it down: its ${WINDOW_NAMES[window.space]}, ${reach_of(window)}, holds it` };
-  const why = each => (each.first > each.last ? `${WINDOW_NAMES[each.space]} has its Base above its Limit` : !each.open ? `${WINDOW_NAMES[each.space]} is disabled by Command`
-    : `${WINDOW_NAMES[each.space]}, ${reach_of(each)}, doesn't hold it`);
-  return { takes: false, text: `drops it: ${those.length === 0 ? 'it has no such window' : `its ${those.map(why).join(', its ')}`}` };
+  if (window) return { takes: true, down: true, text: `forwards it: its ${WINDOW_NAMES[window.space]} is ${reach_of(window)}` };
+  const why = each => (each.first > each.last ? `${WINDOW_NAMES[each.space]} has Base above Limit` : !each.open ? `${WINDOW_NAMES[each.space]} is disabled by Command`
+    : `${WINDOW_NAMES[each.space]} is ${reach_of(each)}`);
+  return { takes: false, text: `doesn't forward it: ${those.length === 0 ? 'it has no such window' : `its ${those.map(why).join(', its ')}`}` };
 }
 
 function met_by_region(one, { space, place }) {
   const those = regions_of(one).map(span_on_way)
     .filter(region => (region.kind === 'io') === (space === 'io') && is_in(region, place));
   const open = those.find(region => region.open);
-  if (open) return { takes: true, down: false, text: `answers: its ${open.name}, ${reach_of(open)}, holds it at offset ${hex(place - open.first)}` };
-  return { takes: false, text: those.length > 0 ? `drops it: its ${those[0].name} holds it, and is disabled by Command` : '' };
+  if (open) return { takes: true, down: false, text: `responds at offset ${hex(place - open.first)} of its ${open.name}, ${reach_of(open)}` };
+  return { takes: false, text: those.length > 0 ? `doesn't respond: Command disables its ${those[0].name}, ${reach_of(those[0])}` : '' };
 }
 
 function met_by_number(one, { place }, bus) {
   const [, to, number] = NUMBER.exec(place), target = hex_bus(to);
-  if (target === bus) return { takes: one.place.slice(3) === number, down: false, text: one.place.slice(3) === number ? 'is found' : '' };
+  if (target === bus) return { takes: one.place.slice(3) === number, down: false, text: one.place.slice(3) === number ? 'responds' : '' };
   if (one.kind !== 'bridge') return { takes: false, text: '' };
   const [, secondary, subordinate] = one.buses.map(name => hex_bus(name) || 0), told = `Secondary ${one.buses[1]}, Subordinate ${one.buses[2]}`;
   const takes = secondary !== 0 && secondary <= target && target <= subordinate;
-  return { takes, down: takes, text: takes ? `takes it down: ${told}` : `drops it: ${told}` };
+  return { takes, down: takes, text: `${takes ? 'forwards' : "doesn't forward"} it: ${told}` };
 }
 
-// The stops of a way: at each the bus, the functions that take it or drop it with why, and what came of it; and the paths of who answers, of
-// whom there may be several.
+// The stops of a route: for each the bus, and what each function there does with the access and why; how the route ends; and the paths of the
+// functions that respond, of which there may be several.
 export function way_of(sent, functions) {
   const stops = [];
   let parent = '', bus = 0;
@@ -82,9 +82,9 @@ export function way_of(sent, functions) {
     const takers = met.filter(each => each.takes), told = met.filter(each => each.text !== '');
     const name = bus === null ? 'a bus without a number' : `bus ${two_digits(bus)}`;
     stops.push({ name, path: takers[0]?.one.path ?? (parent || null), met: told.map(({ one, takes, text }) => ({ path: one.path, called: called(one), takes, text })) });
-    if (takers.length === 0) return { sent, stops, ends: [], told: `Nothing on ${name} takes it: a read returns all ones` };
-    if (takers.length > 1 && sent.space !== 'cfg') return { sent, stops, ends: takers.map(each => each.one.path), told: `${takers.length} functions on ${name} take it: an address conflict` };
-    if (!takers[0].down) return { sent, stops, ends: [takers[0].one.path], told: `${called(takers[0].one)} has it` };
+    if (takers.length === 0) return { sent, stops, ends: [], told: `Nothing on ${name} responds: a read returns all ones` };
+    if (takers.length > 1 && sent.space !== 'cfg') return { sent, stops, ends: takers.map(each => each.one.path), told: `${takers.length} functions on ${name} claim it: an address conflict` };
+    if (!takers[0].down) return { sent, stops, ends: [takers[0].one.path], told: `${called(takers[0].one)} responds` };
     parent = takers[0].one.path;
     bus = hex_bus(takers[0].one.buses[1]) || null;
   }

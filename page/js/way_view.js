@@ -1,4 +1,4 @@
-// A cycle on its way: it goes down the tree stop by stop, by itself or by keys, and at each stop it is told who takes it and who drops it.
+// An access on its way down the tree: it moves stop by stop, by itself or by keys, and each stop shows which functions forward it or respond to it.
 
 import { make, make_button } from './marks.js';
 
@@ -87,7 +87,7 @@ export class WayView {
     this.passed(sent);
   }
 
-  // The mark stands at who has it, and those that a stop tells of are marked.
+  // The dot is at the function that forwards it or responds, and the functions that the stop names are marked.
   mark() {
     if (this.way === null) return;
     const { path, met } = this.way.stops[this.at], chip = this.tree.querySelector(`[data-path="${path}"]`);

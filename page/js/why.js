@@ -1,4 +1,4 @@
-// Why something finds what it finds: what is asked at a place, and the lines of the reply.
+// Why something responds to an access, or why nothing does: what is asked about a place, and the lines of the reply.
 
 import { party } from './findings.js';
 import { read_json } from './json.js';
@@ -36,7 +36,7 @@ const function_if = path => (path === null ? [] : [{ path }]);
 
 const placed = (one, space, first, last) => ({ ...party(one), space, first: BigInt(first), last: BigInt(last) });
 
-// A region that something keeps from answering, with the bridges that don't forward, and the places of all.
+// A region that can't respond, with the bridges that don't forward to it, and the places of all of them.
 function kept_back({ causes, region }) {
   const bridges = causes.filter(one => one.bridge !== undefined).map(({ bridge, windows = [] }) => ({ path: bridge, windows }));
   const last = BigInt(region.base) + BigInt(region.size) - 1n, windows = bridges.flatMap(({ path, windows: all }) => all.filter(one => one.range !== null)
@@ -55,7 +55,7 @@ function lines_for_guest(found, path_of) {
   return [one_line(in_slot(found)), ...(found.regions ?? []).map(one => one_cause(in_slot(one)))];
 }
 
-// The lines of a text without their heads, as its JSON tells them; one of a latch stands before the others. What counts them is none.
+// The lines of a text without their first word, as its JSON lists them. A line about CONFIG_ADDRESS comes first; the line that counts them is left out.
 function read_lines(json, text, lines_in) {
   const { found, latch } = read_json(json), told = text.split('\n');
   return [...(latch === null ? [] : [one_line([])]), ...lines_in(found)].map((one, nth) => ({ text: told[nth].slice(HEAD), ...one }));

@@ -124,12 +124,12 @@ def guests_lines_can_be_gone_through(browser, page):
 
 
 # What is sent, and what stands at its stops.
-WAYS = [('host mr 0xc0020000 4', ['bus 00: 00:02.0 takes it down: its memory window, 0xc0000000 to 0xc00fffff, holds it',
-                                  'bus 01: 01:01.0 answers: its bar5, 0xc0020000 to 0xc0020fff, holds it at offset 0x0']),
-        ('host mr 0xc0100000 4', ["bus 00: 00:02.0 drops it: its memory window, 0xc0000000 to 0xc00fffff, doesn't hold it"]),
-        ('host cr 01:01.0 0 4', ['bus 00: 00:02.0 takes it down: Secondary 01, Subordinate 01', 'bus 01: 01:01.0 is found']),
-        ('host cr 02:00.0 0 4', ['bus 00: 00:02.0 drops it: Secondary 01, Subordinate 01']),
-        ('host ir 0x1000 4', ['bus 00: 00:02.0 takes it down: its I/O window, 0x1000 to 0x1fff, holds it', 'bus 01: 01:00.0 answers: its bar1, 0x1000 to 0x103f, holds it at offset 0x0'])]
+WAYS = [('host mr 0xc0020000 4', ['bus 00: 00:02.0 forwards it: its memory window is 0xc0000000 to 0xc00fffff',
+                                  'bus 01: 01:01.0 responds at offset 0x0 of its bar5, 0xc0020000 to 0xc0020fff']),
+        ('host mr 0xc0100000 4', ["bus 00: 00:02.0 doesn't forward it: its memory window is 0xc0000000 to 0xc00fffff"]),
+        ('host cr 01:01.0 0 4', ['bus 00: 00:02.0 forwards it: Secondary 01, Subordinate 01', 'bus 01: 01:01.0 responds']),
+        ('host cr 02:00.0 0 4', ["bus 00: 00:02.0 doesn't forward it: Secondary 01, Subordinate 01"]),
+        ('host ir 0x1000 4', ['bus 00: 00:02.0 forwards it: its I/O window is 0x1000 to 0x1fff', 'bus 01: 01:00.0 responds at offset 0x0 of its bar1, 0x1000 to 0x103f'])]
 
 
 def a_cycle_can_be_followed(browser, page):
@@ -154,7 +154,7 @@ def a_cycle_can_be_followed(browser, page):
     type_line(browser, 'host ir 0xcfc 4')
     browser.press('F4')
     browser.press('ArrowRight')
-    holds('a port of the latch goes as a configuration cycle', browser.run(STOPS)[-1:] == ['bus 01: 01:01.0 is found'], browser.run(STOPS))
+    holds('a port of the latch goes as a configuration cycle', browser.run(STOPS)[-1:] == ['bus 01: 01:01.0 responds'], browser.run(STOPS))
 
 
 BITS = "[...document.querySelectorAll('#bits .of_bits')].map(one => one.getAttribute('aria-label'))"

@@ -26,6 +26,9 @@ def functions_have_one_name(browser, page):
     holds('with the paths below', browser.run(PATHS) == ['1.0', '2.0', '2.0/0.0', '2.0/1.0'], browser.run(PATHS))
     first = browser.run(AUDIT)[0]
     holds('so does the audit', first.startswith('01:00.0 (2.0/0.0) bar0 at 0xc0000000') and '00:02.0 (2.0)' in first, first)
+    browser.open(f'{page}#lesson=wrong&part=2', 1280, 720)
+    holds('also in front of a colon', '00:03.0 (3.0): address conflict' in browser.run(AUDIT)[0], browser.run(AUDIT))
+    browser.open(f'{page}#lesson=window', 1280, 720)
     shown = browser.run("document.getElementById('chosen').selectedOptions[0].textContent")
     holds('and the registers', shown == '00:02.0 bridge, 2.0', shown)
     type_line(browser, 'host cw 00:02.0 0x20 4 0xc000c000')

@@ -87,7 +87,7 @@ def the_route_is_lit(browser, page):
     holds("a guest's address is followed to the board's", told.endswith('address 0x80000010 of web, 0xc0000010 on the board'), told)
     browser.press('ArrowRight')
     stops = browser.run(STOPS)
-    holds('and down', stops[-1].endswith('01:00.0 answers: its bar0, 0xc0000000 to 0xc001ffff, holds it at offset 0x10'), stops)
+    holds('and down', stops[-1].endswith('01:00.0 responds at offset 0x10 of its bar0, 0xc0000000 to 0xc001ffff'), stops)
     type_line(browser, 'web cr 0 0 4')
     browser.press('F4')
     told = browser.run("document.querySelector('#way .unit').textContent")

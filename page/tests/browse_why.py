@@ -89,7 +89,7 @@ def a_lost_function_is_asked(browser, page):
     browser.run(f'{chip}.focus()')
     holds('a function that is not found says that it can be asked', 'a click or Enter asks why' in text_of(browser, 'told'), text_of(browser, 'told'))
     browser.press('Enter')
-    wanted = ['01:00.0 reaches 2.0/0.0', 'bridge 2.0 claims bus 01', 'bridge 3.0 claims bus 01', '3.0/0.0 has this BDF but isn't reached']
+    wanted = ['01:00.0 reaches 2.0/0.0', 'bridge 2.0 claims bus 01', 'bridge 3.0 claims bus 01', "3.0/0.0 has this BDF but isn't reached"]
     holds('it tells what its number reaches', browser.run(LINES) == wanted, browser.run(LINES))
     holds('below the tree', browser.run(IN % '#asked'))
     about = '3.0/0.0 is looked for at %s: the bridge above it, 3.0, has Secondary %s'
@@ -224,7 +224,7 @@ def a_bar_of_a_guest_is_asked(browser, page):
     browser.run(own % '(a.left + a.right) / 2')
     place = int((browser.run(ASKED) or '0').split()[-1], 16)
     holds("a click on a guest's bar asks at its address", 0x80000000 < place < 0x80001000, browser.run(ASKED))
-    holds('and tells who answers', browser.run(LINES) == [f'memory {place:#x}: slot 0 bar1 offset {place - 0x80000000:#x} answers'], browser.run(LINES))
+    holds('and tells who answers', browser.run(LINES) == [f'memory {place:#x}: slot 0 bar1 responds at offset {place - 0x80000000:#x}'], browser.run(LINES))
     holds("below the guest's bar", browser.run("document.querySelectorAll('#maps svg')[0].nextSibling.querySelector('.question') !== null"))
     browser.run(own % '(b.left + b.right) / 2')
     place = int((browser.run(ASKED) or '0').split()[-1], 16)
