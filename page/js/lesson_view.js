@@ -15,6 +15,9 @@ function paragraphs_of(text) {
   });
 }
 
+// Takes its room before it is seen, so that a lesson that is done moves nothing.
+const tick_of = is_done => make('span', is_done ? '' : 'unticked', ' ✓');
+
 export class LessonView {
   // `acts` has `begin`, which is given the number of a lesson and of its part, `again` and `leave`.
   constructor(parts, tasks, acts) {
@@ -47,7 +50,7 @@ export class LessonView {
     this.parts.steps.replaceChildren(...this.tasks.map((task, nth) => {
       const item = make('li', ''), is_done = lessons.is_done(task);
       const button = make_button(`${nth + 1}`, () => (task === lessons.task ? this.show() : this.acts.begin(nth)), '', `Lesson ${nth + 1}: ${task.title}${is_done ? ', done' : ''}`);
-      button.append(make('span', 'title', ` ${task.title}`), is_done ? ' ✓' : '');
+      button.append(make('span', 'title', ` ${task.title}`), tick_of(is_done));
       button.title = task.title;
       if (task === lessons.task) button.setAttribute('aria-current', 'step');
       item.append(button);
@@ -63,7 +66,8 @@ export class LessonView {
     const { task, part } = lessons, nth = this.tasks.indexOf(task), those = task === null ? [] : lessons.parts_of(task);
     this.parts.parts.hidden = those.length === 0;
     this.parts.parts.replaceChildren(...those.map((one, at) => {
-      const item = make('li', ''), button = make_button(`${one.title}${one.done ? ' ✓' : ''}`, () => this.acts.begin(nth, at), '', `${one.title}${one.done ? ', done' : ''}`);
+      const item = make('li', ''), button = make_button(one.title, () => this.acts.begin(nth, at), '', `${one.title}${one.done ? ', done' : ''}`);
+      button.append(tick_of(one.done));
       if (at === part) button.setAttribute('aria-current', 'step');
       item.append(button);
       return item;
