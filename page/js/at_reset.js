@@ -32,8 +32,9 @@ export class AtReset {
   // known of this moment already isn't asked again.
   look(known) {
     const before = this.problems;
-    this.ask(known);
-    if (!this.given) keeping_latch(this.driven, () => this.look_at_functions());
+    this.ask(known?.found);
+    if (known) this.functions = known.functions;
+    else if (!this.given) keeping_latch(this.driven, () => this.look_at_functions());
     const [old, now] = [before, this.problems].map(those => new Set(those.map(one => one.text)));
     return { came: [...now].filter(text => !old.has(text)), gone: [...old].filter(text => !now.has(text)) };
   }

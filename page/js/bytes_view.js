@@ -18,7 +18,7 @@ export class Bytes {
     if (of !== this.of) this.build(rows, one.kind);
     for (const [offset, cell] of this.cells) {
       put_text(cell, two_digits(bytes[offset]));
-      cell.classList.toggle('changed', (of === this.of && this.before[offset] !== bytes[offset]) || changed.includes(offset));
+      cell.classList.toggle('changed', (of === this.of && this.before !== null && this.before[offset] !== bytes[offset]) || changed.includes(offset));
       cell.classList.toggle('zero', bytes[offset] === 0);
     }
     Object.assign(this, { of, before: bytes });

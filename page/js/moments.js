@@ -1,7 +1,7 @@
 // The moments of a board: what each line changes as it runs, and the board as it was after an earlier one, which a copy shows.
 
 import { NOTHING_CHANGED, Watch, is_remark } from './changes.js';
-import { moment_of, Replay } from './replay.js';
+import { known_of, moment_of, Replay } from './replay.js';
 import { Steps } from './steps.js';
 
 // Milliseconds after which the reader does nothing.
@@ -12,7 +12,7 @@ export class Moments {
   // lines ran until then; `read`, which reads without a trace; `lines`, those that ran, with how many of them can't be gone through; `copy`, what
   // a copy of the board is made of; `choose`, `light`, and `functions`, with their numbers as they are now.
   constructor(parts, page) {
-    Object.assign(this, { page, last: NOTHING_CHANGED, present: null, replay: null, spare: null, timer: 0 });
+    Object.assign(this, { page, last: NOTHING_CHANGED, present: null, replay: null, spare: null, timer: 0, seen: new Map() });
     const moment = () => { const shown = page.shown(); return shown.held === null ? null : moment_of(shown); };
     this.watch = new Watch({ read: page.read, moment });
     this.steps = new Steps(parts, { show: count => this.go(count), choose: page.choose, light: page.light, functions: page.functions });
@@ -39,9 +39,17 @@ export class Moments {
   forget() {
     this.watch.forget();
     this.last = NOTHING_CHANGED;
+    this.seen.clear();
+    this.see();
     this.spare?.close();
     this.spare = null;
     this.open_soon();
+  }
+
+  // Keeps what is known of this moment, so that going back to it needn't ask again.
+  see() {
+    const { now } = this.page.shown();
+    if (now !== null) this.seen.set(this.page.lines().lines.length, known_of(now));
   }
 
   // Opens a copy of the board while the reader does nothing, so that going back needn't wait for it.
@@ -52,7 +60,7 @@ export class Moments {
 
   copy() {
     const copy = this.page.copy();
-    return { ...copy, open: () => {
+    return { ...copy, seen: this.seen, open: () => {
       const { spare } = this;
       this.spare = null;
       this.open_soon();
@@ -64,6 +72,7 @@ export class Moments {
   look() {
     const looked = this.watch.look(), { lines, hidden } = this.page.lines();
     if (looked !== null) this.last = looked;
+    this.see();
     this.steps.count([hidden, ...lines.flatMap((line, nth) => (nth < hidden || is_remark(line) ? [] : [nth + 1]))]);
     return looked !== null;
   }

@@ -36,13 +36,12 @@ export class Registers {
   }
 
   // What changes from here on is marked.
-  forget() { this.bytes.of = ''; }
+  forget() { this.bytes.before = null; }
 
   clear() {
     for (const one of [this.parts.fields, this.parts.bytes, this.parts.bits]) one.replaceChildren();
     this.parts.lost.textContent = this.parts.identity.textContent = '';
-    this.seen = '';
-    this.forget();
+    this.seen = this.bytes.of = '';
   }
 
   // Shows `one` of some functions: `bytes` are its 256 bytes or null, `note` says why nothing can be written, or nothing; `write` is given

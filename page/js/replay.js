@@ -26,10 +26,13 @@ export function moment_of({ held, functions, owners, now }) {
     placed: given ? all_placed(held, now?.functions ?? functions, owners) : null };
 }
 
+// What needn't be asked again of a moment of firmware's board.
+export const known_of = ({ found, functions }) => ({ found, functions });
+
 export class Replay {
   // `board` has `open`, which gives what answers lines at the beginning; `functions` and `owners`, those of the report; `decodes`, the windows
-  // that bridges have, or null where guests have the board; `seed`, what was found of the board last; `others`, its functions as they are then; and `state`, which is loaded behind `prepared` lines, or null.
-  constructor(board) { Object.assign(this, { board, held: null, count: 0, found: new Map() }); }
+  // that bridges have, or null where guests have the board; `seed`, what was found of the board last; `others`, its functions as they are then; `state`, which is loaded behind `prepared` lines, or null; and `seen`, what is known of each moment, by its count of lines.
+  constructor(board) { Object.assign(this, { board, held: null, count: 0 }); }
 
   // What was found of the board before is found again without its lines, where its JSON is the same.
   begin() {
@@ -46,8 +49,8 @@ export class Replay {
 
   // Looks at the board, which was asked before if one comes back to a moment.
   look() {
-    this.now?.look(this.found.get(this.count));
-    if (this.now) this.found.set(this.count, this.now.found);
+    this.now?.look(this.board.seen.get(this.count));
+    if (this.now) this.board.seen.set(this.count, known_of(this.now));
   }
 
   load() {
