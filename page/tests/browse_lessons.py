@@ -15,7 +15,7 @@ import browse_scripts
 import browse_sight
 import browse_state
 import browse_why
-from tried import CUT, FIELD, PAGE, PAINTED, holds, said_last, text_of, type_line, until, write_field
+from tried import CUT, FIELD, PAGE, PAINTED, at_each_size, holds, said_last, text_of, type_line, until, write_field
 
 TASKS = tomllib.loads((PAGE / 'tasks.toml').read_text())['task']
 
@@ -323,8 +323,9 @@ ALL = [lessons_are_done, a_reply_counts_in_its_place, a_lesson_leads_on, a_teach
 
 
 def in_browser(browser, page, folder, shot=''):
-    for check in [*browse_boards.ALL, *browse_firmware.ALL, *ALL, *browse_lecture.ALL, *browse_names.ALL, *browse_newcomer.ALL, *browse_ready.ALL, *browse_robust.ALL, *browse_scripts.ALL, *browse_state.ALL, *browse_why.ALL]:
+    for check in [*browse_boards.ALL, *browse_firmware.ALL, *ALL, *browse_lecture.ALL, *browse_newcomer.ALL, *browse_ready.ALL, *browse_robust.ONCE, *browse_state.ALL, *browse_why.ALL]:
         check(browser, page)
+    at_each_size(browser, page, [*browse_names.ALL, *browse_robust.ALL, *browse_scripts.ALL])
     browse_sight.all_is_seen(browser, page, TASKS, SOLUTIONS)
     browse_state.the_state_looks_well(browser, page, folder, shot)
     browse_why.questions_look_well(browser, page, folder, shot)

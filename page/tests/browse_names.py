@@ -20,27 +20,27 @@ def fill(browser, text):
     browser.insert(text)
 
 
-def functions_have_one_name(browser, page):
-    browser.open(f'{page}#lesson=window', 1280, 720)
+def functions_have_one_name(browser, page, size):
+    browser.open(f'{page}#lesson=window', *size)
     holds('chips say the numbers that lines take', browser.run(CHIPS) == ['00:01.0', '00:02.0', '01:00.0', '01:01.0'], browser.run(CHIPS))
     holds('with the paths below', browser.run(PATHS) == ['1.0', '2.0', '2.0/0.0', '2.0/1.0'], browser.run(PATHS))
     first = browser.run(AUDIT)[0]
     holds('so does the audit', first.startswith('01:00.0 (2.0/0.0) bar0 at 0xc0000000') and '00:02.0 (2.0)' in first, first)
-    browser.open(f'{page}#lesson=wrong&part=2', 1280, 720)
+    browser.open(f'{page}#lesson=wrong&part=2', *size)
     holds('also in front of a colon', '00:03.0 (3.0): address conflict' in browser.run(AUDIT)[0], browser.run(AUDIT))
-    browser.open(f'{page}#lesson=window', 1280, 720)
+    browser.open(f'{page}#lesson=window', *size)
     shown = browser.run("document.getElementById('chosen').selectedOptions[0].textContent")
     holds('and the registers', shown == '00:02.0 bridge, 2.0', shown)
     type_line(browser, 'host cw 00:02.0 0x20 4 0xc000c000')
     told = browser.run("document.querySelector('#changes li').textContent")
     holds('and what a line changed', told.startswith('00:02.0 Memory Base'), told)
-    browser.open(f'{page}#lesson=number', 1280, 720)
+    browser.open(f'{page}#lesson=number', *size)
     holds('on a bus without a number a function has none', browser.run(CHIPS)[2:] == ['--:00.0', '--:01.0'], browser.run(CHIPS))
     browser.run('localStorage.clear()')
 
 
-def a_wrong_word_is_understood(browser, page):
-    browser.open(f'{page}#lesson=window', 1280, 720)
+def a_wrong_word_is_understood(browser, page, size):
+    browser.open(f'{page}#lesson=window', *size)
     for text, wanted in [('host cw 00:02.0 20h', "the offset, '20h': did you mean 0x20?"), ('host mr c0000000h 4', "the address, 'c0000000h': did you mean 0xc0000000?"),
                          ('host cr 2.0/0.0 0 4', "the function, '2.0/0.0', is a path: did you mean its number, 01:00.0?")]:
         fill(browser, text)
@@ -54,15 +54,15 @@ def a_wrong_word_is_understood(browser, page):
     holds('Tab takes what was meant', value == 'host cw 00:02.0 0x20 ', value)
     fill(browser, 'h')
     holds('a word that is begun is not wrong', text_of(browser, 'why') == '' and browser.run("document.getElementById('line').ariaInvalid") != 'true', text_of(browser, 'why'))
-    browser.open(f'{page}#lesson=number', 1280, 720)
+    browser.open(f'{page}#lesson=number', *size)
     fill(browser, 'host cr 2.0/0.0 0 4')
     told = text_of(browser, 'why')
     holds('a path that no number leads to is told', told == "the function, '2.0/0.0', is a path, and no number leads to that function yet", told)
     browser.run('localStorage.clear()')
 
 
-def numbers_are_checked_while_typed(browser, page):
-    browser.open(f'{page}#lesson=window', 1280, 720)
+def numbers_are_checked_while_typed(browser, page, size):
+    browser.open(f'{page}#lesson=window', *size)
     for text, wanted in [('host cw 00:02.0 0x19 1 0x100', 'the value, 0x100, is too large for 1 byte: the line writes 0x0'),
                          ('host cr 00:02.0 0x18 3', 'the width is 1, 2 or 4 bytes, not 3'), ('host cw 00:02.0 0x19 2', "the offset, 0x19, isn't a multiple of the width, 2"),
                          ('host mr 0xc0000001 4', "the address, 0xc0000001, isn't a multiple of the width, 4"), ('host cw 00:02.0 0x20 4 0xc000c000', ''),
@@ -77,15 +77,15 @@ def numbers_are_checked_while_typed(browser, page):
         type_line(browser, line)
         holds(f'at {line} its numbers are checked too', said_last(browser, 'reply') == reply and why in (None, said_last(browser, 'why')), text_of(browser, 'transcript'))
     holds('a line that is refused changed no register', text_of(browser, 'changes') == 'It changed no register.', text_of(browser, 'changes'))
-    browser.open(f'{page}#board=main', 1280, 720)
+    browser.open(f'{page}#board=main', *size)
     fill(browser, 'a cw 0 4 2 0x10000')
     holds("so are a guest's", text_of(browser, 'why').startswith('the value, 0x10000, is too large for 2 bytes'), text_of(browser, 'why'))
     browser.run('localStorage.clear()')
 
 
-def words_are_plain(browser, page):
+def words_are_plain(browser, page, size):
     for view in VIEWS:
-        browser.open(f'{page}#{view}', 1280, 720)
+        browser.open(f'{page}#{view}', *size)
         browser.run("for (const one of document.querySelectorAll('details')) one.open = true")
         holds(f'numbers of {view} are written 0x20', browser.run(OLD_NUMBERS) == [], browser.run(OLD_NUMBERS)[:5])
         holds(f'words of {view} are plain', browser.run(OLD_WORDS) == [], browser.run(OLD_WORDS)[:5])

@@ -2,15 +2,13 @@
 import json
 
 from browse_names import fill
-from tried import holds, said_last, text_of, type_line, until
+from tried import holds, paste, said_last, text_of, type_line, until
 
 SAID = "[...document.querySelectorAll('#transcript .said')].map(one => one.textContent)"
 TOLD = "document.getElementById('step_told').textContent"
 LINES = ['host cw 00:02.0 0x20 4 0xc000c000', 'host cw 00:02.0 0x1c 2 0x1010', 'host cw 00:02.0 4 2 3']
 BITS = "[...document.querySelectorAll('#bits .of_bits')].map(one => one.getAttribute('aria-label'))"
 CHOSEN = "document.getElementById('chosen').value"
-PASTE = """(() => { const data = new DataTransfer(); data.setData('text/plain', %s);
-  document.getElementById('line').dispatchEvent(new ClipboardEvent('paste', { clipboardData: data, bubbles: true, cancelable: true })); })()"""
 OPEN = """(() => { const files = new DataTransfer(), open = document.getElementById('open'); files.items.add(new File([%s], 'lines.script'));
   open.files = files.files; open.dispatchEvent(new Event('change')); })()"""
 KEPT = "(() => { URL.createObjectURL = blob => { window.kept = blob; return '#'; }; HTMLAnchorElement.prototype.click = () => {}; })()"
@@ -18,9 +16,9 @@ EDGES = "[...document.querySelectorAll('#tree .passed')].map(one => one.dataset.
 STOPS = "[...document.querySelectorAll('#way li')].map(one => one.firstChild.textContent + [...one.children].map(each => each.textContent).join('; '))"
 
 
-def scripts_come_and_go(browser, page):
-    browser.open(f'{page}#lesson=window', 1280, 720)
-    browser.run(PASTE % json.dumps('\n'.join(LINES)))
+def scripts_come_and_go(browser, page, size):
+    browser.open(f'{page}#lesson=window', *size)
+    paste(browser, 'line', '\n'.join(LINES))
     holds('several lines that are pasted run', browser.run(SAID) == LINES and text_of(browser, 'task_state') == 'Done.', browser.run(SAID))
     browser.run(KEPT)
     browser.run("document.getElementById('save_lines').click()")
@@ -33,8 +31,8 @@ def scripts_come_and_go(browser, page):
     browser.run('localStorage.clear()')
 
 
-def lines_are_taken_back(browser, page):
-    browser.open(f'{page}#lesson=window', 1280, 720)
+def lines_are_taken_back(browser, page, size):
+    browser.open(f'{page}#lesson=window', *size)
     holds('at the present there is nothing to go on from', browser.run("getComputedStyle(document.getElementById('go_on')).visibility") == 'hidden')
     for line in LINES:
         type_line(browser, line)
@@ -47,14 +45,14 @@ def lines_are_taken_back(browser, page):
     for line in LINES[1:]:
         type_line(browser, line)
     holds('and the lesson can be done from there', text_of(browser, 'task_state') == 'Done.', text_of(browser, 'task_state'))
-    browser.open(f'{page}#board=main', 1280, 720)
+    browser.open(f'{page}#board=main', *size)
     browser.run("document.getElementById('undo').click()")
     holds('where no line ran none is taken back', browser.run(TOLD) == 'no line has run', browser.run(TOLD))
     browser.run('localStorage.clear()')
 
 
-def registers_follow_the_line(browser, page):
-    browser.open(f'{page}#lesson=size', 1280, 720)
+def registers_follow_the_line(browser, page, size):
+    browser.open(f'{page}#lesson=size', *size)
     holds('the bridge is selected first', browser.run(CHOSEN) == '2.0', browser.run(CHOSEN))
     fill(browser, 'host cw 01:00.0 0x10 4 0xc0012345')
     holds('a line selects its function', browser.run(CHOSEN) == '2.0/0.0' and browser.run('document.activeElement.id') == 'line', browser.run(CHOSEN))
@@ -63,14 +61,14 @@ def registers_follow_the_line(browser, page):
     wanted = [f'Base, 0x20: 0xc000, in bits {0xc000:016b}', f'Limit, 0x22: 0xc010, in bits {0xc010:016b}']
     holds('a line that writes two registers shows both', browser.run(BITS) == wanted, browser.run(BITS))
     holds('nothing has run', browser.run(SAID) == [], browser.run(SAID))
-    browser.open(f'{page}#lesson=move', 1280, 720)
+    browser.open(f'{page}#lesson=move', *size)
     fill(browser, 'store cr 0 0x24 4')
     holds("a guest's line selects the function in its slot", browser.run(CHOSEN) == '2.0/1.0', browser.run(CHOSEN))
     browser.run('localStorage.clear()')
 
 
-def the_route_is_lit(browser, page):
-    browser.open(f'{page}#lesson=window', 1280, 720)
+def the_route_is_lit(browser, page, size):
+    browser.open(f'{page}#lesson=window', *size)
     for line in [*LINES, 'host mr 0xc0020000 4']:
         type_line(browser, line)
     browser.press('F4')
@@ -80,7 +78,7 @@ def the_route_is_lit(browser, page):
     holds('as lines that are thicker', lit == '4px', lit)
     browser.press('ArrowLeft')
     holds('down to where it is', browser.run(EDGES) == ['2.0'], browser.run(EDGES))
-    browser.open(f'{page}#lesson=move', 1280, 720)
+    browser.open(f'{page}#lesson=move', *size)
     type_line(browser, 'web mr 0x80000010 4')
     browser.press('F4')
     told = browser.run("document.querySelector('#way .unit').textContent")

@@ -1,10 +1,9 @@
 """What is in view, and stays in place, while one does a lesson or drives a board, in any browser, for page/tests/browse: success beside the line
 box, one area that scrolls, and bars in which every line of firmware moves something."""
-import json
+from functools import partial
 
-from tried import PAGE, TOP, holds, lines_in, seen, text_of, type_line
+from tried import PAGE, SIZES, TOP, at_each_size, holds, lines_in, seen, text_of, type_line
 
-SIZES = [(1440, 900), (1280, 720), (390, 844)]
 STATE = "document.getElementById('task_state').textContent"
 # What scrolls in the column of the lesson, except the board file, which is a text to edit.
 SCROLLS = """[...document.querySelectorAll('#work, #work *')].filter(one => one.checkVisibility() && !one.matches('textarea, pre')
@@ -74,12 +73,12 @@ def one_area_scrolls(browser, page, lessons):
         browser.run('localStorage.clear()')
 
 
-def every_line_moves_something(browser, page, lessons):
+def every_line_moves_something(browser, page, size, lessons):
     blank, still, count = [], [], 0
     for name, lines in lessons:
         if name not in ('size', 'ready', 'wide'):
             continue
-        browser.open(f'{page}#lesson={name}', 1280, 720)
+        browser.open(f'{page}#lesson={name}', *size)
         before = browser.run(BARS)
         for line in lines:
             type_line(browser, line)
@@ -92,8 +91,8 @@ def every_line_moves_something(browser, page, lessons):
     print(f'nothing was drawn after {len(blank)} of {count} lines of lessons 3, 6 and 9, and nothing moved by {len(still)} writes')
 
 
-def what_is_disabled_is_dashed(browser, page):
-    browser.open(f'{page}#lesson=size', 1280, 720)
+def what_is_disabled_is_dashed(browser, page, size):
+    browser.open(f'{page}#lesson=size', *size)
     ghosts = "[...document.querySelectorAll('#addresses [data-space=%s] %s')].map(one => one.textContent.trim().split('\\n').at(-1))"
     beside = browser.run("[...document.querySelectorAll('[data-space=mem] .ghost.beside title')].map(one => one.textContent)")
     told = [line.split('; ')[0] for one in beside for line in one.split('\n')]
@@ -106,7 +105,7 @@ def what_is_disabled_is_dashed(browser, page):
     type_line(browser, 'host cw 01:00.0 4 2 2')
     counts = browser.run("['.region', '.ghost:not(.beside)', '.was-at'].map(find => document.querySelectorAll(`#addresses [data-space=mem] ${find}`).length)")
     holds('Command makes it a region at the same place', counts == [1, 0, 0], counts)
-    browser.open(f'{page}#lesson=window', 1280, 720)
+    browser.open(f'{page}#lesson=window', *size)
     type_line(browser, 'host cw 00:02.0 0x20 4 0xc000c000')
     window = browser.run(ghosts % ('mem', '.ghost:not(.beside) text'))
     holds('a window that Command disables is drawn in dashes', window == ['mem window of 00:02.0'], window)
@@ -117,8 +116,8 @@ GHOSTS = "[...document.querySelectorAll('#maps .ghost title')].map(one => one.te
 MARKED = "['.ghost', '.ghost.changed', '.joined', '.joined.changed', '.was-at'].map(find => document.querySelectorAll(`#maps ${find}`).length)"
 
 
-def what_a_guest_disables_is_dashed(browser, page):
-    browser.open(f'{page}#board=main', 1280, 720)
+def what_a_guest_disables_is_dashed(browser, page, size):
+    browser.open(f'{page}#board=main', *size)
     holds('what a guest never placed is not drawn', browser.run(GHOSTS) == [] and 'Nothing is enabled' in text_of(browser, 'maps'), browser.run(GHOSTS))
     type_line(browser, 'a cw 0 0x14 4 0x80000000')
     told = 'guest a, slot 0 bar1: 0x80000000 to 0x80000fff, 4 KB, disabled by Command'
@@ -167,7 +166,5 @@ def all_is_seen(browser, page, tasks, solutions):
     success_is_in_view(browser, page, lessons)
     an_answer_is_in_view(browser, page)
     one_area_scrolls(browser, page, [one for one in lessons if one[0] in ('read', 'window', 'ready', 'neighbour', 'wide')])
-    every_line_moves_something(browser, page, lessons)
-    what_is_disabled_is_dashed(browser, page)
-    what_a_guest_disables_is_dashed(browser, page)
+    at_each_size(browser, page, [partial(every_line_moves_something, lessons=lessons), what_is_disabled_is_dashed, what_a_guest_disables_is_dashed])
     nothing_jumps(browser, page, lessons)

@@ -66,7 +66,7 @@ class Browser:
         self.ask('Emulation.setEmulatedMedia', features=[{'name': 'prefers-color-scheme', 'value': scheme}])
         self.ask('Page.navigate', url='about:blank')
         self.ask('Page.navigate', url=address)
-        for _ in range(200):
+        for _ in range(1200):
             if self.run("document.readyState === 'complete' && document.getElementById('verdict')?.textContent !== ''") is True:
                 return
             time.sleep(0.05)

@@ -28,7 +28,7 @@ class Browser:
         self.socket, self.rest, self.count = socket.create_connection(('127.0.0.1', self.port(room))), b'', 0
         self.message()
         self.ask('WebDriver:NewSession', capabilities={'alwaysMatch': {'acceptInsecureCerts': True}})
-        self.ask('WebDriver:SetTimeouts', script=60000, pageLoad=60000, implicit=0)
+        self.ask('WebDriver:SetTimeouts', script=300000, pageLoad=300000, implicit=0)
 
     def port(self, room):
         file = pathlib.Path(room) / 'MarionetteActivePort'
@@ -76,7 +76,7 @@ class Browser:
         self.ask('Marionette:SetContext', value='content')
         for one in ('about:blank', address):
             self.ask('WebDriver:Navigate', url=one)
-        for _ in range(200):
+        for _ in range(1200):
             if self.run("document.getElementById('verdict')?.textContent !== ''") is True:
                 return
             time.sleep(0.05)

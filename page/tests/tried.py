@@ -9,16 +9,27 @@ TOP = PAGE.parent
 sys.path.insert(0, str(PAGE / 'build'))
 
 counts = {'passed': 0, 'failed': 0}
+# The sizes of the window, and the one of them that is tried.
+SIZES = [(1440, 900), (1280, 720), (390, 844)]
+tried_at = []
 
 
 def holds(name, good, found=''):
     counts['passed' if good else 'failed'] += 1
     if not good:
-        print(f'FAILED: {name}: {found}')
+        print(f"FAILED{''.join(tried_at)}: {name}: {found}")
 
 
 def text_of(browser, name):
     return browser.run(f"document.getElementById('{name}').textContent")
+
+
+def at_each_size(browser, page, checks):
+    for width, height in SIZES:
+        tried_at[:] = [f' at {width} by {height}']
+        for check in checks:
+            check(browser, page, (width, height))
+    tried_at.clear()
 
 
 def until(browser, script):
@@ -46,6 +57,11 @@ def type_board(browser, text):
     browser.run("document.getElementById('board').blur()")
 
 
+def paste(browser, name, text):
+    """Pastes a text, and gives whether the page leaves it to the browser. Firefox takes the text from `data`, Chromium from `clipboardData`."""
+    return browser.run(PASTE % (json.dumps(text), name))
+
+
 def type_line(browser, line):
     browser.run("document.getElementById('line').focus({ preventScroll: true })")
     browser.insert(line)
@@ -62,6 +78,10 @@ def put_mouse(browser, find, across, down, click=False):
 def said_last(browser, name='said'):
     return browser.run(f"[...document.querySelectorAll('#transcript .{name}')].at(-1)?.textContent{PLAIN.replace('.', '?.', 1)}")
 
+
+PASTE = """(() => { const data = %s, dataType = 'text/plain', clipboardData = new DataTransfer();
+  clipboardData.setData(dataType, data);
+  return document.getElementById('%s').dispatchEvent(new ClipboardEvent('paste', { data, dataType, clipboardData, bubbles: true, cancelable: true })); })()"""
 
 FIELD = """(() => { const set = [...document.querySelectorAll('#fields fieldset')].find(one => one.textContent.startsWith('%s'));
   return [...set.querySelectorAll('label')].find(one => one.textContent.trim() === '%s').querySelector('input'); })()"""
