@@ -4,6 +4,7 @@ import { fragment_of, is_too_long, kilobytes, LINK, link_of, PASTE, TOO_LONG } f
 import { LARGEST_FILE, too_large } from './limits.js';
 import { is_script } from './scripts.js';
 import { count_in_words } from './report.js';
+import { reveal } from './reveal.js';
 import { State } from './state.js';
 import { file_of, parts_of } from './state_file.js';
 
@@ -28,7 +29,7 @@ export class Keeper {
   // `parts` are its elements. `page` has `held`, the board with the lines that were run; `as_it_is`, the board with its state; `is_refused`;
   // `open`, which shows a board from a beginning on; `begin_task`; and `run`, which runs a script.
   constructor(parts, page) {
-    Object.assign(this, { told: parts.kept_told, page });
+    Object.assign(this, { parts, told: parts.kept_told, page });
     parts.link.addEventListener('click', () => this.copy(page.held()));
     parts.state_link.addEventListener('click', async () => this.copy(await page.as_it_is()));
     parts.state_file.addEventListener('click', async () => this.save(await page.as_it_is()));
@@ -47,6 +48,7 @@ export class Keeper {
   tell(words, is_wrong = false) {
     this.told.textContent = words;
     this.told.classList.toggle('wrong', is_wrong);
+    if (is_wrong) reveal(this.told, this.parts);
   }
 
   // Puts a board into the address, and into the clipboard where that is allowed.

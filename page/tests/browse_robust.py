@@ -20,7 +20,7 @@ def large_files_are_refused(browser, page, size):
     for length, named in [(100 << 20, '100.0 MB'), ((1 << 20) + 1, '1.0 MB')]:
         browser.run(f"{TOLD} = ''")
         took, told = browser.run(OPEN % f'new Uint8Array({length})'), browser.run(TOLD)
-        holds(f'a file of {length} bytes is refused at once', f"large.toml isn't opened: {named} is too large" in told and took < 1000, [told, took])
+        holds(f'a file of {length} bytes is refused at once', f"large.toml isn't opened: {named} is too large" in told and took < 1000 and seen(browser, '#kept_told'), [told, took])
         holds('and the board stays', browser.run("document.getElementById('board').value.length") == before)
     browser.run(f"{TOLD} = ''")
     pasted = paste(browser, 'board', ' ' * (2 << 20))
