@@ -1,7 +1,9 @@
 """Modules as one script, since a page from a disk can't import."""
 import re
+import sys
 
 IMPORT = re.compile(r"^import .* from '(.*)';\n", re.M)
+NAME = re.compile(r'^(?:async )?(?:const|let|function|class) (\w+)', re.M)
 
 
 def modules_of(file):
@@ -13,4 +15,8 @@ def modules_of(file):
 
 
 def one_script(file):
-    return '\n'.join(modules_of(file.resolve()).values())
+    script = '\n'.join(modules_of(file.resolve()).values())
+    names = NAME.findall(script)
+    if twice := sorted({name for name in names if names.count(name) > 1}):
+        sys.exit(f"page/js: as one script, these names are declared twice: {', '.join(twice)}")
+    return script

@@ -27,14 +27,14 @@ export const most = (one, other) => (one < other ? other : one);
 export const holds_address = (address, { first, last }) => first <= address && address <= last;
 
 // Whose a region is, on a board that has guests.
-const whose = (path, { owners, marks }) => (marks.size === 0 ? '' : `, ${owner_in_words(owners.get(path))}`);
+const whose_region = (path, { owners, marks }) => (marks.size === 0 ? '' : `, ${owner_in_words(owners.get(path))}`);
 
 // What is at an address: the region that has it, else the innermost window. What is enabled comes first.
 export function at_address(address, spans, board) {
   const those = spans.filter(span => holds_address(address, span)), enabled = those.filter(span => span.open);
   const region = enabled.find(span => span.region) ?? those.find(span => span.region);
   if (region) {
-    return `${called(region.of)} ${region.name} + ${hex(address - region.first)}${disabled_in_words(region)}${whose(region.of.path, board)}`;
+    return `${called(region.of)} ${region.name} + ${hex(address - region.first)}${disabled_in_words(region)}${whose_region(region.of.path, board)}`;
   }
   const window = enabled.sort((a, b) => b.depth - a.depth)[0] ?? those[0];
   return window ? `nothing, in the ${window.name} of ${called(window.of)}${disabled_in_words(window)}` : 'nothing';
@@ -60,4 +60,4 @@ export const findings_in_words = ({ problems, lacks, asked, changes, functions }
 
 export const span_alone = span => `${called(span.of)} ${span.name} ${hex(span.first)} to ${hex(span.last)}, ${size_in_words(span.last - span.first + 1n)}${disabled_in_words(span)}`;
 
-export const span_in_words = (span, board, findings) => span_alone(span) + (span.region ? whose(span.of.path, board) : '') + findings_in_words(findings, [span]);
+export const span_in_words = (span, board, findings) => span_alone(span) + (span.region ? whose_region(span.of.path, board) : '') + findings_in_words(findings, [span]);
