@@ -289,7 +289,7 @@ uint32_t pciguest_guest(struct pciguest *machine, const char *name, size_t lengt
 uint32_t pciguest_guest_count(struct pciguest *machine, size_t *count);
 
 /* Writes the name of a guest, and stores the length of the name in `needed`. The guest is given by
- * its index, from 0 to one less than the number that pciguest_guest_count stores. The name isn't
+ * its index, which must be less than the count that pciguest_guest_count stores. The name isn't
  * terminated by a 0. A buffer of PCIGUEST_GUEST_NAME bytes is always large enough.
  * Returns 0 on success; 902 if the buffer is too small (nothing is written, only the length is
  * stored), or if there is no such guest (nothing is stored). Since 0.4.0. */
@@ -411,27 +411,27 @@ uint32_t pciguest_reset(struct pciguest *machine, size_t guest, uint64_t slot);
 uint32_t pciguest_reset_guest(struct pciguest *machine, size_t guest);
 
 /* Saves a guest: writes its image, and stores the length of the image in `needed`. The image
- * contains everything that the guest holds: its CONFIG_ADDRESS and, for each of its 32 slots, the
+ * contains the guest's complete state: its CONFIG_ADDRESS and, for each of its 32 slots, the
  * declaration of the function and the contents of its registers, as the guest sees them. It
  * contains nothing about the board, about other guests, or about where the guest's functions are.
  * docs/image-format.md describes the bytes. The rest of the buffer stays unchanged. To get only the
- * length, pass a null pointer and 0; the call then returns 902. The length stays the same as long as
- * the guest has the same functions in the same slots: the guest's accesses, its devices, resets and
- * loads don't change it. Allocates no memory, and doesn't change the machine.
+ * length, pass a null pointer and 0; the call then returns 902. The length stays the same as long
+ * as the guest has the same functions in the same slots: the guest's accesses, its devices, resets
+ * and loads don't change it. Allocates no memory, and doesn't change the machine.
  * Returns 0 on success; 902 if the buffer is too small (nothing is written, only the length is
  * stored), or if there is no such guest (nothing is stored). Since 0.4.0. */
 uint32_t pciguest_save(struct pciguest *machine, size_t guest, void *image, size_t room,
                        size_t *needed);
 
-/* Loads an image into a guest, which then holds what the saved guest held. In each slot, the
+/* Loads an image into a guest, which then has the state of the saved guest. In each slot, the
  * guest's function must have the same declaration as the function in the image, and a slot that is
  * empty in the image must be empty in the guest. The functions may be in other places, even on
  * another board. Other guests can't observe the load. The count that pciguest_changed stores
  * increases by one. Allocates no memory. No script line does this.
- * Returns 0 on success; 906 if the image has other slots filled than the guest, or a function is
- * declared differently; 908 if the image has an unsupported format version; 905 if the bytes are
- * not an image, for example because a register can't hold its value; 902 if there is no such guest.
- * The first byte that fails decides between 905, 906 and 908. Since 0.4.0. */
+ * Returns 0 on success; 906 if the image and the guest don't have the same slots filled, or a
+ * function is declared differently; 908 if the image has an unsupported format version; 905 if the
+ * bytes are not an image, for example because a register can't hold its value; 902 if there is no
+ * such guest. The first byte that fails decides between 905, 906 and 908. Since 0.4.0. */
 uint32_t pciguest_load(struct pciguest *machine, size_t guest, const void *image, size_t length);
 
 /* Reports where an image that pciguest_load refuses with 906 or 908 stops fitting the guest: stores
@@ -450,22 +450,22 @@ uint32_t pciguest_image_fault(struct pciguest *machine, size_t guest, const void
 uint32_t pciguest_image_size_all(struct pciguest *machine, size_t *size);
 
 /* Saves the whole machine: writes its image, and stores the length of the image in `needed`. The
- * image says which guest has which function of the board in which slot, and what each guest holds.
- * It also identifies the board, the way it is set up, and its guests. docs/image-format.md describes
- * the bytes. The rest of the buffer stays unchanged. Allocates no memory, and doesn't change the
- * machine.
+ * image says which guest has which function of the board in which slot, and contains each guest's
+ * state. It also identifies the board, the way it is set up, and its guests. docs/image-format.md
+ * describes the bytes. The rest of the buffer stays unchanged. Allocates no memory, and doesn't
+ * change the machine.
  * Returns 0 on success; 902 if the buffer is too small (nothing is written, only the length is
  * stored). Since 0.4.0. */
 uint32_t pciguest_save_all(struct pciguest *machine, void *image, size_t room, size_t *needed);
 
 /* Loads an image into the whole machine. Each slot then has the function that it had in the saved
- * machine, and each guest holds what it held there. The board must have the same functions at the
- * same places, set up in the same way, and the guests must have the same names in the same order. It
- * doesn't matter where the guests' functions are now, or what the guests hold. The call takes every
- * function from its guest, as pciguest_take does, and then assigns and loads, as pciguest_give and
- * pciguest_load do; before that, it tries this on a second machine, which it frees at the end. So
- * an image that is refused changes nothing. The count that pciguest_changed stores increases for
- * each guest. No script line does this.
+ * machine, and each guest has the state that it had there. The board must have the same functions
+ * at the same places, set up in the same way, and the guests must have the same names in the same
+ * order. It doesn't matter where the guests' functions are now, or what state the guests are in.
+ * The call takes every function from its guest, as pciguest_take does, and then assigns and loads,
+ * as pciguest_give and pciguest_load do; before that, it tries this on a second machine, which it
+ * frees at the end. So an image that is refused changes nothing. The count that pciguest_changed
+ * stores increases for each guest. No script line does this.
  * Returns 0 on success; 907 if the board, its guests or its set-up differ; 906 if a slot would get
  * something that can't be assigned to it, or a function is declared differently; 908 if the image,
  * or a guest's image in it, has an unsupported format version; 905 if the bytes are not the image
@@ -538,10 +538,10 @@ uint32_t pciguest_changed(struct pciguest *machine, size_t guest, uint64_t *coun
  * register B is `places[6 * S + B]`, and PCIGUEST_PLACES rows cover all slots; `room` is the number
  * of rows that the caller has. In each of these rows, `now` says where the region is, `before`
  * where it was when the row was last updated, and `has_moved` whether the two differ. A region that
- * is back where it was, as at the end of sizing, has not moved. So a hypervisor first unmaps `before`
- * in all rows that moved and then maps `now` in them, each if its `is_open` is 1; two regions may
- * have changed places. It calls again when pciguest_changed stores another count. Allocates no
- * memory.
+ * is back where it was, as at the end of sizing, has not moved. So a hypervisor first goes through
+ * all rows that moved and unmaps each `before` whose `is_open` is 1, and only then maps each `now`
+ * whose `is_open` is 1: two regions may have swapped addresses. It calls pciguest_moved again when
+ * pciguest_changed stores a different count. Allocates no memory.
  * Returns 0 on success; 902 if there is no such guest. Since 0.4.0. */
 uint32_t pciguest_moved(struct pciguest *machine, size_t guest, struct pciguest_place *places,
                         size_t room, size_t *count);
@@ -585,8 +585,8 @@ uint32_t pciguest_why_json(struct pciguest *machine, size_t guest, uint32_t spac
  * 0.4.0. */
 uint32_t pciguest_count(struct pciguest *machine, size_t *count);
 
-/* Stores a row that describes the function at an index, from 0 to one less than the number that
- * pciguest_count stores. Functions are in path order: a bridge comes before what is behind it. The
+/* Stores a row that describes the function at `index`, which counts from 0 in path order and must
+ * be less than the count that pciguest_count stores. A bridge comes before what is behind it. The
  * row's bus, device and function numbers, regions and windows come from the board's own registers,
  * which no guest writes. Its guest and slot are the current ones, after the last move. Allocates no
  * memory and changes nothing.
@@ -704,12 +704,12 @@ uint32_t pciguest_board_run_line(struct pciguest_board *board, const char *line,
  * Since 0.4.0. */
 uint32_t pciguest_board_count(struct pciguest_board *board, size_t *count);
 
-/* Stores a row that describes the function at an index, from 0 to one less than the number that
- * pciguest_board_count stores, in path order. The row reflects the registers as they are now, in
- * whatever state firmware left them. It contains the function's bus, device and function numbers,
- * whether a configuration access to these numbers reaches the function, its base address registers
- * or windows, and whether its Command enables their spaces. Allocates no memory and changes
- * nothing, not even CONFIG_ADDRESS.
+/* Stores a row that describes the function at `index`, which counts from 0 in path order and must
+ * be less than the count that pciguest_board_count stores. The row reflects the registers as they
+ * are now, in whatever state firmware left them. It contains the function's bus, device and
+ * function numbers, whether a configuration access to these numbers reaches the function, its base
+ * address registers or windows, and whether its Command enables their spaces. Allocates no memory
+ * and changes nothing, not even CONFIG_ADDRESS.
  * Returns 0 on success; 902 if there is no such function. Since 0.4.0. */
 uint32_t pciguest_board_function(struct pciguest_board *board, size_t index,
                                  struct pciguest_board_function *function);
@@ -727,9 +727,9 @@ uint32_t pciguest_board_audit(struct pciguest_board *board, char *text, size_t r
 
 /* Reports what is wrong in the registers of a board as a JSON object on one line, as
  * `pciguest audit --json` does. The object contains every problem that pciguest_board_audit
- * reports, in the same order, with all the information in its line. Stores the length of the text
- * in `needed` and the number of problems in `count`. The text isn't terminated by a 0. The board
- * stays unchanged.
+ * reports, in the same order and with the same information. Stores the length of the text in
+ * `needed` and the number of problems in `count`. The text isn't terminated by a 0. The board stays
+ * unchanged.
  * Returns 0 on success; 902 if the buffer is too small (only the length is stored); 299 if memory
  * runs out. Since 0.4.0. */
 uint32_t pciguest_board_audit_json(struct pciguest_board *board, char *text, size_t room,
@@ -749,9 +749,9 @@ uint32_t pciguest_board_ready(struct pciguest_board *board, char *text, size_t r
 
 /* Reports what is wrong in the registers of a board and what is left to do as a JSON object on one
  * line, as `pciguest ready --json` does. The object contains every problem and readiness issue that
- * pciguest_board_ready reports, in the same order, with all the information in its line. Stores the
- * length of the text in `needed`, and in `count` the number of problems and readiness issues, which
- * is 0 if the board is ready. The text isn't terminated by a 0. The board stays unchanged.
+ * pciguest_board_ready reports, in the same order and with the same information. Stores the length
+ * of the text in `needed`, and in `count` the number of problems and readiness issues, which is 0
+ * if the board is ready. The text isn't terminated by a 0. The board stays unchanged.
  * Returns 0 on success; 902 if the buffer is too small (only the length is stored); 299 if memory
  * runs out. Since 0.4.0. */
 uint32_t pciguest_board_ready_json(struct pciguest_board *board, char *text, size_t room,
@@ -772,9 +772,9 @@ uint32_t pciguest_board_why_json(struct pciguest_board *board, uint32_t space, u
 /* Sets up a board that is at reset, in place of your own firmware, and assigns its functions to the
  * guests that its file declares. The resulting machine is the one that pciguest_new makes from the
  * same file. The board stays unchanged.
- * Returns 0 on success, or the first of these that applies: 901 if there is no board; 903 if the
- * machine's struct already holds a machine; 904 if the board has been written to since reset; 201
- * to 205 if the board can't be set up; 299 if memory runs out. Since 0.3.0. */
+ * Returns 0 on success, or the first of these errors that applies: 901 if there is no board; 903 if
+ * the machine's struct already holds a machine; 904 if the board has been written to since reset;
+ * 201 to 205 if the board can't be set up; 299 if memory runs out. Since 0.3.0. */
 uint32_t pciguest_set_up(struct pciguest_board *board, struct pciguest *machine);
 
 /* Assigns the functions of a board to the guests that its file declares. The board is used as it is
