@@ -10,7 +10,7 @@ from ._lines import number_of
 from ._machine import Machine
 from ._names import BRIDGE, ENDPOINT
 from ._places import PATH, WrongPlace, function_at, is_place, line_of
-from ._refusal import Refusal
+from ._refusal import Refusal, strerror
 
 HELP = """\
 A line of a script does what it does in a run: a cr 0 0 4, host move a 0 b 1.
@@ -24,15 +24,6 @@ a.mem[0x80000000:4] as a guest; 2.0.command, 2.0/1.0.bar0[0:4], host.mem[0xc0000
   quit           ends, as the end of input does"""
 
 GUEST_COMMANDS = ("cr", "cw", "ir", "iw", "mr", "mw", "raise")
-
-#: what the numbers mean by which a line that has a lawful form is refused
-MEANING = {
-    301: "the address, port or offset isn't a multiple of the width",
-    302: "the width isn't 1, 2 or 4",
-    303: "a slot above 31, an offset above 255 or outside its region, or a port above 0xffffffff",
-    601: "the slot is empty",
-    602: "the slot already has a function",
-}
 
 # the space that a word means, and how many numbers stand behind it
 SPACES: Dict[str, Tuple[str, int]] = {"cfg": ("config", 2), "io": ("io", 1), "mem": ("memory", 1)}
@@ -93,9 +84,7 @@ class Prompt:
         if refused is None:
             self.done.append(text)
             return
-        why = self.machine.explain_line(text) or MEANING.get(int(refused[1]))
-        if why is not None:
-            self._write(f"  {why}")
+        self._write(f"  {self.machine.explain_line(text) or strerror(int(refused[1]))}")
 
     def _undo(self) -> None:
         """Makes the machine anew, and runs all lines but the last one that may have changed something, and those after."""

@@ -31,7 +31,7 @@ class Lines(Case):
         self.assertEqual(self.asked("a cr 0 0 4"), ["a: 0x00011234"])
         self.assertEqual(self.asked("# a comment"), [])
         self.assertEqual(self.asked("  "), [])
-        self.assertEqual(self.asked("a mr 1 4")[1], "  the address, port or offset isn't a multiple of the width")
+        self.assertEqual(self.asked("a mr 1 4")[1], "  address is not a multiple of the width")
         self.assertEqual(self.asked("a mr 0xg 4")[0], "a: refused 401 bad line")
         self.assertIn("invalid address '0xg'", self.asked("a mr 0xg 4")[1])
         self.assertFalse(self.prompt.run("quit"))
