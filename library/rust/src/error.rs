@@ -50,7 +50,7 @@ impl fmt::Debug for Refusal {
 #[derive(Clone, Copy, Debug, PartialEq, Eq)]
 #[non_exhaustive]
 pub enum Error {
-    /// 101 to 112: the board file is refused.
+    /// 1xx except 199: the board file is refused.
     BoardFile(Refusal),
     /// 201 to 205: the board can't be set up.
     SetUp(Refusal),
@@ -60,9 +60,9 @@ pub enum Error {
     NotInOrder(Refusal),
     /// 199, 299: out of memory.
     Memory(Refusal),
-    /// 301, 302, 303: an access is misaligned, its width is invalid, or it is out of range.
+    /// 3xx: an access is misaligned, its width is invalid, or it is out of range.
     Access(Refusal),
-    /// 601, 602: a slot that must contain a function is empty, or one that must be empty isn't.
+    /// 6xx: a slot that must contain a function is empty, or one that must be empty isn't.
     Slot(Refusal),
     /// 902: a guest, region, device or function doesn't exist, or no guest has the name.
     Argument(Refusal),
@@ -87,12 +87,12 @@ impl Error {
         let refusal = Refusal { number };
         match number {
             199 | 299 => Error::Memory(refusal),
-            101..=112 => Error::BoardFile(refusal),
+            100..=199 => Error::BoardFile(refusal),
             201..=205 => Error::SetUp(refusal),
             206 => Error::ClosedRegion(refusal),
             207 => Error::NotInOrder(refusal),
-            301..=303 => Error::Access(refusal),
-            601 | 602 => Error::Slot(refusal),
+            300..=399 => Error::Access(refusal),
+            600..=699 => Error::Slot(refusal),
             902 => Error::Argument(refusal),
             904 => Error::NotAtReset(refusal),
             905 => Error::Image(refusal),
