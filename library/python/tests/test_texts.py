@@ -53,8 +53,7 @@ class Texts(unittest.TestCase):
             paths = [line.split()[1] for line in lines[1:] if line[0] not in " g"]
             self.assertEqual([each["path"] for each in told["functions"]], paths)
 
-    def test_messages(self):
-        self.assertEqual(sum(strerror(each) != "" for each in range(1000)), 45)
+    def test_words(self):
         self.assertEqual(strerror(205), "prefetchable memory aperture is too small")
         last = ["not a valid image", "image is for other functions", "image is for another board", "unsupported image version"]
         self.assertEqual([strerror(each) for each in range(905, 909)], last)

@@ -71,11 +71,7 @@ fn long_texts_come_whole() {
 }
 
 #[test]
-fn numbers_have_messages() {
-    let known = (0..1 << 16)
-        .filter(|&number| !strerror(number).is_empty())
-        .count();
-    assert_eq!(known, 45);
+fn numbers_have_words() {
     assert_eq!(strerror(205), "prefetchable memory aperture is too small");
     let last = [905, 906, 907, 908, 909].map(strerror);
     assert_eq!(
