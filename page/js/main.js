@@ -136,7 +136,7 @@ function follow_register(line) {
 // What is wrong after a line of firmware is noted under it; on a large board, after all that run at once. Reads and questions change nothing.
 function ran(line, reply) {
   moments.ends(line, reply);
-  unseen ||= !/^\s*\S+\s+([cim]r|why|audit|ready)(\s|$)/.test(line);
+  unseen ||= reply.endsWith(': ok');
   if (as === 'firmware' && functions.length <= LARGE) note();
   follow();
 }

@@ -23,14 +23,12 @@ a.mem[0x80000000:4] as a guest; 2.0.command, 2.0/1.0.bar0[0:4], host.mem[0xc0000
   undo           takes back the last line that may have changed something
   quit           ends, as the end of input does"""
 
-GUEST_COMMANDS = ("cr", "cw", "ir", "iw", "mr", "mw", "raise")
-
 # the space that a word means, and how many numbers stand behind it
 SPACES: Dict[str, Tuple[str, int]] = {"cfg": ("config", 2), "io": ("io", 1), "mem": ("memory", 1)}
 
 
 class Prompt:
-    """A machine of a board file, and the lines that were run on it since."""
+    """A machine of a board file, and in `done` the lines since that may have changed something."""
 
     def __init__(self, board: bytes, name: str, write: Callable[[str], None]) -> None:
         self._board, self._name, self._write = board, name, write
@@ -69,7 +67,12 @@ class Prompt:
 
     def _is_of_a_guest(self, words: List[str]) -> bool:
         """Whether words that begin as one of the prompt's do are a line of a guest that is called so."""
-        return len(words) > 1 and words[0] in self.guests and re.fullmatch("[cim][rw]|raise", words[1]) is not None
+        return len(words) > 1 and words[0] in self.guests and words[1] in self._commands(words[0])
+
+    def _commands(self, begun: str) -> List[str]:
+        """The commands that may come next in a line of a guest or the host, as the library lists them."""
+        listed = re.fullmatch(r"missing command \(expected (.*)\)", self.machine.explain_line(begun) or "")
+        return re.split(", | or ", listed[1]) if listed else []
 
     def words(self, before: str, word: str) -> List[str]:
         """The words that may stand after what stands before on a line, and begin so."""
@@ -81,19 +84,17 @@ class Prompt:
             return
         self._write(reply)
         refused = re.fullmatch(r"\S+: refused ([0-9]+) .*", reply)
-        if refused is None:
+        if refused is not None:
+            self._write(f"  {self.machine.explain_line(text) or strerror(int(refused[1]))}")
+        elif reply.endswith(": ok"):
             self.done.append(text)
-            return
-        self._write(f"  {self.machine.explain_line(text) or strerror(int(refused[1]))}")
 
     def _undo(self) -> None:
-        """Makes the machine anew, and runs all lines but the last one that may have changed something, and those after."""
-        changing = [at for at, line in enumerate(self.done) if not re.match(r"\s*\S+\s+[cim]r\s", line)]
-        if not changing:
+        """Makes the machine again, and runs the lines in `done` except the last."""
+        if not self.done:
             self._write("  nothing was changed")
             return
-        self._write(f"  taken back: {self.done[changing[-1]].strip()}")
-        self.done = self.done[: changing[-1]]
+        self._write(f"  taken back: {self.done.pop().strip()}")
         self.machine.close()
         self.machine = Machine(self._board, self._name)
         for line in self.done:
@@ -157,10 +158,8 @@ class Prompt:
             return self.guests if len(before) == 1 else [*SPACES] if len(before) == 2 else []
         if before[:2] == ["host", "move"]:
             return self.guests
-        if len(before) == 1:
-            return ["cr", "ir", "mr", "move"] if before[0] == "host" else [*GUEST_COMMANDS] if before[0] in self.guests else []
         if before:
-            return []
+            return self._commands(" ".join(before))
         who, dot, _ = word.rpartition(".")
         if dot and who in paths:
             return [f"{who}.{name}" for name in ["cfg[", *(f"{each}[" for each in _bars()), *paths[who]]]
