@@ -1,13 +1,8 @@
 // The words that fit where one types in a line: guests, what they do, functions by path or number, registers by name.
 
 import { hex, two_digits } from './report.js';
-import { form_of, forms_of, number_of, shape_of, words_in } from './forms.js';
+import { DOES, form_of, forms_of, number_of, shape_of, words_in } from './forms.js';
 import { register_at, registers_of } from './register_names.js';
-
-const DOES = { cr: 'reads configuration bytes', cw: 'writes configuration bytes', ir: 'reads ports', iw: 'writes ports', mr: 'reads memory', mw: 'writes memory',
-  raise: 'its device sets status bits', move: 'reassigns a function',
-  audit: 'lists what is wrong', ready: 'lists what is wrong and what is left to do', guests: 'hands the board over to its guests',
-  why: 'says what responds, or why nothing does' };
 
 // An offer has what is put in, what is told beside it, and the names by which it is found.
 const offer = (text, told, ...names) => ({ text, told, names: [text, ...names] });
@@ -49,7 +44,7 @@ function offers_at(nth, words, board) {
   if (nth === 0) return [...names.map(one => offer(one, 'guest')), offer('host', board.as === 'firmware' ? 'firmware' : 'the host')];
   const forms = forms_of(words[0].word, names, board.as);
   if (forms === null) return [];
-  if (nth === 1) return Object.keys(forms).map(verb => offer(verb, `${DOES[verb] ?? ''}: ${shape_of([words[0].word, verb], form_of(forms, verb))}`));
+  if (nth === 1) return Object.keys(forms).map(verb => offer(verb, `${DOES[verb]}: ${shape_of([words[0].word, verb], form_of(forms, verb))}`));
   const word = form_of(forms, words[1].word, words[2]?.word)?.[nth - 2];
   return word === undefined ? [] : offers_for(word, words, board);
 }

@@ -29,6 +29,10 @@ const FIRMWARE = { cr: [FUNCTION, OFFSET, WIDTH], cw: [FUNCTION, OFFSET, WIDTH, 
   mr: [ADDRESS, WIDTH], mw: [ADDRESS, WIDTH, VALUE], audit: [], ready: [], guests: [],
   why: space => [among('the space', ['mem', 'io', 'cfg']), { mem: ADDRESS, io: PORT, cfg: FUNCTION }[space] ?? counted('the place')] };
 
+export const DOES = { cr: 'reads configuration bytes', cw: 'writes configuration bytes', ir: 'reads ports', iw: 'writes ports', mr: 'reads memory', mw: 'writes memory',
+  raise: 'its device sets status bits', move: 'reassigns a function', audit: 'lists what is wrong', ready: 'lists what is wrong and what is left to do',
+  guests: 'hands the board over to its guests', why: 'says what responds, or why nothing does' };
+
 // The words after the second of a line: of one that asks why, they go by the third.
 export function form_of(forms, verb, third) {
   const form = forms[verb];
