@@ -3,7 +3,7 @@
 import random
 import unittest
 
-from boards import MAIN
+from boards import MAIN, TEXTS
 from pciguest import Machine, Refusal
 
 PLACES = {
@@ -20,7 +20,7 @@ def reply(who, width, call):
     try:
         value = call()
     except Refusal as refusal:
-        return f"{who}: refused {refusal}"
+        return f"{who}: refused {refusal.number} {TEXTS[refusal.number]}"
     return f"{who}: ok" if value is None else f"{who}: 0x{value:0{2 * width}x}"
 
 

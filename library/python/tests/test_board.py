@@ -4,7 +4,7 @@ import json
 import random
 import unittest
 
-from boards import BOARDS, MAIN, REFUSED
+from boards import BOARDS, MAIN, REFUSED, TEXTS
 from pciguest import Board, Machine, Refusal
 from why_lines import why_lines
 
@@ -62,7 +62,7 @@ class Firmware(Case):
         try:
             return access()
         except Refusal as refusal:
-            return f"refused {refusal}"
+            return f"refused {refusal.number} {TEXTS[refusal.number]}"
 
 
 class BoardFunctions(Case):

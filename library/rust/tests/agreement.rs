@@ -67,7 +67,16 @@ fn reply(who: &str, answer: Result<Option<u32>, Error>, width: u32) -> String {
     match answer {
         Ok(Some(value)) => format!("{who}: 0x{value:0digits$x}", digits = 2 * width as usize),
         Ok(None) => format!("{who}: ok"),
-        Err(error) => format!("{who}: refused {error}"),
+        Err(error) => {
+            let text = match error.number() {
+                301 => "misaligned",
+                302 => "width",
+                303 => "range",
+                601 => "empty slot",
+                _ => "slot taken",
+            };
+            format!("{who}: refused {} {text}", error.number())
+        }
     }
 }
 
