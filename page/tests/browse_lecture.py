@@ -206,7 +206,7 @@ def refusals_have_reasons(browser, page):
     browser.open(f'{page}#board=main&as=firmware', 1280, 720)
     type_line(browser, 'host cr 00:02.0 0xg 4')
     marked = browser.run("document.querySelector('#transcript mark').textContent")
-    holds('the word for which a line is refused is marked', marked == '0xg' and "invalid value '0xg'" in said_last(browser, 'why'), marked)
+    holds('the word for which a line is refused is marked', marked == '0xg' and "invalid offset '0xg'" in said_last(browser, 'why'), marked)
     browser.run("(() => { const one = document.getElementById('line'); one.value = ''; one.focus(); })()")
     browser.insert('host cr 00:02.0 mem')
     holds('a name that is typed is not told to be no number', text_of(browser, 'why') == "the offset: choose what 'mem' means from the list", text_of(browser, 'why'))
