@@ -26,10 +26,10 @@ def a_board_is_typed(browser, page):
     type_board(browser, host)
     holds('a board that is typed is set up', text_of(browser, 'verdict').startswith('Set up: 0 endpoints'), text_of(browser, 'verdict'))
     type_board(browser, f'{host}unknown = 1\n')
-    wanted = "103 unknown key: the file contains a key that its table doesn't have"
+    wanted = "103 unknown key: a table in the file contains a key that isn't defined for it"
     holds('a key that is not known is refused', text_of(browser, 'verdict') == wanted, text_of(browser, 'verdict'))
     told = text_of(browser, 'check')
-    holds('the key is told', told.startswith("board.toml:4:11: error: unknown key 'unknown' (103)"), told)
+    holds('the key is told', told.startswith("board.toml:4:11: error: host: unknown key 'unknown' (103)"), told)
 
 
 def what_is_wrong_is_told(browser, page):
