@@ -260,7 +260,7 @@ enum pciguest_told {
  * PCIGUEST_VERSION_NUMBER, which is the version of the header. Since 0.4.0. */
 uint32_t pciguest_version(void);
 
-/* Returns a message that says what an error number means, terminated by a 0. The number can be one
+/* Returns a null-terminated message that says what an error number means. The number can be one
  * that a call returns, or one that appears in a reply or in the program's output, where a shorter
  * text follows it. The message is valid as long as the library is loaded. It is empty for a number
  * without a meaning, such as 0. Since 0.4.0. */
@@ -464,8 +464,8 @@ uint32_t pciguest_save_all(struct pciguest *machine, void *image, size_t room, s
  * order. It doesn't matter where the guests' functions are now, or what state the guests are in.
  * The call takes every function from its guest, as pciguest_take does, and then assigns and loads,
  * as pciguest_give and pciguest_load do; before that, it tries this on a second machine, which it
- * frees at the end. So an image that is refused changes nothing. The count that pciguest_changed
- * stores increases for each guest. No script line does this.
+ * frees at the end. So an image that is refused changes nothing. Each guest's count, which
+ * pciguest_changed stores, increases. No script line does this.
  * Returns 0 on success; 907 if the board, its guests or its set-up differ; 906 if a slot would get
  * something that can't be assigned to it, or a function is declared differently; 908 if the image,
  * or a guest's image in it, has an unsupported format version; 905 if the bytes are not the image
@@ -612,9 +612,9 @@ uint32_t pciguest_slot(struct pciguest *machine, size_t guest, uint64_t slot,
 uint32_t pciguest_run_line(struct pciguest *machine, const char *line, size_t length, char *reply,
                            size_t room, size_t *written);
 
-/* Explains why a line of a script is refused with 401, 402 or 403: writes a sentence without a line
+/* Explains why a line of a script is refused with 401, 402 or 403. Writes a sentence without a line
  * feed, such as "missing width (expected 'cr SLOT OFFSET WIDTH')", and stores its length in
- * `needed` and the position of the wrong word in `word`: 0 for the name, 1 for the word after it.
+ * `needed`. Stores the position of the wrong word in `word`: 0 is the name, 1 the word after it.
  * For any other line, the text is empty. The text isn't terminated by a 0. The line isn't run, and
  * may end with its line feed. Allocates no memory and changes nothing.
  * Returns 0 on success; 902 if the buffer is too small (only the length is stored). Since 0.4.0. */
@@ -693,10 +693,10 @@ uint32_t pciguest_board_write(struct pciguest_board *board, uint32_t space, uint
  * a line is refused, the reply says so and the call returns 0. The reply is one line with its line
  * feed, or nothing. Only the replies to `host audit`, `host ready`, `host why ..` and a refused
  * `host guests` can have more lines. The reply isn't terminated by a 0.
- * Returns 0 on success; 902 if the buffer is smaller than PCIGUEST_REPLY (nothing happens), or too
- * small for a reply of several lines (nothing happens, and only the length of the reply is stored);
- * 299 if memory runs out for `host audit`, `host ready`, `host why ..` or `host guests` (nothing
- * happens). No other line allocates memory. Since 0.3.0. */
+ * Returns 0 on success; 902 if the buffer is smaller than PCIGUEST_REPLY; 902 if it is too small
+ * for a reply of several lines (the length of the reply is then stored); 299 if memory runs out for
+ * `host audit`, `host ready`, `host why ..` or `host guests`. In these cases, the line has no other
+ * effect. No other line allocates memory. Since 0.3.0. */
 uint32_t pciguest_board_run_line(struct pciguest_board *board, const char *line, size_t length,
                                  char *reply, size_t room, size_t *written);
 
