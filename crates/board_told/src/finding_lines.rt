@@ -1,9 +1,9 @@
 //! Renders the finding for a guest's access as lines of text.
-ghost use Rattle.std.specs.Prelude.{OnOk, Some};
+ghost use Rattle.std.specs.Prelude.{◌++◌, OnOk, Some, codes};
 ghost use Rattle.lists.specs.Texts.{Adds};
 ghost use Rattle.model_lines.specs.{WhyText.why_line, WhyGuests.{answers, target_text, finding_text}};
 ghost use Rattle.accesses.specs.Accesses.{target_of};
-ghost use Rattle.model_guests.specs.Text.{ended};
+ghost use Rattle.model_guests.specs.{PathTexts.hexadecimal, Text.ended};
 ghost use Rattle.monitor.specs.Queries.{hit_named};
 ghost use Rattle.board_told.specs.{GuestFindings.finding_told, GuestLines.{head_text, place_line, closed_line, told_lines, lines_of_closed}};
 
@@ -31,6 +31,19 @@ impl fmt::Display for ShownPlace {
     }
 }
 
+/// Displays the offset of the byte that answers an access.
+#[derive(Clone, Copy)]
+struct ShownOffset(u64);
+
+impl fmt::Display for ShownOffset {
+    ghost output = { λ o. Some (codes " responds at offset " ++ hexadecimal o.0) };
+
+    fn fmt<W: fmt::Write>(&self, f: &mut fmt::Formatter<W>) -> fmt::Result {
+        let offset = self.0;
+        write!(f, " responds at offset 0x{offset:x}")
+    }
+}
+
 /// Displays the byte that answers an access.
 #[derive(Clone, Copy)]
 struct ShownHit(DecodedByte);
@@ -42,17 +55,9 @@ impl fmt::Display for ShownHit {
         let slot = self.0.slot;
         let offset = self.0.offset;
         match self.0.place {
-            Place::Cfg => {
-                write!(
-                    f,
-                    "slot {slot} configuration space responds at offset 0x{offset:x}"
-                )
-            }
+            Place::Cfg => { write!(f, "slot {slot} configuration space{}", ShownOffset(offset)) }
             Place::Bar(register) => {
-                write!(
-                    f,
-                    "slot {slot} bar{register} responds at offset 0x{offset:x}"
-                )
+                write!(f, "slot {slot} bar{register}{}", ShownOffset(offset))
             }
         }
     }
