@@ -57,7 +57,7 @@ def without_a_machine(library, text):
     """Calls on the bytes of a board file, and those that need no argument of that kind."""
     library.called |= {"version", "strerror"}
     library.tally.expect("pciguest_version", CALLS["version"]() == declared.VERSION_NUMBER)
-    library.tally.expect("pciguest_strerror", CALLS["strerror"](101) == b"not TOML")
+    library.tally.expect("pciguest_strerror", CALLS["strerror"](101) == b"board file is not valid TOML")
     for name in ("report", "report_json", "check"):
         library.text(name, text, len(text))
 
@@ -125,6 +125,9 @@ def machine_calls(library, machine, guests):
     for index in range(library.number("count", held)):
         library.number("function", held, index, of=declared.FunctionTold)
     library.tally.expect(f"{library.title}: a line", library.line("run_line", held, b"g0 cr 0 0 4") == b"g0: 0x00031234\n")
+    word, needed, reason = c_size_t(), c_size_t(), ctypes.create_string_buffer(200)
+    library.ok("explain_line", held, b"g0 zz", 5, byref(word), reason, len(reason), byref(needed))
+    library.tally.expect(f"{library.title}: a reason", reason.raw.startswith(b"unknown command 'zz'"))
     size, needed = library.number("image_size_all", held), c_size_t()
     image = ctypes.create_string_buffer(size)
     library.ok("save_all", held, image, size, byref(needed))
@@ -160,7 +163,7 @@ def questions(library, board, wanted):
     told = library.line("board_run_line", held, b"host ready", room)
     library.tally.expect(f"{library.title}: host ready", told == ready)
     for asked in (b"mem 0x80000000", b"mem 0", b"io 0x1000", b"io 0", b"cfg 01:00.0"):
-        library.line("board_run_line", held, b"host why " + asked, room)
+        library.line("board_run_line", held, b"host why " + asked, 1 << 20)
 
 
 def write_all(library, board, written):
