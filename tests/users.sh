@@ -36,7 +36,7 @@ done_by 'who reads the documents'
 
 # ---- firmware: boards at reset, broken firmware, and a session
 audits() { cat examples/audit/set_up.script examples/audit/"$1".script | outside ./pciguest audit examples/audit/board.toml; }
-holds 'an audit of broken firmware' sh -c 'echo "$1" | grep -q "not forwarded by 2.0"' - "$(audits limit_short)"
+holds 'an audit of broken firmware' sh -c 'echo "$1" | grep -q "not forwarded by bridge 2.0"' - "$(audits limit_short)"
 holds 'a session' same examples/session/session.stdout \
   outside sh -c './pciguest firmware examples/session/board.toml < examples/session/session.script 2> session.told'
 holds 'why lines of it have no form' same session.told \
