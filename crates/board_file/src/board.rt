@@ -68,7 +68,7 @@ fn decls(alloc: Global, file: &FileEntries<'_>) -> Result<Option<Vec<Decl>>, All
     }
 }
 
-/// Declares the guests.
+/// Returns the declaration of each guest in the file, in order.
 fn guests(alloc: Global, entries: &[GuestEntry<'_>]) -> Result<Vec<GuestDecl>, AllocError>
     requires { Each IsShortGuest entries.now }
     ensures { IfOk result (λ v. v.items ≡ map said.guest entries.now) }

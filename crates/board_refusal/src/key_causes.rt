@@ -22,7 +22,8 @@ fn nearest(
     Ok(None)
 }
 
-/// Appends the key that was probably meant by an unknown one, or a list of all keys of the level.
+/// Appends the key that is spelled most like an unknown one. If none is similar, appends a list of
+/// the keys that the table may have.
 pub(crate) fn push_known(
     alloc: Global,
     text: &mut String,

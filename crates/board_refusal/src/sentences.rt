@@ -13,7 +13,7 @@ use board_file::{Entry, Rule, Source};
 use diagnostics::{Head, Other, Shown, Subject};
 use std::alloc::AllocError;
 
-/// Returns the words of a rule that are the same for every value.
+/// Returns the part of a rule's message that doesn't depend on the value.
 fn rule_words(rule: Rule) -> &'static str {
     match rule {
         Rule::Needed => "missing key",

@@ -13,7 +13,7 @@ pub(crate) const PARTS: u8 = 128;
 /// The maximum number of parts in a path.
 pub(crate) const DEEPEST: usize = 16;
 
-/// Returns the BDF of the nth part of a bus.
+/// Returns the BDF at position `n` of the scan order of a bus.
 pub(crate) fn address(bus: u8, n: u8) -> Bdf
     requires { n < PARTS }
     ensures { bus_address_of result ≡ record { bus = bus; part = nth_part n } }
@@ -25,8 +25,8 @@ pub(crate) fn address(bus: u8, n: u8) -> Bdf
     }
 }
 
-/// Returns the part to probe after the nth one: the next device if the nth part is function 0 of a
-/// single-function device, and otherwise the next part in order.
+/// Returns the position to probe after `n`: the next device if `n` is function 0 of a
+/// single-function device, and `n + 1` otherwise.
 pub(crate) fn next_part(n: u8, is_multifunction: bool) -> u8
     requires { n < PARTS }
     ensures next { result ≡ (if n % 8 == 0 && not is_multifunction then n + 8 else n + 1) }
@@ -39,8 +39,8 @@ pub(crate) fn next_part(n: u8, is_multifunction: bool) -> u8
     }
 }
 
-/// Returns the path of the nth part of a bus. `bus` is the path of the bridge above, or empty for
-/// bus 0.
+/// Returns the path at position `n` of the scan order of a bus. `bus` is the path of the bridge
+/// above, or empty for bus 0.
 pub(crate) fn path_on(bus: &[Part], n: u8) -> Path
     requires short { length bus.now < 16 }
     requires part { n < PARTS }

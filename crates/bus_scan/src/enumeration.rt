@@ -154,8 +154,8 @@ impl Enumeration {
         Ok(())
     }
 
-    /// Adds the function at the nth part of a bus, and everything behind it, to the table. Returns
-    /// the next part to probe.
+    /// Adds the function at position `n` of the scan order of a bus, and everything behind it, to
+    /// the table. Returns the position to probe next.
     #[cycle(scan)]
     fn scan_place(&mut self, host: &mut Host, bus: &[Part], number: u8, n: u8) -> Result<u8, Fault>
         requires short { length bus.now < 16 }

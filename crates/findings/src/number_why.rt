@@ -67,7 +67,8 @@ fn path_reached(host: &mut Host, at: Bdf) -> Option<Path>
     host.path_nth(index)
 }
 
-/// Returns what is missing at the end of a configuration cycle.
+/// Returns why no function answers a configuration cycle: its bus has no such function, or no
+/// bridge forwards it any further.
 fn missing_at(end: WayEnd, at: Bdf) -> Missing
     ensures { missing_told result ≡ missing_at (end_told end) (bus_address_of at) }
 {

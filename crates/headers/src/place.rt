@@ -1,7 +1,7 @@
-//! Places of bytes within a function.
+//! The spaces in which a function has registers.
 
-/// The space of a byte's offset: configuration space, or the block of the region with this BAR
-/// index, 0 to 5.
+/// The space that an offset refers to: configuration space, or the block of the region whose BAR
+/// has this index, 0 to 5.
 #[derive(Clone, Copy, Debug, PartialEq, Eq)]
 pub enum Place {
     Cfg,

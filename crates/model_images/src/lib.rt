@@ -113,9 +113,8 @@ pub fn saved_guests_are_taken()
     ensures refused { NoImageIsRefused }
 {}
 
-/// Proves the offsets at which accepted bytes hold the state of each slot. The bytes encode exactly
-/// this image, which fits the guest. The only requirement is that the guest's declarations can be
-/// serialized.
+/// Proves where accepted bytes hold the state of each slot, and that they encode exactly one image,
+/// which fits the guest. The only requirement is that the guest's declarations can be serialized.
 pub fn taken_bytes_are_slots()
     ensures slots { SlotsAreTaken }
     ensures image { ImageIsTaken }

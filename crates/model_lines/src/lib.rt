@@ -39,7 +39,7 @@ pub fn guests_explained()
     ensures all { ClosedAreAll }
 {}
 
-/// Proves the explanations of some example addresses, BDFs, ports and guest accesses.
+/// Proves what `why` answers for some example addresses, BDFs, ports and guest accesses.
 pub fn worked_why_examples()
     ensures each { WhyExamples }
     ensures ports { PortExamples }

@@ -89,7 +89,7 @@ impl Session {
         }
     }
 
-    /// Borrows the guests with their board, if it is assigned to them.
+    /// Borrows the monitor, which has the board and its guests, if the board was assigned to guests.
     pub fn monitor(&mut self) -> Option<&mut Monitor>
         ensures* lends { sem 𝓛 (LendsMonitor self.entry result) }
         ensures machine { option_copied_mut result ≡ machine_in self.old }

@@ -12,8 +12,8 @@ fn digit(n: u16) -> char
     char::from(b'0' + (n % 10) as u8)
 }
 
-/// Returns the program's error message about a fault: a line with its line feed that contains
-/// `pciguest: fault`, the number of the fault and its description.
+/// Returns the line that the program prints for a fault, such as `pciguest: fault 102 key`, with a
+/// line feed at its end.
 pub fn fault_line(fault: Fault) -> ArrayString<48>
     ensures { result.bytes ≡ line_of fault }
 {

@@ -36,8 +36,8 @@ fn is_prefetchable(kind: Kind) -> bool
     }
 }
 
-/// Returns the base address that the guest's copies give to the region of this kind at base address
-/// register `bar`.
+/// Returns the base address of a region according to the guest's copies of its BARs. `bar` is the
+/// index of the region's first BAR, 0 to 5.
 pub(crate) fn base_of(held: &AssignedFunction, bar: u16, kind: Kind) -> u64
     requires { bar < 6 }
     ensures { (file : File) → HoldsOwn file held.now.own →

@@ -57,7 +57,7 @@ fn number_or_zero(fault: Option<OpenFault>) -> u32
     }
 }
 
-/// The file name in the text of a check.
+/// The name of the board file in a check's error messages. The caller passes only its bytes.
 const BOARD_NAME: &str = "board.toml";
 
 /// Checks a board file. Returns the text, and the error number of the file or its board, or 0.
