@@ -185,8 +185,8 @@ holds 'calls that the manual lacks' lacking_calls
 # ---- the kit: README names those with which the gate has passed, and, if the one that is here is among them, its logic
 other_kit() {
   local kit logic; read -r kit _ logic <<< "$(rt version)"
-  grep -qE '^Proved with kits of the logic `[0-9a-f]{16}`: (`rattle-kit-[0-9a-z]+`(, )?)+\.$' README.md || echo 'README.md: names no kit'
-  ! grep -q "^Proved with kits.*\`$kit\`" README.md || grep -q "^Proved with kits of the logic \`$logic\`" README.md || echo "README.md: $(rt version)"
+  grep -qE '^Everything was proved with the following kits \(versions of the toolchain\), which share the logic `[0-9a-f]{16}`: (`rattle-kit-[0-9a-z]+`(, )?)+\.$' README.md || echo 'README.md: names no kit'
+  ! grep -q "^Everything was proved with .*\`$kit\`" README.md || grep -q "^Everything was proved with .* the logic \`$logic\`" README.md || echo "README.md: $(rt version)"
 }
 ! command -v rt > /dev/null || holds 'the kits that the README names' other_kit
 
