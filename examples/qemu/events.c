@@ -3,8 +3,10 @@
 #include "images.h"
 
 #include <inttypes.h>
+#include <string.h>
 
 enum { SLOTS = 32, EMPTY_SLOT = 601, CONFIG_ADDRESS = 0xcf8 };
+enum { LONGEST_LINE = 200, WORDS = 64 /* bytes: enough for part of a line */ };
 
 struct access {
     bool is_write;
@@ -19,42 +21,44 @@ void write_refusal(FILE *file, uint32_t number)
     fprintf(file, "%" PRIu32 " %s", number, pciguest_strerror(number));
 }
 
-/* The reply of a call that answered a number, under a name, as a comment of a script. */
-static void log_reply(FILE *log, const char *name, uint32_t number)
+/* Logs a line and, as a comment below, the reply to it. If the call was refused, the line is run to get its reply: a reply
+ * has a shorter text than pciguest_strerror, and a refused line changes nothing. */
+static void log_line(struct board *board, const char *line, uint32_t number, const char *name, const char *answer)
 {
-    fprintf(log, "# %s: ", name);
-    if (number) {
-        fputs("refused ", log);
-        write_refusal(log, number);
-    } else {
-        fputs("ok", log);
-    }
-    fputc('\n', log);
+    char reply[PCIGUEST_REPLY] = {0};
+    size_t written = 0;
+
+    fprintf(board->log, "%s\n", line);
+    if (number == 0)
+        fprintf(board->log, "# %s: %s\n", name, answer);
+    else if (pciguest_run_line(&board->machine, line, strlen(line), reply, sizeof reply, &written) == 0)
+        fprintf(board->log, "# %.*s", (int)written, reply);
 }
 
 /* An access as a line of a script has it, but for the guest's name and a written value. */
-static void log_words(FILE *log, const struct seat *seat, const struct access *access)
+static void write_words(char words[WORDS], const struct seat *seat, const struct access *access)
 {
     static const char spaces[] = {'c', 'i', 'm'};
+    char slot[24] = {0};
 
-    fprintf(log, "%c%c ", spaces[access->space], access->is_write ? 'w' : 'r');
     if (access->space == PCIGUEST_CONFIG)
-        fprintf(log, "%" PRIu64 " ", seat->slot);
-    fprintf(log, "0x%" PRIx64 " %" PRIu32, access->place, access->width);
+        snprintf(slot, sizeof slot, "%" PRIu64 " ", seat->slot);
+    snprintf(words, WORDS, "%c%c %s0x%" PRIx64 " %" PRIu32, spaces[access->space], access->is_write ? 'w' : 'r',
+             slot, access->place, access->width);
 }
 
-static void log_access(FILE *log, const struct seat *seat, const struct access *access, uint32_t number,
+static void log_access(struct board *board, const struct seat *seat, const struct access *access, uint32_t number,
                        uint32_t read)
 {
-    fprintf(log, "%s ", seat->guest);
-    log_words(log, seat, access);
+    char words[WORDS], value[WORDS] = {0}, line[LONGEST_LINE + 1], answer[WORDS] = "ok";
+
+    write_words(words, seat, access);
     if (access->is_write)
-        fprintf(log, " 0x%" PRIx32, access->value);
-    fputc('\n', log);
-    if (number || access->is_write)
-        log_reply(log, seat->guest, number);
-    else
-        fprintf(log, "# %s: 0x%0*" PRIx32 "\n", seat->guest, (int)access->width * 2, read);
+        snprintf(value, sizeof value, " 0x%" PRIx32, access->value);
+    else if (number == 0)
+        snprintf(answer, sizeof answer, "0x%0*" PRIx32, (int)access->width * 2, read);
+    snprintf(line, sizeof line, "%s %s%s", seat->guest, words, value);
+    log_line(board, line, number, seat->guest, answer);
 }
 
 /* One access, and what is read. A real bus has no refusal: what no one takes reads all ones, and a write is lost. */
@@ -69,7 +73,7 @@ static uint32_t perform(struct board *board, const struct seat *seat, struct acc
         number = pciguest_read(&board->machine, seat->index, access.space, seat->slot, access.place, access.width,
                                &read);
     if (board->log)
-        log_access(board->log, seat, &access, number, read);
+        log_access(board, seat, &access, number, read);
     return read;
 }
 
@@ -118,10 +122,12 @@ static bool find_spare(struct board *board, const struct seat *seat, struct seat
     return is_found;
 }
 
-static void log_move(FILE *log, const struct seat *from, const struct seat *to, uint32_t number)
+static void log_move(struct board *board, const struct seat *from, const struct seat *to, uint32_t number)
 {
-    fprintf(log, "host move %s %" PRIu64 " %s %" PRIu64 "\n", from->guest, from->slot, to->guest, to->slot);
-    log_reply(log, "host", number);
+    char line[LONGEST_LINE + 1];
+
+    snprintf(line, sizeof line, "host move %s %" PRIu64 " %s %" PRIu64, from->guest, from->slot, to->guest, to->slot);
+    log_line(board, line, number, "host", "ok");
 }
 
 /* No line of a script says a reset, and two moves do the same: to an empty slot, and back. Where none is empty, a
@@ -134,9 +140,9 @@ static void log_reset(struct board *board, const struct seat *seat, uint32_t num
         fprintf(board->log, "#reset %s %" PRIu64 "\n", seat->guest, seat->slot);
         return;
     }
-    log_move(board->log, seat, &spare, number);
+    log_move(board, seat, &spare, number);
     if (number == 0)
-        log_move(board->log, &spare, seat, 0);
+        log_move(board, &spare, seat, 0);
 }
 
 static void reset_event(struct board *board, struct seat *seat)
@@ -177,12 +183,13 @@ static uint32_t perform_at_region(struct board *board, const struct seat *seat, 
     uint32_t read = is_hit ? perform(board, seat, access) : UINT32_MAX;
 
     if (board->log) {
-        fprintf(board->log, "#%s %s %" PRIu64 " ", is_hit ? "hit" : "missed", seat->guest, seat->slot);
+        char what[WORDS];
+
         if (is_hit)
-            fprintf(board->log, "bar%" PRIu32 " 0x%" PRIx64, hit.part, hit.offset);
+            snprintf(what, sizeof what, "bar%" PRIu32 " 0x%" PRIx64, hit.part, hit.offset);
         else
-            log_words(board->log, seat, &access);
-        fputc('\n', board->log);
+            write_words(what, seat, &access);
+        fprintf(board->log, "#%s %s %" PRIu64 " %s\n", is_hit ? "hit" : "missed", seat->guest, seat->slot, what);
     }
     return read;
 }

@@ -34,7 +34,7 @@ void log_regions(struct board *board, struct seat *seat);
 /* Runs a line of the host, without its line feed, and writes the reply to a file. */
 void line_event(struct board *board, const char *line, size_t length, FILE *replies);
 
-/* Writes the error number of a refusal with its text, such as `301 misaligned`. */
+/* Writes an error number with its message, such as `906 image is for other functions`. */
 void write_refusal(FILE *file, uint32_t number);
 
 #endif
