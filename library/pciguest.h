@@ -4,24 +4,24 @@
  * docs/library-c.md explains how to build and use the library; docs/PROOFS.md says what is proved
  * about it.
  *
- * Return values. Most calls return 0 or an error number (enum pciguest_status). The exceptions are
- * pciguest_version and pciguest_strerror; pciguest_piece and pciguest_ends_within, which only
- * compute a result; and pciguest_free and pciguest_board_free, which return nothing.
+ * Return values. Most calls return 0 or an error number (enum pciguest_status). There are six
+ * exceptions: pciguest_version, pciguest_strerror, pciguest_piece and pciguest_ends_within return a
+ * result, and pciguest_free and pciguest_board_free return nothing.
  *
  * Errors. A call that returns an error has changed nothing and stored nothing, with two exceptions.
- * If the buffer for a text or an image is too small, the call still stores the required length,
- * provided that its comment says so. And pciguest_check writes its text.
- * Any call can return the following errors, so comments list them only where their order matters:
- * 901, the struct is empty (not returned by calls that fill or free it); 902, a pointer is null (a
- * pointer to bytes or to a buffer may be null if its length is 0); 909, another call is running on
- * the struct.
+ * If the buffer for a text or an image is too small, the call stores the required length, provided
+ * that its comment says so. If pciguest_check refuses a board file, it still writes its text.
+ * Any call can return the following errors, so a comment lists them only if it matters which error
+ * is checked first: 901 if the struct is empty (not returned by calls that fill or free it); 902 if
+ * a pointer is null (a pointer to bytes or to a buffer may be null if its length is 0); 909 if
+ * another call is running on the struct.
  *
  * Memory. Only calls whose comments list 199 or 299 allocate memory.
  *
- * This is the only file in which calls are declared. From its declarations and comments,
- * tools/bindings generates the calls themselves, on top of the proved library (library/calls.c,
- * raw.h, words.c), the declarations in the Rust and Python modules, and the manual's sections on
- * calls. A call has existed since version 0.2.0 unless its comment names a later version.
+ * Calls are declared only in this file. From the declarations and comments, tools/bindings
+ * generates the calls themselves (library/calls.c, raw.h, words.c), which use the proved library;
+ * the declarations in the Rust and Python modules; and the manual's sections on calls. A call has
+ * existed since version 0.2.0 unless its comment names a later version.
  */
 #ifndef PCIGUEST_H
 #define PCIGUEST_H
@@ -39,12 +39,13 @@
 extern "C" {
 #endif
 
-/* Holds a machine: a board that has been set up, and its guests. Initialize it with
- * `struct pciguest machine = PCIGUEST_INIT;` or set all its bytes to 0; it is then empty. Only the
- * library may read or write its fields. You may move the struct to another location if you never
- * use the old one again; never use two copies of it. Any thread may make a call, but only one call
- * can run on a struct at a time. A second call, whichever it is, returns PCIGUEST_BUSY (909) and
- * changes nothing; pciguest_free then frees nothing. */
+/* Holds a machine: a board that has been set up, and its guests. Initialize the struct with
+ * `struct pciguest machine = PCIGUEST_INIT;` or set all its bytes to 0; the struct is then empty.
+ * Only the library may read or write the struct's fields. You may move the struct to another
+ * location if you never use the old location again. Never use two copies of the struct. Any thread
+ * may make a call, but only one call can run on a struct at a time. A call that is made while
+ * another one is running on the struct returns PCIGUEST_BUSY (909) and changes nothing;
+ * pciguest_free, which returns no number, frees nothing then. */
 struct pciguest {
     bool live;
     void *at;
@@ -53,10 +54,10 @@ struct pciguest {
 #define PCIGUEST_INIT {false, NULL}
 
 /* Holds a board that your firmware drives from reset. Once a line has handed the board over to its
- * guests, the struct holds the resulting machine. Initialize it with
- * `struct pciguest_board board = PCIGUEST_BOARD_INIT;` or set all its bytes to 0; it is then empty.
- * The rules for struct pciguest apply: only the library uses the fields, only one copy is ever
- * used, and only one call can run on the struct at a time. */
+ * guests, the struct holds the resulting machine. Initialize the struct with
+ * `struct pciguest_board board = PCIGUEST_BOARD_INIT;` or set all its bytes to 0; the struct is
+ * then empty. The rules for the fields, copies and calls of struct pciguest apply to this struct
+ * too. */
 struct pciguest_board {
     bool live;
     void *at;
@@ -64,13 +65,13 @@ struct pciguest_board {
 
 #define PCIGUEST_BOARD_INIT {false, NULL}
 
-/* The address space of an access. It determines what the `place` of the access means: a byte offset
- * in the configuration space of the function in a slot, an I/O port, or a memory address. */
+/* The address space of an access, which determines what the `place` of the access means: a byte
+ * offset in the configuration space of the function in a slot, an I/O port, or a memory address. */
 enum pciguest_space { PCIGUEST_CONFIG = 0, PCIGUEST_IO = 1, PCIGUEST_MEMORY = 2 };
 
-/* The part of a function that a raise or a device's own access addresses: configuration space, or a
- * region, identified by its base address register, 0 to 5. PCIGUEST_RAISE_CONFIG is the name that
- * PCIGUEST_PART_CONFIG had before 0.4.0. */
+/* The part of a function that a raise or a device's own access refers to: configuration space, or a
+ * region. A region is identified by its base address register, 0 to 5. PCIGUEST_RAISE_CONFIG is the
+ * name that PCIGUEST_PART_CONFIG had before 0.4.0. */
 enum pciguest_part { PCIGUEST_PART_CONFIG = 6, PCIGUEST_RAISE_CONFIG = 6 };
 
 /* Describes where a region of a guest's function is now, according to the guest's own registers.
@@ -84,8 +85,9 @@ struct pciguest_region {
     uint32_t is_open;      /* 1 if the guest's Command enables the space, otherwise 0 */
 };
 
-/* Describes where a region of a guest is now, and where it was when this row was last updated.
- * `now` and `before` are each all 0 if there was no region at that time. */
+/* Describes where a region of a guest is now, and where it was when this row was last updated. All
+ * fields of `now` are 0 if there is no region now, and all fields of `before` are 0 if there was
+ * none then. */
 struct pciguest_place {
     struct pciguest_region now;
     struct pciguest_region before;
@@ -96,9 +98,9 @@ struct pciguest_place {
 /* The largest number of regions that a guest can have: six for each of its slots. */
 enum { PCIGUEST_PLACES = 192 };
 
-/* Describes the byte that an access reaches. `part` is a base address register, 0 to 5, for the
- * region that begins there, or PCIGUEST_PART_CONFIG for configuration space. All fields are 0 if
- * the access reaches nothing. */
+/* Describes the byte that an access reaches. If the byte is in a region, `part` is the region's
+ * first base address register, 0 to 5. If the byte is in configuration space, `part` is
+ * PCIGUEST_PART_CONFIG. All fields are 0 if the access reaches nothing. */
 struct pciguest_hit {
     uint64_t slot;
     uint64_t offset; /* in the region, or in configuration space */
@@ -106,15 +108,15 @@ struct pciguest_hit {
     uint32_t found; /* 1 if the access reaches anything, otherwise 0 */
 };
 
-/* Array sizes. PCIGUEST_PATH: bytes for the text of a path, which uses at most 79 of them.
- * PCIGUEST_BARS: base address registers of a function. PCIGUEST_WINDOWS: windows of a bridge.
- * PCIGUEST_ROOM: reserved fields, which are 0 until a later version uses them, so that structs keep
- * their sizes. */
+/* Array sizes. PCIGUEST_PATH: the bytes for the text of a path, which uses at most 79 of them.
+ * PCIGUEST_BARS: the base address registers of a function. PCIGUEST_WINDOWS: the windows of a
+ * bridge. PCIGUEST_ROOM: the reserved fields of a struct, which are 0. A later version can use
+ * reserved fields without changing the size of the struct. */
 enum { PCIGUEST_PATH = 80, PCIGUEST_BARS = 6, PCIGUEST_WINDOWS = 3, PCIGUEST_ROOM = 4 };
 
-/* Describes the region that begins at a base address register, at the address that the register on
- * the board holds. The region occupies `size` addresses of its space, starting at `first`. All
- * fields are 0 if no region begins at the register. */
+/* Describes the region that begins at a base address register. The region's address is the one in
+ * the board's register, not in a guest's copy. The region occupies `size` addresses of its space,
+ * starting at `first`. All fields are 0 if no region begins at the register. */
 struct pciguest_bar {
     uint64_t first;
     uint64_t size;
@@ -134,10 +136,10 @@ struct pciguest_window {
 
 /* Describes the interrupt pin of a function, from 1 for INTA# to 4 for INTD#, and the device and
  * pin on the board's bus 0 to which it is routed. (On the guest's own bus, the pin isn't routed.)
- * On each bus except bus 0, the pin advances by the device number, and 1 follows 4. PCI-to-PCI
- * Bridge Architecture 1.2, chapter 9.1, defines this rule for add-in cards; here it applies to
- * every bridge. `pin`, `root_device` and `root_pin` are 0 if the function has no pin. Interrupts
- * are not delivered. */
+ * On each bus except bus 0, the pin number advances by the device number, and 4 is followed by 1.
+ * PCI-to-PCI Bridge Architecture 1.2, chapter 9.1, defines this rule for add-in cards; in pciguest,
+ * the rule applies to every bridge. `pin`, `root_device` and `root_pin` are 0 if the function has
+ * no pin. pciguest doesn't deliver interrupts. */
 struct pciguest_interrupt {
     uint32_t pin;         /* the value of Interrupt Pin */
     uint32_t root_device; /* the device on the board's bus 0 */
@@ -182,26 +184,28 @@ struct pciguest_board_function {
 
 /* Gives the upper limits that hold for every board and machine. */
 struct pciguest_limits {
-    uint64_t guest_image; /* in bytes: no guest's image is larger */
-    uint32_t functions;   /* on a board, endpoints and bridges */
-    uint32_t guests;      /* of a machine */
-    uint32_t slots;       /* of a guest */
+    uint64_t guest_image; /* size of the largest possible image of a guest, in bytes */
+    uint32_t functions;   /* endpoints and bridges of a board */
+    uint32_t guests;      /* guests of a machine */
+    uint32_t slots;       /* slots of a guest */
     uint32_t bars;        /* base address registers of an endpoint */
     uint32_t block;       /* register bytes of a region */
     uint32_t own_cells;   /* bytes of a function's own configuration registers, 40h to FFh */
     uint64_t reserved[PCIGUEST_ROOM]; /* 0 */
 };
 
-/* Buffer sizes in bytes. PCIGUEST_REPLY: what pciguest_run_line and pciguest_board_run_line require
- * for a reply. PCIGUEST_GUEST_NAME: enough for every name of pciguest_guest_name. */
+/* Buffer sizes in bytes. PCIGUEST_REPLY: the size that pciguest_run_line and
+ * pciguest_board_run_line require for a reply. PCIGUEST_GUEST_NAME: a size that is enough for every
+ * name that pciguest_guest_name writes. */
 enum { PCIGUEST_REPLY = 48, PCIGUEST_GUEST_NAME = 16 };
 
 /* The error numbers that calls return, each with its message; docs/errors.md explains them. 101 to
  * 112: the board file is refused. 199, 299: out of memory. 201 to 205: the board can't be set up.
  * 206, 207: functions can't be assigned to guests. 301 to 303: an access or a path is refused. 601:
- * a slot that must be filled is empty. 602: a slot that must be empty is filled. 901 to 904: the
- * struct or an argument isn't valid for the call. 905 to 908: bytes can't be loaded as the image of
- * a guest or of a machine. 909: another call is running on the struct. */
+ * a slot that must contain a function is empty. 602: a slot that must be empty contains a function,
+ * or a guest already has the function. 901 to 904: the struct or an argument isn't valid for the
+ * call. 905 to 908: bytes can't be loaded as the image of a guest or of a machine. 909: another
+ * call is running on the struct. */
 enum pciguest_status {
     PCIGUEST_OK = 0,
     PCIGUEST_NOT_TOML = 101,          /* board file is not valid TOML */
@@ -261,17 +265,17 @@ enum pciguest_told {
 uint32_t pciguest_version(void);
 
 /* Returns a null-terminated message that says what an error number means. The number can be one
- * that a call returns, or one that appears in a reply or in the program's output, where a shorter
- * text follows it. The message is valid as long as the library is loaded. It is empty for a number
- * without a meaning, such as 0. Since 0.4.0. */
+ * that a call returns, or one that appears, with a shorter text, in a reply or in the program's
+ * output. The message is valid as long as the library is loaded. For a number without a meaning,
+ * such as 0, the message is empty. Since 0.4.0. */
 const char *pciguest_strerror(uint32_t number);
 
 /* Stores the upper limits that hold for every board and machine. Needs no machine. Since 0.4.0. */
 uint32_t pciguest_limits(struct pciguest_limits *limits);
 
 /* Creates a machine from the bytes of a board file: sets up the board and assigns its functions to
- * the guests that the file declares. The machine then holds what the file declares; no access has
- * been made yet.
+ * the guests that the file declares. The machine then contains what the file declares; no access
+ * has been made yet.
  * Returns 0 on success; 101 to 112 or 201 to 205 for the first check that the file or its board
  * fails; 199 or 299 if memory runs out; 903 if the struct already holds a machine. */
 uint32_t pciguest_new(struct pciguest *machine, const void *board, size_t length);
@@ -288,26 +292,26 @@ uint32_t pciguest_guest(struct pciguest *machine, const char *name, size_t lengt
 /* Stores the number of guests that the machine has. Since 0.4.0. */
 uint32_t pciguest_guest_count(struct pciguest *machine, size_t *count);
 
-/* Writes the name of a guest, and stores the length of the name in `needed`. The guest is given by
- * its index, which must be less than the count that pciguest_guest_count stores. The name isn't
- * terminated by a 0. A buffer of PCIGUEST_GUEST_NAME bytes is always large enough.
- * Returns 0 on success; 902 if the buffer is too small (nothing is written, only the length is
- * stored), or if there is no such guest (nothing is stored). Since 0.4.0. */
+/* Writes the name of a guest, and stores the length of the name in `needed`. The index of the guest
+ * must be less than the count that pciguest_guest_count stores. The name isn't terminated by a 0. A
+ * buffer of PCIGUEST_GUEST_NAME bytes is always large enough.
+ * Returns 0 on success; 902 if the buffer is too small (only the length is stored), or if there is
+ * no such guest (nothing is stored). Since 0.4.0. */
 uint32_t pciguest_guest_name(struct pciguest *machine, size_t guest, char *text, size_t room,
                              size_t *needed);
 
-/* Reads 1, 2 or 4 bytes as a guest, at a slot and offset, a port, or an address, as the guest sees
- * them. The value comes from the guest's own functions, each of which has its own register file; it
- * is all ones if none of them responds. A read changes nothing. The slot matters only in
- * configuration space.
+/* Reads 1, 2 or 4 bytes as a guest. The location is a slot and offset, a port, or an address, as
+ * the guest sees it. The value comes from the guest's own functions, each of which has its own
+ * register file. If none of them responds, the value is all ones. A read changes nothing. `slot` is
+ * used only in configuration space.
  * Returns 0 on success; 302 if the width isn't 1, 2 or 4; 301 if `place` isn't a multiple of the
  * width; 303 if the slot, offset or port is out of range; 902 if there is no such guest or
  * space. */
 uint32_t pciguest_read(struct pciguest *machine, size_t guest, uint32_t space, uint64_t slot,
                        uint64_t place, uint32_t width, uint32_t *value);
 
-/* Writes the low `width` bytes of a value as a guest, at a slot and offset, a port, or an address,
- * as the guest sees them. No other guest can observe the write. The slot matters only in
+/* Writes the low `width` bytes of a value as a guest. The location is a slot and offset, a port, or
+ * an address, as the guest sees it. No other guest can observe the write. `slot` is used only in
  * configuration space.
  * Returns 0 on success; 302 if the width isn't 1, 2 or 4; 301 if `place` isn't a multiple of the
  * width; 303 if the slot, offset or port is out of range; 902 if there is no such guest or
@@ -315,15 +319,15 @@ uint32_t pciguest_read(struct pciguest *machine, size_t guest, uint32_t space, u
 uint32_t pciguest_write(struct pciguest *machine, size_t guest, uint32_t space, uint64_t slot,
                         uint64_t place, uint32_t width, uint32_t value);
 
-/* Returns the size in bytes, 4, 2 or 1, of the next piece of an access that is split into lawful
- * accesses. The remaining part of the access is `left` bytes long and begins at `place`. The size
- * is the largest that is at most `left` and that divides `place`. Since 0.3.0. */
+/* Returns the size of the next piece of an access that is split into lawful accesses. The remaining
+ * part of the access is `left` bytes long and begins at `place`. The size is 4, 2 or 1 bytes: the
+ * largest of these that is at most `left` and that divides `place`. Since 0.3.0. */
 static inline uint32_t pciguest_piece(uint64_t place, uint32_t left)
 {
     return place % 4 == 0 && left >= 4 ? 4 : place % 2 == 0 && left >= 2 ? 2 : 1;
 }
 
-/* Returns whether an access of 1 to 8 bytes ends at or before the end of its space. Since 0.3.0. */
+/* Returns whether an access of 1 to 8 bytes ends within its space. Since 0.3.0. */
 static inline bool pciguest_ends_within(uint32_t space, uint64_t place, uint32_t width)
 {
     uint64_t last = space == PCIGUEST_CONFIG ? 0xff
@@ -333,44 +337,47 @@ static inline bool pciguest_ends_within(uint32_t space, uint64_t place, uint32_t
     return place <= last && width - 1 <= last - place;
 }
 
-/* Reads 1 to 8 bytes as a guest, at any alignment, at a slot and offset, a port, or an address, as
- * the guest sees them. A processor can make such an access in one step, but it may need several bus
- * cycles. So the call splits the access as a bridge would: into the pieces that pciguest_piece
- * returns, in ascending order of addresses. The byte at the lowest address is the lowest byte of
- * the value.
- * Returns 0 on success; 302 if the width isn't 1 to 8; 303 if the access extends past the end of its
- * space, or if the slot is out of range; 902 if there is no such guest or space. The width and the
- * end of the access are checked first, even before 901 and 902. Since 0.3.0. */
+/* Reads 1 to 8 bytes as a guest, at any alignment. The location is a slot and offset, a port, or an
+ * address, as the guest sees it. A processor can make such an access in one step, but the bus may
+ * need several cycles for it. Therefore, the call splits the access as a bridge would: into the
+ * pieces that pciguest_piece returns, in ascending order of addresses. The byte at the lowest
+ * address is the lowest byte of the value.
+ * Returns 0 on success; 302 if the width isn't 1 to 8; 303 if the access extends past the end of
+ * its space, or if the slot is out of range; 902 if there is no such guest or space. The call
+ * checks the width and the end of the access first, even before it checks for 901 and 902. Since
+ * 0.3.0. */
 uint32_t pciguest_read_wide(struct pciguest *machine, size_t guest, uint32_t space, uint64_t slot,
                             uint64_t place, uint32_t width, uint64_t *value);
 
-/* Writes the low `width` bytes, 1 to 8, of a value as a guest, at any alignment, at a slot and
- * offset, a port, or an address, as the guest sees them. A processor can make such an access in one
- * step, but it may need several bus cycles. So the call splits the access as a bridge would: into
- * the pieces that pciguest_piece returns, in ascending order of addresses. The byte at the lowest
- * address is the lowest byte of the value.
- * Returns 0 on success; 302 if the width isn't 1 to 8; 303 if the access extends past the end of its
- * space, or if the slot is out of range; 902 if there is no such guest or space. The width and the
- * end of the access are checked first, even before 901 and 902. Since 0.3.0. */
+/* Writes the low `width` bytes (1 to 8) of a value as a guest, at any alignment. The location is a
+ * slot and offset, a port, or an address, as the guest sees it. A processor can make such an access
+ * in one step, but the bus may need several cycles for it. Therefore, the call splits the access as
+ * a bridge would: into the pieces that pciguest_piece returns, in ascending order of addresses. The
+ * byte at the lowest address is the lowest byte of the value.
+ * Returns 0 on success; 302 if the width isn't 1 to 8; 303 if the access extends past the end of
+ * its space, or if the slot is out of range; 902 if there is no such guest or space. The call
+ * checks the width and the end of the access first, even before it checks for 901 and 902. Since
+ * 0.3.0. */
 uint32_t pciguest_write_wide(struct pciguest *machine, size_t guest, uint32_t space, uint64_t slot,
                              uint64_t place, uint32_t width, uint64_t value);
 
 /* Reads 1 to 8 bytes, as a guest, from a region of one of its functions. The bytes are identified
- * by slot, base address register and offset, not by address. This suits a hypervisor that maps each
- * region itself. While the guest's Command closes the region, the value is all ones. If two regions
- * of the guest are at the same address, this call can read either. The byte at the lowest offset is
- * the lowest byte of the value.
+ * by slot, base address register and offset, not by address. This call suits a hypervisor that maps
+ * each region itself. While the guest's Command disables the region, the value is all ones. Even if
+ * two regions of the guest are at the same address, this call can read either of them. The byte at
+ * the lowest offset is the lowest byte of the value.
  * Returns 0 on success; 302 if the width isn't 1 to 8; 303 if the slot is above 31, no region
  * begins at this register (none does at part 6), or a byte is past the end of the region; 601 if
  * the slot is empty; 902 if there is no such guest, or the part is above 6. Since 0.4.0. */
 uint32_t pciguest_region_read(struct pciguest *machine, size_t guest, uint64_t slot, uint32_t part,
                               uint64_t offset, uint32_t width, uint64_t *value);
 
-/* Writes the low `width` bytes, 1 to 8, of a value to a region of a guest's function, which is
- * identified by slot, base address register and offset, not by address. This suits a hypervisor
- * that maps each region itself. While the guest's Command closes the region, the write is dropped.
- * If two regions of the guest are at the same address, this call can write to either. The byte at
- * the lowest offset is the lowest byte of the value. If one byte is refused, no byte is written.
+/* Writes the low `width` bytes (1 to 8) of a value, as a guest, to a region of one of its
+ * functions. The bytes are identified by slot, base address register and offset, not by address.
+ * This call suits a hypervisor that maps each region itself. While the guest's Command disables the
+ * region, the write is dropped. Even if two regions of the guest are at the same address, this call
+ * can write to either of them. The byte at the lowest offset is the lowest byte of the value. If
+ * any byte is refused, none is written.
  * Returns 0 on success; 302 if the width isn't 1 to 8; 303 if the slot is above 31, no region
  * begins at this register (none does at part 6), or a byte is past the end of the region; 601 if
  * the slot is empty; 902 if there is no such guest, or the part is above 6. Since 0.4.0. */
@@ -383,8 +390,8 @@ uint32_t pciguest_region_write(struct pciguest *machine, size_t guest, uint64_t 
 uint32_t pciguest_raise(struct pciguest *machine, size_t guest, uint64_t slot, uint32_t part,
                         uint64_t offset, uint8_t mask);
 
-/* Reads the board as the host does: at a physical bus, device, function and offset, at a port, or
- * at an address. A read changes nothing.
+/* Reads from the board as the host does. The location is a bus, device, function and offset, a
+ * port, or an address, as on the board and not as a guest sees it. A read changes nothing.
  * Returns 0 on success; 302 if the width isn't 1, 2 or 4; 301 if `place` isn't a multiple of the
  * width; 303 if the offset or port is out of range; 902 if there is no such space, the device is
  * above 31, or the function is above 7. */
@@ -392,80 +399,81 @@ uint32_t pciguest_host_read(struct pciguest *machine, uint32_t space, uint8_t bu
                             uint8_t function, uint64_t place, uint32_t width, uint32_t *value);
 
 /* Moves the function in a slot of one guest to a slot of another guest, or to another slot of the
- * same guest. The function is then at reset: no state is carried over.
+ * same guest. A move resets the function, so no state is carried over.
  * Returns 0 on success; 303 if a slot is above 31; 601 if the source slot is empty; 602 if the
- * target slot is taken; 902 if there is no such guest. */
+ * target slot is occupied; 902 if there is no such guest. */
 uint32_t pciguest_move(struct pciguest *machine, size_t from, uint64_t slot, size_t to,
                        uint64_t target);
 
-/* Resets the function in a guest's slot and leaves it in the slot. No state is carried over, as in
- * a move. No script line does this; two moves, to an empty slot and back, have the same effect.
+/* Resets the function in a guest's slot and leaves it in that slot. As with a move, no state is
+ * carried over. No script line resets a function in place, but two moves, to an empty slot and
+ * back, have the same effect.
  * Returns 0 on success; 303 if the slot is above 31; 601 if the slot is empty; 902 if there is no
  * such guest. Since 0.3.0. */
 uint32_t pciguest_reset(struct pciguest *machine, size_t guest, uint64_t slot);
 
-/* Resets every function of a guest, each in its slot, and the guest's own CONFIG_ADDRESS. No state
- * is carried over. The count that pciguest_changed stores increases by one. Allocates no memory. No
- * script line does this.
+/* Resets every function of a guest, without moving any of them, and the guest's own CONFIG_ADDRESS.
+ * No state is carried over. The count that pciguest_changed stores increases by one. Allocates no
+ * memory. Script lines can't do this.
  * Returns 0 on success; 902 if there is no such guest. Since 0.4.0. */
 uint32_t pciguest_reset_guest(struct pciguest *machine, size_t guest);
 
 /* Saves a guest: writes its image, and stores the length of the image in `needed`. The image
  * contains the guest's complete state: its CONFIG_ADDRESS and, for each of its 32 slots, the
- * declaration of the function and the contents of its registers, as the guest sees them. It
+ * declaration of the function and the contents of its registers, as the guest sees them. The image
  * contains nothing about the board, about other guests, or about where the guest's functions are.
  * docs/image-format.md describes the bytes. The rest of the buffer stays unchanged. To get only the
- * length, pass a null pointer and 0; the call then returns 902. The length stays the same as long
- * as the guest has the same functions in the same slots: the guest's accesses, its devices, resets
- * and loads don't change it. Allocates no memory, and doesn't change the machine.
- * Returns 0 on success; 902 if the buffer is too small (nothing is written, only the length is
- * stored), or if there is no such guest (nothing is stored). Since 0.4.0. */
+ * length, pass a null pointer for `image` and 0 for `room`; the call then returns 902. The length
+ * stays the same as long as the guest has the same functions in the same slots; accesses, devices,
+ * resets and loads don't change the length. Allocates no memory, and doesn't change the machine.
+ * Returns 0 on success; 902 if the buffer is too small (only the length is stored), or if there is
+ * no such guest (nothing is stored). Since 0.4.0. */
 uint32_t pciguest_save(struct pciguest *machine, size_t guest, void *image, size_t room,
                        size_t *needed);
 
-/* Loads an image into a guest, which then has the state of the saved guest. In each slot, the
- * guest's function must have the same declaration as the function in the image, and a slot that is
- * empty in the image must be empty in the guest. The functions may be in other places, even on
- * another board. Other guests can't observe the load. The count that pciguest_changed stores
- * increases by one. Allocates no memory. No script line does this.
- * Returns 0 on success; 906 if the image and the guest don't have the same slots filled, or a
- * function is declared differently; 908 if the image has an unsupported format version; 905 if the
- * bytes are not an image, for example because a register can't hold its value; 902 if there is no
- * such guest. The first byte that fails decides between 905, 906 and 908. Since 0.4.0. */
+/* Loads an image into a guest, which then has the state of the saved guest. The guest must have
+ * functions in exactly the same slots as the image, with the same declarations. The functions may
+ * be in other places, even on another board. Other guests can't observe the load. The count that
+ * pciguest_changed stores increases by one. Allocates no memory. Script lines can't do this.
+ * Returns 0 on success; 906 if the image and the guest don't have functions in the same slots, or
+ * if a function is declared differently; 908 if the image has an unsupported format version; 905 if
+ * the bytes are not an image, for example because a register can't hold its value; 902 if there is
+ * no such guest. The first wrong byte of the image decides between 905, 906 and 908. Since
+ * 0.4.0. */
 uint32_t pciguest_load(struct pciguest *machine, size_t guest, const void *image, size_t length);
 
-/* Reports where an image that pciguest_load refuses with 906 or 908 stops fitting the guest: stores
- * in `offset` the offset of the first byte that fails, and in `slot` the slot, 0 to 31, whose part
- * of the image this byte is in, or 32 if it is in front of the slots. For any other image, including
- * one that fits, stores 32 and the length of the image. docs/image-format.md says which field is at
- * an offset. The answer depends only on the image and on the guest's own functions. Allocates no
- * memory and changes nothing.
+/* Finds the first wrong byte of an image that pciguest_load refuses with 906 or 908. Stores the
+ * offset of the byte in `offset`. Stores in `slot` the slot, 0 to 31, whose part of the image
+ * contains the byte, or 32 if the byte is in front of the slots. For any other image, including one
+ * that fits, stores 32 in `slot` and the length of the image in `offset`. docs/image-format.md
+ * describes the field at each offset. The result depends only on the image and on the guest's own
+ * functions. Allocates no memory and changes nothing.
  * Returns 0 on success; 902 if there is no such guest. Since 0.4.0. */
 uint32_t pciguest_image_fault(struct pciguest *machine, size_t guest, const void *image,
                               size_t length, uint64_t *slot, size_t *offset);
 
-/* Stores the size in bytes of the image that pciguest_save_all would write for the whole machine
- * now. The size stays the same as long as the guests have the same functions in the same slots.
+/* Stores the size in bytes of the image that pciguest_save_all would now write for the whole
+ * machine. The size stays the same as long as the guests have the same functions in the same slots.
  * Allocates no memory and changes nothing. Since 0.4.0. */
 uint32_t pciguest_image_size_all(struct pciguest *machine, size_t *size);
 
 /* Saves the whole machine: writes its image, and stores the length of the image in `needed`. The
  * image says which guest has which function of the board in which slot, and contains each guest's
- * state. It also identifies the board, the way it is set up, and its guests. docs/image-format.md
- * describes the bytes. The rest of the buffer stays unchanged. Allocates no memory, and doesn't
- * change the machine.
- * Returns 0 on success; 902 if the buffer is too small (nothing is written, only the length is
- * stored). Since 0.4.0. */
+ * state. The image also identifies the board, how the board is set up, and its guests.
+ * docs/image-format.md describes the bytes. The rest of the buffer stays unchanged. Allocates no
+ * memory, and doesn't change the machine.
+ * Returns 0 on success; 902 if the buffer is too small (only the length is stored). Since 0.4.0. */
 uint32_t pciguest_save_all(struct pciguest *machine, void *image, size_t room, size_t *needed);
 
-/* Loads an image into the whole machine. Each slot then has the function that it had in the saved
- * machine, and each guest has the state that it had there. The board must have the same functions
- * at the same places, set up in the same way, and the guests must have the same names in the same
- * order. It doesn't matter where the guests' functions are now, or what state the guests are in.
- * The call takes every function from its guest, as pciguest_take does, and then assigns and loads,
- * as pciguest_give and pciguest_load do; before that, it tries this on a second machine, which it
- * frees at the end. So an image that is refused changes nothing. Each guest's count, which
- * pciguest_changed stores, increases. No script line does this.
+/* Loads an image into the whole machine. Each slot then contains the function, and each guest has
+ * the state, that it had in the saved machine. The machine's board must have the same functions at
+ * the same places as the saved board and be set up in the same way, and the guests must have the
+ * same names in the same order. It doesn't matter which slots the guests' functions are in before
+ * the call, or what state the guests are in. The call first tries the load on a second machine,
+ * which it frees at the end, so an image that is refused changes nothing. It then takes every
+ * function from its guest, as pciguest_take does, and assigns and loads functions, as pciguest_give
+ * and pciguest_load do. The count that pciguest_changed stores increases for every guest. Script
+ * lines can't do this.
  * Returns 0 on success; 907 if the board, its guests or its set-up differ; 906 if a slot would get
  * something that can't be assigned to it, or a function is declared differently; 908 if the image,
  * or a guest's image in it, has an unsupported format version; 905 if the bytes are not the image
@@ -473,19 +481,20 @@ uint32_t pciguest_save_all(struct pciguest *machine, void *image, size_t room, s
  * Since 0.4.0. */
 uint32_t pciguest_load_all(struct pciguest *machine, const void *image, size_t length);
 
-/* Assigns a function of the board that no guest has to an empty slot of a guest. The function is
- * then at reset, both in the slot and on the board, with one exception: the registers that guests
- * have their own copies of keep their values on the board. The path is a text, as in board
- * files and in struct pciguest_function. No script line does this.
+/* Assigns a function of the board to an empty slot of a guest. No guest may have the function
+ * already. The function is reset, both in the slot and on the board, with one exception: the
+ * registers that guests have their own copies of keep their values on the board. The function is
+ * named by its path, a text as in board files and in struct pciguest_function. Script lines can't
+ * do this.
  * Returns 0 on success; 303 if the slot is above 31, or there is no endpoint at the path; 602 if a
- * guest already has the function, or the slot is taken; 206 if one of the function's regions is
- * closed; 902 if there is no such guest. Since 0.4.0. */
+ * guest already has the function, or if the slot is occupied; 206 if one of the function's regions
+ * is disabled on the board; 902 if there is no such guest. Since 0.4.0. */
 uint32_t pciguest_give(struct pciguest *machine, const char *path, size_t length, size_t guest,
                        uint64_t slot);
 
 /* Takes the function in a guest's slot away from the guest. The slot is then empty, and no guest
- * has the function. The function is at reset on the board, with one exception: the registers that
- * guests have their own copies of keep their values there. No script line does this.
+ * has the function. The function is reset on the board, with one exception: the registers that
+ * guests have their own copies of keep their values there. Script lines can't do this.
  * Returns 0 on success; 303 if the slot is above 31; 601 if the slot is empty; 902 if there is no
  * such guest. Since 0.4.0. */
 uint32_t pciguest_take(struct pciguest *machine, size_t guest, uint64_t slot);
@@ -494,29 +503,30 @@ uint32_t pciguest_take(struct pciguest *machine, size_t guest, uint64_t slot);
  * within one part. The part is a region or configuration space; in configuration space, a device
  * can read only the two bytes of Status (06h, 07h) and its own registers (40h to FFh). A byte
  * without a register reads as 0. The byte at the lowest offset is the lowest byte of the value. If
- * one byte is refused, the whole read is refused. Changes nothing.
- * Returns 0 on success; 302 if the width isn't 1 to 8; 303 if the slot is above 31, or a byte is
- * past the end of the part or is not one that the device has; 601 if the slot is empty; 902 if
+ * any byte is refused, the whole read is refused. A read changes nothing.
+ * Returns 0 on success; 302 if the width isn't 1 to 8; 303 if the slot is above 31, or if a byte is
+ * past the end of the part or isn't one that a device can access; 601 if the slot is empty; 902 if
  * there is no such guest, or the part is above 6. Since 0.4.0. */
 uint32_t pciguest_device_read_wide(struct pciguest *machine, size_t guest, uint64_t slot,
                                    uint32_t part, uint64_t offset, uint32_t width, uint64_t *value);
 
-/* Writes the low `width` bytes, 1 to 8, of a value to the function in a guest's slot, from the
+/* Writes the low `width` bytes (1 to 8) of a value to the function in a guest's slot, from the
  * device's side, at any offset within one part. The part is a region or configuration space; in
  * configuration space, a device can write only the two bytes of Status (06h, 07h) and its own
- * registers (40h to FFh). The bytes take the value no matter which bits the guest can change. The
- * byte at the lowest offset is the lowest byte of the value. If one byte is refused, no byte is
- * written.
- * Returns 0 on success; 302 if the width isn't 1 to 8; 303 if the slot is above 31, or a byte is
- * past the end of the part or is not one that the device has; 601 if the slot is empty; 902 if
+ * registers (40h to FFh). The device can change all bits of these bytes, even bits that the guest
+ * can't change. The byte at the lowest offset is the lowest byte of the value. If any byte is
+ * refused, none is written.
+ * Returns 0 on success; 302 if the width isn't 1 to 8; 303 if the slot is above 31, or if a byte is
+ * past the end of the part or isn't one that a device can access; 601 if the slot is empty; 902 if
  * there is no such guest, or the part is above 6. Since 0.4.0. */
 uint32_t pciguest_device_write_wide(struct pciguest *machine, size_t guest, uint64_t slot,
                                     uint32_t part, uint64_t offset, uint32_t width, uint64_t value);
 
-/* Stores where the region that begins at a base address register, 0 to 5, is now, as the guest sees
- * it. The result stays valid until the guest writes Command or a base address register of this
- * function, or until the function is moved, reset, loaded or taken. As long as pciguest_changed
- * stores the same count, no result for this guest changes. Allocates no memory and changes nothing.
+/* Stores where a region of the function in a guest's slot is now, as the guest sees it. The region
+ * is the one that begins at base address register `bar`, 0 to 5. The result stays valid until the
+ * guest writes Command or a base address register of this function, or until the function is moved,
+ * reset, loaded or taken. As long as pciguest_changed stores the same count for the guest, no
+ * result of pciguest_region for the guest changes. Allocates no memory and changes nothing.
  * Returns 0 on success; 303 if the slot is above 31, or no region begins at this register; 601 if
  * the slot is empty; 902 if there is no such guest. Since 0.3.0. */
 uint32_t pciguest_region(struct pciguest *machine, size_t guest, uint64_t slot, uint32_t bar,
@@ -524,47 +534,50 @@ uint32_t pciguest_region(struct pciguest *machine, size_t guest, uint64_t slot, 
 
 /* Stores a count that shows whether a region of the guest may have moved. As long as the count
  * stays the same, so does every result of pciguest_region for this guest, for all slots and
- * registers. The count increases by one with each access of the guest, move, reset, pciguest_give
- * or pciguest_take that touches a slot of the guest in a way that may change one of these results;
- * by one with each pciguest_reset_guest and pciguest_load of the guest; and by one or more with
- * each pciguest_load_all. Nothing else increases it. It is 0 in a new machine, and returns to 0
- * after `2^64 - 1`. Allocates no memory and changes nothing.
+ * registers. The count increases by one with each guest access, move, reset, pciguest_give or
+ * pciguest_take that touches one of the guest's slots in a way that may change one of these
+ * results. It also increases by one with each pciguest_reset_guest or pciguest_load of the guest,
+ * and by one or more with each pciguest_load_all. Nothing else increases the count. In a new
+ * machine, the count is 0; after `2^64 - 1`, it returns to 0. Allocates no memory and changes
+ * nothing.
  * Returns 0 on success; 902 if there is no such guest. Since 0.4.0. */
 uint32_t pciguest_changed(struct pciguest *machine, size_t guest, uint64_t *count);
 
 /* Updates rows that say where a guest's regions are, and stores in `count` how many of these rows
- * changed: regions that moved, or that were opened or closed. The caller keeps the rows from call
- * to call and sets all their bytes to 0 before the first one. The row for slot S and base address
- * register B is `places[6 * S + B]`, and PCIGUEST_PLACES rows cover all slots; `room` is the number
- * of rows that the caller has. In each of these rows, `now` says where the region is, `before`
- * where it was when the row was last updated, and `has_moved` whether the two differ. A region that
- * is back where it was, as at the end of sizing, has not moved. So a hypervisor first goes through
- * all rows that moved and unmaps each `before` whose `is_open` is 1, and only then maps each `now`
- * whose `is_open` is 1: two regions may have swapped addresses. It calls pciguest_moved again when
- * pciguest_changed stores a different count. Allocates no memory.
+ * changed: those of regions that moved, or that were enabled or disabled. The caller keeps the rows
+ * from call to call and sets all their bytes to 0 before the first call. The row for slot S and
+ * base address register B is `places[6 * S + B]`. `room` is the number of rows that the caller has;
+ * PCIGUEST_PLACES rows cover all slots. In each of these rows, `now` says where the region is,
+ * `before` says where it was when the row was last updated, and `has_moved` says whether the two
+ * differ. A region that is back where it was, as at the end of sizing, has not moved. Because two
+ * regions may have swapped addresses, a hypervisor goes twice through the rows whose `has_moved` is
+ * 1: it first unmaps each `before` whose `is_open` is 1, and then maps each `now` whose `is_open`
+ * is 1. The hypervisor calls pciguest_moved again when pciguest_changed stores a different count.
+ * Allocates no memory.
  * Returns 0 on success; 902 if there is no such guest. Since 0.4.0. */
 uint32_t pciguest_moved(struct pciguest *machine, size_t guest, struct pciguest_place *places,
                         size_t room, size_t *count);
 
 /* Finds the byte that a guest access to a slot and offset, to a port, or to an address reaches: a
- * byte of a function in one of the guest's slots, or nothing. Every access there begins at this
- * byte, except a 4-byte access to port CF8h, which reaches the guest's own CONFIG_ADDRESS.
+ * byte of a function in one of the guest's slots, or nothing. Every access to that location begins
+ * at this byte, except a 4-byte access to port CF8h, which reaches the guest's own CONFIG_ADDRESS.
  * Allocates no memory and changes nothing.
  * Returns 0 on success; 303 if the slot, offset or port is out of range; 902 if there is no such
  * guest or space. Since 0.3.0. */
 uint32_t pciguest_locate(struct pciguest *machine, size_t guest, uint32_t space, uint64_t slot,
                          uint64_t place, struct pciguest_hit *hit);
 
-/* Explains why a guest's access to a slot and offset, a port, or an address ends up where it does,
- * or nowhere: writes one line for each fact, and stores the length of the text in `needed`. The
- * text isn't terminated by a 0. For port CF8h, and for CFCh to CFFh, a line says how the guest's
- * CONFIG_ADDRESS decides what the port accesses (PCI Local Bus 3.0, 3.2.2.3.2). The next line names
- * what answers: the slot, the region or configuration space, and the offset there. Otherwise, the
- * line says that nothing answers, that the slot is empty, or that CONFIG_ADDRESS selects no slot.
- * If nothing answers at a port or an address, one more line follows for each region of the guest's
- * functions that contains it but whose space Command doesn't enable (6.2.5), ordered by slot and
- * then by register. The text depends only on the guest's own functions and CONFIG_ADDRESS: two
- * guests in which these are equal get the same text. Changes nothing.
+/* Explains why a guest's access to a slot and offset, a port, or an address reaches what it does,
+ * or why it reaches nothing. Writes one line for each fact, and stores the length of the text in
+ * `needed`. The text isn't terminated by a 0. For port CF8h, and for CFCh to CFFh, a line says how
+ * the guest's CONFIG_ADDRESS decides what the port accesses (PCI Local Bus 3.0, 3.2.2.3.2). If a
+ * function responds, the next line names the slot, the region or configuration space, and the
+ * offset there. Otherwise, the next line says that nothing responds, that the slot is empty, or
+ * that CONFIG_ADDRESS selects no slot. If nothing responds at a port or an address, one more line
+ * follows for each region of the guest that contains the port or address but is disabled, because
+ * Command doesn't enable its space (6.2.5). These lines are ordered by slot and then by register.
+ * The text depends only on the guest's own functions and CONFIG_ADDRESS: two guests in which these
+ * are equal get the same text. Changes nothing.
  * Returns 0 on success; 303 if the slot, offset or port is out of range; 902 if there is no such
  * guest or space, or if the buffer is too small (only the length is stored); 299 if memory runs
  * out. Since 0.4.0. */
@@ -572,9 +585,9 @@ uint32_t pciguest_why(struct pciguest *machine, size_t guest, uint32_t space, ui
                       uint64_t place, char *text, size_t room, size_t *needed);
 
 /* Explains, as a one-line JSON object, why a guest's access to a slot and offset, a port, or an
- * address ends up where it does, or nowhere, and stores the length of the text in `needed`. The
- * text isn't terminated by a 0. The object contains everything that the lines of pciguest_why say,
- * except the value of CONFIG_ADDRESS. Changes nothing.
+ * address reaches what it does, or why it reaches nothing, and stores the length of the text in
+ * `needed`. The text isn't terminated by a 0. The object contains everything that the lines of
+ * pciguest_why say, except the value of CONFIG_ADDRESS. Changes nothing.
  * Returns 0 on success; 303 if the slot, offset or port is out of range; 902 if there is no such
  * guest or space, or if the buffer is too small (only the length is stored); 299 if memory runs
  * out. Since 0.4.0. */
@@ -585,20 +598,20 @@ uint32_t pciguest_why_json(struct pciguest *machine, size_t guest, uint32_t spac
  * 0.4.0. */
 uint32_t pciguest_count(struct pciguest *machine, size_t *count);
 
-/* Stores a row that describes the function at `index`, which counts from 0 in path order and must
- * be less than the count that pciguest_count stores. A bridge comes before what is behind it. The
- * row's bus, device and function numbers, regions and windows come from the board's own registers,
- * which no guest writes. Its guest and slot are the current ones, after the last move. Allocates no
- * memory and changes nothing.
+/* Stores a row that describes the function at `index`. Functions are counted from 0 in path order,
+ * so a bridge comes before what is behind it; `index` must be less than the count that
+ * pciguest_count stores. The row's bus, device and function numbers, regions and windows come from
+ * the board's own registers, which no guest writes. The row's guest and slot are the current ones,
+ * after the last move. Allocates no memory and changes nothing.
  * Returns 0 on success; 902 if there is no such function. Since 0.4.0. */
 uint32_t pciguest_function(struct pciguest *machine, size_t index,
                            struct pciguest_function *function);
 
-/* Stores a row that describes the function in a slot of a guest, the same row that
- * pciguest_function stores for it. The row's bus, device and function numbers and regions come from
- * the board's own registers, which no guest writes. To find out only whether the guest has set
- * Interrupt Disable, read Command with pciguest_read, which is faster. Allocates no memory and
- * changes nothing.
+/* Stores a row that describes the function in a guest's slot. pciguest_function stores the same row
+ * for the function. The row's bus, device and function numbers and regions come from the board's
+ * own registers, which no guest writes. To find out only whether the guest has set Interrupt
+ * Disable, read Command with pciguest_read, which is faster. Allocates no memory and changes
+ * nothing.
  * Returns 0 on success; 303 if the slot is above 31; 601 if the slot is empty; 902 if there is no
  * such guest. Since 0.4.0. */
 uint32_t pciguest_slot(struct pciguest *machine, size_t guest, uint64_t slot,
@@ -606,17 +619,17 @@ uint32_t pciguest_slot(struct pciguest *machine, size_t guest, uint64_t slot,
 
 /* Runs one line of a script, writes the reply, and stores the length of the reply in `written`. The
  * line may end with its line feed; a line feed anywhere else makes it a bad line. The reply is one
- * line with its line feed, or nothing for a blank line or a comment. It isn't terminated by a 0. If
- * the line is refused, the reply says so and the call returns 0.
+ * line with its line feed, or nothing for a blank line or a comment. The reply isn't terminated by
+ * a 0. If the line is refused, the reply says so, and the call still returns 0.
  * Returns 0 on success; 902 if the buffer is smaller than PCIGUEST_REPLY. */
 uint32_t pciguest_run_line(struct pciguest *machine, const char *line, size_t length, char *reply,
                            size_t room, size_t *written);
 
 /* Explains why a line of a script is refused with 401, 402 or 403. Writes a sentence without a line
  * feed, such as "missing width (expected 'cr SLOT OFFSET WIDTH')", and stores its length in
- * `needed`. Stores the position of the wrong word in `word`: 0 is the name, 1 the word after it.
- * For any other line, the text is empty. The text isn't terminated by a 0. The line isn't run, and
- * may end with its line feed. Allocates no memory and changes nothing.
+ * `needed`. Stores the position of the wrong word in `word`: 0 for the name, 1 for the word after
+ * the name, and so on. For any other line, the text is empty. The text isn't terminated by a 0. The
+ * line isn't run, and may end with its line feed. Allocates no memory and changes nothing.
  * Returns 0 on success; 902 if the buffer is too small (only the length is stored). Since 0.4.0. */
 uint32_t pciguest_explain_line(struct pciguest *machine, const char *line, size_t length,
                                size_t *word, char *text, size_t room, size_t *needed);
@@ -624,16 +637,16 @@ uint32_t pciguest_explain_line(struct pciguest *machine, const char *line, size_
 /* Writes the report of a board file, as `pciguest list` does, and stores the length of the text in
  * `needed`. The text isn't terminated by a 0. Needs no machine.
  * Returns 0 on success; 101 to 112 or 201 to 205 for the first check that the file or its board
- * fails; 199 or 299 if memory runs out; 902 if the buffer is too small (nothing is written, only
- * the length is stored). */
+ * fails; 199 or 299 if memory runs out; 902 if the buffer is too small (only the length is
+ * stored). */
 uint32_t pciguest_report(const void *board, size_t length, char *text, size_t room, size_t *needed);
 
 /* Writes the report of a board file as a JSON object on one line, as `pciguest list --json` does,
  * and stores the length of the text in `needed`. The text isn't terminated by a 0. Needs no
  * machine.
  * Returns 0 on success; 101 to 112 or 201 to 205 for the first check that the file or its board
- * fails; 199 or 299 if memory runs out; 902 if the buffer is too small (nothing is written, only
- * the length is stored). Since 0.4.0. */
+ * fails; 199 or 299 if memory runs out; 902 if the buffer is too small (only the length is stored).
+ * Since 0.4.0. */
 uint32_t pciguest_report_json(const void *board, size_t length, char *text, size_t room,
                               size_t *needed);
 
@@ -642,26 +655,26 @@ uint32_t pciguest_report_json(const void *board, size_t length, char *text, size
  * included. The text isn't terminated by a 0. Needs no machine.
  * Returns 0 if the board fits; 101 to 112 or 201 to 205 if the file or its board is refused, and
  * the text says why; 199 or 299 if memory runs out (nothing is written or stored); 902 if the
- * buffer is too small (nothing is written, only the length is stored). */
+ * buffer is too small (only the length is stored). */
 uint32_t pciguest_check(const void *board, size_t length, char *text, size_t room, size_t *needed);
 
-/* Creates a board at reset from the bytes of a board file, for your own firmware to drive: no bus
- * number or address is assigned, and every function is off. The guests that the file declares are
- * checked, but no function is assigned to them.
+/* Creates a board in its reset state from the bytes of a board file, for your own firmware to
+ * drive. No bus number or address is assigned yet, and Command is 0 in every function. The guests
+ * that the file declares are checked, but no function is assigned to them.
  * Returns 0 on success; 101 to 112 for the first check that the file fails; 199 if memory runs out;
  * 903 if the struct already holds a board. Since 0.3.0. */
 uint32_t pciguest_board_new(struct pciguest_board *board, const void *file, size_t length);
 
-/* Frees the board, or the machine that resulted when a line handed the board over. The struct is
+/* Frees the board or, if a line has handed the board over, the resulting machine. The struct is
  * then empty and can be used for a new board. Does nothing if the struct is already empty. Since
  * 0.3.0. */
 void pciguest_board_free(struct pciguest_board *board);
 
 /* Reads as firmware does, whatever state the registers are in. Configuration space is addressed by
  * bus, device, function and byte offset, I/O by port, and memory by address. The value is all ones
- * if nothing responds. Bus, device and function matter only in configuration space, which can also
- * be reached through the ports CF8h and CFCh. A read of configuration space by bus, device and
- * function sets CONFIG_ADDRESS (CF8h) to 0; every other read changes nothing.
+ * if nothing responds. `bus`, `device` and `function` are used only in configuration space, which
+ * can also be reached through the ports CF8h and CFCh. A read of configuration space by bus, device
+ * and function sets CONFIG_ADDRESS (CF8h) to 0; every other read changes nothing.
  * Returns 0 on success; 302 if the width isn't 1, 2 or 4; 301 if `place` isn't a multiple of the
  * width; 303 if the offset is above 255, or the port is above FFFFFFFFh; 902 if there is no such
  * space, the device is above 31, or the function is above 7. Since 0.3.0. */
@@ -671,9 +684,9 @@ uint32_t pciguest_board_read(struct pciguest_board *board, uint32_t space, uint8
 
 /* Writes the low `width` bytes of a value as firmware does, whatever state the registers are in.
  * Configuration space is addressed by bus, device, function and byte offset, I/O by port, and
- * memory by address. The write is dropped if nothing responds. Bus, device and function matter only
- * in configuration space, which can also be reached through the ports CF8h and CFCh. A write to
- * configuration space by bus, device and function sets CONFIG_ADDRESS (CF8h) to 0.
+ * memory by address. The write is dropped if nothing responds. `bus`, `device` and `function` are
+ * used only in configuration space, which can also be reached through the ports CF8h and CFCh. A
+ * write to configuration space by bus, device and function sets CONFIG_ADDRESS (CF8h) to 0.
  * Returns 0 on success; 302 if the width isn't 1, 2 or 4; 301 if `place` isn't a multiple of the
  * width; 303 if the offset is above 255, or the port is above FFFFFFFFh; 902 if there is no such
  * space, the device is above 31, or the function is above 7. Since 0.3.0. */
@@ -681,22 +694,24 @@ uint32_t pciguest_board_write(struct pciguest_board *board, uint32_t space, uint
                               uint8_t device, uint8_t function, uint64_t place, uint32_t width,
                               uint32_t value);
 
-/* Runs one line of a session, as `pciguest firmware` does, with or without its line feed, writes
- * the reply, and stores the length of the reply in `written`. While firmware drives the board, the
- * line can be a line of firmware or one of four requests. The reply to `host audit` is the text of
- * pciguest_board_audit. The reply to `host ready` is the text of pciguest_board_ready. The reply to
+/* Runs one line of a session, as `pciguest firmware` does, writes the reply, and stores the length
+ * of the reply in `written`. The line may end with its line feed. While firmware drives the board,
+ * the line can be a firmware line or one of four requests. The replies to `host audit` and
+ * `host ready` are the texts of pciguest_board_audit and pciguest_board_ready. The reply to
  * `host why ..` explains why an address, a port, or a bus/device/function number leads where it
- * does, or nowhere. The line `host guests` hands the board over to the guests that its file
+ * does, or nowhere. The request `host guests` hands the board over to the guests that its file
  * declares, as pciguest_board_guests does; if that fails, the reply says why. Once the board has
- * been handed over, the line is a line of a script. The struct then holds the machine, which
- * pciguest_board_guests can move to a struct of its own; the other calls on a board return 901. If
- * a line is refused, the reply says so and the call returns 0. The reply is one line with its line
- * feed, or nothing. Only the replies to `host audit`, `host ready`, `host why ..` and a refused
- * `host guests` can have more lines. The reply isn't terminated by a 0.
- * Returns 0 on success; 902 if the buffer is smaller than PCIGUEST_REPLY; 902 if it is too small
- * for a reply of several lines (the length of the reply is then stored); 299 if memory runs out for
- * `host audit`, `host ready`, `host why ..` or `host guests`. In these cases, the line has no other
- * effect. No other line allocates memory. Since 0.3.0. */
+ * been handed over, the line is a script line. The struct then holds the machine, which
+ * pciguest_board_guests can move to a struct of its own. Apart from pciguest_board_run_line,
+ * pciguest_board_guests and pciguest_board_free, calls on a board then return 901
+ * (pciguest_board_new returns 903). If a line is refused, the reply says so, and the call still
+ * returns 0. The reply is one line with its line feed, or nothing. Only the replies to
+ * `host audit`, `host ready`, `host why ..` and a refused `host guests` can have more lines. The
+ * reply isn't terminated by a 0.
+ * Returns 0 on success; 902 if the buffer is smaller than PCIGUEST_REPLY, or if it is too small for
+ * a reply of several lines (the length of that reply is stored); 299 if memory runs out for
+ * `host audit`, `host ready`, `host why ..` or `host guests`. If the call returns 902 or 299, the
+ * line has no other effect. Only these four lines allocate memory. Since 0.3.0. */
 uint32_t pciguest_board_run_line(struct pciguest_board *board, const char *line, size_t length,
                                  char *reply, size_t room, size_t *written);
 
@@ -704,22 +719,22 @@ uint32_t pciguest_board_run_line(struct pciguest_board *board, const char *line,
  * Since 0.4.0. */
 uint32_t pciguest_board_count(struct pciguest_board *board, size_t *count);
 
-/* Stores a row that describes the function at `index`, which counts from 0 in path order and must
- * be less than the count that pciguest_board_count stores. The row reflects the registers as they
- * are now, in whatever state firmware left them. It contains the function's bus, device and
- * function numbers, whether a configuration access to these numbers reaches the function, its base
- * address registers or windows, and whether its Command enables their spaces. Allocates no memory
- * and changes nothing, not even CONFIG_ADDRESS.
+/* Stores a row that describes the function at `index`. Functions are counted from 0 in path order,
+ * and `index` must be less than the count that pciguest_board_count stores. The row reflects the
+ * registers as they are now, in whatever state firmware left them. The row contains the function's
+ * bus, device and function numbers, whether a configuration access to these numbers reaches the
+ * function, its base address registers or windows, and whether its Command enables their spaces.
+ * Allocates no memory and changes nothing, not even CONFIG_ADDRESS.
  * Returns 0 on success; 902 if there is no such function. Since 0.4.0. */
 uint32_t pciguest_board_function(struct pciguest_board *board, size_t index,
                                  struct pciguest_board_function *function);
 
 /* Reports what is wrong in the registers of a board as they are now, no matter who wrote them:
  * writes one line for each problem, then a last line, `audit: ok` or `audit: N problems`. There are
- * three kinds of problem: a bridge above an open region doesn't forward every byte of the region;
- * two regions or bridges answer the same address on one bus; or no configuration cycle reaches a
- * function. Stores the length of the text in `needed` and the number of problems in `count`. The
- * text isn't terminated by a 0. The board stays unchanged.
+ * three kinds of problem: a bridge above an enabled region doesn't forward every byte of the
+ * region; two enabled regions or bridges respond to the same address on one bus; or no
+ * configuration cycle reaches a function. Stores the length of the text in `needed` and the number
+ * of problems in `count`. The text isn't terminated by a 0. The board stays unchanged.
  * Returns 0 on success; 902 if the buffer is too small (only the length is stored); 299 if memory
  * runs out. Since 0.3.0. */
 uint32_t pciguest_board_audit(struct pciguest_board *board, char *text, size_t room, size_t *needed,
@@ -737,11 +752,12 @@ uint32_t pciguest_board_audit_json(struct pciguest_board *board, char *text, siz
 
 /* Reports what is wrong in the registers of a board as they are now, and what is left to do: writes
  * the lines of pciguest_board_audit except the last, then one line for each readiness issue, then a
- * last line, `ready: ok` or counts such as `ready: 1 problem, 2 left to do`. A readiness issue is a
- * region whose decode is disabled, that is outside the apertures, or that is prefetched although it
- * isn't prefetchable, or a bridge whose Primary Bus Number isn't the number of its bus. Stores the
- * length of the text in `needed`, and in `count` the number of problems and readiness issues, which
- * is 0 if the board is ready. The text isn't terminated by a 0. The board stays unchanged.
+ * last line, `ready: ok` or counts such as `ready: 1 problem, 2 left to do`. There are four kinds
+ * of readiness issue: a region is disabled; a region is outside the apertures; a region is
+ * prefetched although it isn't prefetchable; or a bridge's Primary Bus Number isn't the number of
+ * the bus that it is on. Stores the length of the text in `needed`, and in `count` the number of
+ * problems and readiness issues, which is 0 if the board is ready. The text isn't terminated by a
+ * 0. The board stays unchanged.
  * Returns 0 on success; 902 if the buffer is too small (only the length is stored); 299 if memory
  * runs out. Since 0.4.0. */
 uint32_t pciguest_board_ready(struct pciguest_board *board, char *text, size_t room, size_t *needed,
@@ -769,9 +785,9 @@ uint32_t pciguest_board_why_json(struct pciguest_board *board, uint32_t space, u
                                  uint8_t device, uint8_t function, uint64_t place, char *text,
                                  size_t room, size_t *needed);
 
-/* Sets up a board that is at reset, in place of your own firmware, and assigns its functions to the
- * guests that its file declares. The resulting machine is the one that pciguest_new makes from the
- * same file. The board stays unchanged.
+/* Sets up a board that is in its reset state, in place of your own firmware, and assigns its
+ * functions to the guests that its file declares. The resulting machine is the one that
+ * pciguest_new makes from the same file. The board stays unchanged.
  * Returns 0 on success, or the first of these errors that applies: 901 if there is no board; 903 if
  * the machine's struct already holds a machine; 904 if the board has been written to since reset;
  * 201 to 205 if the board can't be set up; 299 if memory runs out. Since 0.3.0. */
@@ -779,15 +795,15 @@ uint32_t pciguest_set_up(struct pciguest_board *board, struct pciguest *machine)
 
 /* Assigns the functions of a board to the guests that its file declares. The board is used as it is
  * now, no matter who set it up. The audit of the board must find no problem, and every region of
- * the functions to be assigned must be open. The board then belongs to the machine, and the board's
- * struct is empty. Each assigned function is reset, except for the registers that guests have their
- * own copies of, and the board's CONFIG_ADDRESS is cleared. If a line has already handed the
- * board over, `machine` receives the machine that resulted, in its current state. If the call
+ * the functions to be assigned must be enabled. The board then belongs to the machine, and the
+ * board's struct is empty. Each assigned function is reset, except for the registers that guests
+ * have their own copies of, and the board's CONFIG_ADDRESS is cleared. If a line has already handed
+ * the board over, `machine` receives the resulting machine, in its current state. If the call
  * fails, both structs stay unchanged.
  * Returns 0 on success; 901 if there is no board; 903 if the machine's struct already holds a
  * machine; 207 if the audit finds a problem, which pciguest_board_audit reports; 206 if a region of
- * a function to be assigned is closed; 299 if memory runs out. 901, 903 and 207 are checked in this
- * order, before 206. Since 0.4.0. */
+ * a function to be assigned is disabled; 299 if memory runs out. 901, 903 and 207 are checked in
+ * this order, before 206. Since 0.4.0. */
 uint32_t pciguest_board_guests(struct pciguest_board *board, struct pciguest *machine);
 
 #ifdef __cplusplus
