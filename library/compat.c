@@ -2,14 +2,6 @@
  * header: those of 0.2.0 and 0.3.0 call them by these names. */
 #include "raw.h"
 
-uint32_t pciguest_raw_words(uint32_t number, uint8_t *text, size_t room, size_t *needed);
-uint32_t pciguest_raw_device_read(struct pciguest *machine, size_t guest, uint64_t slot, uint32_t part, uint64_t offset,
-                                  uint32_t *value);
-uint32_t pciguest_raw_device_write(struct pciguest *machine, size_t guest, uint64_t slot, uint32_t part, uint64_t offset,
-                                   uint8_t value);
-uint32_t pciguest_raw_report(const uint8_t *board, size_t length, uint8_t *text, size_t room, size_t *needed);
-uint32_t pciguest_raw_board_audit(struct pciguest_board *board, uint8_t *text, size_t room, size_t *needed, size_t *count);
-
 uint32_t pciguest_raw_report(const uint8_t *board, size_t length, uint8_t *text, size_t room, size_t *needed)
 {
     return pciguest_raw_report_in(board, length, text, room, needed, false);

@@ -32,92 +32,65 @@ done
 
 wraps=(-Wl,--wrap=malloc -Wl,--wrap=realloc -Wl,--wrap=free)
 
+# built FILE WORD..: compiles a program of this kind, NAME.KIND for NAME.c
+built() {
+  local name; name=$(basename "$1" .c)
+  holds "$kind: $name.c is built" build "$name.$kind" "$top/$1" "${flags[@]}" "${@:2}"
+}
+
+# seeded FILE BOARD COUNT WHAT WORD..: compiles a program too, and runs it with three seeds
+seeded() {
+  built "$1" "${@:5}"
+  for seed in 1 2 3; do holds "$kind: $4, seed $seed" "./$(basename "$1" .c).$kind" "$2" "$3" "$seed"; done
+}
+
 # ---- plain, and under the sanitizers
 echo 'int main(void) { return 0; }' > empty.c
 kinds=(plain)
 "$compile" -fsanitize=address,undefined -o empty empty.c 2> /dev/null && ./empty 2> /dev/null && kinds+=(sanitized)
 [ ${#kinds[@]} = 2 ] || skips 'the library under sanitizers' 'the compiler has none' gcc
 for kind in "${kinds[@]}"; do
-  words=()
-  [ "$kind" != sanitized ] || words=(-fsanitize=address,undefined -fno-sanitize-recover=all)
-  holds "$kind: the example is built" build "device.$kind" "$top/examples/c/device.c" "${words[@]}"
-  holds "$kind: the accesses are built" build "accesses.$kind" "$top/tests/library/accesses.c" "${words[@]}"
-  holds "$kind: the refusals are built" build "refusals.$kind" "$top/tests/library/refusals.c" "${wraps[@]}" "${words[@]}"
-
+  flags=()
+  [ "$kind" != sanitized ] || flags=(-fsanitize=address,undefined -fno-sanitize-recover=all)
+  built examples/c/device.c
   "./device.$kind" "$top/examples/device.toml" > "device.$kind.out" 2>&1
   holds "$kind: the example" cmp "device.$kind.out" "$top/tests/library/device.stdout"
 
+  built tests/library/accesses.c
   for seed in 1 2 3; do
     holds "$kind: calls and lines answer alike, seed $seed" "./accesses.$kind" "$board" 10000 "$seed" script replies
     "$program" run "$board" < script > answers 2>&1
     holds "$kind: the program answers alike, seed $seed" cmp answers replies
   done
 
-  holds "$kind: the queries are built" build "queries.$kind" "$top/tests/library/queries.c" "${words[@]}"
-  for seed in 1 2 3; do
-    holds "$kind: queries, seed $seed" "./queries.$kind" "$board" 2000 "$seed"
-  done
+  seeded tests/library/queries.c "$board" 2000 'queries'
+  seeded tests/library/why.c "$board" 2000 'why guests find what they find' "${wraps[@]}"
+  seeded tests/library/functions.c "$board" 2000 'functions of the board'
+  seeded tests/library/wide.c "$board" 20000 'wide accesses'
+  seeded tests/library/devices.c "$board" 20000 'wide accesses of devices'
+  seeded tests/library/regions.c "$board" 20000 'accesses by regions and by addresses'
+  seeded tests/library/images.c "$board" 2000 'images of guests'
+  seeded tests/library/machines.c "$top/boards/server.toml" 2000 'images of machines'
+  seeded tests/library/boards.c "$board" 20000 'boards of firmware, by calls and by lines' "${wraps[@]}"
+  seeded tests/library/driven.c "$board" 5000 'functions of a board of firmware'
 
-  holds "$kind: the reasons are built" build "why.$kind" "$top/tests/library/why.c" "${wraps[@]}" "${words[@]}"
-  for seed in 1 2 3; do
-    holds "$kind: why guests find what they find, seed $seed" "./why.$kind" "$board" 2000 "$seed"
-  done
-
-  holds "$kind: the functions are built" build "functions.$kind" "$top/tests/library/functions.c" "${words[@]}"
-  for seed in 1 2 3; do
-    holds "$kind: functions of the board, seed $seed" "./functions.$kind" "$board" 2000 "$seed"
-  done
-
-  holds "$kind: the wide accesses are built" build "wide.$kind" "$top/tests/library/wide.c" "${words[@]}"
-  for seed in 1 2 3; do
-    holds "$kind: wide accesses, seed $seed" "./wide.$kind" "$board" 20000 "$seed"
-  done
-
-  holds "$kind: the devices are built" build "devices.$kind" "$top/tests/library/devices.c" "${words[@]}"
-  for seed in 1 2 3; do
-    holds "$kind: wide accesses of devices, seed $seed" "./devices.$kind" "$board" 20000 "$seed"
-  done
-
-  holds "$kind: the regions are built" build "regions.$kind" "$top/tests/library/regions.c" "${words[@]}"
-  for seed in 1 2 3; do
-    holds "$kind: accesses by regions and by addresses, seed $seed" "./regions.$kind" "$board" 20000 "$seed"
-  done
-
-  holds "$kind: the images are built" build "images.$kind" "$top/tests/library/images.c" "${words[@]}"
-  for seed in 1 2 3; do
-    holds "$kind: images of guests, seed $seed" "./images.$kind" "$board" 2000 "$seed"
-  done
-
-  holds "$kind: the machines are built" build "machines.$kind" "$top/tests/library/machines.c" "${words[@]}"
-  for seed in 1 2 3; do
-    holds "$kind: images of machines, seed $seed" "./machines.$kind" "$top/boards/server.toml" 2000 "$seed"
-  done
-
-  holds "$kind: the boards are built" build "boards.$kind" "$top/tests/library/boards.c" "${wraps[@]}" "${words[@]}"
-  for seed in 1 2 3; do
-    holds "$kind: boards of firmware, by calls and by lines, seed $seed" "./boards.$kind" "$board" 20000 "$seed"
-  done
-  holds "$kind: the driven boards are built" build "driven.$kind" "$top/tests/library/driven.c" "${words[@]}"
-  for seed in 1 2 3; do
-    holds "$kind: functions of a board of firmware, seed $seed" "./driven.$kind" "$board" 5000 "$seed"
-  done
-  holds "$kind: the boards that are given are built" build "given.$kind" "$top/tests/library/given.c" "${wraps[@]}" "${words[@]}"
+  built tests/library/given.c "${wraps[@]}"
   holds "$kind: guests over a board of one's own" "./given.$kind" "$board"
-  holds "$kind: the firmware is built" build "firmware.$kind" "$top/tests/library/firmware.c" "${words[@]}"
+  built tests/library/firmware.c
   "./firmware.$kind" "$board" > "firmware.$kind.out" 2>&1
   holds "$kind: the firmware" cmp "firmware.$kind.out" "$top/tests/library/firmware.stdout"
 
-  holds "$kind: the loads are built" build "loads.$kind" "$top/tests/library/loads.c" "${words[@]}"
+  built tests/library/loads.c
   for name in main kinds server; do
     holds "$kind: images that were changed, over $name.toml" "./loads.$kind" "$top/boards/$name.toml" 5000 1
   done
-  holds "$kind: the migration is built" build "migrating.$kind" "$top/tests/library/migrating.c" "${words[@]}"
+  built tests/library/migrating.c
   for script in main/{guest,two_guests,raise,host,ports,move} server/server demo/demo; do
     holds "$kind: guests and machines of ${script%/*}.toml go on elsewhere, by ${script#*/}.script" "./migrating.$kind" \
       "$top/boards/${script%/*}.toml" "elsewhere.${script%/*}.toml" "$top/boards/${script#*/}.script"
   done
 
-  holds "$kind: the checks are built" build "checks.$kind" "$top/tests/library/checks.c" "${words[@]}"
+  built tests/library/checks.c
   for file in "$top"/boards/*.toml "$top"/boards/refused/*.toml; do
     cp "$file" board.toml
     "$program" check board.toml > wanted.text 2> told
@@ -126,8 +99,9 @@ for kind in "${kinds[@]}"; do
     holds "$kind: the check of $(basename "$file")" sh -c 'cmp wanted.text found.text && cmp wanted.fault found.fault'
   done
 
-  holds "$kind: the rows of refusals are built" build "rows.$kind" "$top/tests/library/refusal_rows.c" "${words[@]}"
-  holds "$kind: the rows of refusals" "./rows.$kind" "$board" "$top/tests/library/refusals.txt"
+  built tests/library/refusal_rows.c
+  holds "$kind: the rows of refusals" "./refusal_rows.$kind" "$board" "$top/tests/library/refusals.txt"
+  built tests/library/refusals.c "${wraps[@]}"
   { "$program" list --json "$board"; "$program" list "$board"; } > wanted.report
   holds "$kind: what is refused" sh -c "./refusals.$kind '$board' > report"
   holds "$kind: the reports" cmp report wanted.report
@@ -201,6 +175,11 @@ else
   skips "Rust's crates" 'no cargo' cargo
 fi
 
+# python WORD..: Python with the module and this library
+python() {
+  env PYTHONPATH="$top/library/python" PYTHONDONTWRITEBYTECODE=1 PCIGUEST_LIBRARY_DIR="$top/library" python3 "$@"
+}
+
 # ---- the module for Python: its tests, the examples of its documentation, and the example
 if ! command -v python3 > /dev/null; then
   skips "Python's module" 'no Python 3' python3
@@ -208,14 +187,10 @@ elif [ ! -e "$top/library/libpciguest.so.0" ]; then
   skips "Python's module" 'no library/libpciguest.so.0: make library'
 else
   command -v mypy > /dev/null || skips "the types of Python's module" 'no mypy' mypy
-  holds 'Python: the tests of the module' env -C "$top/library/python" PYTHONDONTWRITEBYTECODE=1 \
-    PCIGUEST_LIBRARY_DIR="$top/library" python3 -m unittest discover -s tests
-  holds 'Python: random guests, saved and loaded as by a second hand' env PYTHONDONTWRITEBYTECODE=1 \
-    PCIGUEST_LIBRARY_DIR="$top/library" python3 "$top/tests/fuzz/images.py" --guests 200
-  holds 'Python: random machines, saved and loaded as by a second hand' env PYTHONDONTWRITEBYTECODE=1 \
-    PCIGUEST_LIBRARY_DIR="$top/library" python3 "$top/tests/fuzz/machines.py" --machines 20
-  env PYTHONPATH="$top/library/python" PYTHONDONTWRITEBYTECODE=1 PCIGUEST_LIBRARY_DIR="$top/library" \
-    python3 "$top/examples/python/device.py" "$top/examples/device.toml" > device.python.out 2>&1
+  holds 'Python: the tests of the module' python -m unittest discover -s "$top/library/python/tests"
+  holds 'Python: random guests, saved and loaded as by a second hand' python "$top/tests/fuzz/images.py" --guests 200
+  holds 'Python: random machines, saved and loaded as by a second hand' python "$top/tests/fuzz/machines.py" --machines 20
+  python "$top/examples/python/device.py" "$top/examples/device.toml" > device.python.out 2>&1
   holds 'Python: the example prints what the one in C does' cmp device.python.out "$top/tests/library/device.stdout"
 fi
 
@@ -226,10 +201,7 @@ languages=(C)
 ! command -v python3 > /dev/null || [ ! -e "$top/library/libpciguest.so.0" ] || languages+=(Python)
 in_C() { ./carried "$1" "$board"; }
 in_Rust() { target/debug/carried "$1" "$board"; }
-in_Python() {
-  env PYTHONPATH="$top/library/python" PYTHONDONTWRITEBYTECODE=1 PCIGUEST_LIBRARY_DIR="$top/library" \
-    python3 "$top/tests/library/carried.py" "$1" "$board"
-}
+in_Python() { python "$top/tests/library/carried.py" "$1" "$board"; }
 goes_on() { test "$("in_$2" load 2>&1 < "image.$1")" = $'b: 0x0b\na: 0xffffffff'; }
 for here in "${languages[@]}"; do
   "in_$here" save > "image.$here" 2> /dev/null
@@ -256,9 +228,8 @@ migrated=$(printf '0xffffffff\n0x12345678')
 holds 'the example that migrates a guest' \
   test "$(./migrate "$board" "$top/tests/rows/other_places.toml")" = "$migrated"
 if [ -e "$top/library/libpciguest.so.0" ] && command -v python3 > /dev/null; then
-  holds 'the same in Python' test "$(env PYTHONPATH="$top/library/python" PYTHONDONTWRITEBYTECODE=1 \
-    PCIGUEST_LIBRARY_DIR="$top/library" python3 "$top/examples/python/migrate.py" "$board" \
-    "$top/tests/rows/other_places.toml")" = "$migrated"
+  holds 'the same in Python' \
+    test "$(python "$top/examples/python/migrate.py" "$board" "$top/tests/rows/other_places.toml")" = "$migrated"
 fi
 
 # ---- the example that saves a whole machine

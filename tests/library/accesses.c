@@ -4,25 +4,7 @@
  *
  * SCRIPT gets the lines, and REPLIES what the calls answered, written as a run answers lines. The same lines go
  * through pciguest_run_line on a second machine, which must answer alike. The exit status is 1 where it doesn't. */
-#include "pciguest.h"
-
-#include <inttypes.h>
-#include <stdio.h>
-#include <stdlib.h>
-#include <string.h>
-
-static uint64_t state;
-
-/* xorshift64 */
-static uint64_t any(void)
-{
-    state ^= state << 13;
-    state ^= state >> 7;
-    state ^= state << 17;
-    return state;
-}
-
-static uint64_t below(uint64_t n) { return any() % n; }
+#include "testing.h"
 
 static const char *const guests[] = {"a", "b"};
 
@@ -35,7 +17,7 @@ static int reply_line(char *line, const char *who, uint32_t fault, bool is_read,
 
     if (fault == 0)
         return is_read ? sprintf(line, "%s: 0x%0*" PRIx32 "\n", who, (int)(2 * width), value) : sprintf(line, "%s: ok\n", who);
-    for (size_t i = 0; i < sizeof refusals / sizeof *refusals; i++)
+    for (size_t i = 0; i < COUNT_OF(refusals); i++)
         if (refusals[i].number == fault)
             return sprintf(line, "%s: refused %" PRIu32 " %s\n", who, fault, refusals[i].words);
     return sprintf(line, "%s: fault %" PRIu32 "\n", who, fault);
@@ -66,7 +48,7 @@ static uint32_t any_value(void)
     case 0: return 0x80000000u | (uint32_t)(below(3) << 11 | below(16) << 2);
     case 1: return 0xc0000000u + (uint32_t)(below(4) << 20);
     case 2: return (uint32_t)below(8);
-    default: return (uint32_t)any();
+    default: return (uint32_t)below(1ull << 32);
     }
 }
 
@@ -126,38 +108,31 @@ static void step(struct pciguest *machine, char *line, char *reply)
 
 int main(int argc, char **argv)
 {
-    static uint8_t board[65536];
     struct pciguest calls = {0}, lines = {0};
-    FILE *file = argc == 6 ? fopen(argv[1], "rb") : NULL, *script, *replies;
-    size_t length, index = 7, written = 0;
-    int wrong = 0;
+    FILE *script, *replies;
+    size_t index = 7, written = 0;
 
-    if (!file)
-        return 2;
-    length = fread(board, 1, sizeof board, file);
-    fclose(file);
-    state = strtoull(argv[3], NULL, 0) * 2 + 1;
+    begin(argc, argv, 5);
     if (!(script = fopen(argv[4], "wb")) || !(replies = fopen(argv[5], "wb")))
         return 2;
-    if (pciguest_new(&calls, board, length) || pciguest_new(&lines, board, length))
-        return 2;
+    IS(pciguest_new(&calls, file, length), 0);
+    IS(pciguest_new(&lines, file, length), 0);
     for (size_t i = 0; i < 2; i++)
-        wrong |= pciguest_guest(&calls, guests[i], 1, &index) != 0 || index != i;
-    for (long left = atol(argv[2]); left > 0; left--) {
+        IS(pciguest_guest(&calls, guests[i], 1, &index) == 0 && index == i, 1);
+    for (uint64_t left = times; left > 0 && !wrong; left--) {
         char line[200], reply[100], told[PCIGUEST_REPLY] = {0};
 
         step(&calls, line, reply);
         fputs(line, script);
         fputs(reply, replies);
-        wrong |= pciguest_run_line(&lines, line, strlen(line) - 1, told, sizeof told, &written) != 0;
-        if (written != strlen(reply) || memcmp(told, reply, written) != 0) {
+        IS(pciguest_run_line(&lines, line, strlen(line) - 1, told, sizeof told, &written), 0);
+        IS(written == strlen(reply) && memcmp(told, reply, written) == 0, 1);
+        if (wrong)
             fprintf(stderr, "%s  the call: %s  the line: %.*s", line, reply, (int)written, told);
-            wrong = 1;
-        }
     }
     pciguest_free(&calls);
     pciguest_free(&lines);
     fclose(script);
     fclose(replies);
-    return wrong;
+    return wrong != 0;
 }

@@ -5,23 +5,7 @@
  *
  * It is linked with --wrap for malloc, realloc and free. The exit status is 1 where an answer is wrong, or memory
  * is lost. */
-#include "pciguest.h"
 #include "refusing.h"
-
-#include <inttypes.h>
-#include <stdlib.h>
-#include <string.h>
-
-static uint8_t file[65536];
-static size_t length;
-
-static uint32_t config_read(struct pciguest_board *board, uint8_t device, uint64_t offset)
-{
-    uint32_t value = 7;
-
-    IS(pciguest_board_read(board, PCIGUEST_CONFIG, 0, device, 0, offset, 4, &value), 0);
-    return value;
-}
 
 static uint32_t line(struct pciguest_board *board, const char *text, char *reply, size_t *written)
 {
@@ -117,8 +101,8 @@ static void refusals(struct pciguest_board *board)
     IS(memcmp(reply, "host: refused 301 misaligned\n", count), 0);
     IS(line(board, "a cr 0 0 4\n", reply, &count), 0);
     IS(memcmp(reply, "?: refused 402 unknown guest\n", count), 0);
-    IS(config_read(board, 1, 0), 0x00011234);
-    IS(config_read(board, 9, 0), UINT32_MAX);
+    IS(config_read(board, 0, 1, 0), 0x00011234);
+    IS(config_read(board, 0, 9, 0), UINT32_MAX);
 }
 
 /* The machine of our own set-up is the one that a file gives; and it is had from a board at reset alone. */
@@ -139,12 +123,12 @@ static void set_ups(struct pciguest_board *board)
             IS(here, there);
         }
     pciguest_free(&machine);
-    IS(config_read(board, 1, 4), 0x80000000); /* the board is at reset as before */
+    IS(config_read(board, 0, 1, 4), 0x80000000); /* the board is at reset as before */
     IS(pciguest_board_write(board, PCIGUEST_CONFIG, 0, 1, 0, 4, 2, 2), 0);
     IS(pciguest_set_up(board, &other), 903);
     IS(pciguest_set_up(board, &machine), 904);
     IS(machine.live, 0);
-    IS(config_read(board, 1, 4), 0x80000002);
+    IS(config_read(board, 0, 1, 4), 0x80000002);
     pciguest_board_free(board);
     IS(pciguest_board_new(board, file, length), 0);
     IS(line(board, "host mw 0 4 0", reply, &count), 0);
@@ -188,9 +172,7 @@ static void survey_without_memory(survey *call, struct pciguest_board *board)
         char text[1024] = "unchanged";
         size_t needed = 8, count = 9;
 
-        calls_left = left;
-        fault = call(board, text, sizeof text, &needed, &count);
-        calls_left = -1;
+        fault = FAILING(left, call(board, text, sizeof text, &needed, &count));
         IS(fault == 0 || (fault == 299 && needed == 8 && count == 9 && strcmp(text, "unchanged") == 0), 1);
         IS((uint64_t)blocks, (uint64_t)kept);
     }
@@ -240,7 +222,7 @@ static void lacking(void)
     size_t written = 0;
 
     IS(pciguest_board_new(&board, file, length), 0);
-    for (size_t i = 0; i < sizeof lines / sizeof *lines; i++) {
+    for (size_t i = 0; i < COUNT_OF(lines); i++) {
         IS(line(&board, lines[i], reply, &written), 0);
         IS(written == 9 && memcmp(reply, "host: ok\n", 9) == 0, 1);
     }
@@ -309,7 +291,7 @@ static void reasons(void)
     IS(pciguest_board_new(&board, file, length), 0);
     why_is(&board, PCIGUEST_CONFIG, 1, 256, "{\"found\":{\"missing\":{\"behind\":null,\"bus\":1},\"not_found\":[],"
                                             "\"reached\":null,\"takers\":[]},\"latch\":null}\n");
-    for (size_t i = 0; i < sizeof steps / sizeof *steps; i++)
+    for (size_t i = 0; i < COUNT_OF(steps); i++)
         IS(line(&board, steps[i], reply, &written), 0);
     why_is(&board, PCIGUEST_CONFIG, 1, 0, "{\"found\":{\"missing\":null,\"not_found\":[],\"reached\":\"2.0/1.0\",\"takers\":[\"2.0\"]},"
                                           "\"latch\":null}\n");
@@ -343,9 +325,7 @@ static void audit_lines(void)
     kept = blocks;
     for (long left = 1; fault == 299; left++) {
         written = 7;
-        calls_left = left;
-        fault = pciguest_board_run_line(&board, "host audit\n", 11, text, needed, &written);
-        calls_left = -1;
+        fault = FAILING(left, pciguest_board_run_line(&board, "host audit\n", 11, text, needed, &written));
         IS(fault == 0 || (fault == 299 && written == 7 && text[0] == '?'), 1);
         IS((uint64_t)blocks, (uint64_t)kept);
     }
@@ -366,7 +346,7 @@ static void unfit(void)
     IS(pciguest_board_new(&board, text, sizeof text - 1), 0);
     IS(pciguest_set_up(&board, &machine), 204);
     IS(machine.live, 0);
-    IS(config_read(&board, 1, 0), 0x00020001);
+    IS(config_read(&board, 0, 1, 0), 0x00020001);
     pciguest_board_free(&board);
 }
 
@@ -380,9 +360,7 @@ static void out_of_memory(void)
         struct pciguest_board board = {0};
         long before = blocks;
 
-        calls_left = count + 1;
-        fault = pciguest_board_new(&board, file, length);
-        calls_left = -1;
+        fault = FAILING(count + 1, pciguest_board_new(&board, file, length));
         if (fault != 0)
             IS(fault, 199);
         IS(board.live, fault == 0);
@@ -403,9 +381,7 @@ static void set_up_out_of_memory(struct pciguest_board *board)
     for (; fault != 0; count++) {
         struct pciguest machine = {0};
 
-        calls_left = count + 1;
-        fault = pciguest_set_up(board, &machine);
-        calls_left = -1;
+        fault = FAILING(count + 1, pciguest_set_up(board, &machine));
         if (fault != 0)
             IS(fault, 299);
         IS(machine.live, fault == 0);
@@ -414,18 +390,10 @@ static void set_up_out_of_memory(struct pciguest_board *board)
     }
     IS(count > 20, 1);
     calls_left = 1;
-    IS(config_read(board, 1, 0), 0x00011234);
+    IS(config_read(board, 0, 1, 0), 0x00011234);
     IS(pciguest_board_write(board, PCIGUEST_MEMORY, 0, 0, 0, 0, 4, 0), 0);
     IS(line(board, "host ir 0xcfc 4", reply, &written), 0);
     calls_left = -1;
-}
-
-static uint64_t seed;
-
-static uint32_t below(uint32_t count)
-{
-    seed = seed * 6364136223846793005u + 1442695040888963407u;
-    return (uint32_t)(seed >> 33) % count;
 }
 
 /* A random access on one board by a call, on another by a line: the replies are alike. */
@@ -433,13 +401,13 @@ static void access(struct pciguest_board *by_calls, struct pciguest_board *by_li
 {
     static const char *const kinds = "cim";
     static const uint32_t widths[] = {1, 2, 4, 4, 4, 3};
-    uint32_t space = below(3), width = widths[below(6)], value = below(4) == 0 ? UINT32_MAX : below(1u << 31);
+    uint32_t space = (uint32_t)below(3), width = widths[below(6)], value = (uint32_t)(below(4) == 0 ? UINT32_MAX : below(1u << 31));
     uint8_t bus = (uint8_t)below(3), device = (uint8_t)below(4);
     uint64_t place = space == 0 ? below(66) * 4 + below(8) / 7 : below(64) * 4;
     char text[80], reply[PCIGUEST_REPLY], wanted[PCIGUEST_REPLY] = "host: ok\n";
     bool reads = below(3) == 0;
     size_t written = 0;
-    uint32_t number, at = space == 0 ? 0 : below(3);
+    uint32_t number, at = space == 0 ? 0 : (uint32_t)below(3);
 
     place = at == 1 ? 0xcf8 + below(8) : at == 2 ? 0xc0000000 + place : place;
     if (space == 0)
@@ -464,12 +432,8 @@ static void access(struct pciguest_board *by_calls, struct pciguest_board *by_li
 int main(int argc, char **argv)
 {
     struct pciguest_board board = {0}, other = {0};
-    FILE *stream = argc == 4 ? fopen(argv[1], "rb") : NULL;
 
-    if (!stream)
-        return 2;
-    length = fread(file, 1, sizeof file, stream);
-    fclose(stream);
+    begin(argc, argv, 3);
     without_a_board();
     IS(pciguest_board_new(&board, "x", 1), 101);
     IS(board.live, 0);
@@ -491,11 +455,10 @@ int main(int argc, char **argv)
     pciguest_board_free(&board);
     IS(pciguest_board_new(&board, file, length), 0);
     IS(pciguest_board_new(&other, file, length), 0);
-    seed = strtoull(argv[3], NULL, 10);
-    for (uint64_t count = strtoull(argv[2], NULL, 10); count != 0; count--)
+    for (uint64_t left = times; left > 0; left--)
         access(&board, &other);
     pciguest_board_free(&board);
     pciguest_board_free(&other);
     IS((uint64_t)blocks, 0);
-    return wrong;
+    return wrong != 0;
 }

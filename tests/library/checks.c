@@ -3,27 +3,19 @@
  *
  *     checks BOARD
  */
-#include "pciguest.h"
-
-#include <stdio.h>
-#include <stdlib.h>
+#include "testing.h"
 
 int main(int argc, char **argv)
 {
-    static uint8_t board[1 << 20];
-    FILE *file = argc == 2 ? fopen(argv[1], "rb") : NULL;
-    size_t length, needed = 0;
+    size_t needed = 0;
     uint32_t number;
     char *text;
 
-    if (!file)
-        return 2;
-    length = fread(board, 1, sizeof board, file);
-    fclose(file);
-    if (pciguest_check(board, length, NULL, 0, &needed) != PCIGUEST_ARGUMENT)
+    begin(argc, argv, 1);
+    if (pciguest_check(file, length, NULL, 0, &needed) != PCIGUEST_ARGUMENT)
         return 2;
     text = calloc(needed, 1);
-    number = pciguest_check(board, length, text, needed, &needed);
+    number = pciguest_check(file, length, text, needed, &needed);
     fwrite(text, 1, needed, stdout);
     free(text);
     if (number != 0)

@@ -3,33 +3,12 @@
  *
  *     devices BOARD COUNT SEED
  */
-#include "pciguest.h"
-
-#include <inttypes.h>
-#include <stdio.h>
-#include <stdlib.h>
-
-/* a byte of a device, by the calls that programs of 0.3.0 make */
-uint32_t pciguest_raw_device_read(struct pciguest *machine, size_t guest, uint64_t slot, uint32_t part, uint64_t offset,
-                                  uint32_t *value);
-uint32_t pciguest_raw_device_write(struct pciguest *machine, size_t guest, uint64_t slot, uint32_t part, uint64_t offset,
-                                   uint8_t value);
+#include "testing.h"
 
 struct place {
     uint64_t slot, offset;
     uint32_t part, width;
 };
-
-static uint64_t state;
-
-/* xorshift64 */
-static uint64_t below(uint64_t n)
-{
-    state ^= state << 13;
-    state ^= state >> 7;
-    state ^= state << 17;
-    return state % n;
-}
 
 /* Mostly at an edge of what the device has: Status, 40h to FFh, and regions of 32 bytes and of 4096. */
 static uint64_t any_offset(void)
@@ -38,7 +17,7 @@ static uint64_t any_offset(void)
 
     if (below(40) == 0)
         return UINT64_MAX - below(12);
-    return below(4) ? edges[below(sizeof edges / sizeof *edges)] + below(16) - 8 : below(0x120);
+    return below(4) ? edges[below(COUNT_OF(edges))] + below(16) - 8 : below(0x120);
 }
 
 /* What a read is to answer, byte by byte of another machine. */
@@ -71,57 +50,46 @@ static uint32_t write_bytes(struct pciguest *machine, struct place at, uint64_t 
     return number;
 }
 
-static bool is_alike(struct pciguest *wide, struct pciguest *bytes)
+static void ask(struct pciguest *wide, struct pciguest *bytes)
 {
     struct place at = {below(20) ? below(3) : 32, any_offset(), (uint32_t)below(7), (uint32_t)below(10)};
     uint64_t value = below(UINT64_MAX), other = value;
     bool is_write = below(2);
     uint32_t number = is_write ? pciguest_device_write_wide(wide, 0, at.slot, at.part, at.offset, at.width, value)
                                : pciguest_device_read_wide(wide, 0, at.slot, at.part, at.offset, at.width, &value);
-    uint32_t wanted = is_write ? write_bytes(bytes, at, other) : read_bytes(bytes, at, &other);
 
-    if (number == wanted && value == other)
-        return true;
-    printf("slot %" PRIu64 " part %" PRIu32 " offset 0x%" PRIx64 " width %" PRIu32 "%s: %" PRIu32 " 0x%" PRIx64
-           ", and not %" PRIu32 " 0x%" PRIx64 "\n", at.slot, at.part, at.offset, at.width, is_write ? " write" : "",
-           number, value, wanted, other);
-    return false;
+    IS(number, is_write ? write_bytes(bytes, at, other) : read_bytes(bytes, at, &other));
+    IS(value, other);
+    if (wrong)
+        fprintf(stderr, "%s of slot %" PRIu64 " part %" PRIu32 " offset 0x%" PRIx64 " width %" PRIu32 "\n",
+                is_write ? "write" : "read", at.slot, at.part, at.offset, at.width);
 }
 
 /* All bytes that the devices of both machines have are the same. */
-static bool are_same(struct pciguest *wide, struct pciguest *bytes)
+static void compare(struct pciguest *wide, struct pciguest *bytes)
 {
     for (uint64_t slot = 0; slot < 3; slot++)
         for (uint32_t part = 0; part < 7; part++)
             for (uint64_t offset = 0; offset < 4200; offset++) {
                 uint32_t one = 0, other = 0;
-                uint32_t number = pciguest_raw_device_read(wide, 0, slot, part, offset, &one);
 
-                if (number != pciguest_raw_device_read(bytes, 0, slot, part, offset, &other) || one != other)
-                    return false;
+                IS(pciguest_raw_device_read(wide, 0, slot, part, offset, &one),
+                   pciguest_raw_device_read(bytes, 0, slot, part, offset, &other));
+                IS(one, other);
             }
-    return true;
 }
 
 int main(int argc, char **argv)
 {
-    static uint8_t board[1 << 20];
     struct pciguest wide = PCIGUEST_INIT, bytes = PCIGUEST_INIT;
-    FILE *file = argc == 4 ? fopen(argv[1], "rb") : NULL;
-    bool is_well = true;
-    size_t length;
 
-    if (!file)
-        return 2;
-    length = fread(board, 1, sizeof board, file);
-    fclose(file);
-    if (pciguest_new(&wide, board, length) || pciguest_new(&bytes, board, length))
-        return 2;
-    state = strtoull(argv[3], NULL, 10) * 0x9e3779b97f4a7c15;
-    for (unsigned long left = strtoul(argv[2], NULL, 10); left && is_well; left--)
-        is_well = is_alike(&wide, &bytes);
-    is_well = is_well && are_same(&wide, &bytes);
+    begin(argc, argv, 3);
+    IS(pciguest_new(&wide, file, length), 0);
+    IS(pciguest_new(&bytes, file, length), 0);
+    for (uint64_t left = times; left && !wrong; left--)
+        ask(&wide, &bytes);
+    compare(&wide, &bytes);
     pciguest_free(&wide);
     pciguest_free(&bytes);
-    return !is_well;
+    return wrong != 0;
 }

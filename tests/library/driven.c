@@ -5,38 +5,14 @@
  *
  * BOARD is boards/main.toml.
  */
-#include "pciguest.h"
-
-#include <inttypes.h>
-#include <stdio.h>
-#include <stdlib.h>
-#include <string.h>
+#include "testing.h"
 
 enum { FUNCTIONS = 4, BRIDGE = 1 };
 
 static const char *const paths[FUNCTIONS] = {"1.0", "2.0", "2.0/0.0", "2.0/1.0"};
-static uint64_t state;
-static int wrong;
-
-/* xorshift64 */
-static uint64_t below(uint64_t n)
-{
-    state ^= state << 13;
-    state ^= state >> 7;
-    state ^= state << 17;
-    return state % n;
-}
-
-static void is(int line, uint64_t found, uint64_t wanted)
-{
-    if (found != wanted && !wrong++)
-        fprintf(stderr, "driven.c:%d: 0x%" PRIx64 " in place of 0x%" PRIx64 "\n", line, found, wanted);
-}
-
-#define IS(found, wanted) is(__LINE__, (found), (wanted))
 
 /* What firmware reads of a function by its number. */
-static uint64_t config(struct pciguest_board *board, const struct pciguest_function *row, uint64_t offset,
+static uint64_t header(struct pciguest_board *board, const struct pciguest_function *row, uint64_t offset,
                        uint32_t width)
 {
     uint32_t value = 0;
@@ -50,8 +26,8 @@ static void compare_bars(struct pciguest_board *board, const struct pciguest_fun
 {
     for (uint32_t n = 0; n < PCIGUEST_BARS; n++) {
         const struct pciguest_bar *bar = &row->regions[n];
-        uint64_t low = config(board, row, 0x10 + 4 * n, 4);
-        uint64_t high = bar->is_64_bit ? config(board, row, 0x14 + 4 * n, 4) : 0;
+        uint64_t low = header(board, row, 0x10 + 4 * n, 4);
+        uint64_t high = bar->is_64_bit ? header(board, row, 0x14 + 4 * n, 4) : 0;
 
         if (bar->size == 0) {
             IS(bar->first | bar->space | bar->prefetchable | bar->is_64_bit, 0);
@@ -76,11 +52,11 @@ static void compare_window(const struct pciguest_window *window, uint64_t base, 
 /* The bridge of the board has no window of memory that isn't prefetched but by its register, which every bridge has. */
 static void compare_windows(struct pciguest_board *board, const struct pciguest_function *row)
 {
-    uint64_t high = config(board, row, 0x28, 4) << 12, top = config(board, row, 0x2c, 4) << 12;
+    uint64_t high = header(board, row, 0x28, 4) << 12, top = header(board, row, 0x2c, 4) << 12;
 
-    compare_window(&row->windows[0], config(board, row, 0x1c, 1) >> 4, config(board, row, 0x1d, 1) >> 4, 0x1000);
-    compare_window(&row->windows[1], config(board, row, 0x20, 2) >> 4, config(board, row, 0x22, 2) >> 4, 0x100000);
-    compare_window(&row->windows[2], high | config(board, row, 0x24, 2) >> 4, top | config(board, row, 0x26, 2) >> 4,
+    compare_window(&row->windows[0], header(board, row, 0x1c, 1) >> 4, header(board, row, 0x1d, 1) >> 4, 0x1000);
+    compare_window(&row->windows[1], header(board, row, 0x20, 2) >> 4, header(board, row, 0x22, 2) >> 4, 0x100000);
+    compare_window(&row->windows[2], high | header(board, row, 0x24, 2) >> 4, top | header(board, row, 0x26, 2) >> 4,
                    0x100000);
 }
 
@@ -98,12 +74,12 @@ static void compare(struct pciguest_board *board, size_t index)
     IS(row->is_given | row->guest | row->slot, 0);
     IS(row->vendor_id, 0x1234);
     IS(row->device_id, index + 1);
-    ids = (uint32_t)config(board, row, 0, 4);
+    ids = (uint32_t)header(board, row, 0, 4);
     IS(ids == (row->device_id << 16 | row->vendor_id), told.is_found);
     if (!told.is_found)
         return;
-    IS(told.opens_io, config(board, row, 4, 2) & 1);
-    IS(told.opens_memory, config(board, row, 4, 2) >> 1 & 1);
+    IS(told.opens_io, header(board, row, 4, 2) & 1);
+    IS(told.opens_memory, header(board, row, 4, 2) >> 1 & 1);
     if (row->is_bridge)
         compare_windows(board, row);
     else
@@ -136,21 +112,15 @@ static void asking_keeps_config_address(struct pciguest_board *board)
 
 int main(int argc, char **argv)
 {
-    static uint8_t file[65536];
     struct pciguest_board board = PCIGUEST_BOARD_INIT;
-    FILE *input = argc == 4 ? fopen(argv[1], "rb") : NULL;
-    size_t length, count = 0;
+    size_t count = 0;
 
-    if (!input)
-        return 2;
-    length = fread(file, 1, sizeof file, input);
-    fclose(input);
-    state = strtoull(argv[3], NULL, 10) * 0x9e3779b97f4a7c15u + 1;
+    begin(argc, argv, 3);
     IS(pciguest_board_new(&board, file, length), 0);
     IS(pciguest_board_count(&board, &count), 0);
     IS(count, FUNCTIONS);
     asking_keeps_config_address(&board);
-    for (uint64_t left = strtoull(argv[2], NULL, 10); left > 0; left--) {
+    for (uint64_t left = times; left > 0; left--) {
         for (size_t index = 0; index < FUNCTIONS; index++)
             compare(&board, index);
         write_register(&board);

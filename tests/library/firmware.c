@@ -3,9 +3,7 @@
  *
  *     firmware BOARD
  */
-#include "pciguest.h"
-
-#include <stdio.h>
+#include "testing.h"
 
 static struct pciguest_board board = PCIGUEST_BOARD_INIT;
 
@@ -25,13 +23,10 @@ static uint32_t get(uint32_t space, uint8_t bus, uint8_t device, uint64_t place)
 
 int main(int argc, char **argv)
 {
-    static uint8_t file[65536];
-    FILE *stream = argc == 2 ? fopen(argv[1], "rb") : NULL;
     uint32_t size;
 
-    if (!stream || pciguest_board_new(&board, file, fread(file, 1, sizeof file, stream)))
-        return 2;
-    fclose(stream);
+    begin(argc, argv, 1);
+    IS(pciguest_board_new(&board, file, length), 0);
     printf("nothing is behind the bridge yet: %08x\n", get(PCIGUEST_CONFIG, 1, 1, 0));
     set(0, 0x18, 4, 0x00010100); /* the bridge's buses: 0 above, 1 behind it */
     printf("it is found: %08x\n", get(PCIGUEST_CONFIG, 1, 1, 0));

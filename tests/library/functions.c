@@ -5,37 +5,14 @@
  *
  * BOARD is boards/main.toml.
  */
-#include "pciguest.h"
+#include "testing.h"
 
-#include <inttypes.h>
 #include <stddef.h>
-#include <stdio.h>
-#include <stdlib.h>
-#include <string.h>
 
 enum { GUESTS = 2, SLOTS = 32, FUNCTIONS = 4 };
 
 static const char *const paths[FUNCTIONS] = {"1.0", "2.0", "2.0/0.0", "2.0/1.0"};
 static struct pciguest_function rows[FUNCTIONS];
-static uint64_t state;
-static int wrong;
-
-/* xorshift64 */
-static uint64_t below(uint64_t n)
-{
-    state ^= state << 13;
-    state ^= state >> 7;
-    state ^= state << 17;
-    return state % n;
-}
-
-static void is(int line, uint64_t found, uint64_t wanted)
-{
-    if (found != wanted && !wrong++)
-        fprintf(stderr, "functions.c:%d: 0x%" PRIx64 " in place of 0x%" PRIx64 "\n", line, found, wanted);
-}
-
-#define IS(found, wanted) is(__LINE__, (found), (wanted))
 
 /* What the host reads of a function by its number. */
 static uint64_t host(struct pciguest *machine, const struct pciguest_function *row, uint64_t offset, uint32_t width)
@@ -225,19 +202,12 @@ static void event(struct pciguest *machine)
 
 int main(int argc, char **argv)
 {
-    static uint8_t board[65536];
     struct pciguest machine = PCIGUEST_INIT;
-    FILE *file = argc == 4 ? fopen(argv[1], "rb") : NULL;
-    size_t length;
 
-    if (!file)
-        return 2;
-    length = fread(board, 1, sizeof board, file);
-    fclose(file);
-    state = strtoull(argv[3], NULL, 10) * 0x9e3779b97f4a7c15u + 1;
-    IS(pciguest_new(&machine, board, length), 0);
+    begin(argc, argv, 3);
+    IS(pciguest_new(&machine, file, length), 0);
     ask(&machine);
-    for (uint64_t left = strtoull(argv[2], NULL, 10); left > 0; left--) {
+    for (uint64_t left = times; left > 0; left--) {
         event(&machine);
         ask(&machine);
     }

@@ -5,38 +5,7 @@
  *
  * BOARD is boards/main.toml. It is linked with --wrap for malloc, realloc and free. The exit status is 1
  * where an answer is wrong, or memory is lost. */
-#include "pciguest.h"
 #include "refusing.h"
-
-#include <string.h>
-
-static uint8_t file[65536];
-static size_t length;
-
-static uint32_t config_read(struct pciguest_board *board, uint8_t bus, uint8_t device, uint64_t offset)
-{
-    uint32_t value = 7;
-
-    IS(pciguest_board_read(board, PCIGUEST_CONFIG, bus, device, 0, offset, 4, &value), 0);
-    return value;
-}
-
-/* The bridge of the main board is numbered and forwards what is behind it, each region has a place, and each function
- * but the last answers there. */
-static void set_up_by_hand(struct pciguest_board *board)
-{
-    static const struct {
-        uint8_t bus, device;
-        uint64_t offset;
-        uint32_t value;
-    } writes[] = {{0, 1, 0x10, 0x1000}, {0, 1, 0x14, 0xd0000000}, {0, 1, 4, 3}, {0, 2, 0x18, 0x00010100},
-                  {0, 2, 0x1c, 0x3030}, {0, 2, 0x20, 0xd110d110}, {0, 2, 0x24, 0xd2f0d200}, {0, 2, 4, 3},
-                  {1, 0, 0x10, 0xd1100000}, {1, 0, 0x14, 0x3010}, {1, 0, 4, 3}, {1, 1, 0x10, 0xd2000000}};
-
-    for (size_t i = 0; i < sizeof writes / sizeof writes[0]; i++)
-        IS(pciguest_board_write(board, PCIGUEST_CONFIG, writes[i].bus, writes[i].device, 0, writes[i].offset, 4,
-                                writes[i].value), 0);
-}
 
 /* What is asked of two machines is answered alike, whoever set their boards up. */
 static void told_alike(struct pciguest *machine, struct pciguest *other)
@@ -46,7 +15,7 @@ static void told_alike(struct pciguest *machine, struct pciguest *other)
         "a cw 1 0x10 4 0x90000000", "a cw 1 4 2 2", "a mr 0x90000000 4", "b cr 0 0 4", "b cr 0 0x10 4", "b cr 1 0 4",
         "b iw 0xcf8 4 0x80000000", "b ir 0xcfc 4", "a raise 0 6 7 0x80", "a cr 0 6 2", "host move a 0 b 3", "b cr 3 4 4"};
 
-    for (size_t i = 0; i < sizeof lines / sizeof lines[0]; i++) {
+    for (size_t i = 0; i < COUNT_OF(lines); i++) {
         char reply[PCIGUEST_REPLY] = {0}, wanted[PCIGUEST_REPLY] = {0};
         size_t written = 0, length_wanted = 1;
 
@@ -87,9 +56,7 @@ static void given(struct pciguest_board *board, struct pciguest *machine)
         IS(pciguest_board_read(board, PCIGUEST_MEMORY, 0, 0, 0, 0xd0000004, 4, &value), 0);
         IS(value, 0x600d600d);
         IS((uint64_t)blocks, (uint64_t)before);
-        calls_left = count + 1;
-        fault = pciguest_board_guests(board, machine);
-        calls_left = -1;
+        fault = FAILING(count + 1, pciguest_board_guests(board, machine));
         if (fault != 0)
             IS(fault, 299);
         IS(machine->live, fault == 0);
@@ -130,9 +97,7 @@ static void handed_over_by_a_line(struct pciguest_board *board)
     for (; fault != 0; count++) {
         IS(config_read(board, 1, 1, 0x10), 0xd200000c);
         IS((uint64_t)blocks, (uint64_t)before);
-        calls_left = count + 1;
-        fault = line(board, "host guests", reply, sizeof reply, &written);
-        calls_left = -1;
+        fault = FAILING(count + 1, line(board, "host guests", reply, sizeof reply, &written));
         if (fault != 0)
             IS(fault, 299);
     }
@@ -170,8 +135,7 @@ static void given_by_a_line(void)
     IS(board.live, 0);
     IS(value, 9);
     IS(count, 8);
-    IS(pciguest_read(&machine, 0, PCIGUEST_CONFIG, 1, 4, 2, &value), 0);
-    IS(value, 2);
+    IS(config(&machine, 0, 1, 4, 2), 2);
     pciguest_free(&machine);
     handed_over_by_a_line(&board);
     pciguest_board_free(&board);
@@ -182,13 +146,9 @@ int main(int argc, char **argv)
 {
     struct pciguest_board board = PCIGUEST_BOARD_INIT;
     struct pciguest machine = PCIGUEST_INIT, other = PCIGUEST_INIT;
-    FILE *stream = argc == 2 ? fopen(argv[1], "rb") : NULL;
     uint32_t value = 7;
 
-    if (!stream)
-        return 2;
-    length = fread(file, 1, sizeof file, stream);
-    fclose(stream);
+    begin(argc, argv, 1);
     IS(pciguest_board_new(&board, file, length), 0);
     refused(&board, &machine);
     given(&board, &machine);
@@ -203,5 +163,5 @@ int main(int argc, char **argv)
     pciguest_board_free(&board);
     given_by_a_line();
     IS((uint64_t)blocks, 0);
-    return wrong;
+    return wrong != 0;
 }

@@ -4,64 +4,9 @@
  *
  *     images BOARD COUNT SEED
  */
-#include "pciguest.h"
+#include "images.h"
 
-#include <inttypes.h>
-#include <stdio.h>
-#include <stdlib.h>
-#include <string.h>
-
-enum { GUESTS = 2, SLOTS = 32, ROOM = 1 << 12 };
-
-struct image {
-    uint8_t bytes[ROOM];
-    size_t size;
-};
-
-static uint64_t state;
-static int wrong;
-
-/* xorshift64 */
-static uint64_t below(uint64_t n)
-{
-    state ^= state << 13;
-    state ^= state >> 7;
-    state ^= state << 17;
-    return state % n;
-}
-
-static void is(int line, uint64_t found, uint64_t wanted)
-{
-    if (found != wanted && !wrong++)
-        fprintf(stderr, "images.c:%d: 0x%" PRIx64 " in place of 0x%" PRIx64 "\n", line, found, wanted);
-}
-
-#define IS(found, wanted) is(__LINE__, (found), (wanted))
-
-/* ---- images */
-
-/* Saves a guest, after a try with one byte too few. */
-static void save(struct pciguest *machine, size_t guest, struct image *image)
-{
-    size_t needed = 0, again = 0;
-
-    memset(image->bytes, 0x5a, ROOM);
-    IS(pciguest_save(machine, guest, NULL, 0, &image->size), 902);
-    IS(image->size > 0 && image->size <= ROOM, 1);
-    IS(pciguest_save(machine, guest, image->bytes, image->size - 1, &needed), 902);
-    IS(needed, image->size);
-    for (size_t i = 0; i < ROOM; i++)
-        IS(image->bytes[i], 0x5a);
-    IS(pciguest_save(machine, guest, image->bytes, below(2) ? image->size : ROOM, &again), 0);
-    IS(again, image->size);
-    for (size_t i = image->size; i < ROOM; i++)
-        IS(image->bytes[i], 0x5a);
-}
-
-static bool are_same(const struct image *one, const struct image *other)
-{
-    return one->size == other->size && memcmp(one->bytes, other->bytes, one->size) == 0;
-}
+enum { GUESTS = 2, SLOTS = 32 };
 
 /* The next bytes of an image, as a number. */
 static uint64_t number(const struct image *image, size_t *at, size_t bytes)
@@ -83,7 +28,7 @@ struct at_slot {
     uint64_t slot;
 };
 
-static uint64_t config(const struct at_slot *of, uint64_t offset, uint32_t width)
+static uint64_t shown(const struct at_slot *of, uint64_t offset, uint32_t width)
 {
     uint64_t value = 0;
 
@@ -93,14 +38,14 @@ static uint64_t config(const struct at_slot *of, uint64_t offset, uint32_t width
 
 static void compare_identity(const struct at_slot *of, const struct image *image, size_t *at)
 {
-    IS(number(image, at, 2), config(of, 0x00, 2));
-    IS(number(image, at, 2), config(of, 0x02, 2));
-    IS(number(image, at, 1), config(of, 0x08, 1));
-    IS(number(image, at, 3), config(of, 0x09, 3));
-    IS(number(image, at, 2), config(of, 0x2c, 2));
-    IS(number(image, at, 2), config(of, 0x2e, 2));
+    IS(number(image, at, 2), shown(of, 0x00, 2));
+    IS(number(image, at, 2), shown(of, 0x02, 2));
+    IS(number(image, at, 1), shown(of, 0x08, 1));
+    IS(number(image, at, 3), shown(of, 0x09, 3));
+    IS(number(image, at, 2), shown(of, 0x2c, 2));
+    IS(number(image, at, 2), shown(of, 0x2e, 2));
     for (uint64_t offset = 0x3d; offset <= 0x3f; offset++)
-        IS(number(image, at, 1), config(of, offset, 1));
+        IS(number(image, at, 1), shown(of, offset, 1));
     (void)number(image, at, 2); /* Status at reset */
 }
 
@@ -108,7 +53,7 @@ static void compare_identity(const struct at_slot *of, const struct image *image
 static void compare_config(const struct at_slot *of, const struct image *image, size_t *at, uint64_t first, uint64_t count)
 {
     for (uint64_t offset = first; offset < first + count; offset++)
-        IS(number(image, at, 1), config(of, offset, 1));
+        IS(number(image, at, 1), shown(of, offset, 1));
 }
 
 struct region {
@@ -183,7 +128,7 @@ static void compare(struct pciguest *machine, size_t guest, const struct image *
         struct at_slot of = {machine, guest, slot};
         uint64_t is_filled = number(image, &at, 1);
 
-        IS(is_filled, config(&of, 0, 4) != UINT32_MAX);
+        IS(is_filled, shown(&of, 0, 4) != UINT32_MAX);
         if (is_filled)
             compare_function(&of, image, &at);
     }
@@ -192,29 +137,16 @@ static void compare(struct pciguest *machine, size_t guest, const struct image *
 
 /* ---- events */
 
-/* An event of a guest or of its device at random, or at times a move. */
+/* An event of a guest or of its device at random, or at times a reset or a move. */
 static void event(struct pciguest *machine)
 {
     size_t guest = below(GUESTS);
     uint64_t slot = below(3);
-    uint32_t value = (uint32_t)below(UINT32_MAX), part = (uint32_t)below(7);
 
-    switch (below(8)) {
-    case 0:
-        (void)pciguest_write(machine, guest, PCIGUEST_IO, 0, 0xcf8, 4, value);
-        break;
-    case 1:
-        (void)pciguest_raise(machine, guest, slot, part, below(0x100), (uint8_t)value);
-        break;
-    case 2:
-        (void)pciguest_device_write_wide(machine, guest, slot, part, below(2) ? 6 : below(0x60), 2, value);
-        break;
-    case 3:
+    if (below(8))
+        any_event(machine, guest, slot);
+    else
         (void)(below(20) ? pciguest_reset(machine, guest, slot) : pciguest_move(machine, guest, slot, below(GUESTS), below(3)));
-        break;
-    default:
-        (void)pciguest_write(machine, guest, PCIGUEST_CONFIG, slot, 4 * below(0x18), 4, value);
-    }
 }
 
 /* A guest at reset is as one of which each function was reset, with nothing in its address latch; it was counted once, and
@@ -339,20 +271,13 @@ static void spoil(struct pciguest *machine, size_t guest)
 
 int main(int argc, char **argv)
 {
-    static uint8_t board[1 << 20];
     static struct image image;
     struct pciguest machines[2] = {PCIGUEST_INIT, PCIGUEST_INIT};
-    FILE *file = argc == 4 ? fopen(argv[1], "rb") : NULL;
-    size_t length;
 
-    if (!file)
-        return 2;
-    length = fread(board, 1, sizeof board, file);
-    fclose(file);
-    state = strtoull(argv[3], NULL, 10) * 0x9e3779b97f4a7c15u + 1;
+    begin(argc, argv, 3);
     for (int n = 0; n < 2; n++)
-        IS(pciguest_new(&machines[n], board, length), 0);
-    for (uint64_t left = strtoull(argv[2], NULL, 10); left > 0 && !wrong; left--) {
+        IS(pciguest_new(&machines[n], file, length), 0);
+    for (uint64_t left = times; left > 0 && !wrong; left--) {
         struct pciguest *machine = &machines[below(2)];
         size_t guest = below(GUESTS);
 

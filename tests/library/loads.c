@@ -9,12 +9,8 @@
  * BOARD has two guests. The machine is loaded once for ten guests. The last two lines tell how many guests and machines were
  * loaded, and how many images were refused. */
 #define _DEFAULT_SOURCE
-#include "pciguest.h"
+#include "images.h"
 
-#include <inttypes.h>
-#include <stdio.h>
-#include <stdlib.h>
-#include <string.h>
 #include <sys/mman.h>
 #include <unistd.h>
 
@@ -25,26 +21,6 @@ struct room {
     uint8_t *end;
     size_t size;
 };
-
-static uint64_t state;
-static int wrong;
-
-/* xorshift64 */
-static uint64_t below(uint64_t n)
-{
-    state ^= state << 13;
-    state ^= state >> 7;
-    state ^= state << 17;
-    return state % n;
-}
-
-static void is(int line, uint64_t found, uint64_t wanted)
-{
-    if (found != wanted && !wrong++)
-        fprintf(stderr, "loads.c:%d: 0x%" PRIx64 " in place of 0x%" PRIx64 "\n", line, found, wanted);
-}
-
-#define IS(found, wanted) is(__LINE__, (found), (wanted))
 
 static struct room room_of(size_t size)
 {
@@ -60,33 +36,13 @@ static struct room room_of(size_t size)
 
 /* ---- what is saved */
 
-static size_t size_of(struct pciguest *machine, size_t guest)
-{
-    size_t size = 0;
-
-    IS(pciguest_save(machine, guest, NULL, 0, &size), 902);
-    return size;
-}
-
-/* Saves a guest to the end of a room, and gives the image's first byte. */
-static uint8_t *save(struct pciguest *machine, size_t guest, const struct room *room)
+/* Saves a guest or the machine to the end of a room, and gives the image's first byte. */
+static uint8_t *save_at_end(struct pciguest *machine, size_t guest, const struct room *room)
 {
     size_t size = size_of(machine, guest), needed = 0;
 
     IS(size <= room->size, 1);
-    IS(pciguest_save(machine, guest, room->end - size, size, &needed), 0);
-    IS(needed, size);
-    return room->end - size;
-}
-
-/* The same of the machine. */
-static uint8_t *save_all(struct pciguest *machine, const struct room *room)
-{
-    size_t size = 0, needed = 0;
-
-    IS(pciguest_image_size_all(machine, &size), 0);
-    IS(size <= room->size, 1);
-    IS(pciguest_save_all(machine, room->end - size, size, &needed), 0);
+    IS(save_to(machine, guest, room->end - size, size, &needed), 0);
     IS(needed, size);
     return room->end - size;
 }
@@ -136,21 +92,11 @@ static void event(struct pciguest *machine)
 {
     size_t guest = below(GUESTS);
     uint64_t slot = below(3);
-    uint32_t value = (uint32_t)below(UINT32_MAX);
 
-    switch (below(6)) {
-    case 0:
-        (void)pciguest_write(machine, guest, PCIGUEST_IO, 0, 0xcf8, 4, value);
-        break;
-    case 1:
-        (void)pciguest_device_write_wide(machine, guest, slot, (uint32_t)below(7), below(0x60), 2, value);
-        break;
-    case 2:
+    if (below(6))
+        any_event(machine, guest, slot);
+    else
         (void)(below(40) ? pciguest_reset(machine, guest, slot) : pciguest_move(machine, guest, slot, below(GUESTS), below(3)));
-        break;
-    default:
-        (void)pciguest_write(machine, guest, PCIGUEST_CONFIG, slot, 4 * below(0x18), 4, value);
-    }
 }
 
 /* How many images were loaded, and refused by 905, 906, 907 and 908. */
@@ -168,8 +114,8 @@ static void add(struct counts *counts, uint32_t number, uint32_t last)
 static void load(struct pciguest *machine, const struct room rooms[3], struct counts *counts)
 {
     size_t guest = below(GUESTS), other = 1 - guest, size = size_of(machine, guest), length;
-    uint8_t *held = save(machine, guest, &rooms[0]), *image = save(machine, below(8) ? guest : other, &rooms[1]);
-    uint8_t *beside = save(machine, other, &rooms[2]);
+    uint8_t *held = save_at_end(machine, guest, &rooms[0]), *beside = save_at_end(machine, other, &rooms[2]);
+    uint8_t *image = save_at_end(machine, below(8) ? guest : other, &rooms[1]);
     uint64_t count = 0, grown = 0;
     uint32_t number;
 
@@ -184,24 +130,24 @@ static void load(struct pciguest *machine, const struct room rooms[3], struct co
         IS(length, size);
         memcpy(held, image, length < size ? length : size);
     }
-    IS(memcmp(save(machine, guest, &rooms[1]), held, size), 0);
-    IS(memcmp(save(machine, other, &rooms[1]), beside, size_of(machine, other)), 0);
+    IS(memcmp(save_at_end(machine, guest, &rooms[1]), held, size), 0);
+    IS(memcmp(save_at_end(machine, other, &rooms[1]), beside, size_of(machine, other)), 0);
     add(counts, number, PCIGUEST_OTHER_FUNCTIONS);
 }
 
 /* The same of the machine, whose functions may have come to other slots since it was saved. */
 static void load_all(struct pciguest *machine, const struct room rooms[3], struct counts *counts)
 {
-    uint8_t *image = save_all(machine, &rooms[1]), *held, *after;
+    uint8_t *image = save_at_end(machine, ALL, &rooms[1]), *held, *after;
     uint32_t number;
 
     for (uint64_t left = below(4); left > 0; left--)
         event(machine);
-    held = save_all(machine, &rooms[0]);
+    held = save_at_end(machine, ALL, &rooms[0]);
     if (below(10))
         image = change(image, &rooms[1]);
     number = pciguest_load_all(machine, image, (size_t)(rooms[1].end - image));
-    after = save_all(machine, &rooms[2]);
+    after = save_at_end(machine, ALL, &rooms[2]);
     if (number == 0)
         held = image;
     IS(rooms[2].end - after, (number == 0 ? rooms[1].end : rooms[0].end) - held);
@@ -217,28 +163,21 @@ static void tell(const char *what, const struct counts *counts)
 
 int main(int argc, char **argv)
 {
-    static uint8_t board[1 << 20];
     struct pciguest machine = PCIGUEST_INIT;
-    FILE *file = argc == 4 ? fopen(argv[1], "rb") : NULL;
     struct room rooms[3];
     struct counts guests = {0}, machines = {0};
-    size_t length, most = 0;
+    size_t most;
 
-    if (!file)
-        return 2;
-    length = fread(board, 1, sizeof board, file);
-    fclose(file);
-    state = strtoull(argv[3], NULL, 10) * 0x9e3779b97f4a7c15u + 1;
-    IS(pciguest_new(&machine, board, length), 0);
-    IS(pciguest_image_size_all(&machine, &most), 0);
-    most += MORE;
+    begin(argc, argv, 3);
+    IS(pciguest_new(&machine, file, length), 0);
+    most = size_of(&machine, ALL) + MORE;
     for (size_t i = 0; i < 3; i++)
         rooms[i] = room_of(most);
-    for (uint64_t left = strtoull(argv[2], NULL, 10); left > 0 && !wrong; left--) {
+    for (uint64_t left = times; left > 0 && !wrong; left--) {
         event(&machine);
         load(&machine, rooms, &guests);
     }
-    for (uint64_t left = strtoull(argv[2], NULL, 10) / 10; left > 0 && !wrong; left--)
+    for (uint64_t left = times / 10; left > 0 && !wrong; left--)
         load_all(&machine, rooms, &machines);
     pciguest_free(&machine);
     tell("guests", &guests);

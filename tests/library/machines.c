@@ -6,71 +6,11 @@
  *     machines BOARD COUNT SEED
  *
  * BOARD is boards/server.toml, and the last line tells how many images that were changed were loaded and refused. */
-#include "pciguest.h"
+#include "images.h"
 
-#include <inttypes.h>
-#include <stdio.h>
-#include <stdlib.h>
-#include <string.h>
+enum { GUESTS = 3, SLOTS = 4 };
 
-enum { GUESTS = 3, SLOTS = 4, ROOM = 1 << 15 };
-
-struct image {
-    uint8_t bytes[ROOM];
-    size_t size;
-};
-
-static uint8_t file[1 << 16];
-static size_t length;
-static uint64_t state, told[5]; /* of 0 and of 905 to 908 */
-static int wrong;
-
-/* xorshift64 */
-static uint64_t below(uint64_t n)
-{
-    state ^= state << 13;
-    state ^= state >> 7;
-    state ^= state << 17;
-    return state % n;
-}
-
-static void is(int line, uint64_t found, uint64_t wanted)
-{
-    if (found != wanted && !wrong++)
-        fprintf(stderr, "machines.c:%d: 0x%" PRIx64 " in place of 0x%" PRIx64 "\n", line, found, wanted);
-}
-
-#define IS(found, wanted) is(__LINE__, (found), (wanted))
-
-/* ---- images */
-
-/* Saves a machine, after a try with one byte too few. */
-static void save_all(struct pciguest *machine, struct image *image)
-{
-    size_t needed = 0, again = 0;
-
-    memset(image->bytes, 0x5a, ROOM);
-    IS(pciguest_image_size_all(machine, &image->size), 0);
-    IS(image->size > 0 && image->size <= ROOM, 1);
-    IS(pciguest_save_all(machine, image->bytes, image->size - 1, &needed), 902);
-    IS(needed, image->size);
-    for (size_t i = 0; i < ROOM; i++)
-        IS(image->bytes[i], 0x5a);
-    IS(pciguest_save_all(machine, image->bytes, below(2) ? image->size : ROOM, &again), 0);
-    IS(again, image->size);
-    for (size_t i = image->size; i < ROOM; i++)
-        IS(image->bytes[i], 0x5a);
-}
-
-static bool are_same(const struct image *one, const struct image *other)
-{
-    return one->size == other->size && memcmp(one->bytes, other->bytes, one->size) == 0;
-}
-
-static void save(struct pciguest *machine, size_t guest, struct image *image)
-{
-    IS(pciguest_save(machine, guest, image->bytes, ROOM, &image->size), 0);
-}
+static uint64_t told[5]; /* of 0 and of 905 to 908 */
 
 /* The guests' own counts, all together: each grows with a load. */
 static void counts(struct pciguest *machine, uint64_t count[GUESTS])
@@ -86,10 +26,10 @@ static uint32_t load_all(struct pciguest *machine, const struct image *image)
     uint64_t count[GUESTS] = {0}, grown[GUESTS] = {0};
     uint32_t number;
 
-    save_all(machine, &before);
+    save(machine, ALL, &before);
     counts(machine, count);
     number = pciguest_load_all(machine, image->bytes, image->size);
-    save_all(machine, &after);
+    save(machine, ALL, &after);
     counts(machine, grown);
     IS(are_same(&after, number ? &before : image), 1);
     for (size_t guest = 0; guest < GUESTS; guest++)
@@ -104,28 +44,18 @@ static void event(struct pciguest *machine)
 {
     size_t guest = below(GUESTS);
     uint64_t slot = below(SLOTS);
-    uint32_t value = (uint32_t)below(UINT32_MAX), part = (uint32_t)below(7);
     struct pciguest_function row = {.path_length = 0};
 
     switch (below(8)) {
     case 0:
-        (void)pciguest_write(machine, guest, PCIGUEST_IO, 0, 0xcf8, 4, value);
-        break;
-    case 1:
-        (void)pciguest_raise(machine, guest, slot, part, below(0x100), (uint8_t)value);
-        break;
-    case 2:
-        (void)pciguest_device_write_wide(machine, guest, slot, part, below(2) ? 6 : below(0x60), 2, value);
-        break;
-    case 3:
         (void)(below(4) ? pciguest_move(machine, guest, slot, below(GUESTS), below(SLOTS)) : pciguest_take(machine, guest, slot));
         break;
-    case 4: /* to a guest, if nobody has it */
+    case 1: /* to a guest, if nobody has it */
         IS(pciguest_function(machine, below(7), &row), 0);
         (void)pciguest_give(machine, (const char *)row.path, row.path_length, guest, slot);
         break;
     default:
-        (void)pciguest_write(machine, guest, PCIGUEST_CONFIG, slot, 4 * below(0x18), 4, value);
+        any_event(machine, guest, slot);
     }
 }
 
@@ -175,7 +105,7 @@ static void carry(struct pciguest *from, struct pciguest *to)
 {
     static struct image image, guest;
 
-    save_all(from, &image);
+    save(from, ALL, &image);
     save(from, below(GUESTS), &guest);
     IS(load_all(to, &guest), 905);
     IS(pciguest_load(to, below(GUESTS), image.bytes, image.size), 905);
@@ -190,7 +120,7 @@ static void spoil(struct pciguest *machine)
     uint64_t how = below(4);
     uint32_t number;
 
-    save_all(machine, &image);
+    save(machine, ALL, &image);
     if (how > 1) {
         image.bytes[below(image.size)] ^= (uint8_t)(1 << below(8));
         number = load_all(machine, &image);
@@ -262,7 +192,7 @@ static void firmware(void)
     size_t index = 0;
 
     IS(pciguest_new(&machine, file, length), 0);
-    save_all(&machine, &image);
+    save(&machine, ALL, &image);
     drive(&machine, &driven, NULL, 0, 0);
     IS(load_all(&driven, &image), 0);
     pciguest_free(&driven);
@@ -284,7 +214,7 @@ static void elsewhere(struct pciguest *machine)
 {
     static struct image image;
 
-    save_all(machine, &image);
+    save(machine, ALL, &image);
     meets("device = 0x0002", &image);
     meets("pin = 1", &image);
     meets("name = \"w", &image);
@@ -295,16 +225,11 @@ static void elsewhere(struct pciguest *machine)
 int main(int argc, char **argv)
 {
     struct pciguest machines[2] = {PCIGUEST_INIT, PCIGUEST_INIT};
-    FILE *stream = argc == 4 ? fopen(argv[1], "rb") : NULL;
 
-    if (!stream)
-        return 2;
-    length = fread(file, 1, sizeof file - 1, stream);
-    fclose(stream);
-    state = strtoull(argv[3], NULL, 10) * 0x9e3779b97f4a7c15u + 1;
+    begin(argc, argv, 3);
     for (int n = 0; n < 2; n++)
         IS(pciguest_new(&machines[n], file, length), 0);
-    for (uint64_t left = strtoull(argv[2], NULL, 10); left > 0 && !wrong; left--) {
+    for (uint64_t left = times; left > 0 && !wrong; left--) {
         size_t n = below(2);
 
         event(&machines[n]);

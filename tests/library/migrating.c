@@ -5,11 +5,7 @@
  *     migrating BOARD OTHER SCRIPT
  *
  * OTHER has the guests of BOARD first, with the same functions in the same slots. */
-#include "pciguest.h"
-
-#include <stdio.h>
-#include <stdlib.h>
-#include <string.h>
+#include "images.h"
 
 enum { LINES = 256, FILE_SIZE = 1 << 16 };
 
@@ -17,15 +13,6 @@ struct text {
     char bytes[FILE_SIZE];
     size_t length;
 };
-
-static int wrong;
-
-#define IS(found, wanted)                                                                                  \
-    do {                                                                                                   \
-        unsigned long long is_found = (found), is_wanted = (wanted);                                       \
-        if (is_found != is_wanted && !wrong++)                                                             \
-            fprintf(stderr, "migrating.c:%d: %llu in place of %llu\n", __LINE__, is_found, is_wanted);     \
-    } while (0)
 
 static void read_file(const char *path, struct text *text)
 {
@@ -69,53 +56,33 @@ static void arrange(struct pciguest *machine, char *const *lines, size_t count)
     }
 }
 
-/* Saves each guest of one machine, and loads it into the guest of the other. */
-static void migrate_guests(struct pciguest *from, struct pciguest *to)
+/* Saves a guest or the whole of one machine, and loads it into the other. */
+static void migrate(struct pciguest *from, struct pciguest *to, size_t guest)
 {
-    size_t guests = 0, size = 0, needed = 0, again = 0;
+    static struct image image, loaded;
 
-    IS(pciguest_guest_count(from, &guests), 0);
-    for (size_t guest = 0; guest < guests && !wrong; guest++) {
-        uint8_t *image, *loaded;
-
-        IS(pciguest_save(from, guest, NULL, 0, &size), 902);
-        image = calloc(1, size);
-        loaded = calloc(1, size);
-        if (!image || !loaded)
-            exit(2);
-        IS(pciguest_save(from, guest, image, size, &needed), 0);
-        IS(needed, size);
-        IS(pciguest_load(to, guest, image, size), 0);
-        IS(pciguest_save(to, guest, loaded, size, &again), 0);
-        IS(again, size);
-        IS(memcmp(image, loaded, size), 0);
-        free(image);
-        free(loaded);
-    }
+    save(from, guest, &image);
+    IS(load_from(to, guest, image.bytes, image.size), 0);
+    save(to, guest, &loaded);
+    IS(are_same(&image, &loaded), 1);
 }
 
-/* Saves one machine, and loads it into the other, whose guests sit elsewhere. */
+static void migrate_guests(struct pciguest *from, struct pciguest *to)
+{
+    size_t guests = 0;
+
+    IS(pciguest_guest_count(from, &guests), 0);
+    for (size_t guest = 0; guest < guests && !wrong; guest++)
+        migrate(from, to, guest);
+}
+
+/* The same of the whole machine, where the guests of the other sit elsewhere. */
 static void migrate_all(struct pciguest *from, struct pciguest *to)
 {
-    size_t size = 0, needed = 0, again = 0;
-    uint8_t *image, *loaded;
-
-    IS(pciguest_image_size_all(from, &size), 0);
-    image = calloc(1, size);
-    loaded = calloc(1, size);
-    if (!image || !loaded)
-        exit(2);
     arrange(to, NULL, 0);
     (void)pciguest_take(to, 0, 1);
     (void)pciguest_move(to, 0, 0, 0, 31);
-    IS(pciguest_save_all(from, image, size, &needed), 0);
-    IS(needed, size);
-    IS(pciguest_load_all(to, image, size), 0);
-    IS(pciguest_save_all(to, loaded, size, &again), 0);
-    IS(again, size);
-    IS(memcmp(image, loaded, size), 0);
-    free(image);
-    free(loaded);
+    migrate(from, to, ALL);
 }
 
 /* Runs a line on a machine, which replies so. */

@@ -7,12 +7,7 @@
  *
  * BOARD is boards/main.toml.
  */
-#include "pciguest.h"
-
-#include <inttypes.h>
-#include <stdio.h>
-#include <stdlib.h>
-#include <string.h>
+#include "testing.h"
 
 enum { GUESTS = 2, SLOTS = 32, REGISTERS = 6 };
 
@@ -24,33 +19,6 @@ struct answer {
 static struct answer answers[GUESTS][SLOTS][REGISTERS];
 static struct pciguest_place places[GUESTS][PCIGUEST_PLACES];
 static uint64_t counts[GUESTS];
-static uint64_t state;
-static int wrong;
-
-/* xorshift64 */
-static uint64_t below(uint64_t n)
-{
-    state ^= state << 13;
-    state ^= state >> 7;
-    state ^= state << 17;
-    return state % n;
-}
-
-static void is(int line, uint64_t found, uint64_t wanted)
-{
-    if (found != wanted && !wrong++)
-        fprintf(stderr, "queries.c:%d: 0x%" PRIx64 " in place of 0x%" PRIx64 "\n", line, found, wanted);
-}
-
-#define IS(found, wanted) is(__LINE__, (found), (wanted))
-
-static uint32_t config(struct pciguest *machine, size_t guest, uint64_t slot, uint64_t offset, uint32_t width)
-{
-    uint32_t value = 0;
-
-    IS(pciguest_read(machine, guest, PCIGUEST_CONFIG, slot, offset, width, &value), 0);
-    return value;
-}
 
 /* A region as its guest sees it by reads of configuration space alone, but for its size. */
 static void compare(struct pciguest *machine, size_t guest, uint64_t slot, uint32_t bar,
@@ -208,20 +176,13 @@ static void event(struct pciguest *machine, bool *touched)
 
 int main(int argc, char **argv)
 {
-    static uint8_t board[65536];
     struct pciguest machine = PCIGUEST_INIT;
-    FILE *file = argc == 4 ? fopen(argv[1], "rb") : NULL;
-    size_t length;
 
-    if (!file)
-        return 2;
-    length = fread(board, 1, sizeof board, file);
-    fclose(file);
-    state = strtoull(argv[3], NULL, 10) * 0x9e3779b97f4a7c15u + 1;
-    IS(pciguest_new(&machine, board, length), 0);
+    begin(argc, argv, 3);
+    IS(pciguest_new(&machine, file, length), 0);
     for (size_t guest = 0; guest < GUESTS; guest++)
         ask(&machine, guest, false);
-    for (uint64_t left = strtoull(argv[2], NULL, 10); left > 0; left--) {
+    for (uint64_t left = times; left > 0; left--) {
         bool touched[GUESTS] = {false};
 
         event(&machine, touched);

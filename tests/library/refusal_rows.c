@@ -4,12 +4,7 @@
  *     refusal_rows BOARD ROWS
  *
  * The exit status is 1 if a call returns another number. */
-#include "pciguest.h"
-
-#include <inttypes.h>
-#include <stdio.h>
-#include <stdlib.h>
-#include <string.h>
+#include "images.h"
 
 /* What calls would store, and what it is before and after each call. */
 static union {
@@ -86,15 +81,14 @@ static uint32_t asked(struct pciguest *m, struct pciguest_board *b, const char *
     exit(2);
 }
 
-/* Makes the calls of all rows; `wanted` replaces their numbers unless it is 0. Returns how many are answered otherwise, and counts
- * the rows. */
-static int all_asked(FILE *rows, struct pciguest *machine, struct pciguest_board *board, uint32_t wanted, int *count)
+/* Makes the calls of all rows; `wanted` replaces their numbers unless it is 0. Returns how many rows there are. */
+static int all_asked(FILE *rows, struct pciguest *machine, struct pciguest_board *board, uint32_t wanted)
 {
     char line[256];
-    int wrong = 0;
+    int count = 0;
 
     rewind(rows);
-    for (*count = 0; fgets(line, sizeof line, rows);) {
+    while (fgets(line, sizeof line, rows)) {
         const char *words[9] = {"", "", "", "", "", "", "", "", ""};
         size_t found = 0;
         uint32_t number, answer;
@@ -103,7 +97,7 @@ static int all_asked(FILE *rows, struct pciguest *machine, struct pciguest_board
             words[found++] = word;
         if (!found)
             continue;
-        ++*count;
+        count++;
         if (wanted && (!strcmp(words[1], "read_wide") || !strcmp(words[1], "write_wide")))
             continue; /* they are split before a call is made */
         number = wanted ? wanted : (uint32_t)number_of(words[0]);
@@ -114,37 +108,37 @@ static int all_asked(FILE *rows, struct pciguest *machine, struct pciguest_board
                 words[3], words[4], answer, number);
         wrong++;
     }
-    return wrong;
+    return count;
 }
 
 int main(int argc, char **argv)
 {
-    static uint8_t file[65536], before[1 << 14], after[1 << 14];
-    FILE *source = argc == 3 ? fopen(argv[1], "rb") : NULL, *rows = argc == 3 ? fopen(argv[2], "r") : NULL;
+    static struct image before, after;
+    FILE *rows = argc == 3 ? fopen(argv[2], "r") : NULL;
     struct pciguest machine = PCIGUEST_INIT, other = PCIGUEST_INIT;
     struct pciguest_board board = PCIGUEST_BOARD_INIT;
-    size_t length, size = 0, again = 0;
     uint64_t changes = 1;
-    int wrong, count = 0;
+    int count;
 
-    if (!source || !rows)
+    begin(argc, argv, 2);
+    if (!rows)
         return 2;
-    length = fread(file, 1, sizeof file, source);
     memset(&untouched, 0x5a, sizeof untouched);
     out = untouched;
-    wrong = all_asked(rows, &machine, &board, PCIGUEST_NO_MACHINE, &count);
-    if (pciguest_new(&machine, file, length) || pciguest_board_new(&board, file, length) ||
-        pciguest_save_all(&machine, before, sizeof before, &size))
-        return 2;
-    wrong += all_asked(rows, &machine, &board, 0, &count);
+    all_asked(rows, &machine, &board, PCIGUEST_NO_MACHINE);
+    IS(pciguest_new(&machine, file, length), 0);
+    IS(pciguest_board_new(&board, file, length), 0);
+    save(&machine, ALL, &before);
+    count = all_asked(rows, &machine, &board, 0);
     /* nothing has changed: neither the machine, nor where its regions are, nor the board, which is at reset */
-    wrong += pciguest_save_all(&machine, after, sizeof after, &again) || again != size || memcmp(before, after, size);
-    wrong += pciguest_changed(&machine, 0, &changes) || changes;
-    wrong += pciguest_set_up(&board, &other) != 0;
+    save(&machine, ALL, &after);
+    IS(are_same(&before, &after), 1);
+    IS(pciguest_changed(&machine, 0, &changes), 0);
+    IS(changes, 0);
+    IS(pciguest_set_up(&board, &other), 0);
     pciguest_free(&machine);
     pciguest_free(&other);
     pciguest_board_free(&board);
-    fclose(source);
     fclose(rows);
     return wrong || count < 150;
 }

@@ -5,10 +5,8 @@
  *
  * It is linked with --wrap for malloc, realloc and free. The exit status is 1 where an answer is wrong, or memory
  * is lost. */
-#include "pciguest.h"
+#include "images.h"
 #include "refusing.h"
-
-#include <string.h>
 
 /* The calls that tests/library/refusals.txt lacks do nothing to a machine that isn't there. */
 static void without_a_machine(void)
@@ -116,7 +114,7 @@ static void null_pointers(struct pciguest *machine)
 #define WRONG_OFFSET "invalid offset '0x' (expected a decimal or 0x-prefixed number below 2^64)"
 
 /* What Rust and Python can't ask; tests/library/refusals.txt has what they can. */
-static void bad_arguments(struct pciguest *machine, const uint8_t *board, size_t length)
+static void bad_arguments(struct pciguest *machine)
 {
     uint32_t value = 7;
     size_t count = 8;
@@ -124,7 +122,7 @@ static void bad_arguments(struct pciguest *machine, const uint8_t *board, size_t
     size_t word = 0;
     char reply[PCIGUEST_REPLY] = {0}, told[128];
 
-    IS(pciguest_new(machine, board, length), 903);
+    IS(pciguest_new(machine, file, length), 903);
     IS(pciguest_read(machine, 0, 3, 0, 0, 4, &value), 902);
     IS(pciguest_load(machine, 0, reply, sizeof reply), 905);
     IS(pciguest_load_all(machine, reply, sizeof reply), 905);
@@ -181,7 +179,6 @@ static void guests(struct pciguest *machine)
 /* A reset leaves the function at reset in its slot, takes no memory, and leaves the guest's other function. */
 static void resets(struct pciguest *machine)
 {
-    uint32_t value = 7;
     long before = blocks;
 
     IS(pciguest_write(machine, 0, PCIGUEST_CONFIG, 0, 4, 2, 2), 0);
@@ -191,14 +188,10 @@ static void resets(struct pciguest *machine)
     IS(pciguest_reset(machine, 0, 0), 0);
     calls_left = -1;
     IS((uint64_t)blocks, (uint64_t)before);
-    IS(pciguest_read(machine, 0, PCIGUEST_CONFIG, 0, 0, 4, &value), 0);
-    IS(value, 0x00011234);
-    IS(pciguest_read(machine, 0, PCIGUEST_CONFIG, 0, 4, 2, &value), 0);
-    IS(value, 0);
-    IS(pciguest_read(machine, 0, PCIGUEST_CONFIG, 0, 0x3c, 1, &value), 0);
-    IS(value, 0);
-    IS(pciguest_read(machine, 0, PCIGUEST_CONFIG, 1, 4, 2, &value), 0);
-    IS(value, 2);
+    IS(config(machine, 0, 0, 0, 4), 0x00011234);
+    IS(config(machine, 0, 0, 4, 2), 0);
+    IS(config(machine, 0, 0, 0x3c, 1), 0);
+    IS(config(machine, 0, 1, 4, 2), 2);
 }
 
 /* Where an image stops fitting a guest. */
@@ -216,28 +209,21 @@ static void stops_at(struct pciguest *machine, size_t guest, const uint8_t *imag
  * the room stays. */
 static void images(struct pciguest *machine)
 {
-    static uint8_t image[4096];
-    uint32_t value = 7;
-    size_t size = 0, needed = 0;
+    static struct image saved;
+    uint8_t *image = saved.bytes;
+    size_t size, needed = 0;
     long before = blocks;
 
     IS(pciguest_write(machine, 0, PCIGUEST_CONFIG, 1, 0x3c, 1, 0x5a), 0);
     calls_left = 1;
-    IS(pciguest_save(machine, 0, NULL, 0, &size), 902);
-    IS(pciguest_save(machine, 0, image, size - 1, &needed), 902);
-    IS(needed, size);
-    IS(image[0], 0);
-    memset(image, 0x5a, sizeof image);
-    IS(pciguest_save(machine, 0, image, sizeof image, &needed), 0);
-    IS(needed, size);
+    save(machine, 0, &saved);
+    size = saved.size;
     IS(memcmp(image, "PCIG\1\0\0\0", 8), 0);
-    IS(image[size], 0x5a);
     IS(pciguest_reset_guest(machine, 0), 0);
     IS(pciguest_load(machine, 1, image, size), 906);
     IS(pciguest_load(machine, 0, image, size + 1), 905);
     IS(pciguest_load(machine, 0, image, size), 0);
-    IS(pciguest_read(machine, 0, PCIGUEST_CONFIG, 1, 0x3c, 1, &value), 0);
-    IS(value, 0x5a);
+    IS(config(machine, 0, 1, 0x3c, 1), 0x5a);
     IS(pciguest_reset_guest(machine, 0), 0);
     stops_at(machine, 1, image, size, 0, 12 + 1 + 2); /* another Device ID */
     stops_at(machine, 0, image, size, 32, size);
@@ -251,71 +237,59 @@ static void images(struct pciguest *machine)
     IS((uint64_t)blocks, (uint64_t)before);
     IS(pciguest_save(machine, 0, NULL, 0, &needed), 902);
     IS(needed, size);
-    IS(pciguest_read(machine, 0, PCIGUEST_CONFIG, 1, 0x3c, 1, &value), 0);
-    IS(value, 0);
+    IS(config(machine, 0, 1, 0x3c, 1), 0);
 }
 
 /* Loads an image of the whole machine, while each allocation in turn fails: nothing changes then, and no memory is lost. */
 static void load_all_without_memory(struct pciguest *machine, const uint8_t *image, size_t size)
 {
-    static uint8_t held[8192], after[8192];
+    static struct image held, after;
     uint32_t fault = 299;
-    size_t count = 0, length = 0, times = 0;
+    size_t failed = 0;
     uint64_t changes = 0, changed = 0;
     long kept = blocks;
 
-    IS(pciguest_save_all(machine, held, sizeof held, &count), 0);
+    save(machine, ALL, &held);
     IS(pciguest_changed(machine, 0, &changes), 0);
     for (long left = 1; fault == 299; left++) {
-        calls_left = left;
-        fault = pciguest_load_all(machine, image, size);
-        calls_left = -1;
+        fault = FAILING(left, pciguest_load_all(machine, image, size));
         IS((uint64_t)blocks, (uint64_t)kept);
         if (fault == 299) {
-            IS(pciguest_save_all(machine, after, sizeof after, &length), 0);
-            IS(length == count && memcmp(after, held, count) == 0, 1);
+            save(machine, ALL, &after);
+            IS(are_same(&held, &after), 1);
             IS(pciguest_changed(machine, 0, &changed), 0);
             IS(changed, changes);
-            times++;
+            failed++;
         }
     }
     IS(fault, 0);
-    IS(times > 3, 1);
+    IS(failed > 3, 1);
 }
 
 /* The whole machine is saved without memory, and loaded from what a second machine takes. */
 static void whole_images(struct pciguest *machine)
 {
-    static uint8_t image[8192];
-    uint32_t value = 7;
-    size_t size = 0, needed = 0;
+    static struct image saved;
+    uint8_t *image = saved.bytes;
+    size_t size, needed = 0;
     long before = blocks;
 
     IS(pciguest_write(machine, 0, PCIGUEST_CONFIG, 1, 0x3c, 1, 0x5a), 0);
     calls_left = 1;
-    IS(pciguest_image_size_all(machine, &size), 0);
+    save(machine, ALL, &saved);
+    size = saved.size;
     IS(pciguest_save_all(machine, NULL, 0, &needed), 902);
     IS(needed, size);
-    needed = 0;
-    IS(pciguest_save_all(machine, image, size - 1, &needed), 902);
-    IS(needed, size);
-    IS(image[0], 0);
-    memset(image, 0x5a, sizeof image);
-    IS(pciguest_save_all(machine, image, sizeof image, &needed), 0);
-    IS(needed, size);
     IS(memcmp(image, "PCIM\1\0\0\0", 8), 0);
-    IS(image[size], 0x5a);
     IS(pciguest_move(machine, 0, 1, 1, 5), 0);
     IS(pciguest_load_all(machine, image, size + 1), 905);
     image[8]++; /* how many functions the board has */
     IS(pciguest_load_all(machine, image, size), 907);
     image[8]--;
     calls_left = -1;
-    IS(pciguest_read(machine, 0, PCIGUEST_CONFIG, 1, 0, 4, &value), 0);
-    IS(value, UINT32_MAX);
+    IS(config(machine, 0, 1, 0, 4), UINT32_MAX);
     load_all_without_memory(machine, image, size);
-    IS(pciguest_read(machine, 0, PCIGUEST_CONFIG, 1, 0x3c, 1, &value), 0);
-    IS(value, 0x5a);
+    IS(config(machine, 0, 1, 0x3c, 1), 0x5a);
     IS(pciguest_reset_guest(machine, 0), 0);
     IS((uint64_t)blocks, (uint64_t)before);
 }
@@ -334,20 +308,17 @@ static void gifts(struct pciguest *machine)
     IS(pciguest_give(machine, "1.0", 3, 1, 5), 602); /* a guest has it */
     IS(pciguest_take(machine, 0, 0), 0);
     IS(pciguest_take(machine, 0, 0), 601);
-    IS(pciguest_read(machine, 0, PCIGUEST_CONFIG, 0, 0, 4, &value), 0);
-    IS(value, UINT32_MAX);
+    IS(config(machine, 0, 0, 0, 4), UINT32_MAX);
     IS(pciguest_host_read(machine, PCIGUEST_CONFIG, 0, 1, 0, 0x3c, 1, &value), 0);
     IS(value, 0); /* on the board it is at reset */
     IS(pciguest_function(machine, 0, &row), 0);
     IS(row.is_given, 0);
-    for (size_t i = 0; i < sizeof without / sizeof *without; i++)
+    for (size_t i = 0; i < COUNT_OF(without); i++)
         IS(pciguest_give(machine, without[i], strlen(without[i]), 1, 5), 303);
     IS(pciguest_give(machine, "1.0", 3, 1, 0), 602); /* the slot is taken */
     IS(pciguest_give(machine, (const char *)row.path, row.path_length, 1, 5), 0);
-    IS(pciguest_read(machine, 1, PCIGUEST_CONFIG, 5, 0, 4, &value), 0);
-    IS(value, 0x00011234);
-    IS(pciguest_read(machine, 1, PCIGUEST_CONFIG, 5, 0x3c, 1, &value), 0);
-    IS(value, 0);
+    IS(config(machine, 1, 5, 0, 4), 0x00011234);
+    IS(config(machine, 1, 5, 0x3c, 1), 0);
     IS(pciguest_function(machine, 0, &row), 0);
     IS(row.is_given && row.guest == 1 && row.slot == 5, 1);
     IS(pciguest_take(machine, 1, 5), 0);
@@ -360,7 +331,6 @@ static void gifts(struct pciguest *machine)
  * writes its driver reads, whatever the driver's own writes may change; it takes no memory. */
 static void devices(struct pciguest *machine)
 {
-    uint32_t value = 7;
     uint64_t wide = 0;
     long before = blocks;
 
@@ -374,14 +344,12 @@ static void devices(struct pciguest *machine)
     IS(pciguest_device_write_wide(machine, 0, 0, PCIGUEST_PART_CONFIG, 7, 1, 0xa5), 0);
     IS(pciguest_device_read_wide(machine, 0, 0, PCIGUEST_PART_CONFIG, 7, 1, &wide), 0);
     IS(wide, 0xa5);
-    IS(pciguest_read(machine, 0, PCIGUEST_CONFIG, 0, 7, 1, &value), 0);
-    IS(value, 0xa5);
+    IS(config(machine, 0, 0, 7, 1), 0xa5);
     IS(pciguest_write(machine, 0, PCIGUEST_CONFIG, 0, 7, 1, 0xff), 0); /* the driver clears what it may */
     IS(pciguest_device_read_wide(machine, 0, 0, PCIGUEST_PART_CONFIG, 7, 1, &wide), 0);
     IS(wide, 0xa5 & ~0xf9);
     IS(pciguest_device_write_wide(machine, 0, 0, PCIGUEST_PART_CONFIG, 6, 2, 0x5aa5), 0);
-    IS(pciguest_read(machine, 0, PCIGUEST_CONFIG, 0, 6, 2, &value), 0);
-    IS(value, 0x5aa5);
+    IS(config(machine, 0, 0, 6, 2), 0x5aa5);
     IS(pciguest_device_write_wide(machine, 0, 0, PCIGUEST_PART_CONFIG, 7, 2, 0), 303); /* and 08h is none of its own */
     IS(pciguest_device_read_wide(machine, 0, 0, PCIGUEST_PART_CONFIG, 6, 2, &wide), 0);
     IS(wide, 0x5aa5);
@@ -423,7 +391,7 @@ static void line_feeds(struct pciguest *machine)
 }
 
 /* Both reports tell how much room they need, and write nothing where there is less. */
-static void reports(const uint8_t *board, size_t length)
+static void reports(void)
 {
     static uint32_t (*const calls[])(const void *, size_t, char *, size_t, size_t *) = {pciguest_report_json, pciguest_report};
 
@@ -431,12 +399,12 @@ static void reports(const uint8_t *board, size_t length)
         size_t needed = 0, again = 0;
         char *text;
 
-        IS(calls[i](board, length, NULL, 0, &needed), 902);
+        IS(calls[i](file, length, NULL, 0, &needed), 902);
         text = malloc(needed + 1);
         memset(text, '?', needed + 1);
-        IS(calls[i](board, length, text, needed - 1, &again), 902);
+        IS(calls[i](file, length, text, needed - 1, &again), 902);
         IS(text[0], '?');
-        IS(calls[i](board, length, text, needed + 1, &again), 0);
+        IS(calls[i](file, length, text, needed + 1, &again), 0);
         IS(again, needed);
         IS(text[needed], '?');
         fwrite(text, 1, needed, stdout);
@@ -447,14 +415,14 @@ static void reports(const uint8_t *board, size_t length)
 
 /* A check tells how much room its text needs, writes nothing where there is less, and all of it where the board is
  * refused, too. */
-static void checks(const uint8_t *board, size_t length)
+static void checks(void)
 {
     char text[1024] = {0};
     size_t needed = 0;
 
     IS(pciguest_check(NULL, 1, NULL, 0, &needed), 902);
-    IS(pciguest_check(board, length, NULL, 0, NULL), 902);
-    IS(pciguest_check(board, length, text, sizeof text, &needed), 0);
+    IS(pciguest_check(file, length, NULL, 0, NULL), 902);
+    IS(pciguest_check(file, length, text, sizeof text, &needed), 0);
     IS(strncmp(text, "ok\n", 3), 0);
     memset(text, '?', sizeof text);
     IS(pciguest_check("", 0, text, 2, &needed), 902);
@@ -465,15 +433,7 @@ static void checks(const uint8_t *board, size_t length)
     IS(text[needed - 1], '\n');
 }
 
-/* ---- calls of earlier headers, which programs that were compiled with them make */
-
-uint32_t pciguest_raw_words(uint32_t number, uint8_t *text, size_t room, size_t *needed);
-uint32_t pciguest_raw_device_read(struct pciguest *machine, size_t guest, uint64_t slot, uint32_t part, uint64_t offset,
-                                  uint32_t *value);
-uint32_t pciguest_raw_device_write(struct pciguest *machine, size_t guest, uint64_t slot, uint32_t part, uint64_t offset,
-                                   uint8_t value);
-
-/* A device's byte, whose refusals are the same, and change nothing. */
+/* A device's byte, by calls of earlier headers, whose refusals are the same, and change nothing. */
 static void earlier_devices(struct pciguest *machine)
 {
     static const struct {
@@ -487,7 +447,7 @@ static void earlier_devices(struct pciguest *machine)
 
     IS(pciguest_raw_device_read(&none, 0, 0, 1, 0, &value), 901);
     IS(pciguest_raw_device_write(&none, 0, 0, 1, 0, 1), 901);
-    for (size_t i = 0; i < sizeof refused / sizeof *refused; i++) {
+    for (size_t i = 0; i < COUNT_OF(refused); i++) {
         IS(pciguest_raw_device_read(machine, refused[i].guest, refused[i].slot, refused[i].part, refused[i].offset, &value),
            refused[i].number);
         IS(pciguest_raw_device_write(machine, refused[i].guest, refused[i].slot, refused[i].part, refused[i].offset, 1),
@@ -529,7 +489,7 @@ static void all_messages(void)
     message(901, "struct holds no machine or board");
     message(905, "not a valid image");
     message(909, "another call is running on this struct");
-    for (size_t i = 0; i < sizeof without / sizeof *without; i++)
+    for (size_t i = 0; i < COUNT_OF(without); i++)
         message(without[i], "");
     for (number = 0; number < 1 << 17; number++)
         known += pciguest_strerror(number)[0] != 0;
@@ -538,7 +498,7 @@ static void all_messages(void)
 }
 
 /* Each allocation fails in turn: the answer is out of memory, the handle stays empty, and nothing is lost. */
-static void out_of_memory(const uint8_t *board, size_t length)
+static void out_of_memory(void)
 {
     uint32_t fault = 1;
     long count = 0;
@@ -547,9 +507,7 @@ static void out_of_memory(const uint8_t *board, size_t length)
         struct pciguest machine = {0};
         long before = blocks;
 
-        calls_left = count + 1;
-        fault = pciguest_new(&machine, board, length);
-        calls_left = -1;
+        fault = FAILING(count + 1, pciguest_new(&machine, file, length));
         if (fault != 0 && fault != 199 && fault != 299)
             IS(fault, 299);
         IS(machine.live, fault == 0);
@@ -570,9 +528,7 @@ static void check_out_of_memory(const void *board, size_t length, uint32_t wante
         size_t needed = 0;
         long before = blocks;
 
-        calls_left = ++count;
-        fault = pciguest_check(board, length, text, sizeof text, &needed);
-        calls_left = -1;
+        fault = FAILING(++count, pciguest_check(board, length, text, sizeof text, &needed));
         if (fault != wanted && fault != 199)
             IS(fault, 299);
         IS((uint64_t)blocks, (uint64_t)before);
@@ -583,21 +539,15 @@ static void check_out_of_memory(const void *board, size_t length, uint32_t wante
 
 int main(int argc, char **argv)
 {
-    static uint8_t board[65536];
     struct pciguest machine = {0};
-    FILE *file = argc == 2 ? fopen(argv[1], "rb") : NULL;
-    size_t length;
 
-    if (!file)
-        return 2;
-    length = fread(board, 1, sizeof board, file);
-    fclose(file);
+    begin(argc, argv, 1);
     without_a_machine();
     IS(pciguest_new(&machine, "x", 1), 101);
     IS(machine.live, 0);
-    IS(pciguest_new(&machine, board, length), 0);
+    IS(pciguest_new(&machine, file, length), 0);
     null_pointers(&machine);
-    bad_arguments(&machine, board, length);
+    bad_arguments(&machine);
     guests(&machine);
     resets(&machine);
     images(&machine);
@@ -608,12 +558,12 @@ int main(int argc, char **argv)
     line_feeds(&machine);
     pciguest_free(&machine);
     pciguest_free(&machine);
-    reports(board, length);
-    checks(board, length);
+    reports();
+    checks();
     all_messages();
     limits();
-    out_of_memory(board, length);
-    check_out_of_memory(board, length, 0);
+    out_of_memory();
+    check_out_of_memory(file, length, 0);
     check_out_of_memory("x = 1", 5, 102);
-    return wrong;
+    return wrong != 0;
 }

@@ -1,12 +1,9 @@
-/* Memory that is refused where a test says so, blocks that are counted, and answers that are compared. It is included once
- * in a program that is linked with --wrap for malloc, realloc and free. */
+/* Memory that is refused where a test says so, and blocks that are counted, in a program that is linked with --wrap for
+ * malloc, realloc and free. */
 #ifndef REFUSING_H
 #define REFUSING_H
 
-#include <stdbool.h>
-#include <stdint.h>
-#include <stdio.h>
-#include <stdlib.h>
+#include "testing.h"
 
 static long calls_left = -1, blocks;
 
@@ -23,6 +20,15 @@ static bool fails(void)
     if (calls_left > 0)
         calls_left--;
     return calls_left == 0;
+}
+
+/* What a call answers, whose nth allocation fails. */
+#define FAILING(nth, call) (calls_left = (nth), stop_failing(call))
+
+static inline uint32_t stop_failing(uint32_t answer)
+{
+    calls_left = -1;
+    return answer;
 }
 
 void *__wrap_malloc(size_t size)
@@ -44,17 +50,5 @@ void __wrap_free(void *block)
     blocks -= block != NULL;
     __real_free(block);
 }
-
-static int wrong;
-
-static void is(const char *file, int line, uint64_t found, uint64_t wanted)
-{
-    if (found != wanted) {
-        fprintf(stderr, "%s:%d: %llu in place of %llu\n", file, line, (unsigned long long)found, (unsigned long long)wanted);
-        wrong = 1;
-    }
-}
-
-#define IS(found, wanted) is(__FILE__, __LINE__, (found), (wanted))
 
 #endif

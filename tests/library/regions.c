@@ -4,37 +4,13 @@
  *
  *     regions BOARD COUNT SEED
  */
-#include "pciguest.h"
-
-#include <inttypes.h>
-#include <stdio.h>
-#include <stdlib.h>
-#include <string.h>
+#include "images.h"
 
 enum { SLOTS = 32, REGISTERS = 6 };
 
 static struct pciguest by_region = PCIGUEST_INIT, by_address = PCIGUEST_INIT;
-static uint64_t state;
-static int wrong;
 
-/* xorshift64 */
-static uint64_t below(uint64_t n)
-{
-    state ^= state << 13;
-    state ^= state >> 7;
-    state ^= state << 17;
-    return state % n;
-}
-
-static void is(int line, uint64_t found, uint64_t wanted)
-{
-    if (found != wanted && !wrong++)
-        fprintf(stderr, "regions.c:%d: 0x%" PRIx64 " in place of 0x%" PRIx64 "\n", line, found, wanted);
-}
-
-#define IS(found, wanted) is(__LINE__, (found), (wanted))
-
-static void config(uint64_t slot, uint64_t offset, uint32_t width, uint32_t value)
+static void write_both(uint64_t slot, uint64_t offset, uint32_t width, uint32_t value)
 {
     IS(pciguest_write(&by_region, 0, PCIGUEST_CONFIG, slot, offset, width, value), 0);
     IS(pciguest_write(&by_address, 0, PCIGUEST_CONFIG, slot, offset, width, value), 0);
@@ -51,7 +27,7 @@ static void place(bool is_apart)
 
             if (pciguest_region(&by_region, 0, slot, bar, &region))
                 continue;
-            config(slot, 0x10 + 4 * bar, 4, first);
+            write_both(slot, 0x10 + 4 * bar, 4, first);
             first += is_apart ? 0x1000000 : 0;
         }
 }
@@ -91,7 +67,7 @@ static uint64_t any_offset(void)
 
     if (below(40) == 0)
         return UINT64_MAX - below(12);
-    return edges[below(sizeof edges / sizeof *edges)] + below(16) - (below(2) ? 8 : 0);
+    return edges[below(COUNT_OF(edges))] + below(16) - (below(2) ? 8 : 0);
 }
 
 static void access_one(void)
@@ -119,7 +95,7 @@ static void reach_each(void)
 
                 if (pciguest_region(&by_region, 0, slot, bar, &region))
                     continue;
-                config(slot, 4, 2, 3);
+                write_both(slot, 4, 2, 3);
                 if (pass == 0)
                     IS(pciguest_region_write(&by_region, 0, slot, bar, 0, 4, 0x5a5a5a5a ^ slot << 8 ^ bar), 0);
                 IS(pciguest_region_read(&by_region, 0, slot, bar, 0, 4, &now), 0);
@@ -133,27 +109,20 @@ static void reach_each(void)
 
 int main(int argc, char **argv)
 {
-    static uint8_t board[1 << 20], images[2][1 << 20];
-    FILE *file = argc == 4 ? fopen(argv[1], "rb") : NULL;
-    size_t length, sizes[2] = {0, 1};
+    static struct image one, two;
 
-    if (!file)
-        return 2;
-    length = fread(board, 1, sizeof board, file);
-    fclose(file);
-    if (pciguest_new(&by_region, board, length) || pciguest_new(&by_address, board, length))
-        return 2;
-    state = strtoull(argv[3], NULL, 10) * 0x9e3779b97f4a7c15u + 1;
+    begin(argc, argv, 3);
+    IS(pciguest_new(&by_region, file, length), 0);
+    IS(pciguest_new(&by_address, file, length), 0);
     place(true);
-    for (unsigned long left = strtoul(argv[2], NULL, 10); left && !wrong; left--) {
+    for (uint64_t left = times; left && !wrong; left--) {
         access_one();
         if (below(16) == 0)
-            config(below(3), 4, 2, (uint32_t)below(8));
+            write_both(below(3), 4, 2, (uint32_t)below(8));
     }
-    IS(pciguest_save(&by_region, 0, images[0], sizeof images[0], &sizes[0]), 0);
-    IS(pciguest_save(&by_address, 0, images[1], sizeof images[1], &sizes[1]), 0);
-    IS(sizes[0], sizes[1]);
-    IS(memcmp(images[0], images[1], sizes[0]), 0);
+    save(&by_region, 0, &one);
+    save(&by_address, 0, &two);
+    IS(are_same(&one, &two), 1);
     reach_each();
     pciguest_free(&by_region);
     pciguest_free(&by_address);

@@ -5,37 +5,18 @@
  *
  * BOARD is boards/main.toml; each thread makes so many calls of each kind. It is linked with --wrap for malloc. The exit
  * status is 1 where an answer is wrong. */
-#include "pciguest.h"
+#include "testing.h"
 
-#include <inttypes.h>
 #include <pthread.h>
 #include <sched.h>
-#include <stdatomic.h>
-#include <stdio.h>
-#include <stdlib.h>
-#include <string.h>
 
 #define THREADS 8
 
 extern void *__real_malloc(size_t size);
 void *__wrap_malloc(size_t size);
 
-static _Atomic int wrong;
-static uint8_t file[65536];
-static size_t length;
 static struct pciguest machine = PCIGUEST_INIT;
 static struct pciguest_board board = PCIGUEST_BOARD_INIT;
-static uint32_t count;
-
-static void is(int line, uint64_t found, uint64_t wanted)
-{
-    if (found != wanted) {
-        fprintf(stderr, "threads.c:%d: %" PRIu64 " in place of %" PRIu64 "\n", line, found, wanted);
-        wrong = 1;
-    }
-}
-
-#define IS(found, wanted) is(__LINE__, (found), (wanted))
 
 /* ---- a call within another one */
 
@@ -177,7 +158,7 @@ static void *use(void *at)
     struct thread *self = at;
     uint64_t own = (self->nth + 1) * 0x0101010101010101;
 
-    for (uint32_t i = 0; i < count; i++) {
+    for (uint64_t left = times; left > 0; left--) {
         uint32_t value = 0;
         uint64_t wide = 0;
 
@@ -244,33 +225,12 @@ static uint64_t eight(void *(*run)(void *), struct thread *threads)
     return counted;
 }
 
-/* A board on which each region is open, so that it can be given. */
-static void open_board(void)
-{
-    static const struct {
-        uint8_t bus, device;
-        uint64_t offset;
-        uint32_t value;
-    } writes[] = {{0, 1, 0x10, 0x1000}, {0, 1, 0x14, 0xd0000000}, {0, 1, 4, 3}, {0, 2, 0x18, 0x00010100},
-                  {0, 2, 0x1c, 0x3030}, {0, 2, 0x20, 0xd110d110}, {0, 2, 0x24, 0xd2f0d200}, {0, 2, 4, 3},
-                  {1, 0, 0x10, 0xd1100000}, {1, 0, 0x14, 0x3010}, {1, 0, 4, 3}, {1, 1, 0x10, 0xd2000000}, {1, 1, 4, 2}};
-
-    for (size_t i = 0; i < sizeof writes / sizeof writes[0]; i++)
-        IS(pciguest_board_write(&board, PCIGUEST_CONFIG, writes[i].bus, writes[i].device, 0, writes[i].offset, 4,
-                                writes[i].value), 0);
-}
-
 int main(int argc, char **argv)
 {
     static struct thread threads[THREADS];
-    FILE *opened = argc == 3 ? fopen(argv[1], "rb") : NULL;
     uint64_t before = 0, after = 0;
 
-    if (!opened)
-        return 2;
-    length = fread(file, 1, sizeof file, opened);
-    fclose(opened);
-    count = (uint32_t)atoi(argv[2]);
+    begin(argc, argv, 2);
     IS(pciguest_new(&machine, file, length), 0);
     IS(pciguest_board_new(&board, file, length), 0);
     one_within_another();
@@ -279,21 +239,22 @@ int main(int argc, char **argv)
     IS(pciguest_write(&machine, 0, PCIGUEST_CONFIG, 0, 4, 2, 2), 0);
     IS(pciguest_write_wide(&machine, 0, PCIGUEST_MEMORY, 0, 0x80000003, 8, 0x0101010101010101), 0);
     IS(pciguest_changed(&machine, 0, &before), 0);
-    IS(eight(use, threads), THREADS * (uint64_t)count);
+    IS(eight(use, threads), THREADS * times);
     IS(pciguest_changed(&machine, 0, &after), 0);
-    IS(after - before, THREADS * (uint64_t)count);
+    IS(after - before, THREADS * times);
 
-    for (uint32_t i = 0; i < count / 100 + 1; i++) {
+    for (uint64_t left = times / 100 + 1; left > 0; left--) {
         eight(end, threads);
         IS(machine.live, 0);
         IS(eight(make, threads), 1);
         IS(machine.live, 1);
     }
-    open_board();
+    set_up_by_hand(&board);
+    IS(pciguest_board_write(&board, PCIGUEST_CONFIG, 1, 1, 0, 4, 2, 2), 0); /* each region is open, so that it can be given */
     IS(eight(give, threads), 1);
     IS(board.live, 0);
     for (size_t i = 0; i < THREADS; i++)
         pciguest_free(&threads[i].machine);
     pciguest_free(&machine);
-    return wrong;
+    return wrong != 0;
 }

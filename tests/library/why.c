@@ -4,35 +4,21 @@
  *     why BOARD COUNT SEED
  *
  * BOARD is boards/main.toml. It is linked with --wrap for malloc, realloc and free. */
-#include "pciguest.h"
 #include "refusing.h"
 
-#include <inttypes.h>
 #include <stdarg.h>
-#include <string.h>
 
 enum { GUESTS = 2, SLOTS = 32, REGISTERS = 6 };
 
-static uint64_t state;
-
-/* xorshift64 */
-static uint64_t below(uint64_t n)
-{
-    state ^= state << 13;
-    state ^= state >> 7;
-    state ^= state << 17;
-    return state % n;
-}
-
 static char text[65536];
-static size_t length;
+static size_t text_length;
 
 static void add(const char *form, ...)
 {
     va_list words;
 
     va_start(words, form);
-    length += (size_t)vsnprintf(text + length, sizeof text - length, form, words);
+    text_length += (size_t)vsnprintf(text + text_length, sizeof text - text_length, form, words);
     va_end(words);
 }
 
@@ -98,7 +84,7 @@ static void expect(struct pciguest *machine, size_t guest, uint32_t space, uint6
     struct pciguest_hit hit = {0};
     bool shows;
 
-    length = 0;
+    text_length = 0;
     shows = space == PCIGUEST_IO && by_latch(latch, place);
     if (space == PCIGUEST_CONFIG)
         add("why: slot %" PRIu64 " offset 0x%" PRIx64 ": ", slot, place);
@@ -123,15 +109,15 @@ static void tells(telling *call, struct pciguest *machine, size_t guest, uint32_
     static char told[sizeof text];
     size_t needed = 0;
 
-    memset(told, '?', length + 1);
-    IS(call(machine, guest, space, slot, place, told, length - 1, &needed), 902);
-    IS(needed, length);
+    memset(told, '?', text_length + 1);
+    IS(call(machine, guest, space, slot, place, told, text_length - 1, &needed), 902);
+    IS(needed, text_length);
     IS(told[0], '?');
-    IS(call(machine, guest, space, slot, place, told, length, &needed), 0);
-    IS(needed, length);
-    IS(told[length], '?');
-    if (memcmp(told, text, length) != 0) {
-        fprintf(stderr, "%.*s in place of\n%.*s", (int)needed, told, (int)length, text);
+    IS(call(machine, guest, space, slot, place, told, text_length, &needed), 0);
+    IS(needed, text_length);
+    IS(told[text_length], '?');
+    if (memcmp(told, text, text_length) != 0) {
+        fprintf(stderr, "%.*s in place of\n%.*s", (int)needed, told, (int)text_length, text);
         wrong = 1;
     }
 }
@@ -164,7 +150,7 @@ static void ask(struct pciguest *machine)
     static const uint64_t ports[] = {0xcf8, 0xcf9, 0xcfc, 0xcfe, 0xcff};
 
     compare(machine, below(GUESTS), PCIGUEST_CONFIG, below(SLOTS), below(256));
-    compare(machine, below(GUESTS), PCIGUEST_IO, 0, ports[below(sizeof ports / sizeof *ports)]);
+    compare(machine, below(GUESTS), PCIGUEST_IO, 0, ports[below(COUNT_OF(ports))]);
     compare(machine, below(GUESTS), PCIGUEST_IO, 0, below(0x40));
     compare(machine, below(GUESTS), PCIGUEST_MEMORY, 0, (below(4) << 20) + below(0x100));
 }
@@ -184,7 +170,7 @@ static void refusals(telling *call, struct pciguest *machine)
     IS(call(machine, 0, PCIGUEST_IO, 0, 0, NULL, 1, &needed), 902);
     IS(call(machine, 0, PCIGUEST_IO, 0, 0, told, sizeof told, NULL), 902);
     IS(call(&none, 0, PCIGUEST_IO, 0, 0, told, sizeof told, &needed), 901);
-    for (size_t i = 0; i < sizeof rows / sizeof *rows; i++)
+    for (size_t i = 0; i < COUNT_OF(rows); i++)
         IS(call(machine, rows[i].guest, rows[i].space, rows[i].slot, rows[i].place, told, sizeof told, &needed), rows[i].answer);
     IS(needed, 7);
     IS(told[0], '?');
@@ -200,9 +186,7 @@ static void out_of_memory(telling *call, struct pciguest *machine)
     for (long left = 1; fault == 299; left++) {
         size_t needed = 7;
 
-        calls_left = left;
-        fault = call(machine, 0, PCIGUEST_MEMORY, 0, 0, told, sizeof told, &needed);
-        calls_left = -1;
+        fault = FAILING(left, call(machine, 0, PCIGUEST_MEMORY, 0, 0, told, sizeof told, &needed));
         IS(fault == 0 || (fault == 299 && needed == 7 && told[0] == '?'), 1);
         IS((uint64_t)blocks, (uint64_t)kept);
     }
@@ -228,8 +212,8 @@ static void as_json(struct pciguest *machine)
     };
 
     IS(pciguest_write(machine, 0, PCIGUEST_IO, 0, 0xcf8, 4, 0x80011340), 0);
-    for (size_t i = 0; i < sizeof rows / sizeof *rows; i++) {
-        length = 0;
+    for (size_t i = 0; i < COUNT_OF(rows); i++) {
+        text_length = 0;
         add("%s", rows[i].wanted);
         tells(pciguest_why_json, machine, rows[i].guest, rows[i].space, rows[i].slot, rows[i].place);
     }
@@ -238,27 +222,20 @@ static void as_json(struct pciguest *machine)
 int main(int argc, char **argv)
 {
     static telling *const calls[] = {pciguest_why, pciguest_why_json};
-    static uint8_t board[65536];
     struct pciguest machine = PCIGUEST_INIT;
-    FILE *file = argc == 4 ? fopen(argv[1], "rb") : NULL;
-    size_t size;
 
-    if (!file)
-        return 2;
-    size = fread(board, 1, sizeof board, file);
-    fclose(file);
-    state = strtoull(argv[3], NULL, 10) * 0x9e3779b97f4a7c15u + 1;
-    IS(pciguest_new(&machine, board, size), 0);
+    begin(argc, argv, 3);
+    IS(pciguest_new(&machine, file, length), 0);
     compare(&machine, 0, PCIGUEST_MEMORY, 0, 0); /* closed at 0 */
     for (int i = 0; i < 2; i++) {
         refusals(calls[i], &machine);
         out_of_memory(calls[i], &machine);
     }
     as_json(&machine);
-    for (uint64_t left = strtoull(argv[2], NULL, 10); left > 0; left--) {
+    for (uint64_t left = times; left > 0; left--) {
         event(&machine);
         ask(&machine);
     }
     pciguest_free(&machine);
-    return wrong;
+    return wrong != 0;
 }
