@@ -25,6 +25,15 @@ def row(name, *figures):
     print(f"{name:54}" + "".join(f"  {figure(value):>12}" for value in figures), flush=True)
 
 
+def calls(program, board, count, prefix=""):
+    """A row for each call of a program that tells their nanoseconds, with the instructions of so many calls."""
+    told = subprocess.run([program, board], stdout=subprocess.PIPE, text=True, check=True).stdout.splitlines()
+    counted = instructions([program, board, count], count)
+    for index, line in enumerate(told):
+        name, time = line.rsplit(maxsplit=1)
+        row(prefix + name, float(time), counted[index] if index < len(counted) else None)
+
+
 def missing_valgrind():
     """Says so where instructions can't be counted."""
     if not shutil.which("valgrind"):
@@ -48,7 +57,7 @@ def whole(words, given):
     return int(found[1])
 
 
-def instructions(words, calls):
+def instructions(words, count):
     """The instructions of a call, for each span between two times that a program asks for, in which it makes so many. Calls
     that the program makes between spans don't count. None are told where the program can't be counted."""
     if not shutil.which("valgrind"):
@@ -61,4 +70,11 @@ def instructions(words, calls):
         dumps = sorted(Path(room).glob("out.*"), key=lambda file: int(file.suffix[1:]))
         totals = [int(re.search(r"^totals: (\d+)", dump.read_text(), re.MULTILINE)[1]) for dump in dumps]
     # the first dump ends at the first time, and the second, the fourth and so on at the end of a span
-    return [total / calls for total in totals[1::2]]
+    return [total / count for total in totals[1::2]]
+
+
+def run(main, words):
+    """Runs a program of this folder by its words, and ends with its status."""
+    if len(sys.argv) != 1 + len(words.split()):
+        sys.exit(f"usage: bench/{Path(sys.argv[0]).name} {words}")
+    sys.exit(main(*sys.argv[1:]))
