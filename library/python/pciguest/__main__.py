@@ -2,6 +2,7 @@
 
 from __future__ import annotations
 
+import argparse
 import os
 import sys
 from pathlib import Path
@@ -9,8 +10,6 @@ from typing import Optional
 
 from . import BoardRefusal, Refusal
 from ._prompt import Prompt
-
-USAGE = "usage: python3 -m pciguest BOARD"
 
 
 def history() -> Path:
@@ -51,12 +50,11 @@ def edit_lines(prompt: Prompt) -> None:
 
 def main() -> int:
     """Runs the prompt over standard input."""
-    words = sys.argv[1:]
-    if len(words) != 1 or words[0].startswith("-"):
-        print(USAGE, file=sys.stdout if words in (["-h"], ["--help"]) else sys.stderr)
-        return 0 if words in (["-h"], ["--help"]) else 2
+    words = argparse.ArgumentParser(prog="python3 -m pciguest", description=__doc__)
+    words.add_argument("board", metavar="BOARD")
+    board = words.parse_args().board
     try:
-        prompt = Prompt(Path(words[0]).read_bytes(), words[0], print)
+        prompt = Prompt(Path(board).read_bytes(), board, print)
     except BoardRefusal as refusal:
         print(refusal.text, end="", file=sys.stderr)
         return 1
@@ -65,7 +63,7 @@ def main() -> int:
         return 1
     shown = "pciguest> " if sys.stdin.isatty() else ""
     if shown:
-        print(f"{words[0]}: {prompt.machine.count()} functions, guests {' '.join(prompt.guests) or 'none'}. 'help' tells more.")
+        print(f"{board}: {prompt.machine.count()} functions, guests {' '.join(prompt.guests) or 'none'}. 'help' tells more.")
         edit_lines(prompt)
     try:
         while prompt.run(input(shown)):

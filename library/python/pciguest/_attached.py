@@ -70,6 +70,11 @@ class Attaching(SavedMachine):
     def _guest_at(self, index: int) -> Guest:
         raise NotImplementedError
 
+    def _check(self, *guests: Guest) -> None:
+        """Raises an error unless these are guests of this machine."""
+        if any(guest.machine is not self for guest in guests):
+            raise ValueError("a guest of another machine")
+
     def attach(self, guest: Guest, slot: int, device: Device) -> None:
         """Lets a device act behind the function in a slot of a guest, from here on and wherever the function goes: each
         access of a guest, by its spaces or by a line, tells the device which registers it touches.
@@ -79,8 +84,7 @@ class Attaching(SavedMachine):
         cells that belong to no register the class says nothing. ValueError: the function has a device, or the device is
         attached already. 303: the slot is above 31. 601: the slot is empty.
         """
-        if guest.machine is not self:
-            raise ValueError("a guest of another machine")
+        self._check(guest)
         with self._lock:
             path = guest.function(slot).path
             if self._device_at((guest.index, slot)) is not None:
@@ -111,8 +115,7 @@ class Attaching(SavedMachine):
 
     def _device_behind(self, guest: Guest, slot: int) -> Device:
         """The device at a seat, or why there is none."""
-        if guest.machine is not self:
-            raise ValueError("a guest of another machine")
+        self._check(guest)
         guest.function(slot)
         device = self._device_at((guest.index, slot))
         if device is None:

@@ -65,9 +65,8 @@ class Board(Held):
     def __init__(self, file: Union[str, bytes], name: str = NAME) -> None:
         self._file, self._name = as_bytes(file), name
         with explained(self._file, name):
-            super().__init__(
-                BoardHandle(), "board_free", lambda handle: CALLS["board_new"](handle, self._file, len(self._file))
-            )
+            super().__init__(BoardHandle(), "board_free",
+                             lambda handle: CALLS["board_new"](handle, self._file, len(self._file)))
 
     @classmethod
     def load(cls, path: Union[str, os.PathLike[str]]) -> Board:
@@ -111,9 +110,7 @@ class Board(Held):
 
     def count(self) -> int:
         """How many functions the board has, endpoints and bridges."""
-        count = c_size_t(0)
-        self._call("board_count", byref(count))
-        return count.value
+        return self._number(c_size_t, "board_count")
 
     def function(self, index: int) -> BoardFunction:
         """The function at an index, from 0 on, in the order of paths, as the registers stand. It changes nothing,
@@ -214,9 +211,7 @@ class Board(Held):
 
     def _space(self, space: int, bus: int, device: int, function: int) -> Space:
         def read(place: int, width: int) -> int:
-            value = c_uint32(0)
-            self._call("board_read", space, bus, device, function, place, width, byref(value))
-            return value.value
+            return self._number(c_uint32, "board_read", space, bus, device, function, place, width)
 
         def write(place: int, width: int, value: int) -> None:
             self._call("board_write", space, bus, device, function, place, width, value)

@@ -50,9 +50,8 @@ class Child:
         pipe, environment = subprocess.PIPE, {**os.environ, **(more or {})}
         try:
             # a session of its own, so that all that it starts can be ended with it
-            self.process = subprocess.Popen(
-                command, stdin=pipe, stdout=pipe, stderr=pipe, env=environment, start_new_session=True, bufsize=0
-            )
+            self.process = subprocess.Popen(command, stdin=pipe, stdout=pipe, stderr=pipe, env=environment,
+                                            start_new_session=True, bufsize=0)
         except OSError as error:
             raise CannotStart(f"{command[0]}: cannot be started: {error.strerror}") from None
         self.limits, self.begun = limits, time.monotonic()

@@ -27,15 +27,13 @@ class Register:
     configuration space, from 40h on. `reset` is its value at reset, `rw` the bits that its driver's writes set, and `w1c`
     those that it clears by writing ones."""
 
-    def __init__(
-        self, offset: int, width: int, *, bar: Optional[int] = 0, reset: int = 0, rw: int = 0, w1c: int = 0
-    ) -> None:
+    def __init__(self, offset: int, width: int, *, bar: Optional[int] = 0, reset: int = 0, rw: int = 0,
+                 w1c: int = 0) -> None:
         self.name = ""
         self.bar = bar
         self.offset, self.width = number("offset", offset, 16), number("width", width, 8)
-        self.reset, self.rw, self.w1c = (
-            number(name, value, 8 * width) for name, value in zip(PATTERNS, (reset, rw, w1c))
-        )
+        patterns = zip(PATTERNS, (reset, rw, w1c))
+        self.reset, self.rw, self.w1c = (number(name, value, 8 * width) for name, value in patterns)
         if not width or rw & w1c:
             raise ValueError("a register has a byte, and no bit is both in rw and in w1c")
 

@@ -10,15 +10,8 @@ if TYPE_CHECKING:
     from ._devices import Device
 
 # the fields of an identity, with their bytes in an image
-IDENTITY = {
-    "vendor_id": 2,
-    "device_id": 2,
-    "revision_id": 1,
-    "class_code": 3,
-    "subsystem_vendor_id": 2,
-    "subsystem_id": 2,
-    "interrupt_pin": 1,
-}
+IDENTITY = {"vendor_id": 2, "device_id": 2, "revision_id": 1, "class_code": 3, "subsystem_vendor_id": 2, "subsystem_id": 2,
+            "interrupt_pin": 1}
 # of a cell: at reset, which bits are writable, and which are cleared by ones
 Cell = Tuple[int, int, int]
 

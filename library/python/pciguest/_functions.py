@@ -105,15 +105,8 @@ def function_of(told: FunctionTold) -> Function:
     """The function that the library tells of."""
     return Function(
         bytes(told.path[: told.path_length]).decode("ascii"),
-        told.bus,
-        told.device,
-        told.function,
-        told.vendor_id,
-        told.device_id,
-        told.revision_id,
-        told.class_code,
-        told.subsystem_vendor_id,
-        told.subsystem_id,
+        told.bus, told.device, told.function,
+        told.vendor_id, told.device_id, told.revision_id, told.class_code, told.subsystem_vendor_id, told.subsystem_id,
         tuple(_bar(bar) for bar in told.regions),
         Windows(*(_window(window) for window in told.windows)) if told.is_bridge else None,
         (told.guest, told.slot) if told.is_given else None,

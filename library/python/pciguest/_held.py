@@ -6,8 +6,7 @@ import ctypes
 import threading
 import weakref
 from ctypes import byref
-from types import TracebackType
-from typing import Any, Callable, Optional, Type, TypeVar, Union
+from typing import Any, Callable, Optional, TypeVar, Union
 
 from ._calls import REPLY
 from ._library import CALLS, told
@@ -41,12 +40,7 @@ class Held:
     def __enter__(self: Self) -> Self:
         return self
 
-    def __exit__(
-        self,
-        kind: Optional[Type[BaseException]],
-        error: Optional[BaseException],
-        trace: Optional[TracebackType],
-    ) -> None:
+    def __exit__(self, *_: Any) -> None:
         self.close()
 
     def _call(self, name: str, *arguments: Any) -> None:
@@ -54,6 +48,12 @@ class Held:
         with self._lock:
             answer = CALLS[name](byref(self._handle), *arguments)
         answered(answer)
+
+    def _number(self, kind: Callable[[], Any], name: str, *arguments: Any) -> int:
+        """The number, of a type of ctypes, that a call leaves. Arguments are in range."""
+        value = kind()
+        self._call(name, *arguments, byref(value))
+        return int(value.value)
 
     def _told(self, name: str, room: int, *arguments: Any) -> str:
         """The text of a call on what is held. Arguments are in range."""

@@ -5,18 +5,8 @@ from __future__ import annotations
 from typing import Iterator, NamedTuple, Optional, Tuple
 
 #: the fields of a function in front of its regions: their keys in a board file, and how many bytes they have
-IDENTITY = {
-    "vendor": 2,
-    "device": 2,
-    "revision": 1,
-    "class": 3,
-    "subvendor": 2,
-    "subsystem": 2,
-    "pin": 1,
-    "min_gnt": 1,
-    "max_lat": 1,
-    "status": 2,
-}
+IDENTITY = {"vendor": 2, "device": 2, "revision": 1, "class": 3, "subvendor": 2, "subsystem": 2, "pin": 1,
+            "min_gnt": 1, "max_lat": 1, "status": 2}
 # a field, and how many bytes it has
 Field = Tuple[str, int]
 

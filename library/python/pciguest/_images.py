@@ -136,9 +136,7 @@ class SavedMachine(Held):
         ...     machine.image_size_all() == size
         True
         """
-        size = c_size_t(0)
-        self._call("image_size_all", byref(size))
-        return size.value
+        return self._number(c_size_t, "image_size_all")
 
     def save_all(self) -> bytes:
         """Saves the whole machine: its image, which is who has which function of the board in which slot, what each guest

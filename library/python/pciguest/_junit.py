@@ -21,18 +21,13 @@ def printable(text: str) -> str:
 
 
 def write(file: str, results: List[Result]) -> None:
-    suite = ElementTree.Element(
-        "testsuite",
-        name="pciguest.firmware_test",
-        tests=str(len(results)),
-        failures=str(sum(result.wrong is not None for result in results)),
-        errors="0",
-        time=f"{sum(result.seconds for result in results):.3f}",
-    )
+    failures = sum(result.wrong is not None for result in results)
+    seconds = sum(result.seconds for result in results)
+    suite = ElementTree.Element("testsuite", name="pciguest.firmware_test", tests=str(len(results)),
+                                failures=str(failures), errors="0", time=f"{seconds:.3f}")
     for result in results:
-        case = ElementTree.SubElement(
-            suite, "testcase", classname="pciguest.firmware_test", name=result.name, time=f"{result.seconds:.3f}"
-        )
+        case = ElementTree.SubElement(suite, "testcase", classname="pciguest.firmware_test", name=result.name,
+                                      time=f"{result.seconds:.3f}")
         if result.wrong is not None:
             failure = ElementTree.SubElement(case, "failure", message=printable(result.wrong))
             failure.text = printable(result.told)

@@ -24,6 +24,7 @@ class Lines:
 
     def __init__(self, choices: Choices, document: Document) -> None:
         self.choices, self.document, self.functions = choices, document, functions(document)
+        self.name = "host"  # who makes the access of a line
         self.recent = {True: [0x1000], False: [0x80000000]}  # bases that were written, of ports and of memory
         self.written: List[Tuple[str, str, str]] = []  # who wrote configuration space, in which function, offset and width
 
@@ -64,20 +65,20 @@ class Lines:
         place = near if self.percent(85) else self.choices.one_of(BASES) + self.choices.one_of(INNER)
         return self.aligned(max(0, place - 4) if self.percent(5) else place, width)
 
-    def config_access(self, name: str, where: str) -> str:
+    def config_access(self, where: str) -> str:
         """A read or a write of configuration space, in a slot or at a number; often a read of what was written before."""
         if self.written and self.percent(45):
             return self.read_back()
         width = self.width()
         if self.percent(50):
             offset = self.choices.one_of([self.offset(width), self.aligned(self.choices.one_of(PLAIN), width)])
-            return self.write(name, where, f"{offset:#x} {width}", self.value())
-        return f"{name} cr {where} {self.offset(width):#x} {width}"
+            return self.write(where, f"{offset:#x} {width}", self.value())
+        return f"{self.name} cr {where} {self.offset(width):#x} {width}"
 
-    def write(self, name: str, where: str, place: str, value: int) -> str:
+    def write(self, where: str, place: str, value: int) -> str:
         """A write of configuration space, which is kept in mind."""
-        self.written = [*self.written[-7:], (name, where, place)]
-        return f"{name} cw {where} {place} {value:#x}"
+        self.written = [*self.written[-7:], (self.name, where, place)]
+        return f"{self.name} cw {where} {place} {value:#x}"
 
     def read_back(self) -> str:
         """A read of what was written not long ago: the same bytes, or the register that has them."""
@@ -85,24 +86,30 @@ class Lines:
         offset = int(place.split()[0], 0) // 4 * 4
         return f"{name} cr {where} {self.choices.one_of([place, place, f'{offset:#x} 4'])}"
 
-    def access(self, name: str, is_io: bool) -> str:
+    def access(self, is_io: bool) -> str:
         """A read or a write of a port or of memory."""
         width, letter = self.width(), "i" if is_io else "m"
         place = self.place(is_io, width)
         if self.percent(55):
-            return f"{name} {letter}r {place:#x} {width}"
-        return f"{name} {letter}w {place:#x} {width} {self.value():#x}"
+            return f"{self.name} {letter}r {place:#x} {width}"
+        return f"{self.name} {letter}w {place:#x} {width} {self.value():#x}"
 
-    def latch(self, name: str, places: Sequence[int]) -> str:
+    def memory(self) -> str:
+        return self.access(is_io=False)
+
+    def ports(self) -> str:
+        return self.access(is_io=True)
+
+    def latch(self, places: Sequence[int]) -> str:
         """A read of CONFIG_ADDRESS; or a write of it and, in a second line, an access of what it selects. A place is a
         number from bit 8 on."""
         kind, width = self.choices.number(0, 5), self.choices.one_of([4, 2, 1])
         if kind == 0:
-            return f"{name} ir 0xcf8 {width}"
+            return f"{self.name} ir 0xcf8 {width}"
         latch = self.choices.one_of([1, 1, 1, 1, 0]) << 31 | self.choices.one_of(places) << 8
         port = 0xCFC + self.choices.one_of(range(0, 4, width))
-        access = f"{name} ir {port:#x} {width}" if kind < 5 else f"{name} iw {port:#x} {width} {self.value():#x}"
-        return f"{name} iw 0xcf8 4 {latch | self.choices.one_of(REGISTERS):#x}\n{access}"
+        access = f"{self.name} ir {port:#x} {width}" if kind < 5 else f"{self.name} iw {port:#x} {width} {self.value():#x}"
+        return f"{self.name} iw 0xcf8 4 {latch | self.choices.one_of(REGISTERS):#x}\n{access}"
 
 
 class ScriptLines(Lines):
@@ -134,7 +141,7 @@ class ScriptLines(Lines):
         return self.choices.one_of(regions) if regions else None
 
     def config(self) -> str:
-        return self.config_access(self.name, f"{self.slot()}")
+        return self.config_access(f"{self.slot()}")
 
     def write_base(self) -> str:
         slot = self.slot()
@@ -143,20 +150,14 @@ class ScriptLines(Lines):
         offset = 0x10 + 4 * (region.index if region else self.choices.number(0, 5))
         offset += 4 * (region is not None and region.is_64_bit and self.percent(10))
         value = self.choices.one_of([base, base, base, 0xFFFFFFFF])
-        return self.write(self.name, f"{slot}", f"{offset:#x} 4", value)
+        return self.write(f"{slot}", f"{offset:#x} 4", value)
 
     def write_command(self) -> str:
         place = f"4 {self.choices.one_of([2, 1, 4])}"
-        return self.write(self.name, f"{self.slot()}", place, self.choices.one_of([3, 3, 2, 1, 0, 7]))
-
-    def memory(self) -> str:
-        return self.access(self.name, is_io=False)
-
-    def ports(self) -> str:
-        return self.access(self.name, is_io=True)
+        return self.write(f"{self.slot()}", place, self.choices.one_of([3, 3, 2, 1, 0, 7]))
 
     def use_latch(self) -> str:
-        return self.latch(self.name, [self.slot() % 32 << 3, self.slot() % 32 << 3, self.slot() % 32 << 3 | 1, 0x100])
+        return self.latch([self.slot() % 32 << 3, self.slot() % 32 << 3, self.slot() % 32 << 3 | 1, 0x100])
 
     def rise(self) -> str:
         slot = self.slot()
@@ -205,21 +206,21 @@ class FirmwareLines(Lines):
 
     def line(self) -> str:
         if not self.functions:
-            return self.latch("host", [0, 8])
+            return self.latch([0, 8])
         self.function = self.choices.one_of(self.functions)
         return self.pick(self.config, 25, self.write_command, 12, self.write_base, 20, self.memory, 18, self.ports, 10,
                          self.use_latch, 8, self.write_numbers, 1, self.odd, 1)()
 
     def config(self) -> str:
         number = self.number(self.function) if self.percent(90) else self.choices.one_of(["00:1f.0", "05:00.0", "00:00.7"])
-        return self.config_access("host", number)
+        return self.config_access(number)
 
     def write_command(self) -> str:
         return self.write_here("4 2", self.choices.one_of([3, 3, 3, 2, 1, 0, 0x547]))
 
     def write_here(self, place: str, value: int) -> str:
         """A write of the function of this line."""
-        return self.write("host", self.number(self.function), place, value)
+        return self.write(self.number(self.function), place, value)
 
     def write_base(self) -> str:
         """A base address register, or base and limit of a window: one or some units from the base on."""
@@ -243,16 +244,10 @@ class FirmwareLines(Lines):
     def write_numbers(self) -> str:
         return self.write_here(f"{self.choices.number(0x18, 0x1A):#x} 1", self.choices.number(0, 5))
 
-    def memory(self) -> str:
-        return self.access("host", is_io=False)
-
-    def ports(self) -> str:
-        return self.access("host", is_io=True)
-
     def use_latch(self) -> str:
         number = self.number(self.function)
         place = int(number[:2], 16) << 8 | int(number[3:5], 16) << 3 | int(number[6])
-        return self.latch("host", [place, place, 0x1F << 3, 0x500])
+        return self.latch([place, place, 0x1F << 3, 0x500])
 
     def odd(self) -> str:
         return f"{self.choices.one_of(['host', 'a'])} {self.choices.one_of(ODD)}"

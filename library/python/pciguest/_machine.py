@@ -51,19 +51,16 @@ class Machine(Attaching):
 
     def guest(self, name: str) -> Guest:
         """The guest of a name. 902: no guest has this name."""
-        text, index = as_bytes(name), c_size_t(0)
-        self._call("guest", text, len(text), byref(index))
-        return Guest(self, name, index.value)
+        text = as_bytes(name)
+        return Guest(self, name, self._number(c_size_t, "guest", text, len(text)))
 
     def guests(self) -> List[str]:
         """The names of all guests, in the order of the board file: the one at an index is that of `Guest.index`.
 
         `[machine.guest(name) for name in machine.guests()]` are the guests.
         """
-        count = c_size_t(0)
         with self._lock:
-            self._call("guest_count", byref(count))
-            return [self._name(index) for index in range(count.value)]
+            return [self._name(index) for index in range(self._number(c_size_t, "guest_count"))]
 
     def _guest_at(self, index: int) -> Guest:
         return Guest(self, self._name(index), index)
@@ -85,8 +82,7 @@ class Machine(Attaching):
 
         303: a slot is above 31. 601: the slot that it leaves is empty. 602: the slot that it comes to is taken.
         """
-        if source.machine is not self or target.machine is not self:
-            raise ValueError("a guest of another machine")
+        self._check(source, target)
         slots = number("slot", slot, 64), number("target_slot", target_slot, 64)
         with self._lock:
             self._call("move", source.index, slots[0], target.index, slots[1])
@@ -100,8 +96,7 @@ class Machine(Attaching):
         303: the slot is above 31, or no endpoint stands at the path. 602: a guest has the function, or the slot is
         taken. 206: one of its regions is closed.
         """
-        if guest.machine is not self:
-            raise ValueError("a guest of another machine")
+        self._check(guest)
         text = as_bytes(path)
         with self._lock:
             self._call("give", text, len(text), guest.index, number("slot", slot, 64))
@@ -113,17 +108,14 @@ class Machine(Attaching):
 
         303: the slot is above 31. 601: the slot is empty.
         """
-        if guest.machine is not self:
-            raise ValueError("a guest of another machine")
+        self._check(guest)
         with self._lock:
             self._call("take", guest.index, number("slot", slot, 64))
             self._tell_moved()
 
     def count(self) -> int:
         """How many functions the board has, endpoints and bridges."""
-        count = c_size_t(0)
-        self._call("count", byref(count))
-        return count.value
+        return self._number(c_size_t, "count")
 
     def function(self, index: int) -> Function:
         """The function at an index, from 0 on, in the order of paths. It changes nothing. 902: there is no such
@@ -168,12 +160,10 @@ class Machine(Attaching):
 
     def _index_of(self, name: bytes) -> Optional[int]:
         """The index of the guest of a name, if there is one."""
-        index = c_size_t(0)
         try:
-            self._call("guest", name, len(name), byref(index))
+            return self._number(c_size_t, "guest", name, len(name))
         except Refusal:
             return None
-        return index.value
 
 
 class _Slots:
@@ -231,12 +221,11 @@ class Guest(Saved):
         past the region. 601: the slot is empty. 902: the register is above 5.
         """
         place = *self._byte(slot, offset, register), number("width", width, 32)
-        value = c_uint64()
         with self.machine._lock:
-            self.machine._call("region_read", self.index, *place, byref(value))
+            value = self.machine._number(c_uint64, "region_read", self.index, *place)
             if self.machine._tell_read(self._region_touch(*place)):
-                self.machine._call("region_read", self.index, *place, byref(value))
-        return value.value
+                value = self.machine._number(c_uint64, "region_read", self.index, *place)
+        return value
 
     def region_write(self, slot: int, register: int, offset: int, value: int, width: int = 1) -> None:
         """Writes such bytes: each takes what a guest may change of it, and a closed region drops them. Refused as a read
@@ -280,14 +269,10 @@ class Guest(Saved):
         302: the width is not 1 to 8. 303: the slot is above 31, or the device has no such byte. 601: the slot is empty.
         902: the region is above 5.
         """
-        value = c_uint64()
         place = *self._byte(slot, offset, region), number("width", width, 32)
-        self.machine._call("device_read_wide", self.index, *place, byref(value))
-        return value.value
+        return self.machine._number(c_uint64, "device_read_wide", self.index, *place)
 
-    def device_write(
-        self, slot: int, offset: int, value: int, region: Optional[int] = None, width: int = 1
-    ) -> None:
+    def device_write(self, slot: int, offset: int, value: int, region: Optional[int] = None, width: int = 1) -> None:
         """Writes such bytes as its device does: they take the number, whatever a guest's writes may change of them, and
         what they may change of them stays. Where no register is, nothing changes. Refused as a read is; then nothing is
         written. A value that has more bits than the bytes is a ValueError.
@@ -339,9 +324,7 @@ class Guest(Saved):
         else makes it grow. It is 0 in a machine that was made just now, and goes on from 0 after 2**64 - 1. It changes
         nothing.
         """
-        told = c_uint64()
-        self.machine._call("changed", self.index, byref(told))
-        return told.value
+        return self.machine._number(c_uint64, "changed", self.index)
 
     def moved(self) -> List[Moved]:
         """The regions of this guest that stand elsewhere, or are open or closed otherwise, than when this `Guest` was asked
@@ -406,9 +389,7 @@ class _GuestSpace(Space):
         self._machine, self._guest, self._slot = guest.machine, guest.index, slot
 
     def _cycle_reads(self, place: int, width: int) -> int:
-        value = c_uint32(0)
-        self._machine._call("read", self._guest, self._space, self._slot, place, width, byref(value))
-        return value.value
+        return self._machine._number(c_uint32, "read", self._guest, self._space, self._slot, place, width)
 
     def _cycle_writes(self, place: int, width: int, value: int) -> None:
         self._machine._call("write", self._guest, self._space, self._slot, place, width, value)
@@ -461,8 +442,6 @@ class Host:
 
     def _space(self, space: int, bus: int, device: int, function: int) -> ReadableSpace:
         def read(place: int, width: int) -> int:
-            value = c_uint32(0)
-            self.machine._call("host_read", space, bus, device, function, place, width, byref(value))
-            return value.value
+            return self.machine._number(c_uint32, "host_read", space, bus, device, function, place, width)
 
         return ReadableSpace(space, read)

@@ -331,14 +331,12 @@ class Test:
         for key in ("io", "mem", "pref"):
             words += [f"--{key}", "{:#x}-{:#x}".format(*getattr(options, key))] if getattr(options, key) else []
         words += [word for kind in options.allow for word in ("--allow", kind)]
-        words += ["--transients"] if options.transients else []
-        words += ["--warm"] if options.warm else []
-        words += ["--roomy"] if options.roomy else []
-        words += ["--no-room", str(options.no_room)] if options.no_room is not None else []
-        words += ["--bridges", str(options.bridges)] if options.bridges != 6 else []
-        words += ["--time", f"{options.time:g}"] if options.time != 10 else []
-        words += ["--lines", str(options.lines)] if options.lines != 200_000 else []
-        return words + (["--program", options.program] if options.program else [])
+        words += [f"--{key}" for key in ("transients", "warm", "roomy") if getattr(options, key)]
+        for key in ("no_room", "bridges", "time", "lines", "program"):
+            value = getattr(options, key)
+            if value != parser().get_default(key):
+                words += [f"--{key.replace('_', '-')}", f"{value:g}" if key == "time" else str(value)]
+        return words
 
 
 def counted(number: int, word: str) -> str:

@@ -90,7 +90,3 @@ class Agreement(unittest.TestCase):
                     self.assertEqual(lines.run_line(line), answered, line)
             self.assertGreater(refused, 500)
             self.assertGreater(values, 500)
-
-
-if __name__ == "__main__":
-    unittest.main()

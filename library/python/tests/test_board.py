@@ -2,26 +2,19 @@
 
 import json
 import random
-import unittest
 
-from boards import BOARDS, MAIN, REFUSED, TEXTS
+from boards import BOARDS, MAIN, REFUSED, TEXTS, Case, set_up_by_hand
 from pciguest import Board, Machine, Refusal
 from why_lines import why_lines
 
 
-class Case(unittest.TestCase):
+class BoardCase(Case):
     def setUp(self):
         self.board = Board(MAIN)
         self.addCleanup(self.board.close)
 
-    def refused(self, number, call, *arguments):
-        with self.assertRaises(Refusal) as raised:
-            call(*arguments)
-        self.assertEqual(raised.exception.number, number)
-        return raised.exception
 
-
-class Firmware(Case):
+class Firmware(BoardCase):
     def test_firmware_places_a_region(self):
         board, bridge, behind = self.board, self.board.config[0, 2, 0], self.board.config[1, 1, 0]
         self.assertEqual(behind[0:4], 0xFFFFFFFF)
@@ -65,7 +58,7 @@ class Firmware(Case):
             return f"refused {refusal.number} {TEXTS[refusal.number]}"
 
 
-class BoardFunctions(Case):
+class BoardFunctions(BoardCase):
     def test_functions_at_reset_and_driven(self):
         board, bridge = self.board, self.board.config[0, 2, 0]
         self.assertEqual(board.count(), 4)
@@ -85,8 +78,7 @@ class BoardFunctions(Case):
         self.assertEqual(told.function.regions[0], ("memory", 0xC0000000, 0x1000000, True, True))
         self.assertEqual(board.function(1).function.windows.prefetchable, (0xC0000000, 0xC0FFFFFF))
         self.assertFalse(board.function(1).opens_memory)
-        with self.assertRaises(ValueError):
-            board.function(-1)
+        self.assertRaises(ValueError, board.function, -1)
 
     def test_a_board_that_is_gone(self):
         self.board.close()
@@ -94,7 +86,7 @@ class BoardFunctions(Case):
         self.refused(901, self.board.function, 0)
 
 
-class Audits(Case):
+class Audits(BoardCase):
     def test_an_audit_tells_what_is_wrong(self):
         audit = self.board.audit()
         self.assertTrue(audit.text.endswith("\naudit: 2 problems\n"))
@@ -126,10 +118,8 @@ class Audits(Case):
                         lines = why_lines(board.why_json(*at), what, latch)
                         count = f"{len(lines)} line{'s' if len(lines) > 1 else ''}"
                         self.assertEqual(told, [f"why: {each}" for each in [*lines, count]])
-        with self.assertRaises(ValueError):
-            self.board.why_json("mem", 0)
-        with self.assertRaises(ValueError):
-            self.board.why_json("config", bus=256)
+        self.assertRaises(ValueError, self.board.why_json, "mem", 0)
+        self.assertRaises(ValueError, self.board.why_json, "config", bus=256)
 
     def asked(self, chosen):
         """Places to ask about: the words of a line, of the first line of its reply, and of the call."""
@@ -153,7 +143,7 @@ class Audits(Case):
         self.assertEqual(audit.text.count("\n"), audit.problems + 1)
 
 
-class SetUp(Case):
+class SetUp(BoardCase):
     def test_a_board_at_reset_is_set_up(self):
         with self.board.set_up() as machine, Machine(MAIN) as other:
             self.assertEqual(machine.guest("a").config[0][0:4], 0x00011234)
@@ -173,28 +163,9 @@ class SetUp(Case):
             self.refused(203, board.set_up)
 
 
-class Guests(Case):
-    def set_up_by_hand(self):
-        """The bridge is numbered and forwards what is behind it, each region has a place, and each function but the
-        last answers there."""
-        for (bus, device), offset, value in (
-            ((0, 1), 0x10, 0x1000),
-            ((0, 1), 0x14, 0xD0000000),
-            ((0, 1), 4, 3),
-            ((0, 2), 0x18, 0x00010100),
-            ((0, 2), 0x1C, 0x3030),
-            ((0, 2), 0x20, 0xD110D110),
-            ((0, 2), 0x24, 0xD2F0D200),
-            ((0, 2), 4, 3),
-            ((1, 0), 0x10, 0xD1100000),
-            ((1, 0), 0x14, 0x3010),
-            ((1, 0), 4, 3),
-            ((1, 1), 0x10, 0xD2000000),
-        ):
-            self.board.config[bus, device, 0][offset:4] = value
-
+class Guests(BoardCase):
     def test_a_board_of_ones_own_is_given(self):
-        self.set_up_by_hand()
+        set_up_by_hand(self.board)
         self.assertEqual(str(self.refused(206, self.board.into_guests)), "decoding of an assigned function's BAR is disabled (206)")
         self.board.config[1, 1, 0][4:2] = 2
         with self.board.into_guests() as machine, Machine(MAIN) as other:
@@ -205,7 +176,7 @@ class Guests(Case):
         self.refused(901, self.board.into_guests)
 
     def test_a_line_hands_the_board_over(self):
-        self.set_up_by_hand()
+        set_up_by_hand(self.board)
         run = self.board.run_line
         self.assertEqual(run("host guests\n"), "closed: 2.0/1.0 bar0\nhost: refused 206 closed region")
         self.board.config[1, 1, 0][4:2] = 2
@@ -224,7 +195,7 @@ class Guests(Case):
         self.refused(901, run, "a cr 0 0 4")
 
     def test_a_board_that_a_line_gave_is_freed(self):
-        self.set_up_by_hand()
+        set_up_by_hand(self.board)
         self.board.config[1, 1, 0][4:2] = 2
         self.assertEqual(self.board.run_line("host guests"), "host: ok")
         self.board.close()
@@ -235,7 +206,7 @@ class Guests(Case):
         self.assertEqual(self.board.audit().problems, 2)
 
 
-class Refusals(Case):
+class Refusals(BoardCase):
     def test_accesses(self):
         with self.assertRaises(ValueError):
             self.board.config[0, 1, 0][4:2] = 1 << 32
@@ -253,7 +224,3 @@ class Refusals(Case):
         self.refused(901, board.audit)
         self.refused(901, board.run_line, "host ir 0 1")
         board.close()
-
-
-if __name__ == "__main__":
-    unittest.main()

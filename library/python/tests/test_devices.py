@@ -87,10 +87,8 @@ class Declared(Case):
             with self.assertRaises(ValueError):
                 type("Wrong", (Doorbell,), {name: None for name in ("status", "bell")} | registers)
         for words in ({"rw": 256}, {"reset": -1}, {"rw": 1, "w1c": 1}):
-            with self.assertRaises(ValueError):
-                Register(0, 1, **words)
-        with self.assertRaises(ValueError):
-            Register(0, 0)
+            self.assertRaises(ValueError, Register, 0, 1, **words)
+        self.assertRaises(ValueError, Register, 0, 0)
 
     def test_a_class_with_registers_of_another(self):
         class Louder(Doorbell):
@@ -163,8 +161,7 @@ class Acting(Case):
     def test_an_access_past_the_space_is_none(self):
         self.a.config[0][0x10:4] = 0
         for call in (lambda: self.a.io.wide[0xFFFFFFFD:4], lambda: self.a.memory.wide[0x810000100:9]):
-            with self.assertRaises(Refusal):
-                call()
+            self.assertRaises(Refusal, call)
         self.assertEqual(self.device.told, [])
 
     def test_lines(self):
@@ -185,8 +182,7 @@ class Acting(Case):
         for line in quiet:
             self.machine.run_line(line)
         for call in (lambda: self.a.memory[0xE0000009:4], lambda: self.a.config[0][0x40:3], lambda: self.a.io[1 << 32:1]):
-            with self.assertRaises(Refusal):
-                call()
+            self.assertRaises(Refusal, call)
         self.a.io[0xCF8:4]
         self.a.config[0][4:2] = 0
         self.a.memory[0xE0000008:4] = 1  # memory is off: nothing responds
@@ -213,8 +209,7 @@ class Attaching(Case):
             bars = {**Doorbell.bars, 1: ("io", 64)}
 
         for device in (Other(), Smaller(), self.device):
-            with self.assertRaises(ValueError):
-                self.machine.attach(self.a, 1, device)
+            self.assertRaises(ValueError, self.machine.attach, self.a, 1, device)
         with self.assertRaises(ValueError):
             self.machine.attach(self.a, 0, Doorbell())  # it has a device
         with self.assertRaises(Refusal):
@@ -361,8 +356,7 @@ class Going(Case):
     def test_refused_calls_tell_nothing(self):
         for call in (lambda: self.a.reset(7), lambda: self.machine.move(self.a, 1, self.a, 0), lambda: self.a.load(b""),
                      lambda: self.machine.take(self.a, 7), lambda: self.machine.load_all(b"")):
-            with self.assertRaises(Refusal):
-                call()
+            self.assertRaises(Refusal, call)
         self.assertEqual(self.told(), [])
 
     def test_a_guest_goes_on_elsewhere(self):
@@ -374,8 +368,7 @@ class Going(Case):
             self.assertEqual((there.told, there.count), ([("load", 1, (0, 1))], 0))
             other.load_state(1, state)
             self.assertEqual((there.count, there.rings), (1, 1))
-            with self.assertRaises(ValueError):
-                other.load_state(1, b"")
+            self.assertRaises(ValueError, other.load_state, 1, b"")
             for call in (lambda: other.save_state(0), lambda: other.load_state(0, state), lambda: machine.detach(other, 0)):
                 with self.assertRaises(Refusal) as caught:
                     call()
@@ -421,7 +414,3 @@ class Going(Case):
         self.machine.attach(self.a, 1, Busy())
         self.a.io[0x2010:2] = 0x1234
         self.assertEqual(self.a.memory[0xE0000008:4], 0x1234)
-
-
-if __name__ == "__main__":
-    unittest.main()

@@ -88,7 +88,3 @@ class Header(unittest.TestCase):
         major, minor, patch = map(int, version.split("-")[0].split("."))
         self.assertEqual(_calls.VERSION_NUMBER, 10000 * major + 100 * minor + patch)
         self.assertEqual(pciguest.version(), _calls.VERSION_NUMBER)
-
-
-if __name__ == "__main__":
-    unittest.main()

@@ -2,10 +2,9 @@
 board, or in another machine over an equal one, wherever it is cut."""
 
 import re
-import unittest
 
-from boards import BOARDS, MAIN, TOP
-from pciguest import Board, Machine, Refusal
+from boards import BOARDS, MAIN, TOP, MachineCase, set_up_by_hand
+from pciguest import Board, Machine
 
 SCRIPTS = {
     "demo": ["demo"],
@@ -37,19 +36,7 @@ def arranged(board, lines):
     return machine
 
 
-class Case(unittest.TestCase):
-    def setUp(self):
-        self.machine = Machine(MAIN)
-        self.addCleanup(self.machine.close)
-        self.a, self.b = self.machine.guest("a"), self.machine.guest("b")
-
-    def refused(self, number, call, *arguments):
-        with self.assertRaises(Refusal) as raised:
-            call(*arguments)
-        self.assertEqual(raised.exception.number, number)
-
-
-class Images(Case):
+class Images(MachineCase):
     def test_an_image_tells_what_its_guest_holds(self):
         first, other = self.a.save(), self.b.save()
         self.assertEqual(self.a.image_size(), len(first))
@@ -97,7 +84,7 @@ def cuts():
                 yield script, text, lines[:cut], lines[cut:]
 
 
-class Loads(Case):
+class Loads(MachineCase):
     def test_guests_go_on_over_another_board(self):
         for script, board, first, rest in cuts():
             with self.subTest(script=script, cut=len(first)):
@@ -142,7 +129,7 @@ class Loads(Case):
         self.assertEqual(str(self.a.image_fault(image)), "slot 0: whether it is filled")
 
 
-class Machines(Case):
+class Machines(MachineCase):
     def test_machines_go_on_over_an_equal_board(self):
         for script, board, first, rest in cuts():
             with self.subTest(script=script, cut=len(first)), Machine(board) as here, Machine(board) as there:
@@ -195,13 +182,6 @@ class Machines(Case):
     def driven(self):
         """The same guests over the same board, which this firmware sets up."""
         board = Board(MAIN)
-        for bus, device, offset, value in [(0, 1, 0x10, 0x1000), (0, 1, 0x14, 0xD0000000), (0, 2, 0x18, 0x00010100),
-                                           (0, 2, 0x1C, 0x3030), (0, 2, 0x20, 0xD110D110), (0, 2, 0x24, 0xD2F0D200),
-                                           (1, 0, 0x10, 0xD1100000), (1, 0, 0x14, 0x3010), (1, 1, 0x10, 0xD2000000),
-                                           (0, 1, 4, 3), (0, 2, 4, 3), (1, 0, 4, 3), (1, 1, 4, 2)]:
-            board.config[bus, device, 0][offset:4] = value
+        set_up_by_hand(board)
+        board.config[1, 1, 0][4:2] = 2
         return board.into_guests()
-
-
-if __name__ == "__main__":
-    unittest.main()

@@ -3,29 +3,15 @@
 import gc
 import random
 import threading
-import unittest
 import unittest.mock
 
-from boards import MAIN, REFUSED
-from pciguest import Bar, Interrupt, Machine, Refusal, limits
+from boards import MAIN, REFUSED, MachineCase
+from pciguest import Bar, Interrupt, Machine, limits
 from pciguest._library import CALLS
 from why_lines import why_lines
 
 
-class Case(unittest.TestCase):
-    def setUp(self):
-        self.machine = Machine(MAIN)
-        self.addCleanup(self.machine.close)
-        self.a, self.b = self.machine.guest("a"), self.machine.guest("b")
-
-    def refused(self, number, call, *arguments):
-        with self.assertRaises(Refusal) as raised:
-            call(*arguments)
-        self.assertEqual(raised.exception.number, number)
-        return raised.exception
-
-
-class Guests(Case):
+class Guests(MachineCase):
     def test_a_guest_uses_its_function(self):
         a, b = self.a, self.b
         self.assertEqual((a.index, b.index), (0, 1))
@@ -75,10 +61,8 @@ class Guests(Case):
         self.assertEqual((a.changed(), self.b.changed()), (3, 0))
         self.assertFalse(a.region(1, 0).is_open)
         self.assertIsNone(a.locate("memory", 0x2000000010))
-        with self.assertRaises(ValueError):
-            a.locate("config", 0)
-        with self.assertRaises(ValueError):
-            a.region(0, -1)
+        self.assertRaises(ValueError, a.locate, "config", 0)
+        self.assertRaises(ValueError, a.region, 0, -1)
 
     def test_a_guest_is_told_why(self):
         a, function = self.a, self.a.config[0]
@@ -98,8 +82,7 @@ class Guests(Case):
             "why: I/O 0xcfc: CONFIG_ADDRESS (0x80010000) selects offset 0x0 of 01:00.0\n"
             "why: I/O 0xcfc: there is no slot at 01:00.0\n",
         )
-        with self.assertRaises(ValueError):
-            a.why("mem", 0)
+        self.assertRaises(ValueError, a.why, "mem", 0)
 
     def test_json_tells_a_guest_why_as_lines_do(self):
         chosen = random.Random(4)
@@ -135,16 +118,14 @@ class Guests(Case):
         self.assertEqual((b.config[5][0:4], b.config[5][0x3C:1]), (0x00011234, 0))
         with Machine(MAIN) as other:
             for call in (lambda: other.give("1.0", a, 0), lambda: other.take(b, 5)):
-                with self.assertRaises(ValueError):
-                    call()
+                self.assertRaises(ValueError, call)
 
     def test_a_device_reads_and_writes_its_own(self):
         a = self.a
         a.device_write(0, 7, 0xA5)
         self.assertEqual((a.device_read(0, 7), a.config[0][7:1]), (0xA5, 0xA5))
         self.refused(902, a.device_read, 0, 0, 6)
-        with self.assertRaises(ValueError):
-            a.device_write(0, 7, 256)
+        self.assertRaises(ValueError, a.device_write, 0, 7, 256)
 
     def test_a_device_has_wide_registers(self):
         a = self.a
@@ -155,8 +136,7 @@ class Guests(Case):
         self.assertEqual(a.device_read(0, 3, region=1, width=4), 0x456789AB)
         self.assertEqual(a.device_read(0, 7), 0x5A)
         for value, width in ((1 << 16, 2), (-1, 4), (0, -1), (1 << 64, 8)):
-            with self.assertRaises(ValueError):
-                a.device_write(0, 6, value, width=width)
+            self.assertRaises(ValueError, a.device_write, 0, 6, value, width=width)
 
     def test_a_region_is_reached_wherever_it_stands(self):
         a = self.a
@@ -173,11 +153,10 @@ class Guests(Case):
         function[0x3C:1] = 0x5A
         self.a.reset(0)
         self.assertEqual((function[0:4], function[4:2], function[0x3C:1], other[4:2]), (0x00011234, 0, 0, 2))
-        with self.assertRaises(ValueError):
-            self.a.reset(-1)
+        self.assertRaises(ValueError, self.a.reset, -1)
 
 
-class Hosts(Case):
+class Hosts(MachineCase):
     def test_the_board(self):
         host = self.machine.host
         self.assertEqual(host.config[0, 2, 0][0:4], 0x00021234)
@@ -192,7 +171,7 @@ class Hosts(Case):
             self.machine.host.config[0]
 
 
-class BoardFunctions(Case):
+class BoardFunctions(MachineCase):
     def test_all_functions(self):
         machine = self.machine
         all_of_them = list(machine.functions())
@@ -215,13 +194,11 @@ class BoardFunctions(Case):
         moved = b.function(7)
         self.assertEqual((moved.path, moved.seat), ("2.0/1.0", (1, 7)))
         self.assertEqual(moved, self.machine.function(3))
-        with self.assertRaises(ValueError):
-            a.function(-1)
-        with self.assertRaises(ValueError):
-            self.machine.function(-1)
+        self.assertRaises(ValueError, a.function, -1)
+        self.assertRaises(ValueError, self.machine.function, -1)
 
 
-class Lines(Case):
+class Lines(MachineCase):
     def test_replies(self):
         run = self.machine.run_line
         self.assertEqual(run("a cr 0 0 4"), "a: 0x00011234")
@@ -233,7 +210,7 @@ class Lines(Case):
         self.assertIsNone(run("# a comment"))
 
 
-class Refusals(Case):
+class Refusals(MachineCase):
     def test_accesses(self):
         a = self.a
         refusal = self.refused(301, lambda: a.memory[0xD0000001:4])
@@ -256,8 +233,7 @@ class Refusals(Case):
                 space[4:2] = value
         host, a = self.machine.host, self.a
         for call in (lambda: a.config[-1], lambda: a.raise_bits(0, 7, 256), lambda: host.config[256, 0, 0]):
-            with self.assertRaises(ValueError):
-                call()
+            self.assertRaises(ValueError, call)
 
     def test_accesses_of_another_form(self):
         for key in (0, slice(None, 4), slice(0, None), slice(0, 4, 1), slice("0", 4), slice(0.0, 4)):
@@ -265,7 +241,7 @@ class Refusals(Case):
                 self.a.memory[key]
 
 
-class Ends(Case):
+class Ends(MachineCase):
     def test_closed(self):
         with Machine(MAIN) as machine:
             guest = machine.guest("a")
@@ -300,7 +276,7 @@ class Ends(Case):
         self.assertEqual(wrong, [])
 
 
-class Moves(Case):
+class Moves(MachineCase):
     def test_regions_that_move_are_told(self):
         a = self.a
         self.assertEqual([(it.slot, it.register) for it in a.moved()], [(0, 0), (0, 1), (1, 0)])
@@ -326,7 +302,7 @@ class Moves(Case):
         self.assertEqual(limits()[1:5], (1024, 32, 32, 6))
 
 
-class OneAtATime(Case):
+class OneAtATime(MachineCase):
     def test_a_call_keeps_others_waiting(self):
         """While a call is made, no other thread gets the lock of the machine, and another machine's is free."""
         found = []
@@ -352,7 +328,3 @@ def resident():
     """The memory of this process that is resident, in bytes, on pages of 4 KB."""
     with open("/proc/self/statm") as told:
         return 4096 * int(told.read().split()[1])
-
-
-if __name__ == "__main__":
-    unittest.main()

@@ -226,7 +226,3 @@ class AsAProgram(unittest.TestCase):
             self.assertIn(b"a cr 0 0x2c 2", said)
             with open(os.path.join(folder, "pciguest", "history")) as kept:
                 self.assertIn("a.subvendor", kept.read())
-
-
-if __name__ == "__main__":
-    unittest.main()

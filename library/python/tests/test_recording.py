@@ -48,7 +48,3 @@ class Recording(unittest.TestCase):
         self.assertEqual(rows, [("host cw 00:01.0 0x4 2 0x3", "host: ok"), ("host iw 0xcf8 4 0x80000800", "host: ok"),
                                 ("host ir 0xcfc 4", "host: 0x00011234"), ("host mr 0x10 1", "host: 0x00")])
         self.replayed("firmware", rows)
-
-
-if __name__ == "__main__":
-    unittest.main()

@@ -89,7 +89,3 @@ class Rows(unittest.TestCase):
         # (wide accesses are split before a call is made)
         self.asked(machine, board, [(901, *row[1:]) for row in ROWS if row[1] not in ("read_wide", "write_wide")])
         self.assertGreater(len(ROWS), 150)
-
-
-if __name__ == "__main__":
-    unittest.main()

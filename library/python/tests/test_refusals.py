@@ -75,7 +75,3 @@ class Loaded(unittest.TestCase):
                 self.assertTrue(raised.exception.text.startswith(f"{path}:"))
             with self.assertRaises(FileNotFoundError):
                 Machine.load(path.with_name("none.toml"))
-
-
-if __name__ == "__main__":
-    unittest.main()

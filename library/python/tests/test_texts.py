@@ -58,9 +58,4 @@ class Texts(unittest.TestCase):
         last = ["not a valid image", "image is for other functions", "image is for another board", "unsupported image version"]
         self.assertEqual([strerror(each) for each in range(905, 909)], last)
         self.assertEqual(strerror(0xFFFFFFFF), "")
-        with self.assertRaises(ValueError):
-            strerror(-1)
-
-
-if __name__ == "__main__":
-    unittest.main()
+        self.assertRaises(ValueError, strerror, -1)

@@ -59,7 +59,3 @@ class Types(unittest.TestCase):
         self.assertEqual(told[0], 'note: Revealed type is "builtins.int"')
         self.assertIn("Register", told[1])
         self.assertIn("Incompatible types in assignment", told[2])
-
-
-if __name__ == "__main__":
-    unittest.main()

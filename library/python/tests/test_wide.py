@@ -100,7 +100,3 @@ class Wide(unittest.TestCase):
                 memory.wide[0:8] = 1 << 64
             with self.assertRaises(TypeError):
                 memory.wide[0]
-
-
-if __name__ == "__main__":
-    unittest.main()
