@@ -70,31 +70,10 @@ fn rings() -> Result<u64, pciguest::Error> {
     if machine.attach(a, 0, Doorbell).is_err() {
         return Ok(0);
     }
-    machine.write(
-        a,
-        At::Config {
-            slot: 0,
-            offset: 0x10,
-        },
-        4,
-        0xe000_0000,
-    )?;
+    machine.write(a, At::Config { slot: 0, offset: 0x10 }, 4, 0xe000_0000)?;
     machine.write(a, At::Config { slot: 0, offset: 4 }, 2, 2)?;
-    machine.write_wide(
-        a,
-        At::Memory {
-            address: 0xe000_0007,
-        },
-        4,
-        7,
-    )?;
-    machine.read_wide(
-        a,
-        At::Memory {
-            address: 0xe000_0004,
-        },
-        4,
-    )
+    machine.write_wide(a, At::Memory { address: 0xe000_0007 }, 4, 7)?;
+    machine.read_wide(a, At::Memory { address: 0xe000_0004 }, 4)
 }
 
 #[no_mangle]

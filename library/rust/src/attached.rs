@@ -117,9 +117,7 @@ impl Machine {
     /// the device takes the bytes for no state of its own.
     pub fn load_state(&mut self, guest: Guest, slot: u64, state: &[u8]) -> Result<(), Error> {
         let device = self.device_behind(guest, slot)?;
-        let taken = self.act(device, |model, registers| {
-            model.load_state(registers, state)
-        });
+        let taken = self.act(device, |model, registers| model.load_state(registers, state));
         answered(if taken == Some(true) { 0 } else { BAD_IMAGE })
     }
 
@@ -138,16 +136,9 @@ impl Machine {
 
     /// The registers of a device whose function a guest has.
     pub(crate) fn lent(&mut self, device: usize) -> Option<Registers<'_>> {
-        let Attached {
-            seat, registers, ..
-        } = &self.devices[device];
+        let Attached { seat, registers, .. } = &self.devices[device];
         let (guest, slot) = (*seat)?;
-        Some(Registers {
-            handle: &mut self.handle,
-            guest,
-            slot,
-            declared: registers,
-        })
+        Some(Registers { handle: &mut self.handle, guest, slot, declared: registers })
     }
 
     /// Lets a device act whose function a guest has, while the machine waits.
@@ -158,19 +149,9 @@ impl Machine {
     ) -> Option<T> {
         #[cfg(feature = "std")]
         let _acting = Acting::begin(self);
-        let Attached {
-            seat,
-            registers,
-            model,
-            ..
-        } = &mut self.devices[device];
+        let Attached { seat, registers, model, .. } = &mut self.devices[device];
         let (guest, slot) = (*seat)?;
-        let mut lent = Registers {
-            handle: &mut self.handle,
-            guest,
-            slot,
-            declared: registers,
-        };
+        let mut lent = Registers { handle: &mut self.handle, guest, slot, declared: registers };
         Some(acts(model.as_mut(), &mut lent))
     }
 
@@ -206,9 +187,7 @@ impl Machine {
         for (device, before) in self.reseat() {
             match before {
                 Some((from, slot)) if self.devices[device].seat.is_some() => {
-                    self.act(device, |model, registers| {
-                        model.on_move(registers, from, slot)
-                    });
+                    self.act(device, |model, registers| model.on_move(registers, from, slot));
                 }
                 Some(_) => self.tell_taken(device),
                 None => {

@@ -1,12 +1,12 @@
 //! A board that firmware of one's own drives, from reset on.
 
-use crate::error::{answered, Error};
+use crate::error::{answered, valued, Error};
 use crate::function::BoardFunction;
 use crate::machine::Machine;
 use crate::place::HostAt;
 use crate::prelude::*;
 use crate::raw::{self, BoardHandle};
-use crate::text::{reply_to, told};
+use crate::text::{reply_to, text_of};
 use core::fmt;
 use core::ptr::null_mut;
 
@@ -72,10 +72,7 @@ impl Board {
     /// ```
     pub fn new(file: impl AsRef<[u8]>) -> Result<Board, Error> {
         let file = file.as_ref();
-        let mut handle = BoardHandle {
-            live: false,
-            at: null_mut(),
-        };
+        let mut handle = BoardHandle { live: false, at: null_mut() };
         // SAFETY: the handle holds no board, and `file` has as many bytes as is said.
         answered(unsafe { raw::pciguest_board_new(&mut handle, file.as_ptr(), file.len()) })?;
         Ok(Board { handle })
@@ -101,9 +98,8 @@ impl Board {
     /// ```
     pub fn read(&mut self, at: HostAt, width: u32) -> Result<u32, Error> {
         let (space, bus, device, function, place) = at.parts();
-        let mut value = 0;
         // SAFETY: `value` is a place of its own.
-        answered(unsafe {
+        valued(|value| unsafe {
             raw::pciguest_board_read(
                 &mut self.handle,
                 space,
@@ -112,10 +108,9 @@ impl Board {
                 function,
                 place,
                 width,
-                &mut value,
+                value,
             )
-        })?;
-        Ok(value)
+        })
     }
 
     /// Writes the low 1, 2 or 4 bytes of a value as firmware does; what nothing takes is dropped. A write of
@@ -188,10 +183,8 @@ impl Board {
     /// # Ok::<(), pciguest::Error>(())
     /// ```
     pub fn count(&mut self) -> Result<usize, Error> {
-        let mut count = 0;
         // SAFETY: `count` is a place of its own.
-        answered(unsafe { raw::pciguest_board_count(&mut self.handle, &mut count) })?;
-        Ok(count)
+        valued(|count| unsafe { raw::pciguest_board_count(&mut self.handle, count) })
     }
 
     /// The function at an index, from 0 on, in the order of paths, as the registers stand. It changes nothing,
@@ -211,10 +204,9 @@ impl Board {
     /// # Ok::<(), pciguest::Error>(())
     /// ```
     pub fn function(&mut self, index: usize) -> Result<BoardFunction, Error> {
-        let mut told = raw::BoardFunction::default();
         // SAFETY: `told` is a place of its own.
-        answered(unsafe { raw::pciguest_board_function(&mut self.handle, index, &mut told) })?;
-        Ok(BoardFunction::of(&told))
+        valued(|told| unsafe { raw::pciguest_board_function(&mut self.handle, index, told) })
+            .map(|told| BoardFunction::of(&told))
     }
 
     /// All functions of the board, in the order of paths.
@@ -226,9 +218,7 @@ impl Board {
     /// # Ok::<(), pciguest::Error>(())
     /// ```
     pub fn functions(&mut self) -> Result<Vec<BoardFunction>, Error> {
-        (0..self.count()?)
-            .map(|index| self.function(index))
-            .collect()
+        (0..self.count()?).map(|index| self.function(index)).collect()
     }
 
     /// What is wrong in the registers as they stand, whoever wrote them: bytes of open regions that a bridge above
@@ -324,7 +314,7 @@ impl Board {
     pub fn why_json(&mut self, at: HostAt) -> Result<String, Error> {
         let (space, bus, device, function, place) = at.parts();
         // SAFETY: the text has as many bytes as is said, and nothing overlaps.
-        let (number, text) = told(1024, |text, room, needed| unsafe {
+        text_of(1024, |text, room, needed| unsafe {
             raw::pciguest_board_why_json(
                 &mut self.handle,
                 space,
@@ -336,17 +326,16 @@ impl Board {
                 room,
                 needed,
             )
-        });
-        answered(number).map(|()| text)
+        })
     }
 
     fn counted(&mut self, call: TextCall) -> Result<(String, usize), Error> {
         let mut count = 0;
         // SAFETY: the text has as many bytes as is said, and nothing overlaps.
-        let (number, text) = told(1024, |text, room, needed| unsafe {
+        let text = text_of(1024, |text, room, needed| unsafe {
             call(&mut self.handle, text, room, needed, &mut count)
-        });
-        answered(number).map(|()| (text, count))
+        })?;
+        Ok((text, count))
     }
 
     /// The machine that [`Machine::new`] makes of the same file: our own set-up, in place of firmware of one's own. The

@@ -59,11 +59,7 @@ pub struct GuestBus {
 impl GuestBus {
     /// The ports or the memory of a guest.
     pub fn new(machine: Arc<Mutex<Machine>>, guest: Guest, space: Space) -> GuestBus {
-        GuestBus {
-            machine,
-            guest,
-            space,
-        }
+        GuestBus { machine, guest, space }
     }
 
     /// Reads as many bytes as `data` has, at an offset of a range that begins at `base`, that at the lowest address first. What
@@ -181,11 +177,7 @@ pub struct SlotConfig {
 impl SlotConfig {
     /// The configuration space of a slot.
     pub fn new(machine: Arc<Mutex<Machine>>, guest: Guest, slot: u64) -> SlotConfig {
-        SlotConfig {
-            machine,
-            guest,
-            slot,
-        }
+        SlotConfig { machine, guest, slot }
     }
 
     /// Reads the register at an index, 0 to 63: all ones where the slot is empty or there is no such register.
@@ -210,11 +202,7 @@ impl SlotConfig {
         let both = before.into_iter().zip(now).zip(0..);
         both.filter_map(|((before, now), register)| {
             let (before, now) = (before?, now?);
-            (before != now).then_some(RegionMove {
-                register,
-                before,
-                now,
-            })
+            (before != now).then_some(RegionMove { register, before, now })
         })
         .collect()
     }
@@ -249,9 +237,7 @@ fn locked(machine: &Mutex<Machine>) -> MutexGuard<'_, Machine> {
 fn read_part(machine: &mut Machine, guest: Guest, at: Option<At>, data: &mut [u8]) {
     let read = at.and_then(|at| machine.read_wide(guest, at, data.len() as u32).ok());
     let bytes = read.unwrap_or(u64::MAX).to_le_bytes();
-    for (byte, value) in data.iter_mut().zip(bytes) {
-        *byte = value;
-    }
+    data.copy_from_slice(&bytes[..data.len()]);
 }
 
 /// Writes up to 8 bytes; what is refused is lost.

@@ -5,11 +5,8 @@ use crate::prelude::*;
 use core::fmt::Write;
 
 /// The patterns of a block in a board file, each with the bits that a register has in it.
-pub(crate) const PATTERNS: [(&str, BitsOf); 3] = [
-    ("reset", |it| it.reset),
-    ("rw", |it| it.rw),
-    ("w1c", |it| it.w1c),
-];
+pub(crate) const PATTERNS: [(&str, BitsOf); 3] =
+    [("reset", |it| it.reset), ("rw", |it| it.rw), ("w1c", |it| it.w1c)];
 
 pub(crate) type BitsOf = fn(&Register) -> u64;
 
@@ -82,22 +79,12 @@ impl Register {
 
     const fn of(part: Part, offset: u64, width: u64) -> Register {
         assert!(1 <= width && width <= 8, "a register has 1 to 8 bytes");
-        Register {
-            part,
-            offset,
-            width,
-            reset: 0,
-            rw: 0,
-            w1c: 0,
-        }
+        Register { part, offset, width, reset: 0, rw: 0, w1c: 0 }
     }
 
     /// The same with this value at reset.
     pub const fn reset(self, value: u64) -> Register {
-        Register {
-            reset: value,
-            ..self
-        }
+        Register { reset: value, ..self }
     }
 
     /// The same where its driver's writes set these bits.
@@ -176,10 +163,7 @@ impl Declaration {
 
     /// The same with a Revision ID.
     pub fn revision(self, revision_id: u8) -> Declaration {
-        Declaration {
-            revision_id,
-            ..self
-        }
+        Declaration { revision_id, ..self }
     }
 
     /// The same with a Subsystem Vendor ID and a Subsystem ID.
@@ -190,10 +174,7 @@ impl Declaration {
 
     /// The same with an interrupt pin: 1 to 4 are INTA# to INTD#.
     pub fn interrupt_pin(self, interrupt_pin: u8) -> Declaration {
-        Declaration {
-            interrupt_pin,
-            ..self
-        }
+        Declaration { interrupt_pin, ..self }
     }
 
     /// The same with a region of a size in bytes, by its first base address register.
@@ -261,10 +242,7 @@ impl Declaration {
         );
         for (index, region) in self.regions.iter().enumerate() {
             if let Some((kind, size)) = region {
-                let head = format!(
-                    "index = {index}, kind = \"{}\", size = {size:#x}",
-                    kind.word()
-                );
+                let head = format!("index = {index}, kind = \"{}\", size = {size:#x}", kind.word());
                 let block = self.block(Part::Region(index as u8), 0);
                 text += &format!("  {{ {head}{block} }},\n");
             }
@@ -272,10 +250,7 @@ impl Declaration {
         text += "]\nconfig = [";
         let own = self.registers.iter().filter(|it| it.part == Part::Config);
         if let Some(first) = own.map(|it| it.offset).min() {
-            text += &format!(
-                " {{ off = {first:#x}{} }} ",
-                self.block(Part::Config, first)
-            );
+            text += &format!(" {{ off = {first:#x}{} }} ", self.block(Part::Config, first));
         }
         text + "]\n"
     }

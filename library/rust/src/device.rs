@@ -207,17 +207,17 @@ impl Registers<'_> {
     ///
     /// The device declares no such register.
     pub fn get(&mut self, register: Register) -> u64 {
-        self.has(register);
+        let (guest, slot, part, offset, width) = self.place(register);
         let mut value = 0;
         // SAFETY: `value` is a place of its own.
         let answer = unsafe {
             raw::pciguest_device_read_wide(
                 self.handle,
-                self.guest.index(),
-                self.slot,
-                register.part.number(),
-                register.offset,
-                register.width as u32,
+                guest,
+                slot,
+                part,
+                offset,
+                width,
                 &mut value,
             )
         };
@@ -231,25 +231,21 @@ impl Registers<'_> {
     ///
     /// The device declares no such register.
     pub fn set(&mut self, register: Register, value: u64) {
-        self.has(register);
+        let (guest, slot, part, offset, width) = self.place(register);
+        let value = value & register.all_ones();
         // SAFETY: no pointer but the handle is passed.
         let answer = unsafe {
-            raw::pciguest_device_write_wide(
-                self.handle,
-                self.guest.index(),
-                self.slot,
-                register.part.number(),
-                register.offset,
-                register.width as u32,
-                value & register.all_ones(),
-            )
+            raw::pciguest_device_write_wide(self.handle, guest, slot, part, offset, width, value)
         };
         debug_assert_eq!(answer, 0, "a declared register is there");
     }
 
-    fn has(&self, register: Register) {
+    /// Guest, slot, part, offset and width of a register, as the library takes them.
+    fn place(&self, register: Register) -> (usize, u64, u32, u64, u32) {
         let is_declared = self.declared.contains(&register);
         assert!(is_declared, "the device declares no {register:x?}");
+        let Register { part, offset, width, .. } = register;
+        (self.guest.index(), self.slot, part.number(), offset, width as u32)
     }
 }
 

@@ -18,15 +18,8 @@ pub struct Difference {
 
 impl fmt::Display for Difference {
     fn fmt(&self, f: &mut fmt::Formatter<'_>) -> fmt::Result {
-        let Difference {
-            field,
-            declared,
-            found,
-        } = self;
-        write!(
-            f,
-            "{field}: the device declares {declared}, and the function has {found}"
-        )
+        let Difference { field, declared, found } = self;
+        write!(f, "{field}: the device declares {declared}, and the function has {found}")
     }
 }
 
@@ -65,11 +58,7 @@ pub(crate) fn first_difference(
     let of_identity = (0..7).find(|&at| identity[at] != function.identity[at]);
     if let Some(at) = of_identity {
         let text = |value| format!("{value:#x}");
-        return differs(
-            IDENTITY[at],
-            text(identity[at]),
-            text(function.identity[at]),
-        );
+        return differs(IDENTITY[at], text(identity[at]), text(function.identity[at]));
     }
     let regions = (0..6).find_map(|at| region(device, &function, at));
     let mut registers: Vec<&Register> = device.registers.iter().collect();
@@ -78,11 +67,7 @@ pub(crate) fn first_difference(
 }
 
 fn differs(field: &str, declared: String, found: String) -> Option<Difference> {
-    (declared != found).then(|| Difference {
-        field: field.into(),
-        declared,
-        found,
-    })
+    (declared != found).then(|| Difference { field: field.into(), declared, found })
 }
 
 /// In what the region of a base address register differs.
@@ -103,20 +88,15 @@ fn register(it: &Register, function: &Declared) -> Option<Difference> {
         Part::Region(at) => format!("region {at}"),
     };
     let named = |field: &str| format!("{field} of the register at {:#x} of {part}", it.offset);
-    let cells: Vec<Option<Cell>> = (it.offset..it.offset + it.width)
-        .map(|offset| function.cell(it.part, offset))
-        .collect();
+    let cells: Vec<Option<Cell>> =
+        (it.offset..it.offset + it.width).map(|offset| function.cell(it.part, offset)).collect();
     let count = cells.iter().flatten().count();
     let width = format!("{} bytes", it.width);
     differs(&named("width"), width, format!("{count} bytes")).or_else(|| {
         PATTERNS.iter().enumerate().find_map(|(at, (name, bits))| {
             let bytes = cells.iter().map(|cell| cell.unwrap_or_default()[at]);
             let found = number(&bytes.collect::<Vec<u8>>());
-            differs(
-                &named(name),
-                format!("{:#x}", bits(it)),
-                format!("{found:#x}"),
-            )
+            differs(&named(name), format!("{:#x}", bits(it)), format!("{found:#x}"))
         })
     })
 }
@@ -146,12 +126,7 @@ impl<'a> Bytes<'a> {
 
     fn cells(&mut self, count: u64) -> Option<Vec<Cell>> {
         let bytes = self.take(3 * count as usize)?;
-        Some(
-            bytes
-                .chunks(3)
-                .map(|cell| [cell[0], cell[1], cell[2]])
-                .collect(),
-        )
+        Some(bytes.chunks(3).map(|cell| [cell[0], cell[1], cell[2]]).collect())
     }
 
     /// The declaration of a function, and how many bytes of values come after it (`docs/image-format.md`).
@@ -164,11 +139,7 @@ impl<'a> Bytes<'a> {
         let (mut regions, mut blocks) = ([None; 6], Vec::new());
         let (mut values, count) = (23, self.number(1)?);
         for _ in 0..count {
-            let (at, kind, size) = (
-                self.number(1)? as u8,
-                self.number(1)? as u8,
-                self.number(8)?,
-            );
+            let (at, kind, size) = (self.number(1)? as u8, self.number(1)? as u8, self.number(8)?);
             *regions.get_mut(usize::from(at))? = Some((kind, size));
             let cells = self.number(2)?;
             values += cells as usize + if kind < 3 { 4 } else { 8 };
@@ -179,21 +150,14 @@ impl<'a> Bytes<'a> {
             values += cells as usize;
             blocks.push((Part::Config, first, self.cells(cells)?));
         }
-        let declared = Declared {
-            identity,
-            regions,
-            blocks,
-        };
+        let declared = Declared { identity, regions, blocks };
         Some((declared, values))
     }
 }
 
 /// The number that some bytes are, the lowest first.
 fn number(bytes: &[u8]) -> u64 {
-    bytes
-        .iter()
-        .rev()
-        .fold(0, |all, &byte| all << 8 | u64::from(byte))
+    bytes.iter().rev().fold(0, |all, &byte| all << 8 | u64::from(byte))
 }
 
 /// What an image says of the function in a slot.

@@ -148,3 +148,9 @@ pub(crate) fn answered(number: u32) -> Result<(), Error> {
         number => Err(Error::of(number)),
     }
 }
+
+/// What a call leaves in a place of its own.
+pub(crate) fn valued<T: Default>(call: impl FnOnce(&mut T) -> u32) -> Result<T, Error> {
+    let mut value = T::default();
+    answered(call(&mut value)).map(|()| value)
+}

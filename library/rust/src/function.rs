@@ -1,6 +1,6 @@
 //! What is told of each function of the board.
 
-use crate::error::{answered, Error};
+use crate::error::{valued, Error};
 use crate::machine::Machine;
 use crate::place::{Guest, Space};
 use crate::prelude::*;
@@ -151,22 +151,14 @@ impl Ranges {
             return Ranges::Regions(told.regions.map(|bar| Bar::of(&bar)));
         }
         let [io, memory, prefetchable] = told.windows.map(|window| Window::of(&window));
-        Ranges::Windows {
-            io,
-            memory,
-            prefetchable,
-        }
+        Ranges::Windows { io, memory, prefetchable }
     }
 }
 
 impl Bar {
     fn of(told: &raw::Bar) -> Option<Bar> {
         (told.size != 0).then_some(Bar {
-            space: if told.space == raw::IO {
-                Space::Io
-            } else {
-                Space::Memory
-            },
+            space: if told.space == raw::IO { Space::Io } else { Space::Memory },
             first: told.first,
             size: told.size,
             prefetchable: told.prefetchable != 0,
@@ -177,10 +169,7 @@ impl Bar {
 
 impl Window {
     fn of(told: &raw::Window) -> Option<Window> {
-        (told.is_there != 0).then_some(Window {
-            first: told.first,
-            last: told.last,
-        })
+        (told.is_there != 0).then_some(Window { first: told.first, last: told.last })
     }
 }
 
@@ -193,10 +182,8 @@ impl Machine {
     /// # Ok::<(), pciguest::Error>(())
     /// ```
     pub fn count(&mut self) -> Result<usize, Error> {
-        let mut count = 0;
         // SAFETY: `count` is a place of its own.
-        answered(unsafe { raw::pciguest_count(&mut self.handle, &mut count) })?;
-        Ok(count)
+        valued(|count| unsafe { raw::pciguest_count(&mut self.handle, count) })
     }
 
     /// The function at an index, from 0 on, in the order of paths. Where regions and windows stand, and by which number
@@ -214,10 +201,9 @@ impl Machine {
     /// # Ok::<(), pciguest::Error>(())
     /// ```
     pub fn function(&mut self, index: usize) -> Result<Function, Error> {
-        let mut told = raw::Function::default();
         // SAFETY: `told` is a place of its own.
-        answered(unsafe { raw::pciguest_function(&mut self.handle, index, &mut told) })?;
-        Ok(Function::of(&told))
+        valued(|told| unsafe { raw::pciguest_function(&mut self.handle, index, told) })
+            .map(|told| Function::of(&told))
     }
 
     /// All functions of the board, in the order of paths.
@@ -254,10 +240,9 @@ impl Machine {
     /// # Ok::<(), pciguest::Error>(())
     /// ```
     pub fn slot_function(&mut self, guest: Guest, slot: u64) -> Result<Function, Error> {
-        let mut told = raw::Function::default();
         // SAFETY: `told` is a place of its own.
-        answered(unsafe { raw::pciguest_slot(&mut self.handle, guest.index(), slot, &mut told) })?;
-        Ok(Function::of(&told))
+        valued(|told| unsafe { raw::pciguest_slot(&mut self.handle, guest.index(), slot, told) })
+            .map(|told| Function::of(&told))
     }
 }
 

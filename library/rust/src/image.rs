@@ -1,6 +1,6 @@
 //! What a guest alone holds, and what a whole machine is, as bytes that outlive the machine.
 
-use crate::error::{answered, Error};
+use crate::error::{answered, valued, Error};
 use crate::image_fault::ImageFault;
 use crate::machine::Machine;
 use crate::place::Guest;
@@ -25,9 +25,8 @@ impl Machine {
     pub fn image_size(&mut self, guest: Guest) -> Result<usize, Error> {
         let (mut size, mut none) = (0, 0);
         // SAFETY: no byte is written where there is room for none, and `size` is a place of its own.
-        let number = unsafe {
-            raw::pciguest_save(&mut self.handle, guest.index(), &mut none, 0, &mut size)
-        };
+        let number =
+            unsafe { raw::pciguest_save(&mut self.handle, guest.index(), &mut none, 0, &mut size) };
         if size > 0 {
             return Ok(size); // the library told the size, since there is no room
         }
@@ -97,10 +96,7 @@ impl Machine {
         answered(unsafe {
             raw::pciguest_load(&mut self.handle, guest.index(), image.as_ptr(), image.len())
         })?;
-        self.tell(
-            |(of, _)| of == guest,
-            |model, registers| model.on_load(registers),
-        );
+        self.tell(|(of, _)| of == guest, |model, registers| model.on_load(registers));
         Ok(())
     }
 
@@ -153,10 +149,8 @@ impl Machine {
     /// # Ok::<(), pciguest::Error>(())
     /// ```
     pub fn image_size_all(&mut self) -> Result<usize, Error> {
-        let mut size = 0;
         // SAFETY: `size` is a place of its own.
-        answered(unsafe { raw::pciguest_image_size_all(&mut self.handle, &mut size) })?;
-        Ok(size)
+        valued(|size| unsafe { raw::pciguest_image_size_all(&mut self.handle, size) })
     }
 
     /// Saves the whole machine: its image, which is who has which function of the board in which slot, what each guest holds,
@@ -176,12 +170,7 @@ impl Machine {
         let mut needed = 0;
         // SAFETY: `image` has as many bytes as is said, and nothing overlaps.
         answered(unsafe {
-            raw::pciguest_save_all(
-                &mut self.handle,
-                image.as_mut_ptr(),
-                image.len(),
-                &mut needed,
-            )
+            raw::pciguest_save_all(&mut self.handle, image.as_mut_ptr(), image.len(), &mut needed)
         })?;
         image.truncate(needed);
         Ok(image)
@@ -239,10 +228,7 @@ impl Machine {
     pub fn reset_guest(&mut self, guest: Guest) -> Result<(), Error> {
         // SAFETY: no pointer but the handle is passed.
         answered(unsafe { raw::pciguest_reset_guest(&mut self.handle, guest.index()) })?;
-        self.tell(
-            |(of, _)| of == guest,
-            |model, registers| model.on_reset(registers),
-        );
+        self.tell(|(of, _)| of == guest, |model, registers| model.on_reset(registers));
         Ok(())
     }
 }

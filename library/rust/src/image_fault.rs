@@ -41,17 +41,9 @@ const IDENTITY: [(&str, usize); 10] = [
 impl ImageFault {
     /// The fault at a byte of an image, if there is such a byte.
     pub(crate) fn at(image: &[u8], slot: u64, offset: usize) -> Option<ImageFault> {
-        let mut fields = Fields {
-            image,
-            at: 0,
-            offset,
-        };
+        let mut fields = Fields { image, at: 0, offset };
         let field = fields.image().err().filter(|_| offset < image.len())?;
-        Some(ImageFault {
-            slot: (slot < 32).then_some(slot),
-            offset,
-            field,
-        })
+        Some(ImageFault { slot: (slot < 32).then_some(slot), offset, field })
     }
 }
 

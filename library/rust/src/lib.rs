@@ -91,9 +91,7 @@ pub use declared::{Declaration, Kind, Register};
 pub use device::{DeviceModel, Registers};
 pub use differs::Difference;
 pub use error::{Error, Refusal};
-pub use function::{
-    Bar, BoardFunction, Function, Functions, Interrupt, Ranges, Window,
-};
+pub use function::{Bar, BoardFunction, Function, Functions, Interrupt, Ranges, Window};
 pub use image_fault::ImageFault;
 pub use limits::{limits, Limits};
 pub use machine::Machine;

@@ -37,12 +37,7 @@ pub(crate) fn asked_by(
         (&[width, value], true) => (width, Some(u32::try_from(value).ok()?)),
         _ => return None,
     };
-    Some(Asked {
-        guest: guest_of(name)?,
-        at,
-        width: u32::try_from(width).ok()?,
-        written,
-    })
+    Some(Asked { guest: guest_of(name)?, at, width: u32::try_from(width).ok()?, written })
 }
 
 /// The number that a word of a line is, below 2^64.

@@ -83,11 +83,9 @@ fn loaded<T>(path: &Path, make: impl FnOnce(&[u8]) -> Result<T, Error>) -> Resul
 /// What a check says of a file, which the library calls `board.toml`, by its path.
 fn told_of(file: &[u8], path: &Path) -> String {
     let text = check(file).map(|told| told.text).unwrap_or_default();
-    let lines = text
-        .lines()
-        .map(|line| match line.strip_prefix("board.toml:") {
-            Some(rest) => format!("{}:{rest}\n", path.display()),
-            None => format!("{line}\n"),
-        });
+    let lines = text.lines().map(|line| match line.strip_prefix("board.toml:") {
+        Some(rest) => format!("{}:{rest}\n", path.display()),
+        None => format!("{line}\n"),
+    });
     lines.collect()
 }

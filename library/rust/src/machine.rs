@@ -1,12 +1,12 @@
 //! A board that is set up, with its guests.
 
 use crate::attached::Attached;
-use crate::error::{answered, Error};
+use crate::error::{answered, valued, Error};
 use crate::lines::{asked_by, Asked};
 use crate::place::{At, Guest, Hit, HostAt, Part, Region};
 use crate::prelude::*;
 use crate::raw::{self, Handle};
-use crate::text::{reply_to, told};
+use crate::text::{reply_to, text_of};
 use crate::touch::Touch;
 use core::fmt;
 use core::ptr::null_mut;
@@ -69,10 +69,7 @@ impl Machine {
 
     /// The machine that a call leaves in a handle that holds none.
     pub(crate) fn made_by(call: impl FnOnce(&mut Handle) -> u32) -> Result<Machine, Error> {
-        let mut handle = Handle {
-            live: false,
-            at: null_mut(),
-        };
+        let mut handle = Handle { live: false, at: null_mut() };
         answered(call(&mut handle))?;
         let devices = Vec::new();
         Ok(Machine { handle, devices })
@@ -88,12 +85,11 @@ impl Machine {
     /// # Ok::<(), pciguest::Error>(())
     /// ```
     pub fn guest(&mut self, name: &str) -> Result<Guest, Error> {
-        let mut guest = 0;
         // SAFETY: `name` has as many bytes as is said, and nothing overlaps.
-        answered(unsafe {
-            raw::pciguest_guest(&mut self.handle, name.as_ptr(), name.len(), &mut guest)
-        })?;
-        Ok(Guest::of_index(guest))
+        valued(|guest| unsafe {
+            raw::pciguest_guest(&mut self.handle, name.as_ptr(), name.len(), guest)
+        })
+        .map(Guest::of_index)
     }
 
     /// The names of all guests, in the order of the board file: the one at an index is that of [`Guest::of_index`].
@@ -107,9 +103,7 @@ impl Machine {
         let mut count = 0;
         // SAFETY: `count` is a place of its own.
         answered(unsafe { raw::pciguest_guest_count(&mut self.handle, &mut count) })?;
-        (0..count)
-            .map(|index| self.guest_name(Guest::of_index(index)))
-            .collect()
+        (0..count).map(|index| self.guest_name(Guest::of_index(index))).collect()
     }
 
     /// The name of a guest. 902: there is no such guest.
@@ -126,10 +120,9 @@ impl Machine {
     /// ```
     pub fn guest_name(&mut self, guest: Guest) -> Result<String, Error> {
         // SAFETY: the text has as many bytes as is said, and nothing overlaps.
-        let (number, name) = told(raw::GUEST_NAME, |text, room, needed| unsafe {
+        text_of(raw::GUEST_NAME, |text, room, needed| unsafe {
             raw::pciguest_guest_name(&mut self.handle, guest.index(), text, room, needed)
-        });
-        answered(number).map(|()| name)
+        })
     }
 
     /// Reads 1, 2 or 4 bytes as a guest: what the guest's own functions answer, and all ones where nothing of the
@@ -152,28 +145,16 @@ impl Machine {
     /// # Ok::<(), pciguest::Error>(())
     /// ```
     pub fn read(&mut self, guest: Guest, at: At, width: u32) -> Result<u32, Error> {
-        self.read_and_tell((guest, at, width), |machine| {
-            machine.read_alone(guest, at, width)
-        })
+        self.read_and_tell((guest, at, width), |machine| machine.read_alone(guest, at, width))
     }
 
     /// Reads so, and tells no device.
     pub(crate) fn read_alone(&mut self, guest: Guest, at: At, width: u32) -> Result<u32, Error> {
         let (space, slot, place) = at.parts();
-        let mut value = 0;
         // SAFETY: `value` is a place of its own.
-        answered(unsafe {
-            raw::pciguest_read(
-                &mut self.handle,
-                guest.index(),
-                space,
-                slot,
-                place,
-                width,
-                &mut value,
-            )
-        })?;
-        Ok(value)
+        valued(|value| unsafe {
+            raw::pciguest_read(&mut self.handle, guest.index(), space, slot, place, width, value)
+        })
     }
 
     /// Writes the low 1, 2 or 4 bytes of a value as a guest. No other guest can tell. Refused as a read is.
@@ -209,15 +190,7 @@ impl Machine {
         let touch = self.touch(guest, at, width, value);
         // SAFETY: no pointer but the handle is passed.
         answered(unsafe {
-            raw::pciguest_write(
-                &mut self.handle,
-                guest.index(),
-                space,
-                slot,
-                place,
-                width,
-                value,
-            )
+            raw::pciguest_write(&mut self.handle, guest.index(), space, slot, place, width, value)
         })?;
         Ok(touch)
     }
@@ -253,14 +226,7 @@ impl Machine {
     ) -> Result<(), Error> {
         // SAFETY: no pointer but the handle is passed.
         answered(unsafe {
-            raw::pciguest_raise(
-                &mut self.handle,
-                guest.index(),
-                slot,
-                part.number(),
-                offset,
-                mask,
-            )
+            raw::pciguest_raise(&mut self.handle, guest.index(), slot, part.number(), offset, mask)
         })
     }
 
@@ -280,9 +246,8 @@ impl Machine {
     /// ```
     pub fn host_read(&mut self, at: HostAt, width: u32) -> Result<u32, Error> {
         let (space, bus, device, function, place) = at.parts();
-        let mut value = 0;
         // SAFETY: `value` is a place of its own.
-        answered(unsafe {
+        valued(|value| unsafe {
             raw::pciguest_host_read(
                 &mut self.handle,
                 space,
@@ -291,10 +256,9 @@ impl Machine {
                 function,
                 place,
                 width,
-                &mut value,
+                value,
             )
-        })?;
-        Ok(value)
+        })
     }
 
     /// Moves the function in a slot of a guest to the slot `target` of another, or of the same. Nothing is carried
@@ -352,10 +316,7 @@ impl Machine {
     pub fn reset(&mut self, guest: Guest, slot: u64) -> Result<(), Error> {
         // SAFETY: no pointer but the handle is passed.
         answered(unsafe { raw::pciguest_reset(&mut self.handle, guest.index(), slot) })?;
-        self.tell(
-            |seat| seat == (guest, slot),
-            |model, registers| model.on_reset(registers),
-        );
+        self.tell(|seat| seat == (guest, slot), |model, registers| model.on_reset(registers));
         Ok(())
     }
 
@@ -380,13 +341,7 @@ impl Machine {
     pub fn give(&mut self, path: &str, guest: Guest, slot: u64) -> Result<(), Error> {
         // SAFETY: `path` has as many bytes as is said, and nothing overlaps.
         answered(unsafe {
-            raw::pciguest_give(
-                &mut self.handle,
-                path.as_ptr(),
-                path.len(),
-                guest.index(),
-                slot,
-            )
+            raw::pciguest_give(&mut self.handle, path.as_ptr(), path.len(), guest.index(), slot)
         })?;
         self.tell_moved();
         Ok(())
@@ -439,8 +394,7 @@ impl Machine {
         part: Part,
         offset: u64,
     ) -> Result<u8, Error> {
-        self.device_read_wide(guest, slot, part, offset, 1)
-            .map(|value| value as u8)
+        self.device_read_wide(guest, slot, part, offset, 1).map(|value| value as u8)
     }
 
     /// Writes such a byte as its device does: it takes the value, whatever a guest's writes may change of it, and
@@ -494,9 +448,8 @@ impl Machine {
         offset: u64,
         width: u32,
     ) -> Result<u64, Error> {
-        let mut value = 0;
         // SAFETY: `value` is a place of its own.
-        answered(unsafe {
+        valued(|value| unsafe {
             raw::pciguest_device_read_wide(
                 &mut self.handle,
                 guest.index(),
@@ -504,10 +457,9 @@ impl Machine {
                 part.number(),
                 offset,
                 width,
-                &mut value,
+                value,
             )
-        })?;
-        Ok(value)
+        })
     }
 
     /// Writes the low 1 to 8 bytes of a value so, whatever a guest's writes may change of them. Refused as a read is; then
@@ -569,12 +521,11 @@ impl Machine {
     /// # Ok::<(), pciguest::Error>(())
     /// ```
     pub fn region(&mut self, guest: Guest, slot: u64, register: u32) -> Result<Region, Error> {
-        let mut told = raw::Region::default();
         // SAFETY: `told` is a place of its own.
-        answered(unsafe {
-            raw::pciguest_region(&mut self.handle, guest.index(), slot, register, &mut told)
-        })?;
-        Ok(Region::of(&told))
+        valued(|told| unsafe {
+            raw::pciguest_region(&mut self.handle, guest.index(), slot, register, told)
+        })
+        .map(|told| Region::of(&told))
     }
 
     /// A count of the guest, which grows with each access of the guest, move, reset, gift, taking or load that touches one of
@@ -595,10 +546,8 @@ impl Machine {
     /// # Ok::<(), pciguest::Error>(())
     /// ```
     pub fn changed(&mut self, guest: Guest) -> Result<u64, Error> {
-        let mut count = 0;
         // SAFETY: `count` is a place of its own.
-        answered(unsafe { raw::pciguest_changed(&mut self.handle, guest.index(), &mut count) })?;
-        Ok(count)
+        valued(|count| unsafe { raw::pciguest_changed(&mut self.handle, guest.index(), count) })
     }
 
     /// What an access of the guest at a place hits: a byte of a function in one of its slots, or nothing. Every access
@@ -621,19 +570,11 @@ impl Machine {
     /// ```
     pub fn locate(&mut self, guest: Guest, at: At) -> Result<Option<Hit>, Error> {
         let (space, slot, place) = at.parts();
-        let mut told = raw::Hit::default();
         // SAFETY: `told` is a place of its own.
-        answered(unsafe {
-            raw::pciguest_locate(
-                &mut self.handle,
-                guest.index(),
-                space,
-                slot,
-                place,
-                &mut told,
-            )
-        })?;
-        Ok(Hit::of(&told))
+        valued(|told| unsafe {
+            raw::pciguest_locate(&mut self.handle, guest.index(), space, slot, place, told)
+        })
+        .map(|told| Hit::of(&told))
     }
 
     /// Why an access of the guest at a place finds what it finds, a line for each thing: at port CF8h, and at CFCh to CFFh,
@@ -692,19 +633,9 @@ impl Machine {
     fn told_why(&mut self, call: WhyCall, guest: Guest, at: At) -> Result<String, Error> {
         let (space, slot, place) = at.parts();
         // SAFETY: the text has as many bytes as is said, and nothing overlaps.
-        let (number, text) = told(512, |text, room, needed| unsafe {
-            call(
-                &mut self.handle,
-                guest.index(),
-                space,
-                slot,
-                place,
-                text,
-                room,
-                needed,
-            )
-        });
-        answered(number).map(|()| text)
+        text_of(512, |text, room, needed| unsafe {
+            call(&mut self.handle, guest.index(), space, slot, place, text, room, needed)
+        })
     }
 
     /// Why a line is refused with 401, 402 or 403; `None` for any other line. The line isn't run.
@@ -718,11 +649,11 @@ impl Machine {
     pub fn explain_line(&mut self, line: impl AsRef<[u8]>) -> Result<Option<String>, Error> {
         let line = line.as_ref();
         // SAFETY: the machine is there, `line` has as many bytes as is said, and so has the text; nothing overlaps.
-        let (number, text) = told(128, |text, room, needed| unsafe {
+        text_of(128, |text, room, needed| unsafe {
             let (bytes, length) = (line.as_ptr(), line.len());
             raw::pciguest_explain_line(&mut self.handle, bytes, length, &mut 0, text, room, needed)
-        });
-        answered(number).map(|()| Some(text).filter(|text| !text.is_empty()))
+        })
+        .map(|text| Some(text).filter(|text| !text.is_empty()))
     }
 
     /// Runs one line of a script, with its line feed or without; a line feed elsewhere makes it a bad line. The reply
@@ -743,19 +674,13 @@ impl Machine {
         let written =
             found.and_then(|asked| self.touch(asked.guest, asked.at, asked.width, asked.written?));
         let reply = self.run_alone(line)?;
-        if reply
-            .as_ref()
-            .map_or(true, |text| text.contains(" refused "))
-        {
+        if reply.as_ref().map_or(true, |text| text.contains(" refused ")) {
             return Ok(reply);
         }
         match found {
-            Some(Asked {
-                guest,
-                at,
-                width,
-                written: None,
-            }) if self.tell_read(guest, at, width) => return self.run_alone(line),
+            Some(Asked { guest, at, width, written: None }) if self.tell_read(guest, at, width) => {
+                return self.run_alone(line)
+            }
             Some(_) => self.tell_written(written),
             None => self.tell_moved(),
         }

@@ -68,14 +68,9 @@ impl At {
     /// The place some bytes further on.
     pub(crate) fn further(self, bytes: u64) -> At {
         match self {
-            At::Config { slot, offset } => At::Config {
-                slot,
-                offset: offset + bytes,
-            },
+            At::Config { slot, offset } => At::Config { slot, offset: offset + bytes },
             At::Io { port } => At::Io { port: port + bytes },
-            At::Memory { address } => At::Memory {
-                address: address + bytes,
-            },
+            At::Memory { address } => At::Memory { address: address + bytes },
         }
     }
 }
@@ -110,12 +105,9 @@ impl HostAt {
     /// Space, bus, device, function and place, as the header takes them.
     pub(crate) fn parts(self) -> (u32, u8, u8, u8, u64) {
         match self {
-            HostAt::Config {
-                bus,
-                device,
-                function,
-                offset,
-            } => (raw::CONFIG, bus, device, function, offset),
+            HostAt::Config { bus, device, function, offset } => {
+                (raw::CONFIG, bus, device, function, offset)
+            }
             HostAt::Io { port } => (raw::IO, 0, 0, 0, port),
             HostAt::Memory { address } => (raw::MEMORY, 0, 0, 0, address),
         }
@@ -178,11 +170,7 @@ pub struct Region {
 impl Region {
     pub(crate) fn of(told: &raw::Region) -> Region {
         Region {
-            space: if told.space == raw::IO {
-                Space::Io
-            } else {
-                Space::Memory
-            },
+            space: if told.space == raw::IO { Space::Io } else { Space::Memory },
             first: told.first,
             size: told.size,
             prefetchable: told.prefetchable != 0,

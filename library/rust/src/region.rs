@@ -1,6 +1,6 @@
 //! Accesses of a guest that name a region and an offset in it.
 
-use crate::error::{answered, Error};
+use crate::error::{answered, valued, Error};
 use crate::machine::Machine;
 use crate::place::{Guest, Hit, Part};
 use crate::raw;
@@ -49,9 +49,8 @@ impl Machine {
 
     /// Reads so, and tells no device.
     fn region_read_alone(&mut self, guest: Guest, hit: Hit, width: u32) -> Result<u64, Error> {
-        let mut value = 0;
         // SAFETY: `value` is a place of its own.
-        answered(unsafe {
+        valued(|value| unsafe {
             raw::pciguest_region_read(
                 &mut self.handle,
                 guest.index(),
@@ -59,10 +58,9 @@ impl Machine {
                 hit.part.number(),
                 hit.offset,
                 width,
-                &mut value,
+                value,
             )
-        })?;
-        Ok(value)
+        })
     }
 
     /// Writes so the low 1 to 8 bytes of a value: each takes what a guest may change of it, and a closed region drops them.

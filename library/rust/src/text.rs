@@ -32,10 +32,9 @@ pub struct Check {
 pub fn report(board: impl AsRef<[u8]>) -> Result<String, Error> {
     let board = board.as_ref();
     // SAFETY: `board` has as many bytes as is said, and so has the text; nothing overlaps.
-    let (number, text) = told(4096, |text, room, needed| unsafe {
+    text_of(4096, |text, room, needed| unsafe {
         pciguest_report(board.as_ptr(), board.len(), text, room, needed)
-    });
-    answered(number).map(|()| text)
+    })
 }
 
 /// The [report] of a board file as a JSON object on one line, as `pciguest list --json` writes it. Refused as the report is.
@@ -48,10 +47,9 @@ pub fn report(board: impl AsRef<[u8]>) -> Result<String, Error> {
 pub fn report_json(board: impl AsRef<[u8]>) -> Result<String, Error> {
     let board = board.as_ref();
     // SAFETY: as for a report.
-    let (number, text) = told(4096, |text, room, needed| unsafe {
+    text_of(4096, |text, room, needed| unsafe {
         pciguest_report_json(board.as_ptr(), board.len(), text, room, needed)
-    });
-    answered(number).map(|()| text)
+    })
 }
 
 /// What is wrong with a board file, or that its board fits.
@@ -74,10 +72,7 @@ pub fn check(board: impl AsRef<[u8]>) -> Result<Check, Error> {
     });
     match answered(number) {
         Err(Error::Memory(refusal)) => Err(Error::Memory(refusal)),
-        answer => Ok(Check {
-            text,
-            refusal: answer.err(),
-        }),
+        answer => Ok(Check { text, refusal: answer.err() }),
     }
 }
 
@@ -106,10 +101,7 @@ pub fn version() -> u32 {
 
 /// Calls with room for a text; where that is too little, once more with what the text needs. Gives the number that the
 /// call answers, and the text.
-pub(crate) fn told(
-    room: usize,
-    mut call: impl FnMut(*mut u8, usize, &mut usize) -> u32,
-) -> (u32, String) {
+fn told(room: usize, mut call: impl FnMut(*mut u8, usize, &mut usize) -> u32) -> (u32, String) {
     let mut text = vec![0; room];
     let mut needed = 0;
     let mut number = call(text.as_mut_ptr(), text.len(), &mut needed);
@@ -121,14 +113,22 @@ pub(crate) fn told(
     (number, String::from_utf8_lossy(&text).into_owned())
 }
 
+/// The text of such a call.
+pub(crate) fn text_of(
+    room: usize,
+    call: impl FnMut(*mut u8, usize, &mut usize) -> u32,
+) -> Result<String, Error> {
+    let (number, text) = told(room, call);
+    answered(number).map(|()| text)
+}
+
 /// Runs a line by a call, which takes it with its line feed or without; where its reply needs more room, nothing happened,
 /// and it runs once more. The reply stands without its line feed, and a blank line or a comment has none.
 pub(crate) fn reply_to(
     line: &[u8],
     mut call: impl FnMut(*const u8, usize, *mut u8, usize, &mut usize) -> u32,
 ) -> Result<Option<String>, Error> {
-    let (number, text) = told(REPLY, |text, room, needed| {
-        call(line.as_ptr(), line.len(), text, room, needed)
-    });
-    answered(number).map(|()| text.strip_suffix('\n').map(str::to_owned))
+    let text =
+        text_of(REPLY, |text, room, needed| call(line.as_ptr(), line.len(), text, room, needed))?;
+    Ok(text.strip_suffix('\n').map(str::to_owned))
 }

@@ -36,9 +36,8 @@ impl Machine {
         if self.devices.is_empty() {
             return false;
         }
-        let touched: Vec<Touch> = pieces(at, width)
-            .filter_map(|(_, at, size)| self.touch(guest, at, size, 0))
-            .collect();
+        let touched: Vec<Touch> =
+            pieces(at, width).filter_map(|(_, at, size)| self.touch(guest, at, size, 0)).collect();
         self.tell_reading(touched)
     }
 
@@ -47,9 +46,7 @@ impl Machine {
         let touched: Vec<Touch> = touched.into_iter().collect();
         let told = self.told_by(&touched);
         for &(device, register, _) in &told {
-            self.act(device, |model, registers| {
-                model.before_read(registers, register)
-            });
+            self.act(device, |model, registers| model.before_read(registers, register));
         }
         !told.is_empty()
     }
@@ -62,12 +59,7 @@ impl Machine {
         let hit = self.locate(guest, at).ok()??;
         let device = self.device_at(guest, hit.slot)?;
         let (width, value) = (u64::from(width), u64::from(value));
-        Some(Touch {
-            device,
-            hit,
-            width,
-            value,
-        })
+        Some(Touch { device, hit, width, value })
     }
 
     /// What an access of a region that isn't refused touches of a device, if the region is open and one is there.
@@ -84,21 +76,14 @@ impl Machine {
         };
         let region = self.region(guest, hit.slot, u32::from(register)).ok()?;
         let width = u64::from(width);
-        region.is_open.then_some(Touch {
-            device,
-            hit,
-            width,
-            value,
-        })
+        region.is_open.then_some(Touch { device, hit, width, value })
     }
 
     /// Tells devices of an access that was done, each once for each of its registers.
     pub(crate) fn tell_written(&mut self, touched: impl IntoIterator<Item = Touch>) {
         let touched: Vec<Touch> = touched.into_iter().collect();
         for (device, register, value) in self.told_by(&touched) {
-            self.act(device, |model, registers| {
-                model.on_write(registers, register, value)
-            });
+            self.act(device, |model, registers| model.on_write(registers, register, value));
         }
     }
 

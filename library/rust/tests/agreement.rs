@@ -32,17 +32,7 @@ impl Random {
                 offset: self.of(&[0, 4, 4, 8, 0x10, 0x14, 0x3c, 0x40, 6, 7, 256]),
             },
             1 => At::Io {
-                port: self.of(&[
-                    0xcf8,
-                    0xcf8,
-                    0xcf8,
-                    0xcfc,
-                    0xcfc,
-                    0xcfc,
-                    0xcfe,
-                    0x1000,
-                    1 << 32,
-                ]),
+                port: self.of(&[0xcf8, 0xcf8, 0xcf8, 0xcfc, 0xcfc, 0xcfc, 0xcfe, 0x1000, 1 << 32]),
             },
             _ => At::Memory {
                 address: 0xc000_0000
@@ -93,24 +83,15 @@ fn words(at: At) -> (char, String) {
 fn access(random: &mut Random, machine: &mut Machine) -> (String, String) {
     let index = random.below(2) as usize;
     let (name, guest) = (NAMES[index], Guest::of_index(index));
-    let (at, width) = (
-        random.at(),
-        random.of(&[1, 2, 2, 4, 4, 4, 4, 4, 4, 0, 3, 8]),
-    );
+    let (at, width) = (random.at(), random.of(&[1, 2, 2, 4, 4, 4, 4, 4, 4, 0, 3, 8]));
     let (letter, place) = words(at);
     if random.below(2) == 0 {
         let answer = machine.read(guest, at, width).map(Some);
-        return (
-            format!("{name} {letter}r {place} {width}"),
-            reply(name, answer, width),
-        );
+        return (format!("{name} {letter}r {place} {width}"), reply(name, answer, width));
     }
     let value = random.value();
     let answer = machine.write(guest, at, width, value).map(|()| None);
-    (
-        format!("{name} {letter}w {place} {width} {value:#x}"),
-        reply(name, answer, width),
-    )
+    (format!("{name} {letter}w {place} {width} {value:#x}"), reply(name, answer, width))
 }
 
 fn raise(random: &mut Random, machine: &mut Machine) -> (String, String) {
@@ -121,41 +102,25 @@ fn raise(random: &mut Random, machine: &mut Machine) -> (String, String) {
         (Part::Region(1), "bar1", 9),
         (Part::Region(0), "bar0", 40),
     ]);
-    let answer = machine
-        .raise(Guest::of_index(index), slot, part, offset, 0x80)
-        .map(|()| None);
-    (
-        format!("{name} raise {slot} {word} {offset} 0x80"),
-        reply(name, answer, 0),
-    )
+    let answer = machine.raise(Guest::of_index(index), slot, part, offset, 0x80).map(|()| None);
+    (format!("{name} raise {slot} {word} {offset} 0x80"), reply(name, answer, 0))
 }
 
 fn host_read(random: &mut Random, machine: &mut Machine) -> (String, String) {
     let (at, width) = (random.at(), random.of(&[1, 2, 4, 3]));
-    let (bus, device, function) = (
-        random.below(3) as u8,
-        random.below(4) as u8,
-        random.below(2) as u8,
-    );
+    let (bus, device, function) =
+        (random.below(3) as u8, random.below(4) as u8, random.below(2) as u8);
     let (letter, place) = words(at);
     let (place, at) = match at {
         At::Config { offset, .. } => {
-            let at = HostAt::Config {
-                bus,
-                device,
-                function,
-                offset,
-            };
+            let at = HostAt::Config { bus, device, function, offset };
             (format!("{bus:02x}:{device:02x}.{function} {offset}"), at)
         }
         At::Io { port } => (place, HostAt::Io { port }),
         At::Memory { address } => (place, HostAt::Memory { address }),
     };
     let answer = machine.host_read(at, width).map(Some);
-    (
-        format!("host {letter}r {place} {width}"),
-        reply("host", answer, width),
-    )
+    (format!("host {letter}r {place} {width}"), reply("host", answer, width))
 }
 
 fn move_function(random: &mut Random, machine: &mut Machine) -> (String, String) {
@@ -164,10 +129,7 @@ fn move_function(random: &mut Random, machine: &mut Machine) -> (String, String)
     let answer = machine
         .move_function(Guest::of_index(from), slot, Guest::of_index(to), target)
         .map(|()| None);
-    (
-        format!("host move {} {slot} {} {target}", NAMES[from], NAMES[to]),
-        reply("host", answer, 0),
-    )
+    (format!("host move {} {slot} {} {target}", NAMES[from], NAMES[to]), reply("host", answer, 0))
 }
 
 #[test]
@@ -187,10 +149,7 @@ fn calls_and_lines_answer_alike() -> Result<(), Error> {
             values += u32::from(answered.contains("0x") && !answered.ends_with("ff"));
             assert_eq!(lines.run_line(&line)?, Some(answered), "{line}");
         }
-        assert!(
-            refused > 500 && values > 500,
-            "{refused} refused, {values} values"
-        );
+        assert!(refused > 500 && values > 500, "{refused} refused, {values} values");
     }
     Ok(())
 }

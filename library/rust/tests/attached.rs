@@ -30,20 +30,22 @@ fn what_is_not_attached() {
 }
 
 /// The device's regions and registers over another identity.
-fn with_registers(identity: Declaration, registers: [Register; 8]) -> Declaration {
-    let regions = identity
-        .region(0, Kind::Mem32, 0x1000)
-        .region(1, Kind::Io, 32)
-        .region(2, Kind::Mem64p, 0x10000);
+fn with_registers(
+    identity: Declaration,
+    registers: impl IntoIterator<Item = Register>,
+) -> Declaration {
+    let regions = identity.region(0, Kind::Mem32, 0x1000).region(1, Kind::Io, 32).region(
+        2,
+        Kind::Mem64p,
+        0x10000,
+    );
     registers.into_iter().fold(regions, Declaration::register)
 }
 
 const REGISTERS: [Register; 8] = [STATUS, RINGS, BELL, PORT, FAR, LONG, OWN, MORE];
 
 fn identity(device_id: u16, class_code: u32) -> Declaration {
-    Declaration::new(0x1234, device_id, class_code)
-        .subsystem(0x1111, 0x2222)
-        .interrupt_pin(1)
+    Declaration::new(0x1234, device_id, class_code).subsystem(0x1111, 0x2222).interrupt_pin(1)
 }
 
 /// The registers with one in place of that at an index.
@@ -64,36 +66,18 @@ fn what_differs_is_named() {
         ("vendor_id", all(Declaration::new(0x1235, 0x00d0, 0xff0000))),
         ("device_id", all(identity(0x00d1, 0xff0001))),
         ("revision_id", all(own().revision(1))),
-        (
-            "class_code",
-            all(identity(0x00d0, 0xff0001).subsystem(0, 0)),
-        ),
+        ("class_code", all(identity(0x00d0, 0xff0001).subsystem(0, 0))),
         ("subsystem_vendor_id", all(own().subsystem(0, 0x2222))),
         ("subsystem_id", all(own().subsystem(0x1111, 0x2223))),
         ("interrupt_pin", all(own().interrupt_pin(2))),
         ("region 0", region(0, Kind::Mem32p, 0x1000)),
         ("region 1", region(1, Kind::Io, 64)),
         ("region 4", region(4, Kind::Io, 32)),
-        (
-            "w1c of the register at 0x0 of region 0",
-            with(0, STATUS.w1c(3)),
-        ),
-        (
-            "rw of the register at 0x4 of region 0",
-            with(1, RINGS.rw(1 << 31)),
-        ),
-        (
-            "reset of the register at 0x8 of region 0",
-            with(2, BELL.reset(0)),
-        ),
-        (
-            "width of the register at 0xffc of region 2",
-            with(4, Register::in_region(2, 0xffc, 4)),
-        ),
-        (
-            "rw of the register at 0x40 of configuration space",
-            with(6, OWN.rw(0x1ff)),
-        ),
+        ("w1c of the register at 0x0 of region 0", with(0, STATUS.w1c(3))),
+        ("rw of the register at 0x4 of region 0", with(1, RINGS.rw(1 << 31))),
+        ("reset of the register at 0x8 of region 0", with(2, BELL.reset(0))),
+        ("width of the register at 0xffc of region 2", with(4, Register::in_region(2, 0xffc, 4))),
+        ("rw of the register at 0x40 of configuration space", with(6, OWN.rw(0x1ff))),
         (
             "width of the register at 0x48 of configuration space",
             with(7, Register::in_config(0x48, 2)),
@@ -105,9 +89,7 @@ fn what_differs_is_named() {
             answer => panic!("{field}: {answer:?}"),
         }
     }
-    let answer = case
-        .machine
-        .attach(case.a, 1, Other(all(identity(0x00d0, 0xff0001))));
+    let answer = case.machine.attach(case.a, 1, Other(all(identity(0x00d0, 0xff0001))));
     let said = "class_code: the device declares 0xff0001, and the function has 0xff0000";
     assert_eq!(answer.unwrap_err().to_string(), said);
 }
@@ -115,16 +97,8 @@ fn what_differs_is_named() {
 #[test]
 fn what_is_not_declared_may_be_anything() {
     let mut case = Case::new();
-    let few = [RINGS, BELL, OWN].into_iter();
-    let declared = with_registers(identity(0x00d0, 0xff0000), REGISTERS);
-    let less = Declaration::new(0x1234, 0x00d0, 0xff0000)
-        .subsystem(0x1111, 0x2222)
-        .interrupt_pin(1)
-        .region(0, Kind::Mem32, 0x1000)
-        .region(1, Kind::Io, 32)
-        .region(2, Kind::Mem64p, 0x10000);
-    assert_ne!(less, declared);
-    let less = few.fold(less, Declaration::register);
+    let less = with_registers(identity(0x00d0, 0xff0000), [RINGS, BELL, OWN]);
+    assert_ne!(less, with_registers(identity(0x00d0, 0xff0000), REGISTERS));
     assert_eq!(case.machine.attach(case.a, 1, Other(less)), Ok(()));
 }
 
@@ -171,8 +145,7 @@ impl DeviceModel for Counter {
     }
 
     fn on_give(&mut self, registers: &mut Registers<'_>) {
-        self.told
-            .push(Told::Give(registers.guest(), registers.slot()));
+        self.told.push(Told::Give(registers.guest(), registers.slot()));
         self.on_reset(registers);
     }
 
@@ -182,8 +155,7 @@ impl DeviceModel for Counter {
 
     fn on_load(&mut self, registers: &mut Registers<'_>) {
         let (guest, slot) = (registers.guest(), registers.slot());
-        self.told
-            .push(Told::Load(registers.get(RINGS), guest, slot));
+        self.told.push(Told::Load(registers.get(RINGS), guest, slot));
     }
 
     fn save_state(&self) -> Vec<u8> {
@@ -209,9 +181,7 @@ impl Counted {
         let mut case = Case::new();
         let (a, counter) = (case.a, Arc::<Mutex<Counter>>::default());
         case.machine.detach(a, 0)?;
-        case.machine
-            .attach(a, 1, Arc::clone(&counter))
-            .expect("a device");
+        case.machine.attach(a, 1, Arc::clone(&counter)).expect("a device");
         case.machine.run_line("a cw 0 4 2 0")?;
         case.place(a, 1)?;
         case.write(memory(0xe000_0008), 4, 1);
@@ -289,10 +259,7 @@ fn a_guest_goes_on_elsewhere() -> Result<(), Error> {
     there.case.machine.reset_guest(a)?;
     there.told();
     there.case.machine.load_image(a, &image)?;
-    assert_eq!(
-        (there.told(), there.count()),
-        (vec![Told::Load(1, a, 1)], 0)
-    );
+    assert_eq!((there.told(), there.count()), (vec![Told::Load(1, a, 1)], 0));
     there.case.machine.load_state(a, 1, &state)?;
     assert_eq!(there.count(), 1);
     let number = |answer: Result<(), Error>| answer.unwrap_err().number();
@@ -331,10 +298,7 @@ fn a_device_is_detached() -> Result<(), Error> {
     let device = counted.case.machine.detach(a, 1)?;
     counted.case.write(memory(0xe000_0008), 4, 2);
     assert_eq!((counted.told(), device.save_state()), (vec![], vec![1]));
-    assert_eq!(
-        counted.case.machine.registers(a, 1).unwrap_err().number(),
-        902
-    );
+    assert_eq!(counted.case.machine.registers(a, 1).unwrap_err().number(), 902);
     let mut other = Case::new(); // where it goes on
     other.machine.attach(a, 1, device).expect("a device");
     other.machine.reset(a, 1)?;

@@ -8,12 +8,7 @@ const LARGEST: &str = include_str!("../../../boards/largest.toml");
 const IO_POOL: &str = include_str!("../../../boards/refused/io_pool.toml");
 
 fn config(bus: u8, device: u8, offset: u64) -> HostAt {
-    HostAt::Config {
-        bus,
-        device,
-        function: 0,
-        offset,
-    }
+    HostAt::Config { bus, device, function: 0, offset }
 }
 
 /// The number by which a call is refused.
@@ -31,9 +26,7 @@ fn firmware_places_a_region() -> Result<(), Error> {
     board.write(config(0, 2, 0x24), 4, 0xc0f0_c000)?;
     board.write(config(0, 2, 4), 2, 2)?;
     board.write(config(1, 1, 4), 2, 2)?;
-    let place = HostAt::Memory {
-        address: 0xc000_0000,
-    };
+    let place = HostAt::Memory { address: 0xc000_0000 };
     assert_eq!(board.read(place, 4)?, 0xa5a5_a5a5);
     Ok(())
 }
@@ -115,10 +108,7 @@ fn set_up_takes_a_board_at_reset() -> Result<(), Error> {
     board.write(config(0, 1, 4), 2, 0)?;
     let refused = board.set_up().err().expect("a refusal");
     assert!(matches!(refused, Error::NotAtReset(_)));
-    assert_eq!(
-        refused.to_string(),
-        "board has been written to since reset (904)"
-    );
+    assert_eq!(refused.to_string(), "board has been written to since reset (904)");
     Ok(())
 }
 
@@ -147,16 +137,9 @@ fn set_up_by_hand() -> Result<Board, Error> {
 
 #[test]
 fn guests_over_a_board_of_ones_own() -> Result<(), Error> {
-    let refused = Board::new(BOARD)?
-        .into_guests()
-        .expect_err("nothing behind the bridge is found");
-    assert_eq!(
-        refused.to_string(),
-        "audit found a problem in the registers (207)"
-    );
-    let refused = set_up_by_hand()?
-        .into_guests()
-        .expect_err("a closed region");
+    let refused = Board::new(BOARD)?.into_guests().expect_err("nothing behind the bridge is found");
+    assert_eq!(refused.to_string(), "audit found a problem in the registers (207)");
+    let refused = set_up_by_hand()?.into_guests().expect_err("a closed region");
     assert!(matches!(refused.error, Error::ClosedRegion(_)));
     let mut board = refused.board;
     board.write(config(1, 1, 4), 2, 2)?;
@@ -199,10 +182,7 @@ fn a_line_hands_the_board_over() -> Result<(), Error> {
     // the machine is as its guests left it
     assert_eq!(board.run_line("a cw 1 4 2 2")?.as_deref(), Some("a: ok"));
     let mut machine = board.into_guests()?;
-    assert_eq!(
-        machine.run_line("a cr 1 4 2")?.as_deref(),
-        Some("a: 0x0002")
-    );
+    assert_eq!(machine.run_line("a cr 1 4 2")?.as_deref(), Some("a: 0x0002"));
     Ok(())
 }
 
@@ -211,16 +191,10 @@ fn a_long_reply_comes_whole() -> Result<(), Error> {
     let mut board = Board::new(BOARD)?;
     let wanted = board.audit()?.text;
     assert!(wanted.len() > 48);
-    assert_eq!(
-        board.run_line("host audit")?.as_deref(),
-        wanted.strip_suffix('\n')
-    );
+    assert_eq!(board.run_line("host audit")?.as_deref(), wanted.strip_suffix('\n'));
     let mut largest = Board::new(LARGEST)?;
     let wanted = largest.audit()?.text;
-    assert_eq!(
-        largest.run_line("host audit")?.as_deref(),
-        wanted.strip_suffix('\n')
-    );
+    assert_eq!(largest.run_line("host audit")?.as_deref(), wanted.strip_suffix('\n'));
     board.write(config(0, 2, 0x18), 4, 0x0001_0100)?;
     assert_eq!(board.run_line("host audit")?.as_deref(), Some("audit: ok"));
     Ok(())

@@ -45,15 +45,9 @@ fn wide_accesses_are_split() -> Result<(), Error> {
     assert_eq!(number(machine.read_wide(a, memory(0), 0)), 302);
     assert_eq!(number(machine.read_wide(a, memory(0), 9)), 302);
     assert_eq!(number(machine.read_wide(a, memory(u64::MAX), 2)), 303);
-    assert_eq!(
-        number(machine.read_wide(a, At::Io { port: 0xffff_fffd }, 4)),
-        303
-    );
+    assert_eq!(number(machine.read_wide(a, At::Io { port: 0xffff_fffd }, 4)), 303);
     assert_eq!(machine.read_wide(a, At::Io { port: 0xfffd }, 4)?, 0xffff_ffff);
-    let end = At::Config {
-        slot: 0,
-        offset: 0xfd,
-    };
+    let end = At::Config { slot: 0, offset: 0xfd };
     assert_eq!(number(machine.read_wide(a, end, 4)), 303);
     assert_eq!(machine.write_wide(a, end, 4, 0).unwrap_err().number(), 303);
     Ok(())
@@ -69,12 +63,7 @@ fn a_bus_reads_and_writes_bytes() -> Result<(), Error> {
     bus.write(0xe000_0000, 3, &bytes);
     bus.read(0xe000_0000, 3, &mut found);
     let singly: Result<Vec<u8>, Error> = (0..19)
-        .map(|byte| {
-            Ok(shared
-                .lock()
-                .unwrap()
-                .read(a, memory(0xe000_0003 + byte), 1)? as u8)
-        })
+        .map(|byte| Ok(shared.lock().unwrap().read(a, memory(0xe000_0003 + byte), 1)? as u8))
         .collect();
     assert_eq!(found, singly?);
     let mut nothing = [0; 5];
@@ -136,8 +125,7 @@ fn moves_of_regions() -> Result<(), Error> {
     let wrote = |index: usize, value: u32| -> Vec<(u32, u64, u64, bool)> {
         let moved = config.write_config_register(index, 0, &value.to_le_bytes());
         let told = moved.into_iter();
-        told.map(|it| (it.register, it.before.first, it.now.first, it.now.is_open))
-            .collect()
+        told.map(|it| (it.register, it.before.first, it.now.first, it.now.is_open)).collect()
     };
     assert_eq!(wrote(5, 0xd000_0000), [(1, 0xe000_0000, 0xd000_0000, true)]);
     assert_eq!(wrote(5, 0xd000_0000), []);

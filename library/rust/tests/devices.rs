@@ -6,6 +6,10 @@ use doorbell::{memory, Case, BELL, FAR, LONG, MORE, OWN, PORT, RINGS, STATUS};
 use pciguest::{At, Declaration, Error, Kind, Register};
 use std::panic::{catch_unwind, set_hook, take_hook};
 
+fn config(offset: u64) -> At {
+    At::Config { slot: 0, offset }
+}
+
 #[test]
 fn a_declaration_is_an_endpoint() {
     let simple = Declaration::new(0x1234, 0x0001, 0xff0000)
@@ -19,16 +23,14 @@ fn a_declaration_is_an_endpoint() {
                   rw = \"0000000000000000ffffffff\", w1c = \"010000000000000000000000\" },\n]\nconfig = []\n";
     assert_eq!(simple.endpoint("1.0"), wanted);
     let own = Declaration::new(1, 2, 3).register(OWN).register(MORE);
-    assert!(own
-        .endpoint("2.0/1.0")
-        .ends_with("config = [ { off = 0x40, block = 9, reset = \"00000000000000007f\", rw = \"ff0000000000000000\" } ]\n"));
+    assert!(own.endpoint("2.0/1.0").ends_with(
+        "config = [ { off = 0x40, block = 9, reset = \"00000000000000007f\", rw = \"ff0000000000000000\" } ]\n"
+    ));
     let same = Declaration::new(1, 2, 3)
         .region(3, Kind::Io, 8)
         .register(Register::in_region(3, 0, 4).rw(0xff00_ff00))
         .register(Register::in_region(3, 4, 4).rw(0xff00_ff00));
-    assert!(same
-        .endpoint("1.0")
-        .contains("size = 0x8, block = 8, rw = \"00ff\" }"));
+    assert!(same.endpoint("1.0").contains("size = 0x8, block = 8, rw = \"00ff\" }"));
 }
 
 #[test]
@@ -36,21 +38,9 @@ fn the_board_says_what_is_declared() {
     let mut case = Case::new();
     let function = case.machine.slot_function(case.a, 0).unwrap();
     assert_eq!((function.vendor_id, function.device_id), (0x1234, 0x00d0));
-    assert_eq!(
-        (function.subsystem_vendor_id, function.subsystem_id),
-        (0x1111, 0x2222)
-    );
+    assert_eq!((function.subsystem_vendor_id, function.subsystem_id), (0x1111, 0x2222));
     assert_eq!(case.read(memory(0xe000_0008), 4), 0x1122_3344);
-    assert_eq!(
-        case.read(
-            At::Config {
-                slot: 0,
-                offset: 0x48
-            },
-            4
-        ),
-        0x7f
-    );
+    assert_eq!(case.read(config(0x48), 4), 0x7f);
     case.write(memory(0xe000_0004), 4, 9); // its driver only reads it
     assert_eq!(case.read(memory(0xe000_0004), 4), 0);
     case.write(At::Io { port: 0x2010 }, 2, 0xffff);
@@ -71,10 +61,7 @@ fn hush() {
 fn registers_that_can_not_be() {
     hush();
     let region = |register| {
-        Declaration::new(1, 2, 3)
-            .region(0, Kind::Mem32, 0x10000)
-            .register(RINGS)
-            .register(register)
+        Declaration::new(1, 2, 3).region(0, Kind::Mem32, 0x10000).register(RINGS).register(register)
     };
     for register in [
         Register::in_config(0x3c, 4),
@@ -103,14 +90,7 @@ fn writes_are_told() {
     assert_eq!(case.read(memory(0xe000_0000), 1), 1);
     case.write(memory(0xe000_0000), 1, 1);
     let mut registers = case.machine.registers(case.a, 0).unwrap();
-    assert_eq!(
-        (
-            registers.get(STATUS),
-            registers.get(RINGS),
-            registers.get(BELL)
-        ),
-        (0, 1, 7)
-    );
+    assert_eq!((registers.get(STATUS), registers.get(RINGS), registers.get(BELL)), (0, 1, 7));
 }
 
 #[test]
@@ -120,14 +100,7 @@ fn what_was_written_is_told() {
     case.write(memory(0xe000_0004), 4, u32::MAX); // its driver only reads it
     case.write(memory(0xe000_0000), 4, 0x1234_5601); // the register has one byte
     case.write(At::Io { port: 0x2010 }, 4, 0x5678_abcd);
-    case.write(
-        At::Config {
-            slot: 0,
-            offset: 0x41,
-        },
-        1,
-        0x99,
-    );
+    case.write(config(0x41), 1, 0x99);
     case.write(memory(0x8_1000_0104), 4, 0xaaaa_bbbb); // the upper half of 8 bytes
     let wanted = [
         (BELL, Some(0x1122_ab44)),
@@ -145,16 +118,7 @@ fn reads_are_told_before() {
     let mut case = Case::new();
     assert_eq!(case.read(memory(0x8_1000_0ff8), 4), 0x5a5a_5a5a);
     assert_eq!(case.read(memory(0xe000_0000), 4), 0);
-    assert_eq!(
-        case.read(
-            At::Config {
-                slot: 0,
-                offset: 0x48
-            },
-            1
-        ),
-        0x7f
-    );
+    assert_eq!(case.read(config(0x48), 1), 0x7f);
     assert_eq!(case.told(), [(FAR, None), (STATUS, None), (MORE, None)]);
 }
 
@@ -162,15 +126,10 @@ fn reads_are_told_before() {
 fn wide_accesses_and_ports() {
     let mut case = Case::new();
     let a = case.a;
-    case.machine
-        .write_wide(a, memory(0xe000_0004), 8, 7 << 32)
-        .unwrap();
+    case.machine.write_wide(a, memory(0xe000_0004), 8, 7 << 32).unwrap();
     case.write(At::Io { port: 0xcf8 }, 4, 0x8000_0040);
     case.write(At::Io { port: 0xcfc }, 4, 0xaa);
-    assert_eq!(
-        case.told(),
-        [(RINGS, Some(0)), (BELL, Some(7)), (OWN, Some(0xaa))]
-    );
+    assert_eq!(case.told(), [(RINGS, Some(0)), (BELL, Some(7)), (OWN, Some(0xaa))]);
     assert_eq!(case.machine.registers(a, 0).unwrap().get(OWN), 0xaa);
 }
 
@@ -183,14 +142,7 @@ fn one_access_is_one_call() {
         (memory(0x8_1000_0100), 8, 0x1122_3344_5566_7788),
         (memory(0x8_1000_0103), 4, 0xaabb_ccdd),
         (memory(0xe000_0007), 4, 0x4433_2211), // the highest byte of one register, and three of the next
-        (
-            At::Config {
-                slot: 0,
-                offset: 0x3e,
-            },
-            8,
-            0x8877_6655_4433_2211,
-        ),
+        (config(0x3e), 8, 0x8877_6655_4433_2211),
     ] {
         case.machine.write_wide(a, at, width, value).unwrap();
     }
@@ -218,13 +170,7 @@ fn lines_are_told() {
     assert_eq!(run("a cw 0 0x40 1 255").as_deref(), Some("a: ok"));
     assert_eq!(run("a iw 0x2010 2 1").as_deref(), Some("a: ok"));
     assert_eq!(run("# a mw 0xe0000008 4 7"), None);
-    let wanted = [
-        (BELL, Some(7)),
-        (RINGS, None),
-        (FAR, None),
-        (OWN, Some(0xff)),
-        (PORT, Some(1)),
-    ];
+    let wanted = [(BELL, Some(7)), (RINGS, None), (FAR, None), (OWN, Some(0xff)), (PORT, Some(1))];
     assert_eq!(case.told(), wanted);
 }
 
@@ -253,12 +199,9 @@ fn what_tells_nothing() {
     }
     let (a, wrong) = (case.a, memory(0xe000_0009));
     assert_eq!(case.machine.read(a, wrong, 4).unwrap_err().number(), 301);
-    assert_eq!(
-        case.machine.write(a, wrong, 4, 0).unwrap_err().number(),
-        301
-    );
+    assert_eq!(case.machine.write(a, wrong, 4, 0).unwrap_err().number(), 301);
     case.read(At::Io { port: 0xcf8 }, 4);
-    case.write(At::Config { slot: 0, offset: 4 }, 2, 0);
+    case.write(config(4), 2, 0);
     case.write(memory(0xe000_0008), 4, 1); // memory is off: nothing responds
     assert!(case.told().is_empty());
 }

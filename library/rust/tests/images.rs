@@ -17,6 +17,13 @@ const SCRIPTS: [(&str, &str); 7] = [
 /// What stands beside the functions of a board that are moved behind two bridges.
 const BESIDE: &str = include_str!("../../../tests/library/beside.toml");
 
+/// The machine of the main board, and its guests.
+fn start() -> Result<(Machine, Guest, Guest), Error> {
+    let mut machine = Machine::new(BOARD)?;
+    let (a, b) = (machine.guest("a")?, machine.guest("b")?);
+    Ok((machine, a, b))
+}
+
 /// The number by which a call is refused.
 fn number<T>(answer: Result<T, Error>) -> u32 {
     answer.err().expect("a refusal").number()
@@ -30,8 +37,7 @@ fn differences(one: &[u8], other: &[u8]) -> Vec<usize> {
 
 #[test]
 fn an_image_tells_what_its_guest_holds() -> Result<(), Error> {
-    let mut machine = Machine::new(BOARD)?;
-    let (a, b) = (machine.guest("a")?, machine.guest("b")?);
+    let (mut machine, a, b) = start()?;
     let (first, other) = (machine.save(a)?, machine.save(b)?);
     assert_eq!(machine.image_size(a)?, first.len());
     machine.run_line("a cw 0 4 2 2")?;
@@ -47,8 +53,7 @@ fn an_image_tells_what_its_guest_holds() -> Result<(), Error> {
 
 #[test]
 fn a_guest_is_put_to_reset() -> Result<(), Error> {
-    let mut machine = Machine::new(BOARD)?;
-    let (a, b) = (machine.guest("a")?, machine.guest("b")?);
+    let (mut machine, a, b) = start()?;
     let first = machine.save(a)?;
     for line in ["a cw 0 4 2 2", "a raise 1 cfg 7 0x80", "b cw 0 4 2 2"] {
         let reply = machine.run_line(line)?.expect("a reply");
@@ -65,8 +70,7 @@ fn a_guest_is_put_to_reset() -> Result<(), Error> {
 
 #[test]
 fn an_image_is_as_long_as_its_functions_are_many() -> Result<(), Error> {
-    let mut machine = Machine::new(BOARD)?;
-    let (a, b) = (machine.guest("a")?, machine.guest("b")?);
+    let (mut machine, a, b) = start()?;
     let (one, other) = (machine.image_size(a)?, machine.image_size(b)?);
     machine.move_function(a, 1, b, 9)?;
     assert_eq!(machine.image_size(a)? + machine.image_size(b)?, one + other);
@@ -156,11 +160,7 @@ fn guests_go_on_over_another_board() -> Result<(), Error> {
                 assert_eq!(there.save(guest)?, image, "{name} at line {cut}");
             }
             let wanted = replies(&mut here, rest)?;
-            assert_eq!(
-                replies(&mut there, rest)?,
-                wanted,
-                "from line {cut} of\n{script}"
-            );
+            assert_eq!(replies(&mut there, rest)?, wanted, "from line {cut} of\n{script}");
         }
     }
     Ok(())
@@ -168,15 +168,10 @@ fn guests_go_on_over_another_board() -> Result<(), Error> {
 
 #[test]
 fn a_guest_is_loaded_where_it_was_saved() -> Result<(), Error> {
-    let mut machine = Machine::new(BOARD)?;
-    let a = machine.guest("a")?;
+    let (mut machine, a, _) = start()?;
     replies(
         &mut machine,
-        &[
-            "a cw 0 0x14 4 0xe0000000",
-            "a cw 0 4 2 2",
-            "a mw 0xe0000010 4 0x12345678",
-        ],
+        &["a cw 0 0x14 4 0xe0000000", "a cw 0 4 2 2", "a mw 0xe0000010 4 0x12345678"],
     )?;
     let image = machine.save(a)?;
     let count = machine.changed(a)?;
@@ -184,17 +179,13 @@ fn a_guest_is_loaded_where_it_was_saved() -> Result<(), Error> {
     machine.load_image(a, &image)?;
     assert_eq!(machine.save(a)?, image);
     assert_eq!(machine.changed(a)?, count + 2);
-    assert_eq!(
-        replies(&mut machine, &["a mr 0xe0000010 4"])?,
-        ["a: 0x12345678"]
-    );
+    assert_eq!(replies(&mut machine, &["a mr 0xe0000010 4"])?, ["a: 0x12345678"]);
     Ok(())
 }
 
 #[test]
 fn bytes_that_are_no_image_for_a_guest_are_refused() -> Result<(), Error> {
-    let mut machine = Machine::new(BOARD)?;
-    let (a, b) = (machine.guest("a")?, machine.guest("b")?);
+    let (mut machine, a, b) = start()?;
     let (image, other) = (machine.save(a)?, machine.save(b)?);
     machine.run_line("a cw 0 4 2 2")?;
     let held = machine.save(a)?;
@@ -202,10 +193,7 @@ fn bytes_that_are_no_image_for_a_guest_are_refused() -> Result<(), Error> {
     for bytes in [&[][..], b"PCIG", &image[..image.len() - 1], &longer] {
         assert!(matches!(machine.load_image(a, bytes), Err(Error::Image(_))));
     }
-    assert!(matches!(
-        machine.load_image(a, &other),
-        Err(Error::OtherFunctions(_))
-    ));
+    assert!(matches!(machine.load_image(a, &other), Err(Error::OtherFunctions(_))));
     for at in 0..8 {
         let mut changed = image.clone();
         changed[at] ^= 0x10;
@@ -255,11 +243,7 @@ fn machines_go_on_over_an_equal_board() -> Result<(), Error> {
             there.load_all(&image)?;
             assert_eq!(there.save_all()?, image, "line {cut}");
             let wanted = all_replies(&mut here, rest)?;
-            assert_eq!(
-                all_replies(&mut there, rest)?,
-                wanted,
-                "from line {cut} of\n{script}"
-            );
+            assert_eq!(all_replies(&mut there, rest)?, wanted, "from line {cut} of\n{script}");
         }
     }
     Ok(())
@@ -267,14 +251,10 @@ fn machines_go_on_over_an_equal_board() -> Result<(), Error> {
 
 #[test]
 fn functions_come_back_to_their_slots() -> Result<(), Error> {
-    let mut machine = Machine::new(BOARD)?;
-    let (a, b) = (machine.guest("a")?, machine.guest("b")?);
+    let (mut machine, a, b) = start()?;
     machine.move_function(a, 1, b, 9)?;
     machine.run_line("b cw 9 4 2 2")?;
-    let (image, counts) = (
-        machine.save_all()?,
-        [machine.changed(a)?, machine.changed(b)?],
-    );
+    let (image, counts) = (machine.save_all()?, [machine.changed(a)?, machine.changed(b)?]);
     machine.take(b, 9)?;
     machine.move_function(b, 0, a, 1)?;
     assert!(machine.image_size_all()? < image.len());
@@ -290,8 +270,7 @@ fn functions_come_back_to_their_slots() -> Result<(), Error> {
 
 #[test]
 fn bytes_that_are_no_image_for_a_machine_are_refused() -> Result<(), Error> {
-    let mut machine = Machine::new(BOARD)?;
-    let (a, b) = (machine.guest("a")?, machine.guest("b")?);
+    let (mut machine, a, b) = start()?;
     let (image, own) = (machine.save_all()?, machine.save(a)?);
     machine.move_function(a, 0, b, 7)?;
     let held = machine.save_all()?;
@@ -305,10 +284,7 @@ fn bytes_that_are_no_image_for_a_machine_are_refused() -> Result<(), Error> {
     for device in [b'9', b'2'] {
         let mut elsewhere = image.clone();
         elsewhere[at.expect("the first guest") + 5] = device; // nothing stands there, or a bridge
-        assert!(matches!(
-            machine.load_all(elsewhere),
-            Err(Error::OtherFunctions(_))
-        ));
+        assert!(matches!(machine.load_all(elsewhere), Err(Error::OtherFunctions(_))));
     }
     assert_eq!(machine.save_all()?, held);
     let others = [

@@ -5,9 +5,7 @@ use std::error::Error;
 use std::path::{Path, PathBuf};
 
 fn board(name: &str) -> PathBuf {
-    Path::new(env!("CARGO_MANIFEST_DIR"))
-        .join("tests/../../../boards")
-        .join(name)
+    Path::new(env!("CARGO_MANIFEST_DIR")).join("tests/../../../boards").join(name)
 }
 
 #[test]
@@ -21,24 +19,13 @@ fn a_board_is_loaded() -> Result<(), Box<dyn Error>> {
 #[test]
 fn a_refused_board_says_why() {
     let file = board("refused/many_numbers.toml");
-    for error in [
-        Machine::load(&file).unwrap_err(),
-        Board::load(&file).unwrap_err(),
-    ] {
-        let LoadError::Refused(refusal, text) = &error else {
-            panic!("{error}")
-        };
+    for error in [Machine::load(&file).unwrap_err(), Board::load(&file).unwrap_err()] {
+        let LoadError::Refused(refusal, text) = &error else { panic!("{error}") };
         assert_eq!(refusal.number(), 104);
         assert!(text.lines().count() > 5);
         let path = format!("{}:", file.display());
-        assert!(
-            text.starts_with(&path) && !text.contains("\nboard.toml:"),
-            "{text}"
-        );
-        assert_eq!(
-            error.to_string(),
-            format!("number is out of range (104)\n{}", text.trim_end())
-        );
+        assert!(text.starts_with(&path) && !text.contains("\nboard.toml:"), "{text}");
+        assert_eq!(error.to_string(), format!("number is out of range (104)\n{}", text.trim_end()));
         assert!(error.source().is_some());
     }
     // a board that can't be set up, and stands at reset all the same
@@ -54,10 +41,7 @@ fn a_refused_board_says_why() {
 fn a_file_that_is_not_there() {
     for path in [board("nobody.toml"), board("refused")] {
         let error = Machine::load(&path).unwrap_err();
-        assert!(
-            matches!(&error, LoadError::File(at, _) if *at == path),
-            "{error}"
-        );
+        assert!(matches!(&error, LoadError::File(at, _) if *at == path), "{error}");
         assert!(error.to_string().starts_with(&path.display().to_string()));
     }
 }

@@ -38,10 +38,7 @@ impl Row<'_> {
     fn at(&self) -> At {
         let place = self.number(3);
         match self.0[1] {
-            "config" => At::Config {
-                slot: self.number(2),
-                offset: place,
-            },
+            "config" => At::Config { slot: self.number(2), offset: place },
             "io" => At::Io { port: place },
             _ => At::Memory { address: place },
         }
@@ -77,15 +74,9 @@ fn asked(call: &str, r: &Row, m: &mut Machine, b: &mut Board) -> Result<(), Erro
         "write" => m.write(r.guest(0), r.at(), r.short(4), r.short(5)),
         "read_wide" => m.read_wide(r.guest(0), r.at(), r.short(4)).map(drop),
         "write_wide" => m.write_wide(r.guest(0), r.at(), r.short(4), r.number(5)),
-        "region_read" => m
-            .region_read(
-                r.guest(0),
-                r.number(1),
-                r.small(2),
-                r.number(3),
-                r.short(4),
-            )
-            .map(drop),
+        "region_read" => {
+            m.region_read(r.guest(0), r.number(1), r.small(2), r.number(3), r.short(4)).map(drop)
+        }
         "region_write" => m.region_write(
             r.guest(0),
             r.number(1),
@@ -95,9 +86,9 @@ fn asked(call: &str, r: &Row, m: &mut Machine, b: &mut Board) -> Result<(), Erro
             r.number(5),
         ),
         "raise" => m.raise(r.guest(0), r.number(1), r.part(), r.number(3), r.small(4)),
-        "device_read_wide" => m
-            .device_read_wide(r.guest(0), r.number(1), r.part(), r.number(3), r.short(4))
-            .map(drop),
+        "device_read_wide" => {
+            m.device_read_wide(r.guest(0), r.number(1), r.part(), r.number(3), r.short(4)).map(drop)
+        }
         "device_write_wide" => m.device_write_wide(
             r.guest(0),
             r.number(1),

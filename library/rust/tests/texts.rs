@@ -18,10 +18,7 @@ fn boards() -> Vec<(String, Vec<u8>)> {
         .map(|entry| entry.expect("a file").path())
         .filter(|path| path.extension() == Some(OsStr::new("toml")))
         .map(|path| {
-            (
-                path.file_stem().unwrap().to_string_lossy().into_owned(),
-                fs::read(&path).unwrap(),
-            )
+            (path.file_stem().unwrap().to_string_lossy().into_owned(), fs::read(&path).unwrap())
         })
         .collect();
     boards.sort();

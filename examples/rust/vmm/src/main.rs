@@ -2,7 +2,10 @@
 //! board, whose device reads what its driver left in RAM. In place of a processor a driver makes the accesses that a
 //! hypervisor would trap.
 
-use pciguest::{At, Declaration, DeviceModel, Error, Guest, GuestBus, Kind, Machine, Places, Region, Register, Registers, Space};
+use pciguest::{
+    At, Declaration, DeviceModel, Error, Guest, GuestBus, Kind, Machine, Places, Region, Register,
+    Registers, Space,
+};
 use std::io::{stdout, Stdout};
 use std::sync::{Arc, Mutex};
 use vm_memory::{Bytes, GuestAddress, GuestMemoryMmap};
@@ -84,7 +87,9 @@ impl Buses {
     /// A port: of the serial port, CONFIG_ADDRESS and CONFIG_DATA, or of an open region.
     fn port(&mut self, port: u64, access: Access<'_>) {
         match (port, access) {
-            (0x3f8..=0x3ff, Access::Read(data)) => data.fill_with(|| self.serial.read((port - 0x3f8) as u8)),
+            (0x3f8..=0x3ff, Access::Read(data)) => {
+                data.fill_with(|| self.serial.read((port - 0x3f8) as u8))
+            }
             (0x3f8..=0x3ff, Access::Write(data)) => data.iter().for_each(|&byte| {
                 let _ = self.serial.write((port - 0x3f8) as u8, byte);
             }),
@@ -111,7 +116,8 @@ impl Buses {
 
     /// Regions that stand elsewhere since.
     fn see_moves(&mut self) {
-        let moved = self.board.lock().unwrap().moved(self.guest, &mut self.places).unwrap_or_default();
+        let moved =
+            self.board.lock().unwrap().moved(self.guest, &mut self.places).unwrap_or_default();
         self.open.retain(|open| !moved.iter().any(|it| it.before == Some(*open)));
         self.open.extend(moved.iter().filter_map(|it| it.now).filter(|now| now.is_open));
     }
@@ -163,7 +169,8 @@ fn board(printer: Printer) -> Result<(Machine, Guest), Error> {
 }
 
 fn main() -> Result<(), Box<dyn std::error::Error>> {
-    let ram = GuestMemoryMmap::<()>::from_ranges(&[(GuestAddress(0), 1 << 20)]).map_err(|error| error.to_string())?;
+    let ram = GuestMemoryMmap::<()>::from_ranges(&[(GuestAddress(0), 1 << 20)])
+        .map_err(|error| error.to_string())?;
     let (machine, a) = board(Printer(ram.clone()))?;
     drive(&mut Buses::new(machine, a), &ram)?;
     Ok(())

@@ -11,9 +11,7 @@ pub const TOP: &str = "host = { io = [0x1000, 0xffff], mem = [0xc0000000, 0xdfff
 
 pub const STATUS: Register = Register::in_region(0, 0x00, 1).w1c(0x01);
 pub const RINGS: Register = Register::in_region(0, 0x04, 4);
-pub const BELL: Register = Register::in_region(0, 0x08, 4)
-    .rw(0xffff_ffff)
-    .reset(0x1122_3344);
+pub const BELL: Register = Register::in_region(0, 0x08, 4).rw(0xffff_ffff).reset(0x1122_3344);
 pub const PORT: Register = Register::in_region(1, 0x10, 2).rw(0x0ff0);
 pub const FAR: Register = Register::in_region(2, 0xff8, 4).reset(0xa5a5_a5a5);
 pub const LONG: Register = Register::in_region(2, 0x100, 8).rw(u64::MAX);
@@ -77,27 +75,17 @@ impl Case {
         let (a, b) = (machine.guest("a").unwrap(), machine.guest("b").unwrap());
         let device: Arc<Mutex<Doorbell>> = Arc::default();
         machine.attach(a, 0, Arc::clone(&device)).expect("a device");
-        let mut case = Case {
-            machine,
-            a,
-            b,
-            device,
-        };
+        let mut case = Case { machine, a, b, device };
         case.place(a, 0).unwrap();
         case.told();
         case
     }
 
     pub fn place(&mut self, guest: Guest, slot: u64) -> Result<(), Error> {
-        for (offset, value) in [
-            (0x10, 0xe000_0000),
-            (0x14, 0x2000),
-            (0x18, 0x1000_0000),
-            (0x1c, 8),
-            (4, 3),
-        ] {
-            self.machine
-                .write(guest, At::Config { slot, offset }, 4, value)?;
+        for (offset, value) in
+            [(0x10, 0xe000_0000), (0x14, 0x2000), (0x18, 0x1000_0000), (0x1c, 8), (4, 3)]
+        {
+            self.machine.write(guest, At::Config { slot, offset }, 4, value)?;
         }
         Ok(())
     }
@@ -111,8 +99,6 @@ impl Case {
     }
 
     pub fn write(&mut self, at: At, width: u32, value: u32) {
-        self.machine
-            .write(self.a, at, width, value)
-            .expect("a write")
+        self.machine.write(self.a, at, width, value).expect("a write")
     }
 }
