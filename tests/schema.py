@@ -8,7 +8,6 @@ What the program accepts the schema accepts. What the program refuses by 102, 10
 of configuration cells that ends after offset FFh, which no schema can say. Of 105 to 112 it may tell some. The subset of
 JSON Schema that it uses is judged by the class below, and by the module jsonschema too where that is there. The last line
 is 'N passed, M failed'."""
-import argparse
 import json
 import random
 import re
@@ -25,8 +24,8 @@ except ImportError:
     print("skipped: the schema of board files (no Python 3.11: apt-get install python3)\n0 passed, 0 failed")
     sys.exit(0)
 
-from board import board_file, random_board
-from mistakes import MISTAKES, in_some_order, keys_in
+from compared import lines_of, options
+from mistakes import with_mistakes
 
 TYPES = {"object": dict, "array": list, "string": str, "integer": int}
 # What each word of a schema asks of a value of its type: whether it is broken.
@@ -132,7 +131,7 @@ class Tests:
         with tempfile.TemporaryDirectory() as folder:
             path = Path(folder) / "board.toml"
             for one in range(seed, seed + files):
-                path.write_text(random_file(random.Random(one)))
+                path.write_text(lines_of(with_mistakes(random.Random(one), [0, 1, 2])))
                 self.holds(f"random board {one}", self.differs(path))
         accepted = sum(count for (_, so), count in self.seen.items() if so)
         refused = sum(count for (_, so), count in self.seen.items() if not so)
@@ -176,21 +175,8 @@ def ends_late(document):
     return any(block["off"] + block["block"] > 0x100 for block in blocks)
 
 
-def random_file(rng):
-    """A random board, in two of three files with mistakes."""
-    lines = in_some_order(rng, board_file(random_board(rng)))
-    for _ in range(rng.choice([0, 1, 2])):
-        if keys_in(lines):
-            rng.choice(MISTAKES)(rng, lines)
-    return "\n".join(lines) + "\n"
-
-
 def main():
-    words = argparse.ArgumentParser()
-    words.add_argument("program")
-    words.add_argument("--files", type=int, default=1000)
-    words.add_argument("--seed", type=int, default=1)
-    chosen = words.parse_args()
+    chosen = options("program", files=1000)
     tests = Tests(chosen.program)
     tests.formats()
     tests.directives()

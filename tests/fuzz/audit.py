@@ -6,22 +6,21 @@ Firmware writes bases, windows, bus numbers and Command of a random board: half 
 leaves, where the board fits. Each answer of a line is compared too. The first state that differs is printed with its
 seed, and its files are kept. The second hand is this folder: registers, cycles and the audit as docs/PROFILE.md and
 docs/script-language.md have them, without a line of the program's code."""
-import argparse
 import random
-import subprocess
 import sys
-import tempfile
 from collections import Counter
 from pathlib import Path
 
 from answers import World
 from audited import State, audit
 from board import Bridge, Endpoint, board_file, random_board
+from compared import Room, lines_of, options
 from placement import Refused
 
 sys.path.append(str(Path(__file__).parent.parent))
 import audit_json  # it stands beside, as the gate asks it too
 
+KINDS = ["is not forwarded by", "address conflict", "a configuration cycle"]
 EDGES = [0, 0x10, 0xCF8, 0x1000, 0x2000, 0xF000, 0x100000, 0x80000000, 0xC0000000, 0xFFF00000, 0xFFFFFFF0, 0xFFFFFFFF]
 WINDOWS = [(0x1C, 1), (0x1D, 1), (0x1C, 2), (0x20, 2), (0x22, 2), (0x20, 4), (0x24, 2), (0x26, 2), (0x24, 4), (0x28, 4),
            (0x2C, 4), (0x30, 2), (0x32, 2)]
@@ -97,12 +96,12 @@ class Firmware:
             return
         bar = self.rng.choice(endpoint.bars)
         others = [self.state.base(other, one) for other in self.board.endpoints() for one in other.bars
-                  if (one.kind == "io") == (bar.kind == "io")]
-        base, off = self.near(others), 0x10 + 4 * bar.index
-        if bar.kind.startswith("mem64") and self.rng.random() < 0.7:
-            self.write(endpoint.path, off + 4, 4, base >> 32)
-        if not bar.kind.startswith("mem64") or self.rng.random() < 0.8:
-            self.write(endpoint.path, off, self.rng.choice([4, 4, 4, 2, 1]), base)
+                  if one.space == bar.space]
+        base = self.near(others)
+        if bar.width == 8 and self.rng.random() < 0.7:
+            self.write(endpoint.path, bar.offset + 4, 4, base >> 32)
+        if bar.width == 4 or self.rng.random() < 0.8:
+            self.write(endpoint.path, bar.offset, self.rng.choice([4, 4, 4, 2, 1]), base)
 
     def move_window(self, bridge):
         """Writes a register of a window: a unit more or less, that of another bridge, or any."""
@@ -157,46 +156,26 @@ def random_state(seed):
     return board, firmware
 
 
-def kind_of(line):
-    """The kind of a problem, by its line."""
-    return next((words for words in ["is not forwarded by", "address conflict", "a configuration cycle"] if words in line), "its count")
-
-
-def main():
-    words = argparse.ArgumentParser()
-    words.add_argument("program")
-    words.add_argument("--states", type=int, default=2000)
-    words.add_argument("--seed", type=int, default=1)
-    chosen = words.parse_args()
-    folder = Path(tempfile.mkdtemp(prefix="audit-"))
-    kinds, in_order = Counter(), 0
+def compare_states(verb, state_of, judged, json_of, kinds, well, fault=""):
+    """Has the program judge register states, in lines and as JSON, and compares that, and its answers before, with what is judged
+    here. How many states have a line of each kind is told, and how many are well; the others end with a fault, if there is one."""
+    chosen, counts, are_well = options("program", states=2000), Counter(), 0
+    room = Room(chosen.program)
     for seed in range(chosen.seed, chosen.seed + chosen.states):
-        board, firmware = random_state(seed)
-        (folder / "board.toml").write_text(board_file(board))
-        script, told = "".join(f"{line}\n" for line in firmware.lines), audit(firmware.state)
-        wanted = "".join(f"{line}\n" for line in firmware.answers + told)
-        (folder / "script").write_text(script)
-        ran = subprocess.run([chosen.program, "audit", folder / "board.toml"], input=script.encode(), capture_output=True,
-                             timeout=120)
-        if (ran.returncode, ran.stdout.decode(), ran.stderr) != (0, wanted, b""):
-            (folder / "wanted").write_text(wanted)
-            (folder / "came").write_bytes(ran.stdout + ran.stderr)
-            print(f"seed {seed}: the audit differs, or an answer: see wanted and came in {folder}")
-            sys.exit(1)
-        ran = subprocess.run([chosen.program, "audit", "--json", folder / "board.toml"], input=script.encode(), capture_output=True,
-                             timeout=120)
-        as_json = audit_json.text_of(told, (folder / "board.toml").read_text())
-        if (ran.returncode, ran.stdout.decode().split("\n")[-2:], ran.stderr) != (0, [as_json, ""], b""):
-            (folder / "wanted").write_text(as_json)
-            (folder / "came").write_bytes(ran.stdout + ran.stderr)
-            print(f"seed {seed}: the audit as JSON differs: see wanted and came in {folder}")
-            sys.exit(1)
-        kinds.update({kind_of(line) for line in told})
-        in_order += told == ["audit: ok"]
-    subprocess.run(["rm", "-rf", folder])
-    counts = ", ".join(f"'{kind}' in {count}" for kind, count in sorted(kinds.items()) if kind != "its count")
-    print(f"{chosen.states} register states, {in_order} in order; {counts}: all agree")
+        board, firmware = state_of(seed)
+        text, told = board_file(board), judged(board, firmware.state)
+        room.write("board.toml", text)
+        is_well = told == [f"{verb}: ok"]
+        err = "" if is_well else fault
+        for flags, last in (([], told), (["--json"], [json_of(told, text)])):
+            came = room.run(verb, *flags, "board.toml", script=lines_of(firmware.lines))
+            room.compare(seed, f"{verb} {' '.join(flags)}", (int(err != ""), lines_of(firmware.answers + last), err), came)
+        counts.update({kind for line in told for kind in kinds if kind in line})
+        are_well += is_well
+    room.end()
+    shown = ", ".join(f"'{kind}' in {count}" for kind, count in sorted(counts.items()))
+    print(f"{chosen.states} register states, {are_well} {well}; {shown}: all agree")
 
 
 if __name__ == "__main__":
-    main()
+    compare_states("audit", random_state, lambda _, state: audit(state), audit_json.text_of, KINDS, "in order")

@@ -1,10 +1,13 @@
 """What is wrong in a register state, by a second hand: registers, cycles and the audit of docs/PROFILE.md."""
-from board import Endpoint, path_text
+from collections import namedtuple
+from itertools import combinations
+
+from board import Endpoint, bridges_above, path_text
 from guests import endpoint_cells, number_at, put, write_at
 from keys import bits
 
-UPPER = {"16": 0, "32": 1, "none": 0}
-WIDE = {"32": 0, "64": 1, "none": 0}
+# who may answer on a bus: its path, what it is called, its space, and pairs of first and last address
+Agent = namedtuple("Agent", "path name space ranges")
 
 
 def bridge_cells(bridge):
@@ -20,20 +23,14 @@ def bridge_cells(bridge):
     put(cells, 0x20, 4, 0, 0xFFF0FFF0)
     put(cells, 0x3C, 1, 0, 0xFF)
     if bridge.io != "none":
-        put(cells, 0x1C, 2, 0x0101 * UPPER[bridge.io], 0xF0F0)
+        put(cells, 0x1C, 2, 0x0101 * (bridge.io == "32"), 0xF0F0)
     if bridge.io == "32":
         put(cells, 0x30, 4, 0, 0xFFFFFFFF)
     if bridge.pref != "none":
-        put(cells, 0x24, 4, 0x10001 * WIDE[bridge.pref], 0xFFF0FFF0)
+        put(cells, 0x24, 4, 0x10001 * (bridge.pref == "64"), 0xFFF0FFF0)
     if bridge.pref == "64":
         put(cells, 0x28, 8, 0, (1 << 64) - 1)
     return cells
-
-
-def header_type(board, function):
-    device = [other for other in board.functions
-              if other.path[:-1] == function.path[:-1] and other.path[-1][0] == function.path[-1][0]]
-    return (0 if isinstance(function, Endpoint) else 1) | (0x80 if len(device) > 1 else 0)
 
 
 class State:
@@ -44,7 +41,7 @@ class State:
         self.cells = {}
         for path, function in self.functions.items():
             self.cells[path] = (endpoint_cells if isinstance(function, Endpoint) else bridge_cells)(function)
-            put(self.cells[path], 0x0E, 1, header_type(board, function))
+            put(self.cells[path], 0x0E, 1, board.header_type(function))
 
     def read_bytes(self, path, off, width):
         return number_at(self.cells[path], off, width)
@@ -82,51 +79,52 @@ class State:
         return self.byte(path, 4) & (1 if space == "I/O" else 2) != 0
 
     def base(self, endpoint, bar):
-        shown = self.read_bytes(endpoint.path, 0x10 + 4 * bar.index, 8 if bar.kind.startswith("mem64") else 4)
-        return shown & ~(3 if bar.kind == "io" else 15)
+        return bar.base(self.read_bytes(endpoint.path, bar.offset, bar.width))
 
-    def io_window(self, path):
-        base, limit = self.byte(path, 0x1C), self.byte(path, 0x1D)
-        upper = self.functions[path].io == "32"
-        first = (base & 0xF0) << 8 | (self.read_bytes(path, 0x30, 2) << 16 if upper else 0)
-        last = (limit & 0xF0) << 8 | 0xFFF | (self.read_bytes(path, 0x32, 2) << 16 if upper else 0)
-        return first, last
+    def regions(self):
+        """The regions of all endpoints by path and register: path, declaration and base."""
+        for path, endpoint in self.functions.items():
+            if not self.is_bridge(path):
+                for bar in sorted(endpoint.bars, key=lambda one: one.index):
+                    yield path, bar, self.base(endpoint, bar)
 
-    def memory_window(self, path, off, is_wide):
-        base, limit = self.read_bytes(path, off, 2), self.read_bytes(path, off + 2, 2)
-        first, last = (base & 0xFFF0) << 16, (limit & 0xFFF0) << 16 | 0xFFFFF
-        if is_wide:
-            first |= self.read_bytes(path, 0x28, 4) << 32
-            last |= self.read_bytes(path, 0x2C, 4) << 32
-        return first, last
+    def open_regions(self):
+        return [region for region in self.regions() if self.opens(region[0], region[1].space)]
+
+    def regions_at(self, space, address):
+        """The regions that hold an address."""
+        return [(path, bar, base) for path, bar, base in self.regions()
+                if bar.space == space and base <= address < base + bar.size]
+
+    def window(self, path, off, width, upper=None):
+        """First and last address of a window, by its registers: base and limit, and where their upper bits are, if any."""
+        first, last = ((self.read_bytes(path, at, width) & -0x10) << 8 * width for at in (off, off + width))
+        if upper:
+            first |= self.read_bytes(path, upper, 2 * width) << 16 * width
+            last |= self.read_bytes(path, upper + 2 * width, 2 * width) << 16 * width
+        return first, last | (0x10 << 8 * width) - 1
+
+    def windows(self, path, space):
+        """The windows that a bridge has for a space: by its name the first and last address of each."""
+        bridge = self.functions[path]
+        if space == "I/O":
+            upper = 0x30 if bridge.io == "32" else None
+            return {} if bridge.io == "none" else {"I/O": self.window(path, 0x1C, 1, upper)}
+        upper = 0x28 if bridge.pref == "64" else None
+        pref = {} if bridge.pref == "none" else {"prefetchable": self.window(path, 0x24, 2, upper)}
+        return {"memory": self.window(path, 0x20, 2), **pref}
 
     def forwarded(self, path, space):
         """What a bridge forwards of a space, as pairs of first and last address."""
-        bridge = self.functions[path]
-        if not self.opens(path, space):
-            return []
-        if space == "I/O":
-            windows = [] if bridge.io == "none" else [self.io_window(path)]
-        else:
-            windows = [self.memory_window(path, 0x20, False)]
-            windows += [] if bridge.pref == "none" else [self.memory_window(path, 0x24, bridge.pref == "64")]
+        windows = self.windows(path, space).values() if self.opens(path, space) else []
         return [(first, last) for first, last in windows if first <= last]
 
-
-class Agent:
-    """Who may answer on a bus: its bus, what it is called, its space, and pairs of first and last address."""
-
-    def __init__(self, bus, name, space, ranges):
-        self.bus, self.name, self.space, self.ranges = bus, name, space, ranges
+    def forwards(self, bridge, space, address):
+        return any(first <= address <= last for first, last in self.forwarded(bridge, space))
 
 
-def open_regions(state, path):
-    """The open regions of an endpoint: register, space, base and size."""
-    endpoint = state.functions[path]
-    for bar in sorted(endpoint.bars, key=lambda one: one.index):
-        space = "I/O" if bar.kind == "io" else "memory"
-        if state.opens(path, space):
-            yield bar.index, space, state.base(endpoint, bar), bar.size
+def region_text(path, bar, base):
+    return f"{path_text(path)} bar{bar.index} at {base:#x} size {bar.size:#x}"
 
 
 def least_left(first, last, windows):
@@ -139,39 +137,30 @@ def least_left(first, last, windows):
 
 
 def forwarding_problems(state):
-    for path in state.functions:
-        if state.is_bridge(path):
-            continue
-        for index, space, base, size in open_regions(state, path):
-            for bridge in [path[:length] for length in range(1, len(path))]:
-                lost = least_left(base, base + size - 1, state.forwarded(bridge, space))
-                if lost is not None:
-                    yield (f"{path_text(path)} bar{index} at {base:#x} size {size:#x}: {lost:#x} is not forwarded by bridge "
-                           f"{path_text(bridge)}")
-                    break
+    for path, bar, base in state.open_regions():
+        for bridge in bridges_above(path):
+            lost = least_left(base, base + bar.size - 1, state.forwarded(bridge, bar.space))
+            if lost is not None:
+                yield f"{region_text(path, bar, base)}: {lost:#x} is not forwarded by bridge {path_text(bridge)}"
+                break
 
 
 def agents(state):
-    for path in state.functions:
-        name = path_text(path)
-        if state.is_bridge(path):
-            for space in ["I/O", "memory"]:
-                yield Agent(path[:-1], name, space, state.forwarded(path, space))
-        else:
-            for index, space, base, size in open_regions(state, path):
-                yield Agent(path[:-1], f"{name} bar{index}", space, [(base, base + size - 1)])
+    for path, bar, base in state.open_regions():
+        yield Agent(path, f"{path_text(path)} bar{bar.index}", bar.space, [(base, base + bar.size - 1)])
+    for path in filter(state.is_bridge, state.functions):
+        for space in ["I/O", "memory"]:
+            yield Agent(path, path_text(path), space, state.forwarded(path, space))
 
 
 def contentions(state):
-    every = list(agents(state))
-    for place, one in enumerate(every):
-        for other in every[place + 1:]:
-            if (one.bus, one.space) != (other.bus, other.space):
-                continue
-            meets = [max(first, begin) for first, last in one.ranges for begin, end in other.ranges
-                     if max(first, begin) <= min(last, end)]
-            if meets:
-                yield f"{one.name} and {other.name}: address conflict at {one.space} {min(meets):#x}"
+    for one, other in combinations(sorted(agents(state), key=lambda agent: agent.path), 2):
+        if (one.path[:-1], one.space) != (other.path[:-1], other.space):
+            continue
+        meets = [max(first, begin) for first, last in one.ranges for begin, end in other.ranges
+                 if max(first, begin) <= min(last, end)]
+        if meets:
+            yield f"{one.name} and {other.name}: address conflict at {one.space} {min(meets):#x}"
 
 
 def numbering_problems(state):

@@ -4,7 +4,6 @@ from keys import RANGES
 
 IDENTITY = {"vendor", "device", "revision", "class"}
 SIZES = {"io": (2, 8), "mem32": (4, 31), "mem32p": (4, 31), "mem64": (4, 40), "mem64p": (4, 40)}
-MASKS = ["00", "ff", "0f", "f0", "55aa", "01", "80", "ff00", "7e"]
 
 
 class Bar:
@@ -12,6 +11,14 @@ class Bar:
 
     def __init__(self, index, kind, size, block, patterns):
         self.index, self.kind, self.size, self.block, self.patterns = index, kind, size, block, patterns
+        self.space, is_wide = "I/O" if kind == "io" else "memory", kind.startswith("mem64")
+        # its registers: where they begin, how many bytes they have, and the bits that say its kind
+        self.offset, self.width = 0x10 + 4 * index, 8 if is_wide else 4
+        self.type_bits = 1 if kind == "io" else (4 if is_wide else 0) | (8 if kind.endswith("p") else 0)
+
+    def base(self, shown):
+        """The base in its registers, of which this is the value."""
+        return shown & ~(3 if self.space == "I/O" else 15)
 
 
 class Endpoint:
@@ -36,6 +43,22 @@ class Board:
 
     def endpoints(self):
         return [function for function in self.functions if isinstance(function, Endpoint)]
+
+    def header_type(self, function):
+        """The Header Type of a function, which says whether its device has others."""
+        is_of_many = sum(other.path[:-1] == function.path[:-1] and other.path[-1][0] == function.path[-1][0]
+                         for other in self.functions) > 1
+        return int(isinstance(function, Bridge)) | 0x80 * is_of_many
+
+
+def masks(given, n):
+    """A byte of a block with these patterns: at reset, the bits that a write sets, and those that a one clears."""
+    return [given[key][n % len(given[key])] if key in given else 0 for key in ["reset", "rw", "w1c"]]
+
+
+def bridges_above(path):
+    """The paths of the bridges above a function, from bus 0 on."""
+    return [path[:length] for length in range(1, len(path))]
 
 
 def path_text(path):
@@ -71,7 +94,7 @@ def random_bars(rng):
         size = 1 << (rng.randint(least, min(greatest, most)) if rng.random() < 0.98 else greatest)
         block = rng.choice([0, 1, min(size, 16), min(size, 64), min(size, 4096)])
         bars.append(Bar(index, kind, size, block, patterns(rng, block)))
-        index += 2 if kind.startswith("mem64") else 1
+        index += bars[-1].width // 4
     return bars
 
 

@@ -1,5 +1,5 @@
 """Guests as lone register files, by a second hand."""
-from board import Bar
+from board import masks
 from keys import NUMBERS, PLACES, bits
 
 ONES = {1: 0xFF, 2: 0xFFFF, 4: 0xFFFFFFFF}
@@ -33,10 +33,8 @@ def put(cells, at, width, value, writable=0, clearing=0):
 
 def block_cells(cells, at, count, patterns):
     """Cells of a block, each pattern repeated."""
-    def byte(key, n):
-        return patterns[key][n % len(patterns[key])] if key in patterns else 0
     for n in range(count):
-        cells[at + n] = Cell(byte("reset", n), byte("rw", n), byte("w1c", n))
+        cells[at + n] = Cell(*masks(patterns, n))
 
 
 def endpoint_cells(endpoint):
@@ -48,10 +46,7 @@ def endpoint_cells(endpoint):
     put(cells, 0x06, 2, values.get("status", 0), 0, bits("clears", 0, 0x06))
     put(cells, 0x0C, 2, 0, 0xFFFF)
     for bar in endpoint.bars:
-        wide = bar.kind.startswith("mem64")
-        kind = 1 if bar.kind == "io" else (4 if wide else 0) | (8 if bar.kind.endswith("p") else 0)
-        width = 8 if wide else 4
-        put(cells, 0x10 + 4 * bar.index, width, kind, (1 << 8 * width) - bar.size)
+        put(cells, bar.offset, bar.width, bar.type_bits, (1 << 8 * bar.width) - bar.size)
     put(cells, 0x3C, 1, 0, 0xFF)
     for off, count, patterns in endpoint.config:
         block_cells(cells, off, count, patterns)
@@ -77,7 +72,6 @@ class Function:
         self.blocks = {bar.index: {} for bar in endpoint.bars}
         for bar in endpoint.bars:
             block_cells(self.blocks[bar.index], 0, bar.block, bar.patterns)
-
         self.decoding = None
 
     def restart(self):
@@ -92,18 +86,13 @@ class Function:
             self.decoding = None
         write_at(self.config, off, width, value)
 
-    def base(self, bar: Bar):
-        wide = bar.kind.startswith("mem64")
-        shown = number_at(self.config, 0x10 + 4 * bar.index, 8 if wide else 4)
-        return shown & ~(3 if bar.kind == "io" else 15)
-
     def decoders(self):
         """The regions that decode as Command and bases are now: space, base, end and cells."""
         command = number_at(self.config, 4, 1)
         for bar in self.endpoint.bars:
-            space = "io" if bar.kind == "io" else "mem"
-            if command & (1 if space == "io" else 2):
-                yield space, self.base(bar), self.base(bar) + bar.size, self.blocks[bar.index]
+            if command & (1 if bar.space == "I/O" else 2):
+                base = bar.base(number_at(self.config, bar.offset, bar.width))
+                yield bar.space, base, base + bar.size, self.blocks[bar.index]
 
     def decoded(self, space, addr):
         """The region that decodes an address, and the offset in it."""
@@ -157,7 +146,7 @@ class Guest:
             if self.latch >> 16 & 0xFF or self.latch >> 8 & 7:
                 return ONES[width]
             return self.config(self.latch >> 11 & 31, (self.latch & 0xFC) + (port & 3), width, value)
-        return self.access("io", port, width, value)
+        return self.access("I/O", port, width, value)
 
     def rise(self, slot, place, off, mask):
         """A raise of bits by a device."""

@@ -18,7 +18,7 @@ def le(value, count):
     return value.to_bytes(count, "little")
 
 
-def masks(cells):
+def declared(cells):
     """The cells of a block, as their declaration has them."""
     return b"".join(bytes([cell.reset, cell.writable, cell.clearing]) for _, cell in sorted(cells.items()))
 
@@ -31,11 +31,11 @@ def declaration(function):
     told += le(len(endpoint.bars), 1)
     for bar in sorted(endpoint.bars, key=lambda bar: bar.index):
         told += le(bar.index, 1) + le(KINDS.index(bar.kind), 1) + le(bar.size, 8) + le(bar.block, 2)
-        told += masks(function.blocks[bar.index])
+        told += declared(function.blocks[bar.index])
     told += le(len(endpoint.config), 1)
     for off, count, _ in endpoint.config:
         told += le(off, 1) + le(count, 1)
-        told += masks({at: function.config[at] for at in range(off, off + count)})
+        told += declared({at: function.config[at] for at in range(off, off + count)})
     return told
 
 
@@ -47,8 +47,7 @@ def held(function):
     for off, count, _ in function.endpoint.config:
         found += [(function.config[at], True) for at in range(off, off + count)]
     for bar in sorted(function.endpoint.bars, key=lambda bar: bar.index):
-        first = 0x10 + 4 * bar.index
-        found += [(function.config[at], False) for at in range(first, first + (8 if bar.kind.startswith("mem64") else 4))]
+        found += [(function.config[at], False) for at in range(bar.offset, bar.offset + bar.width)]
         found += [(cell, True) for _, cell in sorted(function.blocks[bar.index].items())]
     return found
 

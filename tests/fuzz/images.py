@@ -7,15 +7,16 @@ Each board stands twice: as it is, and with all its functions behind two more br
 first, and its moves over the second, where the images of the first are loaded; then another script runs over both, which
 have to answer guests alike. The first that differs is printed with its seed. The second hand of images is image.py; what
 guests hold is told by that of scripts. The library is that of PCIGUEST_LIBRARY_DIR, or the one in library/."""
-import argparse
 import random
 import re
 import sys
+from collections import Counter, namedtuple
 from pathlib import Path
 
 import image as second_hand
 from answers import World
 from board import Board, Bridge, Endpoint, board_file, random_board
+from compared import options
 from placement import Refused
 from script import Writer
 
@@ -24,6 +25,8 @@ from pciguest import Machine, Refusal  # the module stands there
 
 MOVE = re.compile(rb"[ \t\r]*host[ \t\r]+move[ \t\r]")
 BEHIND = ((6, 0), (3, 0))
+# a guest or a machine: the second hand's module with its own guest or world, and the library's calls
+Held = namedtuple("Held", "hand own save load size")
 WAYS = ["a bit", "a byte", "the header", "cut", "longer", "a byte left out", "a byte twice", "another's", "a value"]
 
 
@@ -42,6 +45,10 @@ def elsewhere(board):
     functions = [beside[0], bridge(BEHIND[:1]), bridge(BEHIND), *map(moved, board.functions), beside[1]]
     guests = [(name, [BEHIND + path for path in slots]) for name, slots in board.guests]
     return Board(board.apertures, functions, guests)
+
+
+def of_guest(guest, mine):
+    return Held(second_hand, guest, mine.save, mine.load, mine.image_size)
 
 
 def refused(call, *arguments):
@@ -76,7 +83,8 @@ class Fuzz:
 
     def __init__(self, lines, changed):
         self.lines, self.changed = lines, changed
-        self.saved, self.moved, self.taken, self.refused = 0, 0, 0, {905: 0, 906: 0, 908: 0}
+        # those that were loaded elsewhere, and all loads by the number that refused them
+        self.moved, self.loads = 0, Counter()
 
     def differs(self, what, *told):
         sys.exit(f"seed {self.seed}: {what}: {', '.join(map(str, told))}")
@@ -103,17 +111,18 @@ class Fuzz:
         lines = [writer.line() for _ in range(self.lines)]
         for line in lines:
             self.same(f"an answer to {line}", *here.answers(line)[::-1])
-        images = [self.save(*pair) for pair in here.guests]
+        images = [self.save(of_guest(*pair)) for pair in here.guests]
         there = self.there(board, lines)
-        for (guest, mine), image in zip(there.guests, images):
-            self.same("a load elsewhere", refused(mine.load, image), 0)
-            second_hand.load(guest, image)
-            self.same_image("what was loaded elsewhere", mine.save(), image)
-            self.moved += 1
+        for pair, image in zip(there.guests, images):
+            self.move(of_guest(*pair), image)
         for line in [writer.line() for _ in range(self.lines)]:
             self.same(f"an answer elsewhere to {line}", there.answers(line)[1], here.answers(line)[1])
         for guest, mine in there.guests:
-            self.change(guest, mine, images)
+            for _ in range(self.changed):
+                image = self.changed_image(guest, mine.save(), images)
+                stop = mine.image_fault(image)
+                self.same("where an image stops fitting", stop and tuple(stop[:2]), second_hand.stop(guest, image))
+                self.load(of_guest(guest, mine), image)
         here.machine.close()
         there.machine.close()
 
@@ -130,31 +139,29 @@ class Fuzz:
                 there.answers(name + line)
         return there
 
-    def save(self, guest, mine):
-        """The image of a guest, which both hands write alike."""
-        wanted, image = second_hand.image_of(guest), mine.save()
-        self.same("the size of an image", mine.image_size(), len(wanted))
+    def save(self, held):
+        """The image of a guest or a machine, which both hands write alike."""
+        wanted, image = held.hand.image_of(held.own), held.save()
+        self.same("the size of an image", held.size(), len(wanted))
         self.same_image("an image", image, wanted)
-        self.same("an image of its own", second_hand.fault(guest, image), 0)
-        self.saved += 1
+        self.same("an image of its own", held.hand.fault(held.own, image), 0)
         return image
 
-    def change(self, guest, mine, images):
-        """Loads images that were changed."""
-        for _ in range(self.changed):
-            before = mine.save()
-            image = self.changed_image(guest, before, images)
-            wanted = second_hand.fault(guest, image)
-            stop = mine.image_fault(image)
-            self.same("where an image stops fitting", stop and tuple(stop[:2]), second_hand.stop(guest, image))
-            self.same("why an image is refused", refused(mine.load, image), wanted)
-            if wanted:
-                self.refused[wanted] += 1
-            else:
-                second_hand.load(guest, image)
-                self.taken += 1
-            self.same_image("what is held after a load", mine.save(), before if wanted else image)
-            self.same_image("what the second hand holds", mine.save(), second_hand.image_of(guest))
+    def move(self, held, image):
+        """Loads an image elsewhere."""
+        self.same("a load elsewhere", self.load(held, image), 0)
+        self.moved += 1
+
+    def load(self, held, image):
+        """Loads an image, which may be refused; the number by which it is, or 0."""
+        before, wanted = held.save(), held.hand.fault(held.own, image)
+        self.same("why an image is refused", refused(held.load, image), wanted)
+        if not wanted:
+            held.hand.load(held.own, image)
+        self.loads[wanted] += 1
+        self.same_image("what is held after a load", held.save(), before if wanted else image)
+        self.same_image("what the second hand holds", held.hand.image_of(held.own), before if wanted else image)
+        return wanted
 
     def changed_image(self, guest, image, images):
         """An image with something changed in it."""
@@ -196,21 +203,18 @@ class Fuzz:
         return bytes(changed)
 
 
-def main():
-    words = argparse.ArgumentParser()
-    words.add_argument("--guests", type=int, default=300)
-    words.add_argument("--changed", type=int, default=10)
-    words.add_argument("--lines", type=int, default=60)
-    words.add_argument("--seed", type=int, default=1)
-    chosen = words.parse_args()
-    fuzz, seed = Fuzz(chosen.lines, chosen.changed), chosen.seed
-    while fuzz.saved < chosen.guests:
+def main(kind, what, many, changed):
+    """Takes boards until so many guests or machines were moved."""
+    chosen = options(**{what: many}, changed=changed, lines=60)
+    fuzz, seed = kind(chosen.lines, chosen.changed), chosen.seed
+    while fuzz.moved < getattr(chosen, what):
         fuzz.one(seed)
         seed += 1
-    print(f"{fuzz.saved} guests saved, {fuzz.moved} loaded elsewhere, of the images that were changed {fuzz.taken} taken and "
-          f"{sum(fuzz.refused.values())} refused (905: {fuzz.refused[905]}, 906: {fuzz.refused[906]}, "
-          f"908: {fuzz.refused[908]}): all agree")
+    taken = fuzz.loads.pop(0) - fuzz.moved
+    numbers = ", ".join(f"{number}: {count}" for number, count in sorted(fuzz.loads.items()))
+    print(f"{fuzz.moved} {what} saved, and loaded elsewhere, of the images that were changed {taken} taken and "
+          f"{fuzz.loads.total()} refused ({numbers}): all agree")
 
 
 if __name__ == "__main__":
-    main()
+    main(Fuzz, "guests", 300, 10)

@@ -2,7 +2,7 @@
 takes, what may be a mistake, and why its board can't be set up."""
 from board import Bar, Board, Bridge, Endpoint
 from placement import REFUSALS, Layout, up
-from rules import entries, problem
+from rules import entries, of, problem
 
 POOLS = {"io": "I/O pool", "mem": "memory pool", "pref": "prefetchable pool"}
 
@@ -39,21 +39,20 @@ def warning(entry, key, words):
 def reasons(document, number):
     """The entries that are why a board can't be set up."""
     every = list(entries(document))
-    bridges = [entry for entry in every if entry.kind == "bridge"]
+    bridges = of(every, "bridge")
     if number > 202:
         return [shortage(document, number)]
     if number == 201:
         return [problem(bridges[255], "at", "is one bridge too many (at most 255)", 201)]
     found = []
-    for entry in every:
-        if number == 202 and entry.kind == "bar" and entry.values["kind"] == "io":
-            above = [bridge for bridge in bridges if bridge.values["io"] == "none"
-                     and entry.owner.startswith(bridge.values["at"] + "/")]
-            if above:
-                told = problem(entry, "kind", 'requires an I/O window, but {} above it has none (io = "none")', 202, above[0],
-                               remedy='give the bridge io = "16" or "32", or the BAR a memory kind')
-                told.others = [(above[0].table, "io")]
-                found.append(told)
+    for entry in of(every, "bar"):
+        above = [bridge for bridge in bridges
+                 if bridge.values["io"] == "none" and entry.owner.startswith(bridge.values["at"] + "/")]
+        if entry.values["kind"] == "io" and above:
+            told = problem(entry, "kind", 'requires an I/O window, but {} above it has none (io = "none")', 202, above[0],
+                           remedy='give the bridge io = "16" or "32", or the BAR a memory kind')
+            told.others = [(above[0].table, "io")]
+            found.append(told)
     return found
 
 
@@ -63,7 +62,7 @@ def shortage(document, number):
     layout = Layout(board_of(document), is_placed=False)
     (end, alignment), (first, last) = layout.pack((), pool), document["host"][pool]
     at = up(first, alignment)
-    host = next(entry for entry in entries(document) if entry.kind == "host")
+    host, = of(entries(document), "host")
     words = f"{pool} has {max(0, last + 1 - at):#x} bytes from {at:#x} on, but the {POOLS[pool]} needs {end:#x}"
     return problem(host, pool, words, number, has_subject=False)
 
@@ -71,17 +70,14 @@ def shortage(document, number):
 def warnings_of(document, layout):
     """All that may be a mistake, in order."""
     every, found = list(entries(document)), []
-    paths = {path_of(entry.values["at"]) for entry in every if entry.kind in {"endpoint", "bridge"}}
-    slots = {path_of(entry.values[""]) for entry in every if entry.kind == "slot"}
-    for entry in every:
-        if entry.kind == "bridge" and not any(path[:-1] == path_of(entry.values["at"]) for path in paths):
-            found.append(warning(entry, "at", "is a bridge with nothing behind it"))
-    for entry in every:
-        if entry.kind == "endpoint" and document.get("guest") and path_of(entry.values["at"]) not in slots:
-            found.append(warning(entry, "at", "is not in the slots of any guest"))
-    found += [warning(entry, "name", "has no slots") for entry in every
-              if entry.kind == "guest" and not entry.values["slots"]]
-    host = next(entry for entry in every if entry.kind == "host")
+    above = {path_of(entry.values["at"])[:-1] for entry in of(every, "endpoint", "bridge")}
+    slots = {path_of(entry.values[""]) for entry in of(every, "slot")}
+    found += [warning(entry, "at", "is a bridge with nothing behind it") for entry in of(every, "bridge")
+              if path_of(entry.values["at"]) not in above]
+    found += [warning(entry, "at", "is not in the slots of any guest") for entry in of(every, "endpoint")
+              if document.get("guest") and path_of(entry.values["at"]) not in slots]
+    found += [warning(entry, "name", "has no slots") for entry in of(every, "guest") if not entry.values["slots"]]
+    host, = of(every, "host")
     for pool in POOLS:
         if pool in document["host"]:
             (first, last), (end, _) = document["host"][pool], layout.pack((), pool)

@@ -1,4 +1,7 @@
 """A board's guests as the program test_lone_guest takes them: their endpoints in plain numbers."""
+import itertools
+
+from board import masks
 from keys import NUMBERS
 
 KINDS = ["io", "mem32", "mem32p", "mem64", "mem64p"]
@@ -6,15 +9,8 @@ KINDS = ["io", "mem32", "mem32p", "mem64", "mem64p"]
 
 def runs(bar):
     """The registers of a region's block as (count, value, writable, cleared), those alike together."""
-    found = []
-    for n in range(bar.block):
-        masks = [bar.patterns[key][n % len(bar.patterns[key])] if key in bar.patterns else 0
-                 for key in ["reset", "rw", "w1c"]]
-        if found and found[-1][1:] == masks:
-            found[-1][0] += 1
-        else:
-            found.append([1, *masks])
-    return found
+    every = (masks(bar.patterns, n) for n in range(bar.block))
+    return [[len([*alike]), *cell] for cell, alike in itertools.groupby(every)]
 
 
 def endpoint_lines(endpoint):
@@ -24,9 +20,7 @@ def endpoint_lines(endpoint):
         yield f"bar {bar.index} {KINDS.index(bar.kind)} {bar.size}"
         yield from ("cells " + " ".join(map(str, run)) for run in runs(bar))
     for off, count, patterns in endpoint.config:
-        for n in range(count):
-            masks = [patterns[key][n % len(patterns[key])] if key in patterns else 0 for key in ["reset", "rw", "w1c"]]
-            yield f"config {off + n} " + " ".join(map(str, masks))
+        yield from (f"config {off + n} " + " ".join(map(str, masks(patterns, n))) for n in range(count))
 
 
 def guests_file(board):

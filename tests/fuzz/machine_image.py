@@ -1,5 +1,7 @@
 """Images of whole machines as docs/image-format.md has them, by a second hand: written, judged and read, over the second
 hand's own worlds."""
+from collections import namedtuple
+
 import image as second_hand
 from board import Endpoint, path_text
 from image import IMAGE, OTHERS, OTHER_VERSION, Part, le
@@ -54,11 +56,8 @@ def image_of(world):
 
 # ---- judged and read
 
-class Seated:
-    """A guest's slots as an image has them, and the guest's own image in it."""
-
-    def __init__(self, slots, image):
-        self.slots, self.image = slots, image
+# a guest's slots as an image has them, and the guest's own image in it
+Seated = namedtuple("Seated", "slots image")
 
 
 class Reader:

@@ -6,22 +6,17 @@ library takes, and where guests sit and what they hold then. All has to agree.
 Over each board stand two machines. A script runs over each, and functions are taken from guests and given to others. The image
 of the first is loaded into the second; then another script runs over both, which have to answer guests and the host alike. The
 first that differs is printed with its seed. The second hand of images is machine_image.py; all else is as in images.py."""
-import argparse
 import random
 
 import machine_image as second_hand
 from board import path_text, random_board
-from images import Fuzz, Pair, refused
+from images import Fuzz, Held, Pair, main
 from placement import Refused
 from script import Writer
 
 
 class Machines(Fuzz):
     """Counts, and what is asked of each board."""
-
-    def __init__(self, lines, changed):
-        super().__init__(lines, changed)
-        self.refused[907] = 0
 
     def one(self, seed):
         """Two machines over one board."""
@@ -37,14 +32,16 @@ class Machines(Fuzz):
                 line = writer.line()
                 self.same(f"an answer to {line}", *pair.both(line)[::-1])
                 self.reseat(pair)
-        images = [self.save_all(there), self.save_all(here), here.guests[0][1].save()]
-        self.load_all(there, images[1])
+        machines = [Held(second_hand, pair.world, pair.machine.save_all, pair.machine.load_all, pair.machine.image_size_all)
+                    for pair in (there, here)]
+        images = [*map(self.save, machines), here.guests[0][1].save()]
+        self.move(machines[0], images[1])
         for line in [writer.line() for _ in range(self.lines)]:
             wanted = here.both(line)
             self.same(f"the second hand's answer to {line}", there.both(line), wanted)
             self.same(f"an answer to {line}", wanted[1], wanted[0])
         for _ in range(self.changed):
-            self.change_all(there, images)
+            self.load(machines[0], self.changed_image(there.world, there.machine.save_all(), images))
         here.machine.close()
         there.machine.close()
 
@@ -65,37 +62,6 @@ class Machines(Fuzz):
             guest.slots[slot] = self.rng.choice(free)
             pair.machine.give(path_text(guest.slots[slot].endpoint.path), mine, slot)
 
-    def save_all(self, pair):
-        """The image of a machine, which both hands write alike."""
-        wanted, image = second_hand.image_of(pair.world), pair.machine.save_all()
-        self.same("the size of an image", pair.machine.image_size_all(), len(wanted))
-        self.same_image("an image", image, wanted)
-        self.same("an image of its own", second_hand.fault(pair.world, image), 0)
-        return image
-
-    def load_all(self, pair, image):
-        """Loads an image into another machine over the board."""
-        self.same("a load", refused(pair.machine.load_all, image), 0)
-        self.same("a load by the second hand", second_hand.fault(pair.world, image), 0)
-        second_hand.load(pair.world, image)
-        self.same_image("what was loaded", pair.machine.save_all(), image)
-        self.same_image("what the second hand loaded", second_hand.image_of(pair.world), image)
-        self.saved += 1
-
-    def change_all(self, pair, images):
-        """Loads an image that was changed."""
-        before = pair.machine.save_all()
-        image = self.changed_image(pair.world, before, images)
-        wanted = second_hand.fault(pair.world, image)
-        self.same("why an image is refused", refused(pair.machine.load_all, image), wanted)
-        if wanted:
-            self.refused[wanted] += 1
-        else:
-            second_hand.load(pair.world, image)
-            self.taken += 1
-        self.same_image("what is held after a load", pair.machine.save_all(), before if wanted else image)
-        self.same_image("what the second hand holds", second_hand.image_of(pair.world), before if wanted else image)
-
     def changed_value(self, world, image):
         """An image with something else in one of its parts."""
         told = list(second_hand.pieces(world))
@@ -110,21 +76,5 @@ class Machines(Fuzz):
         return b"".join(bytes(piece) if at == index else each[1] for at, each in enumerate(told))
 
 
-def main():
-    words = argparse.ArgumentParser()
-    words.add_argument("--machines", type=int, default=100)
-    words.add_argument("--changed", type=int, default=20)
-    words.add_argument("--lines", type=int, default=60)
-    words.add_argument("--seed", type=int, default=1)
-    chosen = words.parse_args()
-    fuzz, seed = Machines(chosen.lines, chosen.changed), chosen.seed
-    while fuzz.saved < chosen.machines:
-        fuzz.one(seed)
-        seed += 1
-    print(f"{fuzz.saved} machines saved, and loaded into others over their boards, of the images that were changed {fuzz.taken} "
-          f"taken and {sum(fuzz.refused.values())} refused (905: {fuzz.refused[905]}, 906: {fuzz.refused[906]}, "
-          f"907: {fuzz.refused[907]}, 908: {fuzz.refused[908]}): all agree")
-
-
 if __name__ == "__main__":
-    main()
+    main(Machines, "machines", 100, 20)

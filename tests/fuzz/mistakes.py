@@ -6,13 +6,10 @@ that is how much of each aperture its board takes, and what may be a mistake.
 Each file is that of a random board, with its tables in some order and a few mistakes, and sometimes so long that these stand
 past its first 65,536 bytes. The rules are those of docs/board-file.md, without a line of the program's code. The same seed makes
 the same files. Where all agree the last line is 'N passed, 0 failed', and else the seed is told and nothing more is tried."""
-import argparse
 import random
 import re
-import subprocess
 import sys
-import tempfile
-from pathlib import Path
+from collections import Counter
 
 try:
     import tomllib
@@ -21,6 +18,7 @@ except ImportError:
     sys.exit(0)
 
 from board import board_file, random_board
+from compared import Room, lines_of, options
 from judged import judged, reasons
 from rules import all_faults, place_of
 
@@ -102,11 +100,15 @@ MISTAKES = [other_value, other_value, other_value, inner_value, inner_value, oth
             table_again]
 
 
-def in_some_order(rng, text):
-    """The lines, with the tables in another order."""
-    tables = re.split(r"\n(?=\[)", text.strip())
+def with_mistakes(rng, counts):
+    """The lines of a random board, with its tables in some order and as many mistakes as one of these counts."""
+    tables = re.split(r"\n(?=\[)", board_file(random_board(rng)).strip())
     rng.shuffle(tables)
-    return "\n".join(tables).split("\n")
+    lines = "\n".join(tables).split("\n")
+    for _ in range(rng.choice(counts)):
+        if keys_in(lines):
+            rng.choice(MISTAKES)(rng, lines)
+    return lines
 
 
 def lines_of_keys(lines):
@@ -215,64 +217,49 @@ def misfit_differs(lines, text, number, out):
     return remarks_differ(lines, with_numbers(lines, out.split("\n")[:-1]), reasons(tomllib.loads(text), number))
 
 
-class Files:
+class Files(Room):
     """A folder for files, and counts."""
 
     def __init__(self, program):
-        self.program = Path(program).resolve()
-        self.folder = Path(tempfile.mkdtemp(prefix="mistakes-"))
-        self.faults, self.told, self.warned = {}, 0, 0
-
-    def differ(self, seed, told):
-        print(f"seed {seed}: {told}; the file is in {self.folder}")
-        sys.exit(1)
+        super().__init__(program)
+        self.faults, self.told, self.warned = Counter(), 0, 0
 
     def one(self, seed):
         rng = random.Random(seed)
-        lines = in_some_order(rng, board_file(random_board(rng)))
-        for _ in range(rng.choice([1, 1, 1, 2, 4])):
-            if keys_in(lines):
-                rng.choice(MISTAKES)(rng, lines)
+        lines = with_mistakes(rng, [1, 1, 1, 2, 4])
         if rng.random() < 0.05:
             lines.insert(0, "#" * rng.randrange(1 << 16, 1 << 17))
-        text = "\n".join(lines) + "\n"
-        (self.folder / "board.toml").write_text(text)
-        done = subprocess.run([self.program, "check", "--all", "board.toml"], cwd=self.folder, capture_output=True, text=True,
-                              timeout=60)
-        self.compare(seed, lines, text, done)
+        self.judge(seed, lines, lines_of(lines))
 
-    def compare(self, seed, lines, text, done):
+    def judge(self, seed, lines, text):
+        self.write("board.toml", text)
+        _, out, err = self.run("check", "--all", "board.toml")
         number, problems = all_faults(text)
-        fault = re.match(r"pciguest: fault (\d+) ", done.stderr)
-        got = int(fault[1]) if fault else 0
-        self.faults[got] = self.faults.get(got, 0) + 1
+        fault = re.match(r"pciguest: fault (\d+) ", err)
+        got, wrong = int(fault[1]) if fault else 0, None
+        self.faults[got] += 1
         if got != number and not (number == 0 and 200 < got < 206):
-            self.differ(seed, f"fault {got}, not {number}")
-        if number == 0:
-            judged_so = judged_differs(lines, text, done.stdout) if got == 0 else misfit_differs(lines, text, got, done.stdout)
-            if judged_so:
-                self.differ(seed, judged_so)
-            self.warned += done.stdout.count(": warning: ")
-        if number == 101 and not re.fullmatch(r"board\.toml:\d+:\d+: error: invalid TOML: .+ \(101\)\n", done.stdout):
-            self.differ(seed, done.stdout)
-        if number > 101:
-            told, count = told_lines(lines, done.stdout)
-            wrong = differs(lines, told, problems)
-            if wrong or count != (f"{len(told)} errors" if len(told) != 1 else "1 error"):
-                self.differ(seed, wrong or count)
+            wrong = f"fault {got}, not {number}"
+        elif number == 0:
+            wrong = judged_differs(lines, text, out) if got == 0 else misfit_differs(lines, text, got, out)
+            self.warned += out.count(": warning: ")
+        elif number == 101 and not re.fullmatch(r"board\.toml:\d+:\d+: error: invalid TOML: .+ \(101\)\n", out):
+            wrong = out
+        elif number > 101:
+            told, count = told_lines(lines, out)
+            is_counted = count == (f"{len(told)} errors" if len(told) != 1 else "1 error")
+            wrong = differs(lines, told, problems) or (None if is_counted else count)
             self.told += len(told)
+        if wrong:
+            self.differs(seed, "what a check says", wrong)
 
 
 def main():
-    words = argparse.ArgumentParser()
-    words.add_argument("program")
-    words.add_argument("--files", type=int, default=2000)
-    words.add_argument("--seed", type=int, default=1)
-    chosen = words.parse_args()
+    chosen = options("program", files=2000)
     files = Files(chosen.program)
     for seed in range(chosen.seed, chosen.seed + chosen.files):
         files.one(seed)
-    subprocess.run(["rm", "-rf", files.folder])
+    files.end()
     faults = ", ".join(f"{number or 'ok'}: {count}" for number, count in sorted(files.faults.items()))
     print(f"{chosen.files} files ({faults}), {files.told} lines told, {files.warned} warnings: all agree")
     print(f"{chosen.files} passed, 0 failed")

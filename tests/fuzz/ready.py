@@ -5,32 +5,13 @@
 The states are those of audit.py, half of them with one more thing that an operating system would lack. As there each
 answer of a line is compared too, and the first state that differs is printed with its seed, and its files are kept. The
 second hand is this folder, without a line of the program's code."""
-import argparse
 import random
-import subprocess
-import sys
-import tempfile
-from collections import Counter
-from pathlib import Path
 
-from audit import audit_json, random_state
-from audited import audit
-from board import Bridge, board_file, path_text
+from audit import audit_json, compare_states, random_state
+from audited import audit, region_text
+from board import Bridge, bridges_above, path_text
 
 KINDS = ["decode is disabled", "outside the apertures", "as prefetchable", "Primary Bus Number is"]
-
-
-def regions(state):
-    """Each endpoint's regions by register: its path, the register's declaration, space, base and size."""
-    for path in state.functions:
-        if not state.is_bridge(path):
-            endpoint = state.functions[path]
-            for bar in sorted(endpoint.bars, key=lambda one: one.index):
-                yield path, bar, "I/O" if bar.kind == "io" else "memory", state.base(endpoint, bar), bar.size
-
-
-def name_of(path, bar, base, size):
-    return f"{path_text(path)} bar{bar.index} at {base:#x} size {size:#x}"
 
 
 def without(spans, cuts):
@@ -42,48 +23,42 @@ def without(spans, cuts):
 
 
 def closed_regions(state):
-    for path, bar, space, base, size in regions(state):
-        if not state.opens(path, space):
-            yield f"{name_of(path, bar, base, size)}: {space} decode is disabled"
+    for path, bar, base in state.regions():
+        if not state.opens(path, bar.space):
+            yield f"{region_text(path, bar, base)}: {bar.space} decode is disabled"
 
 
 def regions_outside(board, state):
     kept = {"I/O": ["io"], "memory": ["mem", "pref"]}
-    for path, bar, space, base, size in regions(state):
-        if state.opens(path, space):
-            apertures = [board.apertures[key] for key in kept[space] if key in board.apertures]
-            left = without([(base, base + size - 1)], apertures)
-            if left:
-                yield f"{name_of(path, bar, base, size)}: {min(left)[0]:#x} is outside the apertures"
+    for path, bar, base in state.open_regions():
+        apertures = [board.apertures[key] for key in kept[bar.space] if key in board.apertures]
+        left = without([(base, base + bar.size - 1)], apertures)
+        if left:
+            yield f"{region_text(path, bar, base)}: {min(left)[0]:#x} is outside the apertures"
 
 
 def prefetched(state, path):
     """What a bridge forwards by its prefetchable window and not by its memory window."""
-    if state.functions[path].pref == "none" or not state.opens(path, "memory"):
-        return []
-    windows = [state.memory_window(path, 0x24, state.functions[path].pref == "64")]
-    return without([(first, last) for first, last in windows if first <= last],
-                   [(first, last) for first, last in [state.memory_window(path, 0x20, False)] if first <= last])
+    windows = state.windows(path, "memory") if state.opens(path, "memory") else {}
+    memory, pref = ([span for span in [windows.get(name, (1, 0))] if span[0] <= span[1]] for name in ("memory", "prefetchable"))
+    return without(pref, memory)
 
 
 def prefetched_regions(state):
-    for path, bar, _, base, size in regions(state):
-        if bar.kind not in ("mem32", "mem64") or not state.opens(path, "memory"):
-            continue
-        for bridge in [path[:length] for length in range(1, len(path))]:
+    for path, bar, base in state.open_regions():
+        for bridge in bridges_above(path) if bar.kind in ("mem32", "mem64") else []:
             shared = [max(base, first) for first, last in prefetched(state, bridge)
-                      if max(base, first) <= min(base + size - 1, last)]
+                      if max(base, first) <= min(base + bar.size - 1, last)]
             if shared:
-                yield f"{name_of(path, bar, base, size)}: bridge {path_text(bridge)} forwards {min(shared):#x} as prefetchable"
+                yield f"{region_text(path, bar, base)}: bridge {path_text(bridge)} forwards {min(shared):#x} as prefetchable"
                 break
 
 
 def other_primaries(state):
-    for path in state.functions:
-        if state.is_bridge(path):
-            bus = state.byte(path[:-1], 0x19) if len(path) > 1 else 0
-            if state.byte(path, 0x18) != bus:
-                yield f"{path_text(path)}: Primary Bus Number is {state.byte(path, 0x18):02x}, but the bridge is on bus {bus:02x}"
+    for path in filter(state.is_bridge, state.functions):
+        bus = state.byte(path[:-1], 0x19) if len(path) > 1 else 0
+        if state.byte(path, 0x18) != bus:
+            yield f"{path_text(path)}: Primary Bus Number is {state.byte(path, 0x18):02x}, but the bridge is on bus {bus:02x}"
 
 
 def lacks(board, state):
@@ -134,47 +109,5 @@ def spoiled_state(seed):
     return board, firmware
 
 
-def kinds_of(lines):
-    return {kind for line in lines for kind in KINDS if kind in line}
-
-
-def main():
-    words = argparse.ArgumentParser()
-    words.add_argument("program")
-    words.add_argument("--states", type=int, default=2000)
-    words.add_argument("--seed", type=int, default=1)
-    chosen = words.parse_args()
-    folder = Path(tempfile.mkdtemp(prefix="ready-"))
-    kinds, are_ready = Counter(), 0
-    for seed in range(chosen.seed, chosen.seed + chosen.states):
-        board, firmware = spoiled_state(seed)
-        (folder / "board.toml").write_text(board_file(board))
-        script, told = "".join(f"{line}\n" for line in firmware.lines), ready(board, firmware.state)
-        wanted = "".join(f"{line}\n" for line in firmware.answers + told)
-        is_ready = told == ["ready: ok"]
-        (folder / "script").write_text(script)
-        ran = subprocess.run([chosen.program, "ready", folder / "board.toml"], input=script.encode(), capture_output=True,
-                             timeout=120)
-        end = (0, wanted, b"") if is_ready else (1, wanted, b"pciguest: fault 208 not ready\n")
-        if (ran.returncode, ran.stdout.decode(), ran.stderr) != end:
-            (folder / "wanted").write_text(wanted)
-            (folder / "came").write_bytes(ran.stdout + ran.stderr)
-            print(f"seed {seed}: what is lacking differs, or an answer: see wanted and came in {folder}")
-            sys.exit(1)
-        ran = subprocess.run([chosen.program, "ready", "--json", folder / "board.toml"], input=script.encode(),
-                             capture_output=True, timeout=120)
-        as_json = audit_json.ready_of(told, (folder / "board.toml").read_text())
-        if (ran.returncode, ran.stdout.decode().split("\n")[-2:], ran.stderr) != (end[0], [as_json, ""], end[2]):
-            (folder / "wanted").write_text(as_json)
-            (folder / "came").write_bytes(ran.stdout + ran.stderr)
-            print(f"seed {seed}: what is lacking as JSON differs: see wanted and came in {folder}")
-            sys.exit(1)
-        kinds.update(kinds_of(told))
-        are_ready += is_ready
-    subprocess.run(["rm", "-rf", folder])
-    counts = ", ".join(f"'{kind}' in {count}" for kind, count in sorted(kinds.items()))
-    print(f"{chosen.states} register states, {are_ready} ready; {counts}: all agree")
-
-
 if __name__ == "__main__":
-    main()
+    compare_states("ready", spoiled_state, ready, audit_json.ready_of, KINDS, "ready", "pciguest: fault 208 not ready\n")

@@ -1,6 +1,9 @@
-"""Why lines have none of the forms: what a run tells of them on standard error, by a second hand."""
-from answers import NUMBER, PLACE, PLACES, words_of
+"""The forms of lines, and why a line has none of them: what a run tells of it on standard error, by a second hand."""
+import re
 
+NUMBER = re.compile(rb"(?:0[xX]([0-9a-fA-F]+)|([0-9]+))\Z")
+PLACE = re.compile(rb"([0-9a-fA-F]{2}):([01][0-9a-fA-F])\.([0-7])\Z")
+PLACES = {b"cfg", b"bar0", b"bar1", b"bar2", b"bar3", b"bar4", b"bar5"}
 GUEST = {"cr": "slot offset width", "cw": "slot offset width value", "ir": "port width", "iw": "port width value",
          "mr": "address width", "mw": "address width value", "raise": "slot part offset mask"}
 HOST = {"cr": "function offset width", "ir": "port width", "mr": "address width", "move": "guest slot guest slot"}
@@ -10,9 +13,14 @@ LIMITS = {"value": 32, "mask": 8}
 MARK = b"\xef\xbb\xbf"
 
 
-def is_number(word, bits):
+def words_of(line):
+    return [word for word in re.split(rb"[ \t\r]+", line) if word]
+
+
+def number(word):
+    """The number that a word is, or None."""
     match = NUMBER.match(word)
-    return bool(match) and (int(match[1], 16) if match[1] else int(match[2])) >> bits == 0
+    return match and (int(match[1], 16) if match[1] else int(match[2]))
 
 
 def kind_of(name, before):
@@ -30,8 +38,8 @@ def complaint(kind, word, guests):
         return None if word in PLACES else "cfg or bar0 to bar5"
     if kind == "space":
         return None if word in (b"mem", b"io", b"cfg") else "mem, io or cfg"
-    bits = LIMITS.get(kind, 64)
-    return None if is_number(word, bits) else f"a decimal or 0x-prefixed number below 2^{bits}"
+    bits, value = LIMITS.get(kind, 64), number(word)
+    return None if value is not None and value >> bits == 0 else f"a decimal or 0x-prefixed number below 2^{bits}"
 
 
 def shown(word):

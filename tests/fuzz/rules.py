@@ -9,6 +9,9 @@ from keys import CHOICES, KEYS, NEEDED, OPTIONAL, RANGES
 TEXTS = {"at", "name", "reset", "rw", "w1c"}
 SIZES = {"io": (4, 256), "mem32": (16, 1 << 31), "mem32p": (16, 1 << 31), "mem64": (16, 1 << 40),
          "mem64p": (16, 1 << 40)}
+# ranges of blocks of cells: table and key, the least and the greatest, and how they are told
+BLOCK_RANGES = [("bar", "block", 0, 4096, "0 to 4096"), ("config", "off", 0x40, 0xFF, "0x40 to 0xff"),
+                ("config", "block", 1, 192, "1 to 192")]
 
 
 @dataclass
@@ -86,6 +89,11 @@ def entries(document):
             yield Entry("slot", f"guest[{index}].slots[{inner}]", {"": slot}, table, "slots", owner)
 
 
+def of(every, *kinds):
+    """The entries of some kinds."""
+    return [entry for entry in every if entry.kind in kinds]
+
+
 def problem(entry, key, words, number, *others, has_subject=True, remedy="", label="error"):
     """A message: of `words`, each {} is the name of another entry."""
     name, _, last = entry.name.rpartition(".") if entry.kind == "slot" else (entry.name, "", key)
@@ -139,9 +147,7 @@ def meant(kind, key):
 
 
 def key_problems(every):
-    for entry in every:
-        if entry.kind == "slot":
-            continue
+    for entry in of(every, *KEYS):
         for key in NEEDED[entry.kind] + OPTIONAL[entry.kind]:
             if key not in entry.values:
                 if key in NEEDED[entry.kind]:
@@ -151,38 +157,34 @@ def key_problems(every):
 
 
 def unknown_keys(every):
-    for entry in every:
-        if entry.kind != "slot":
-            for key in entry.values.keys() - set(NEEDED[entry.kind] + OPTIONAL[entry.kind]):
-                yield problem(entry, key, f"unknown key '{key}'", 103, has_subject=False, remedy=meant(entry.kind, key))
+    for entry in of(every, *KEYS):
+        for key in entry.values.keys() - set(NEEDED[entry.kind] + OPTIONAL[entry.kind]):
+            yield problem(entry, key, f"unknown key '{key}'", 103, has_subject=False, remedy=meant(entry.kind, key))
 
 
 def number_problems(every):
-    for entry in every:
-        values = entry.values
-        if entry.kind in {"endpoint", "bridge"}:
-            for key, greatest in RANGES.items():
-                if not 0 <= values.get(key, 0) <= greatest:
-                    yield problem(entry, key, f"is out of range (0 to {greatest if key == 'pin' else hex(greatest)})", 104)
-            status = values.get("status", 0)
-            if not 0 <= status <= 0xFFFF or status & ~0xF900:
-                yield problem(entry, "status", "has bits outside 0xf900", 104)
-        if entry.kind == "bar" and not 0 <= values.get("block", 0) <= 4096:
-            yield problem(entry, "block", "is out of range (0 to 4096)", 104)
-        if entry.kind == "config":
-            if not 0x40 <= values["off"] <= 0xFF:
-                yield problem(entry, "off", "is out of range (0x40 to 0xff)", 104)
-            if not 1 <= values["block"] <= 192:
-                yield problem(entry, "block", "is out of range (1 to 192)", 104)
-            if values["off"] + values["block"] > 256:
-                yield problem(entry, "block", "extends past offset 0xff", 104)
+    for entry in of(every, "endpoint", "bridge"):
+        for key, greatest in RANGES.items():
+            if not 0 <= entry.values.get(key, 0) <= greatest:
+                yield problem(entry, key, f"is out of range (0 to {greatest if key == 'pin' else hex(greatest)})", 104)
+        status = entry.values.get("status", 0)
+        if not 0 <= status <= 0xFFFF or status & ~0xF900:
+            yield problem(entry, "status", "has bits outside 0xf900", 104)
+    for kind, key, least, greatest, words in BLOCK_RANGES:
+        for entry in of(every, kind):
+            if not least <= entry.values.get(key, least) <= greatest:
+                yield problem(entry, key, f"is out of range ({words})", 104)
+    for entry in of(every, "config"):
+        if entry.values["off"] + entry.values["block"] > 256:
+            yield problem(entry, "block", "extends past offset 0xff", 104)
 
 
 def count_problems(every):
-    for entry in every:
-        if entry.kind in {"endpoint", "bridge"} and entry.values.get("at", "").count("/") > 15:
+    for entry in of(every, "endpoint", "bridge"):
+        if entry.values.get("at", "").count("/") > 15:
             yield problem(entry, "at", "has more than 16 parts", 108)
-        if entry.kind == "guest" and len(entry.values["slots"]) > 32:
+    for entry in of(every, "guest"):
+        if len(entry.values["slots"]) > 32:
             yield problem(entry, "slots", "too many slots (at most 32)", 108, has_subject=False)
 
 
@@ -193,7 +195,7 @@ def is_path(text):
 
 def standing(every):
     """Each function's path with its kind. A text that is no path stands for 0.0."""
-    return [(at if is_path(at) else "0.0", entry.kind) for entry in every if entry.kind in {"endpoint", "bridge"}
+    return [(at if is_path(at) else "0.0", entry.kind) for entry in of(every, "endpoint", "bridge")
             for at in [entry.values.get("at", "")]]
 
 
@@ -215,9 +217,7 @@ def meant_path(text):
 def place_problems(every):
     earlier, stands = {}, {path for path, _ in standing(every)}
     bridges = {path for path, kind in standing(every) if kind == "bridge"}
-    for entry in every:
-        if entry.kind not in {"endpoint", "bridge"}:
-            continue
+    for entry in of(every, "endpoint", "bridge"):
         at = entry.values.get("at", "")
         *above, part = at.split("/")
         if not is_path(at):
@@ -238,13 +238,13 @@ WIDE = "a 64-bit BAR uses two registers, index and index + 1"
 
 
 def register_problems(every):
-    for entry in every:
-        if entry.kind == "bar" and not 0 <= entry.values["index"] <= 5:
+    for entry in of(every, "bar"):
+        if not 0 <= entry.values["index"] <= 5:
             yield problem(entry, "index", "is out of range (0 to 5)", 106)
-        if entry.kind == "endpoint":
-            bars = [bar for bar in every if bar.kind == "bar" and bar.table == entry.table]
-            if all(0 <= bar.values["index"] <= 5 for bar in bars):
-                yield from own_registers(bars)
+    for entry in of(every, "endpoint"):
+        bars = [bar for bar in of(every, "bar") if bar.table == entry.table]
+        if all(0 <= bar.values["index"] <= 5 for bar in bars):
+            yield from own_registers(bars)
 
 
 def own_registers(bars):
@@ -273,13 +273,12 @@ def size_cause(kind, size):
 
 
 def size_problems(every):
-    for entry in every:
-        if entry.kind == "bar":
-            size, (least, greatest) = entry.values["size"], SIZES[entry.values["kind"]]
-            if not least <= size <= greatest or size & (size - 1):
-                yield problem(entry, "size", size_cause(entry.values["kind"], size), 107)
-            if entry.values.get("block", 0) > size:
-                yield problem(entry, "block", f"is larger than the BAR (at most {size})", 107)
+    for entry in of(every, "bar"):
+        size, (least, greatest) = entry.values["size"], SIZES[entry.values["kind"]]
+        if not least <= size <= greatest or size & (size - 1):
+            yield problem(entry, "size", size_cause(entry.values["kind"], size), 107)
+        if entry.values.get("block", 0) > size:
+            yield problem(entry, "block", f"is larger than the BAR (at most {size})", 107)
 
 
 NAME = 'a name is 1 to 16 lowercase letters and digits, and begins with a letter; "host" is reserved'
@@ -287,30 +286,28 @@ NAME = 'a name is 1 to 16 lowercase letters and digits, and begins with a letter
 
 def name_problems(every):
     earlier = {}
-    for entry in every:
-        if entry.kind == "guest":
-            name = entry.values.get("name", "")
-            if not re.fullmatch(r"[a-z][a-z0-9]{0,15}", name) or name == "host":
-                yield problem(entry, "name", "is not a valid guest name", 109, remedy=NAME)
-            if name in earlier:
-                yield problem(entry, "name", "is already used by {}", 109, earlier[name])
-            earlier.setdefault(name, entry)
+    for entry in of(every, "guest"):
+        name = entry.values.get("name", "")
+        if not re.fullmatch(r"[a-z][a-z0-9]{0,15}", name) or name == "host":
+            yield problem(entry, "name", "is not a valid guest name", 109, remedy=NAME)
+        if name in earlier:
+            yield problem(entry, "name", "is already used by {}", 109, earlier[name])
+        earlier.setdefault(name, entry)
 
 
 def slot_problems(every):
     earlier, stands = {}, dict(standing(every))
-    for entry in every:
-        if entry.kind == "slot":
-            slot = entry.values[""]
-            if not is_path(slot) or stands.get(slot) != "endpoint":
-                there = "is not the path of any endpoint"
-                if stands.get(slot) == "bridge":
-                    is_both = any(other.kind == "endpoint" and other.values["at"] == slot for other in every)
-                    there = "is the path of " + ("both an endpoint and a bridge" if is_both else "a bridge, not of an endpoint")
-                yield problem(entry, "", there if is_path(slot) else "is not a valid path", 110, remedy=meant_path(slot))
-            if is_path(slot) and slot in earlier:
-                yield problem(entry, "", "is already used by {}", 110, earlier[slot])
-            earlier.setdefault(slot, entry)
+    for entry in of(every, "slot"):
+        slot = entry.values[""]
+        if not is_path(slot) or stands.get(slot) != "endpoint":
+            there = "is not the path of any endpoint"
+            if stands.get(slot) == "bridge":
+                is_both = any(other.values["at"] == slot for other in of(every, "endpoint"))
+                there = "is the path of " + ("both an endpoint and a bridge" if is_both else "a bridge, not of an endpoint")
+            yield problem(entry, "", there if is_path(slot) else "is not a valid path", 110, remedy=meant_path(slot))
+        if is_path(slot) and slot in earlier:
+            yield problem(entry, "", "is already used by {}", 110, earlier[slot])
+        earlier.setdefault(slot, entry)
 
 
 def is_of_units(unit, first, last):
@@ -337,7 +334,7 @@ def memory_cause(bounds, *others):
 
 
 def aperture_problems(every):
-    for host in [entry for entry in every if entry.kind == "host"]:
+    for host in of(every, "host"):
         io, mem, pref = host.values["io"], host.values["mem"], host.values.get("pref")
         is_memory = is_of_units(1 << 20, *map(abs, mem)) and abs(mem[1]) < 1 << 32
         if not is_of_units(1 << 12, *io) or io[0] < 0x1000 or io[1] > 0xFFFF:
@@ -379,20 +376,20 @@ def mask_cause(values):
 
 def mask_problems(every):
     earlier = {}
-    for entry in every:
-        why = mask_cause(entry.values) if entry.kind in {"bar", "config"} else None
+    for entry in of(every, "bar", "config"):
+        why = mask_cause(entry.values)
         if why:
             yield problem(entry, *why, 112)
-        if entry.kind == "config":
-            begin, blocks = entry.values["off"], earlier.setdefault(entry.table, [])
-            end = begin + entry.values["block"]
-            met = [other for other in blocks if begin < other.values["off"] + other.values["block"]
-                   and other.values["off"] < end]
-            if met:
-                first, size = (met[0].values[key] for key in ["off", "block"])
-                words = f"with block = {entry.values['block']} overlaps {{}}, which is at {first:#x} to {first + size - 1:#x}"
-                yield problem(entry, "off", words, 112, met[0])
-            blocks.append(entry)
+    for entry in of(every, "config"):
+        begin, blocks = entry.values["off"], earlier.setdefault(entry.table, [])
+        end = begin + entry.values["block"]
+        met = [other for other in blocks if begin < other.values["off"] + other.values["block"]
+               and other.values["off"] < end]
+        if met:
+            first, size = (met[0].values[key] for key in ["off", "block"])
+            words = f"with block = {entry.values['block']} overlaps {{}}, which is at {first:#x} to {first + size - 1:#x}"
+            yield problem(entry, "off", words, 112, met[0])
+        blocks.append(entry)
 
 
 CHECKS = [(102, key_problems), (103, unknown_keys), (104, number_problems), (108, count_problems),

@@ -1,46 +1,22 @@
 """Why addresses, ports and configuration numbers find what they find in random register states: a second hand's word.
 
-    why.py [PROGRAM] [--states N] [--seed S] [--print]
+    why.py PROGRAM [--states N] [--seed S]
 
 The states are those of audit.py. Of each, 50 addresses and ports and some numbers are asked: those where regions and
-windows begin and end, their neighbours, the ports of the address latch, and any. With PROGRAM, which takes the lines
-`host why mem ADDR`, `host why io PORT` and `host why cfg BB:DD.F` in a session, all that it answers is compared; the
-first state that differs is printed with its seed, and its files are kept. Without, what is told is counted by its
-kinds. The second hand is this folder, without a line of the program's code."""
-import argparse
+windows begin and end, their neighbours, the ports of the address latch, and any. All that PROGRAM answers to the lines
+`host why mem ADDR`, `host why io PORT` and `host why cfg BB:DD.F` is compared; the first state that differs is printed
+with its seed, and its files are kept. The second hand is this folder, without a line of the program's code."""
 import random
-import subprocess
-import sys
-import tempfile
 from collections import Counter
-from pathlib import Path
 
 from audit import EDGES, random_state
-from board import board_file, path_text
+from audited import region_text
+from board import board_file, bridges_above, path_text
+from compared import Room, lines_of, options
 
 KINDS = ["decodes it too", "decode is disabled", "; ", "as at reset", "forward it: memory decode", "no window", "window disabled", "nothing responds",
          " responds at", "no bridge on bus 00", "no bridge behind", "no function", "claims bus", "forwards it", "no BAR responds", "has this BDF",
          "4-byte accesses", ") is disabled", ") selects", "reaches nothing"]
-
-
-def regions_at(state, space, address):
-    """The regions that hold an address: path, declaration and base, in path order, then by register."""
-    for path, function in state.functions.items():
-        if state.is_bridge(path):
-            continue
-        for bar in sorted(function.bars, key=lambda one: one.index):
-            base = state.base(function, bar)
-            if (bar.kind == "io") == (space == "I/O") and base <= address < base + bar.size:
-                yield path, bar, base
-
-
-def windows_of(state, path, space):
-    """The windows that a bridge has for a space: its name with the first and last address."""
-    bridge = state.functions[path]
-    if space == "I/O":
-        return [] if bridge.io == "none" else [("I/O", state.io_window(path))]
-    pref = [] if bridge.pref == "none" else [("prefetchable", state.memory_window(path, 0x24, bridge.pref == "64"))]
-    return [("memory", state.memory_window(path, 0x20, False)), *pref]
 
 
 def window_text(name, first, last):
@@ -55,27 +31,22 @@ def hindrance(state, path, space):
     """What keeps a bridge from forwarding."""
     if not state.opens(path, space):
         return disabled(state, path, space)
-    return ", ".join(window_text(name, *window) for name, window in windows_of(state, path, space)) or "no window"
+    return ", ".join(window_text(name, *window) for name, window in state.windows(path, space).items()) or "no window"
 
 
 def causes(state, path, space, address):
     """All that keeps a region of the function at a path from answering, the nearest to the function first."""
     if not state.opens(path, space):
         yield disabled(state, path, space)
-    for length in range(len(path) - 1, 0, -1):
-        bridge = path[:length]
-        if not forwards(state, bridge, space, address):
+    for bridge in reversed(bridges_above(path)):
+        if not state.forwards(bridge, space, address):
             yield f"bridge {path_text(bridge)} doesn't forward it: {hindrance(state, bridge, space)}"
-
-
-def forwards(state, bridge, space, address):
-    return any(first <= address <= last for first, last in state.forwarded(bridge, space))
 
 
 def forwarders(state, space, address):
     """The bridges that forward an address which each bridge above them forwards."""
-    return [path for path in state.functions if state.is_bridge(path)
-            and all(forwards(state, path[:length], space, address) for length in range(1, len(path) + 1))]
+    return [path for path in filter(state.is_bridge, state.functions)
+            if all(state.forwards(bridge, space, address) for bridge in [*bridges_above(path), path])]
 
 
 def counted(lines):
@@ -88,7 +59,7 @@ def why(state, space, address):
     bridges = forwarders(state, space, address)
     nobody = "no BAR responds" if bridges else "nothing responds"
     answer, lines, left = nobody, [f"bridge {path_text(path)} forwards it to bus {state.byte(path, 0x19):02x}" for path in bridges], 0
-    for path, bar, base in regions_at(state, space, address):
+    for path, bar, base in state.regions_at(space, address):
         found = [*causes(state, path, space, address)]
         if base == 0 and not state.opens(path, space):
             left += 1
@@ -96,7 +67,7 @@ def why(state, space, address):
             answer = f"{path_text(path)} bar{bar.index} responds at offset {address - base:#x}"
         else:
             said = "; ".join(found) or "decodes it too"
-            lines.append(f"{path_text(path)} bar{bar.index} at {base:#x} size {bar.size:#x}: {said}")
+            lines.append(f"{region_text(path, bar, base)}: {said}")
     if left:
         lines.append(f"{left} BAR{'s' * (left > 1)} at 0x0 with decode disabled, as at reset")
     return [f"{space} {address:#x}: {answer}", *lines]
@@ -145,13 +116,9 @@ def why_port(state, latch, port):
 def edges_of(state, space):
     """Where regions and windows of a space begin and end."""
     found = [edge for edge in EDGES if space == "memory" or edge < 1 << 32]
-    for path, function in state.functions.items():
-        if state.is_bridge(path):
-            found += [edge for _, window in windows_of(state, path, space) for edge in window]
-        else:
-            found += [edge for bar in function.bars if (bar.kind == "io") == (space == "I/O")
-                      for base in [state.base(function, bar)] for edge in (base, base + bar.size - 1)]
-    return found
+    found += [edge for path in filter(state.is_bridge, state.functions) for window in state.windows(path, space).values()
+              for edge in window]
+    return found + [edge for _, bar, base in state.regions() if bar.space == space for edge in (base, base + bar.size - 1)]
 
 
 def asked(rng, state, count=50):
@@ -205,37 +172,17 @@ def state_asked(seed):
     return board, lines, firmware.answers + [f"why: {line}" for _, told in asking for line in told]
 
 
-def compared(program, folder, seed, board, lines, wanted):
-    (folder / "board.toml").write_text(board_file(board))
-    script, told = ("".join(f"{line}\n" for line in some) for some in (lines, wanted))
-    (folder / "script").write_text(script)
-    ran = subprocess.run([program, "firmware", folder / "board.toml"], input=script.encode(), capture_output=True, timeout=120)
-    if (ran.returncode, ran.stdout.decode(), ran.stderr) != (0, told, b""):
-        (folder / "wanted").write_text(told)
-        (folder / "came").write_bytes(ran.stdout + ran.stderr)
-        print(f"seed {seed}: an answer differs: see wanted and came in {folder}")
-        sys.exit(1)
-
-
 def main():
-    words = argparse.ArgumentParser()
-    words.add_argument("program", nargs="?")
-    words.add_argument("--states", type=int, default=2000)
-    words.add_argument("--seed", type=int, default=1)
-    words.add_argument("--print", action="store_true")
-    chosen = words.parse_args()
-    folder = Path(tempfile.mkdtemp(prefix="why-"))
-    kinds = Counter()
+    chosen, kinds = options("program", states=2000), Counter()
+    room = Room(chosen.program)
     for seed in range(chosen.seed, chosen.seed + chosen.states):
         board, lines, wanted = state_asked(seed)
-        if chosen.print:
-            print("\n".join(wanted))
-        if chosen.program:
-            compared(chosen.program, folder, seed, board, lines, wanted)
+        room.write("board.toml", board_file(board))
+        room.compare(seed, "an answer", (0, lines_of(wanted), ""), room.run("firmware", "board.toml", script=lines_of(lines)))
         kinds.update(kind for line in wanted if line.startswith("why: ") for kind in KINDS if kind in line)
-    subprocess.run(["rm", "-rf", folder])
+    room.end()
     counts = ", ".join(f"'{kind.strip()}' {count}" for kind, count in sorted(kinds.items()))
-    print(f"{chosen.states} register states; {counts}" + (": all agree" if chosen.program else ""))
+    print(f"{chosen.states} register states; {counts}: all agree")
 
 
 if __name__ == "__main__":

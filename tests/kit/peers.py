@@ -20,7 +20,7 @@ from pciguest._drawing import RandomChoices
 from pciguest._driven import Library, Program
 from pciguest._line_drawing import FirmwareLines
 from qemu import Qemu, rules, trees
-from second_hand import SecondHandBoard
+from second_hand import SecondHandBoard, board
 
 CARDS = ["e1000,romfile=", "rtl8139,romfile=", "pcnet,romfile=", "i82559er,romfile=", "ne2k_pci,romfile="]
 # the first bytes of these regions are memory in QEMU, by vendor and device and the register
@@ -46,18 +46,9 @@ class Differs(Exception):
 
 def claims(state, space, address):
     """The regions that decode an address and to which all bridges above forward it."""
-    found = []
-    for endpoint in state.functions.values():
-        if state.is_bridge(endpoint.path) or not state.opens(endpoint.path, space):
-            continue
-        above = [state.forwarded(endpoint.path[:length], space) for length in range(1, len(endpoint.path))]
-        if not all(any(first <= address <= last for first, last in windows) for windows in above):
-            continue
-        for bar in endpoint.bars:
-            base = state.base(endpoint, bar)
-            if (bar.kind == "io") == (space == "I/O") and base <= address < base + bar.size:
-                found.append((endpoint, bar, base))
-    return found
+    return [(state.functions[path], bar, base) for path, bar, base in state.regions_at(space, address)
+            if state.opens(path, space)
+            and all(state.forwards(bridge, space, address) for bridge in board.bridges_above(path))]
 
 
 def is_unmapped(bar, base):
@@ -102,11 +93,8 @@ class Peer:
     def __init__(self, seed, accesses, maker, counts):
         self.seed, self.accesses, self.counts = seed, accesses, counts
         tree = trees.Tree(seed, trees.ENDPOINTS + CARDS)
-        qemu = Qemu(tree.words)
-        try:
+        with closing(Qemu(tree.words)) as qemu:
             self.reading = trees.Reading(qemu.machine)
-        finally:
-            qemu.close()
         self.words, self.created = tree.words, created_last_first(tree.words)
         self.document = tomllib.loads(self.reading.text)
         self.second = SecondHandBoard(self.document)
@@ -168,7 +156,7 @@ class Peer:
         if self.state.is_bridge(path):
             is_control = offset <= 0x3E < offset + width and value >> 8 * (0x3E - offset) & AVOIDED != 0
             return is_control or offset < 0x1B and offset + width > 0x18
-        ports = {0x10 + 4 * bar.index for bar in self.state.functions[path].bars if bar.kind == "io"}
+        ports = {bar.offset for bar in self.state.functions[path].bars if bar.space == "I/O"}
         return offset & ~3 in ports and (width < 4 or 0 < value & ~3 < OWN_PORTS.stop)
 
     def latch_rule(self, line, words, ours, theirs):
@@ -227,17 +215,17 @@ class Peer:
     def opened(self):
         """Lines that place a region that is memory, and open bridges above it: mostly so that it can be reached."""
         choices, functions = self.lines.choices, {one.path: one for one in self.lines.functions}
-        regions = [(one, bar) for one in self.state.functions.values() if not self.state.is_bridge(one.path)
-                   for bar in one.bars if is_memory(one, bar)]
+        regions = [(endpoint, bar) for path, bar, _ in self.state.regions() for endpoint in [self.state.functions[path]]
+                   if is_memory(endpoint, bar)]
         if not regions:
             return
         endpoint, bar = choices.one_of(regions)
         base = 0x80000000 + bar.size * choices.number(0, (1 << 30) // bar.size)
         high = choices.one_of([0, 0, 0, 4]) if bar.kind == "mem64p" else 0
         number = self.lines.number(functions[endpoint.path])
-        if bar.kind.startswith("mem64"):
-            yield f"host cw {number} {0x14 + 4 * bar.index:#x} 4 {high:#x}"
-        yield f"host cw {number} {0x10 + 4 * bar.index:#x} 4 {base:#x}"
+        if bar.width == 8:
+            yield f"host cw {number} {bar.offset + 4:#x} 4 {high:#x}"
+        yield f"host cw {number} {bar.offset:#x} 4 {base:#x}"
         for depth in range(1, len(endpoint.path)):
             bridge = self.lines.number(functions[endpoint.path[:depth]])
             first, last = base >> 16, base + bar.size - 1 >> 16 & 0xFFF0
