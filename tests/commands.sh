@@ -8,30 +8,18 @@
 # last. Of `make` the target alone is looked for. In the manual a literal display is a block, and the program is called by
 # its name alone. The last line is 'N passed, M failed'.
 set -u
-program=$(readlink -f "${1:-$(dirname "$0")/../crates/pciguest/out/pciguest}")
+program=$(readlink -f "${1:-$(dirname "$0")/../crates/pciguest/out/pciguest}") shared=$(realpath "$(dirname "$0")/holds.sh")
 cd "${2:-$(dirname "$0")/..}" || exit 1
-top=$PWD
+source "$shared"
 [ -x "$program" ] || { echo "no program at $program: make build"; echo '0 passed, 1 failed'; exit 1; }
 documents=(README.md docs/ARCHITECTURE.md docs/{board-file,script-language,errors,json,image-format}.md docs/PROOFS.md docs/RESULTS.md docs/lessons/*.md examples/audit/README.md man/pciguest.1)
 [ $# -lt 2 ] || documents=(README.md docs/{board-file,script-language,errors,json,image-format}.md docs/lessons/*.md examples/audit/README.md)
 
-room=$(mktemp -d)
-trap 'rm -rf "$room"' EXIT
 ln -s "$program" "$room/pciguest"
 for name in README.md boards crates docs examples tools; do [ ! -e "$top/$name" ] || ln -s "$top/$name" "$room/$name"; done
-passed=0
-failed=0
 
 # tell NAME WANTED CAME
-tell() {
-  if [ "$2" = "$3" ]; then
-    passed=$((passed + 1))
-  else
-    failed=$((failed + 1))
-    echo "FAILED: $1"
-    diff <(echo "$2") <(echo "$3") | head -n 20 | sed 's/^/  /'
-  fi
-}
+tell() { holds "$1" diff <(echo "$2") <(echo "$3"); }
 
 has_target() { grep -qE "^$1:" "$top/Makefile" && echo "$1"; }
 
@@ -99,6 +87,5 @@ for name in "${documents[@]}"; do document "$name"; done
   tell "make $target" "$target" "$(has_target "$target")"
 done
 
-[ "$passed" -gt 0 ] || { failed=$((failed + 1)); echo 'FAILED: no document was read'; }
-echo "$passed passed, $failed failed"
-[ "$failed" = 0 ]
+[ "$passed" -gt 0 ] || holds 'a document was read' false
+counted

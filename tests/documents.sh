@@ -4,25 +4,12 @@
 # It needs the kit and no program. The last line is 'N passed, M failed'.
 set -u
 cd "$(dirname "$0")/.."
-passed=0
-failed=0
+source tests/holds.sh
 documents=(*.md docs/*.md docs/lessons/*.md {boards,examples,examples/{audit,kvm,qemu},page,tests}/README.md crates/*/README.md)
 index=docs/DEFINITIONS.md
-room=$(mktemp -d)
-trap 'rm -rf "$room"' EXIT
-
-# holds NAME CHECK..: the check writes nothing
-holds() {
-  local name=$1 found; shift
-  found=$("$@")
-  if [ -z "$found" ]; then
-    passed=$((passed + 1))
-  else
-    failed=$((failed + 1))
-    echo "FAILED: $name"
-    sed 's/^/  /' <<< "$found"
-  fi
-}
+# none NAME CHECK..: the check finds nothing to write of
+none() { holds "$1" finds_nothing "${@:2}"; }
+finds_nothing() { ! "$@" | grep .; }
 
 # ---- definitions: each file of specs/ has a heading, which is its entry in the index; of those of a crate of definitions
 # it lists words. The page has a section for each such crate, whose words and chapters stand in those headings
@@ -60,10 +47,10 @@ strange_chapters() {
     done
   done
 }
-holds 'definitions without a heading' bare_specs
-holds 'crates of definitions that the page lacks, or that are gone' other_crates
-holds 'words of the page that their file does not list' strange_words
-holds 'chapters of the page that no file names' strange_chapters
+none 'definitions without a heading' bare_specs
+none 'crates of definitions that the page lacks, or that are gone' other_crates
+none 'words of the page that their file does not list' strange_words
+none 'chapters of the page that no file names' strange_chapters
 
 # ---- links, and the headings that they name
 anchors() { grep '^#' "$1" | sed 's/^#* //' | tr '[:upper:]' '[:lower:]' | sed 's/[^a-z0-9 _-]//g; s/ /-/g'; }
@@ -87,15 +74,15 @@ broken_in_tarball() {
   tools/examples "$room/packed"
   (cd "$room/packed" && shopt -s globstar && broken_links **/*.md)
 }
-holds 'links that lead nowhere' broken_links "${documents[@]}"
-holds 'links of a tarball that lead nowhere' broken_in_tarball
+none 'links that lead nowhere' broken_links "${documents[@]}"
+none 'links of a tarball that lead nowhere' broken_in_tarball
 
 # ---- each crate's code begins with its layer and its neighbours, as crates.txt has them
 untold() {
   for file in crates/*/src/{lib,main}.rt; do ! [ -e "$file" ] || sed -n 3p "$file" | grep -q '^//! [A-Z`]' || echo "$file"; done
 }
-holds 'crates that tell others (tests/layers.py --write)' tests/layers.py
-holds 'crates that do not say below that what they hold' untold
+none 'crates that tell others (tests/layers.py --write)' tests/layers.py
+none 'crates that do not say below that what they hold' untold
 
 # ---- the list of documents has each
 unlisted() {
@@ -104,7 +91,7 @@ unlisted() {
     [ "$file" = docs/README.md ] || grep -qF "](${file#docs/})" docs/README.md || echo "$file"
   done
 }
-holds 'documents that docs/README.md lacks' unlisted
+none 'documents that docs/README.md lacks' unlisted
 
 # ---- files that are named in the text, from the top; a star may stand in them
 lost_files() {
@@ -115,7 +102,7 @@ lost_files() {
       done
   done
 }
-holds 'files that are not there' lost_files
+none 'files that are not there' lost_files
 
 # ---- boards and scripts: each has a section of what is expected beside it, and a row in boards/README.md
 unexpected() {
@@ -126,7 +113,7 @@ unexpected() {
     [[ $file == boards/refused/* ]] || grep -qF "| \`$name\` |" boards/README.md || echo "$file: not in boards/README.md"
   done
 }
-holds 'boards and scripts of which nothing is expected' unexpected
+none 'boards and scripts of which nothing is expected' unexpected
 
 # ---- a type has a name of its own, but for the faults of set-up and of the program
 shared=Fault
@@ -134,18 +121,18 @@ homonyms() {
   diff <(grep -roE --include='*.rt' '^pub (struct|enum|union|trait|type) \w+' crates/*/src | awk -F '[/: ]' '{ print $2, $NF }' | sort -u |
     cut -d ' ' -f 2 | sort | uniq -d) <(tr ' ' '\n' <<< "$shared")
 }
-holds 'types of one name in two crates, or that are no longer' homonyms
+none 'types of one name in two crates, or that are no longer' homonyms
 
 # ---- a lemma stands once
-holds 'lemmas that stand twice' tests/doubles.py
+none 'lemmas that stand twice' tests/doubles.py
 
 # ---- what somebody asked for: each line has its file, a test has its words there where a run reaches them, each edit of the gate
 # and each twin has its line; and no fewer lines are there than the list says
 unnamed() { tests/named.py 2>&1; }
-holds 'what was asked for, and is not there' unnamed
+none 'what was asked for, and is not there' unnamed
 
 # ---- laws and calls that documents name are those of the crates
-holds 'laws and calls that documents tell otherwise, or that are gone' tools/promises --check
+none 'laws and calls that documents tell otherwise, or that are gone' tools/promises --check
 
 # ---- examples in the headings of crates: their lines stand in a test, one after the other
 strange_examples() {
@@ -155,7 +142,7 @@ strange_examples() {
     [[ -z $example || $tests == *"$example"* ]] || echo "$heading"
   done
 }
-holds 'examples in headings that no test runs' strange_examples
+none 'examples in headings that no test runs' strange_examples
 
 # ---- the page on a crate of one's own: its code stands in that crate
 strange_code() {
@@ -166,7 +153,7 @@ strange_code() {
       [[ $code == *"${block%$'\n'}"* ]] || echo "docs/OWN_CRATE.md: ${block%%$'\n'*}"
     done
 }
-holds "code of a crate of one's own that is not there" strange_code
+none "code of a crate of one's own that is not there" strange_code
 
 # ---- the manual: the numbers of docs/errors.md with their words, but for those that calls alone answer, and the calls of the
 # header
@@ -179,8 +166,8 @@ lacking_calls() {
   grep -o '^[A-Za-z][A-Za-z0-9_ *]*pciguest_[a-z_]*(' library/pciguest.h | sed 's/.*[ *]//; s/($//' | grep -v '_raw_' |
     while read -r call; do grep -q "^\.F[no] $call\( \|$\)" man/libpciguest.3 || echo "man/libpciguest.3: $call"; done
 }
-holds 'numbers that the manual lacks' lacking_numbers
-holds 'calls that the manual lacks' lacking_calls
+none 'numbers that the manual lacks' lacking_numbers
+none 'calls that the manual lacks' lacking_calls
 
 # ---- the kit: README names those with which the gate has passed, and, if the one that is here is among them, its logic
 other_kit() {
@@ -188,7 +175,7 @@ other_kit() {
   grep -qE '^Everything was proved with the following kits \(versions of the toolchain\), which share the logic `[0-9a-f]{16}`: (`rattle-kit-[0-9a-z]+`(, )?)+\.$' README.md || echo 'README.md: names no kit'
   ! grep -q "^Everything was proved with .*\`$kit\`" README.md || grep -q "^Everything was proved with .* the logic \`$logic\`" README.md || echo "README.md: $(rt version)"
 }
-! command -v rt > /dev/null || holds 'the kits that the README names' other_kit
+! command -v rt > /dev/null || none 'the kits that the README names' other_kit
 
 # ---- the crates of the kit that README names as trusted are those on which crates.txt has something stand
 other_kit_crates() {
@@ -196,7 +183,7 @@ other_kit_crates() {
       comm -23 - <(sed 's/[: ].*//' crates.txt | sort)) \
     <(grep '^The Rattle toolchain' README.md | grep -o '`[a-z_]*`' | tr -d '`' | sort)
 }
-holds 'crates of the kit that the README names' other_kit_crates
+none 'crates of the kit that the README names' other_kit_crates
 
 # ---- edits that the gate doesn't try: each text that one replaces stands once in its file
 lost_edits() {
@@ -210,14 +197,13 @@ lost_edits() {
     done < "$edit"
   done
 }
-holds 'edits whose text is not there once' lost_edits
+none 'edits whose text is not there once' lost_edits
 
 # ---- layout: a crate is not proved by the gate before each of its files is as `rt fmt` writes it
 unformatted() {
   local kit=$(dirname "$(realpath "$(command -v rt)")")
   find crates -path '*/out' -prune -o \( -name '*.rt' -o -name '*.antt' \) -print0 | xargs -0 "$kit/rattle" fmt --check 2>&1
 }
-holds 'files that rt fmt writes otherwise' unformatted
+none 'files that rt fmt writes otherwise' unformatted
 
-echo "$passed passed, $failed failed"
-[ "$failed" = 0 ]
+counted
