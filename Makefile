@@ -170,7 +170,7 @@ kvm: has-kvm library/libpciguest.a
 	@$(MAKE) --no-print-directory -C examples/kvm check
 
 has-kvm:
-	@examples/kvm/needs
+	@examples/qemu/needs kvm
 
 # Debian's SeaBIOS and U-Boot, unmodified, on boards of the library; and on random trees, where each byte that they leave
 # is compared with what they leave in QEMU; an audit and `ready` say what is wrong and what is lacking. Then whether that
@@ -188,7 +188,7 @@ firmware: has-firmware bindings pciguest library/libpciguest.so.0
 endif
 
 has-firmware:
-	@tests/firmware/needs
+	@tests/needs firmware
 
 # The kit that tests firmware and hypervisors of others, over the library: the enumerator of examples/firmware is right on
 # many boards, and each of its mistakes is found. It takes Debian's packages, which it names where they are missing, and
@@ -212,10 +212,10 @@ peers: has-peers bindings library/libpciguest.so.0
 	@tests/kit/linux.py
 
 has-kit:
-	@tests/kit/needs
+	@tests/needs kit
 
 has-peers:
-	@tests/kit/needs peers
+	@tests/needs peers
 
 library/libpciguest.a library/libpciguest.so.0:
 	@$(MAKE) --no-print-directory library

@@ -176,7 +176,7 @@ def ends_late(document):
 
 
 def main():
-    chosen = options("program", files=1000)
+    chosen = options(__doc__, "program", files=1000, seed=1)
     tests = Tests(chosen.program)
     tests.formats()
     tests.directives()

@@ -7,18 +7,13 @@ leaves, where the board fits. Each answer of a line is compared too. The first s
 seed, and its files are kept. The second hand is this folder: registers, cycles and the audit as docs/PROFILE.md and
 docs/script-language.md have them, without a line of the program's code."""
 import random
-import sys
 from collections import Counter
-from pathlib import Path
 
 from answers import World
 from audited import State, audit
 from board import Bridge, Endpoint, board_file, random_board
-from compared import Room, lines_of, options
+from compared import Room, audit_json, lines_of, options
 from placement import Refused
-
-sys.path.append(str(Path(__file__).parent.parent))
-import audit_json  # it stands beside, as the gate asks it too
 
 KINDS = ["is not forwarded by", "address conflict", "a configuration cycle"]
 EDGES = [0, 0x10, 0xCF8, 0x1000, 0x2000, 0xF000, 0x100000, 0x80000000, 0xC0000000, 0xFFF00000, 0xFFFFFFF0, 0xFFFFFFFF]
@@ -159,7 +154,7 @@ def random_state(seed):
 def compare_states(verb, state_of, judged, json_of, kinds, well, fault=""):
     """Has the program judge register states, in lines and as JSON, and compares that, and its answers before, with what is judged
     here. How many states have a line of each kind is told, and how many are well; the others end with a fault, if there is one."""
-    chosen, counts, are_well = options("program", states=2000), Counter(), 0
+    chosen, counts, are_well = options(__doc__, "program", states=2000, seed=1), Counter(), 0
     room = Room(chosen.program)
     for seed in range(chosen.seed, chosen.seed + chosen.states):
         board, firmware = state_of(seed)

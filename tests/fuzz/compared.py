@@ -1,20 +1,14 @@
-"""What the programs of this folder share: their options, and a folder in which the program runs over a random board."""
-import argparse
+"""What the programs of this folder share: a folder in which the program runs over a random board, and what stands above."""
 import shutil
 import subprocess
 import sys
 import tempfile
 from pathlib import Path
 
-
-def options(*words, **counts):
-    """What the command line says: these words, how many there are to be of what, and the seed of the first."""
-    parser = argparse.ArgumentParser()
-    for word in words:
-        parser.add_argument(word)
-    for name, count in {**counts, "seed": 1}.items():
-        parser.add_argument(f"--{name}", type=int, default=count)
-    return parser.parse_args()
+sys.path.append(str(Path(__file__).resolve().parents[1]))
+import audit_json
+import report_json
+from options import options
 
 
 def lines_of(texts):

@@ -7,20 +7,16 @@ boards and lines. The second hand is this folder: board files, set-up, reports, 
 by the host, as docs/PROFILE.md, docs/board-file.md and docs/script-language.md have them, without a line of
 the program's code. With --lone a third answers: the crate test_lone_guest, which answers the lines of guests and the moves alone."""
 import random
-import sys
 from collections import Counter
 from pathlib import Path
 
 from answers import World
 from board import board_file, random_board
-from compared import Room, first_difference, lines_of, options
+from compared import Room, first_difference, lines_of, options, report_json
 from lone import guests_file
 from placement import Refused
 from reasons import reasons, text_of
 from script import Writer
-
-sys.path.append(str(Path(__file__).parent.parent))
-import report_json  # it stands beside, as the gate asks it too
 
 
 class Fuzz(Room):
@@ -79,7 +75,7 @@ class Fuzz(Room):
 
 
 def main():
-    chosen = options("program", "--lone", boards=500, lines=2000)
+    chosen = options(__doc__, "program", "--lone", boards=500, lines=2000, seed=1)
     fuzz = Fuzz(chosen.program, chosen.lone, chosen.lines)
     for seed in range(chosen.seed, chosen.seed + chosen.boards):
         fuzz.one(seed)

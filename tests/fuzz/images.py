@@ -205,7 +205,7 @@ class Fuzz:
 
 def main(kind, what, many, changed):
     """Takes boards until so many guests or machines were moved."""
-    chosen = options(**{what: many}, changed=changed, lines=60)
+    chosen = options(__doc__, **{what: many}, changed=changed, lines=60, seed=1)
     fuzz, seed = kind(chosen.lines, chosen.changed), chosen.seed
     while fuzz.moved < getattr(chosen, what):
         fuzz.one(seed)

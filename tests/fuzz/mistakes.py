@@ -255,7 +255,7 @@ class Files(Room):
 
 
 def main():
-    chosen = options("program", files=2000)
+    chosen = options(__doc__, "program", files=2000, seed=1)
     files = Files(chosen.program)
     for seed in range(chosen.seed, chosen.seed + chosen.files):
         files.one(seed)

@@ -7,9 +7,10 @@ answer of a line is compared too, and the first state that differs is printed wi
 second hand is this folder, without a line of the program's code."""
 import random
 
-from audit import audit_json, compare_states, random_state
+from audit import compare_states, random_state
 from audited import audit, region_text
 from board import Bridge, bridges_above, path_text
+from compared import audit_json
 
 KINDS = ["decode is disabled", "outside the apertures", "as prefetchable", "Primary Bus Number is"]
 

@@ -173,7 +173,7 @@ def state_asked(seed):
 
 
 def main():
-    chosen, kinds = options("program", states=2000), Counter()
+    chosen, kinds = options(__doc__, "program", states=2000, seed=1), Counter()
     room = Room(chosen.program)
     for seed in range(chosen.seed, chosen.seed + chosen.states):
         board, lines, wanted = state_asked(seed)

@@ -33,12 +33,8 @@ def fault_line(number):
     return f"pciguest: fault {number} {FAULTS[number]}\n".encode()
 
 
-class Run:
+class Run(namedtuple("Run", "status out err passed worked kilobytes")):
     """How a run ended."""
-
-    def __init__(self, status, out, err, passed, worked, kilobytes):
-        self.status, self.out, self.err = status, out, err
-        self.passed, self.worked, self.kilobytes = passed, worked, kilobytes
 
     def answer(self):
         """The end in a few words."""
@@ -74,14 +70,14 @@ class Room:
         Path(self.path(name)).write_bytes(content)
         return self.path(name)
 
-    def run(self, words, stdin=subprocess.DEVNULL, stdout=None, seconds=60, **environment):
-        """Runs the program to its end. Words in capitals are the preloaded library's."""
+    def run(self, words, stdin=subprocess.DEVNULL, stdout=None, seconds=60, program=None, **environment):
+        """Runs the program, or another, to its end. Words in capitals are the preloaded library's."""
         told = self.path("told")
         variables = {name: str(value) for name, value in environment.items()}
         if variables:
             variables["PRELOAD"] = self.library
         with open(self.path("out"), "w+b") as out, open(self.path("err"), "w+b") as err:
-            subprocess.run([self.measure, told, str(seconds), self.program, *words], stdin=stdin,
+            subprocess.run([self.measure, told, str(seconds), program or self.program, *words], stdin=stdin,
                            stdout=out if stdout is None else stdout, stderr=err, env=variables)
             out.seek(0)
             err.seek(0)

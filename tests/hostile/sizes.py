@@ -1,6 +1,7 @@
 """Board files and scripts of great size, deep nesting and odd bytes: answers, time and memory."""
 import subprocess
 import sys
+from pathlib import Path
 
 from harness import MAIN, Room
 
@@ -92,21 +93,16 @@ def boards(room, whole):
 
 def piped(room, name, command, wanted_lines, wanted, wanted_said=b"", words=("run", MAIN)):
     """Runs a script that another program writes; counts the lines that come and those that differ."""
-    with subprocess.Popen(["sh", "-c", command], stdout=subprocess.PIPE) as maker:
-        counted, told = room.path("counted"), room.path("told")
-        with open(counted, "wb") as to, open(room.path("err"), "wb") as err:
-            counter = subprocess.Popen(["uniq", "-c"], stdin=subprocess.PIPE, stdout=to)
-            subprocess.run([room.measure, told, "600", room.program, *words], stdin=maker.stdout,
-                           stdout=counter.stdin, stderr=err)
-            counter.stdin.close()
-            counter.wait()
-        maker.stdout.close()
-    status, passed, worked, kilobytes = [int(word) for word in open(told).read().split()]
-    got = open(counted, "rb").read().split(b"\n")[0].strip()
-    said = open(room.path("err"), "rb").read()
-    holds = status == 0 and said == wanted_said and got == (b"%d %s" % (wanted_lines, wanted) if wanted_lines else b"")
-    room.expect(name, holds and kilobytes < 8192, f"status {status}, {got!r}, {said!r}, {kilobytes} KB")
-    print(f"| {name} | {'ok' if holds else 'wrong'} | {passed / 1000:.2f} | {kilobytes / 1024:.1f} |", flush=True)
+    counted = Path(room.path("counted"))
+    with subprocess.Popen(["sh", "-c", command], stdout=subprocess.PIPE) as maker, open(counted, "wb") as to, \
+            subprocess.Popen(["uniq", "-c"], stdin=subprocess.PIPE, stdout=to) as counter:
+        run = room.run(words, stdin=maker.stdout, stdout=counter.stdin, seconds=600)
+    got = counted.read_bytes().split(b"\n")[0].strip()
+    wanted_told = b"%d %s" % (wanted_lines, wanted) if wanted_lines else b""
+    holds = (run.status, run.err, got) == (0, wanted_said, wanted_told)
+    room.expect(name, holds and run.kilobytes < 8192, f"{run.answer()}, {got!r}, {run.err!r}, {run.kilobytes} KB")
+    end = "ok" if holds else "wrong"
+    print(f"| {name} | {end} | {run.passed / 1000:.2f} | {run.kilobytes / 1024:.1f} |", flush=True)
 
 
 def scripts(room, whole):

@@ -14,19 +14,11 @@ REPLY = b"a: 0x00011234\n"
 
 def with_closed(room, name, closed, words, wanted, out=b""):
     """Runs the program with some of its streams closed."""
-    shell = f"exec \"$0\" \"$@\" {closed}"
-    with open(room.path("out"), "w+b") as to, open(room.path("err"), "w+b") as err, open(os.devnull) as no:
-        status = subprocess.run(["sh", "-c", shell, room.program, *words], stdin=no, stdout=to, stderr=err,
-                                timeout=60).returncode
-        to.seek(0)
-        err.seek(0)
-        told, said = to.read(), err.read()
-    line = fault_line(wanted) if wanted else b""
-    if "2>&-" in closed:
-        line = b""
-    first = said[:said.find(b"\n") + 1]
-    holds = (status, told, first) == (1 if wanted else 0, out, line)
-    room.expect(name, holds, f"status {status}, {told[:80]!r}, {said[:80]!r}")
+    run = room.run(["-c", f"exec \"$0\" \"$@\" {closed}", room.program, *words], program="/bin/sh")
+    line = fault_line(wanted) if wanted and "2>&-" not in closed else b""
+    first = run.err[:run.err.find(b"\n") + 1]
+    holds = (run.status, run.out, first) == (1 if wanted else 0, out, line)
+    room.expect(name, holds, f"status {run.status}, {run.out[:80]!r}, {run.err[:80]!r}")
     print(f"| {name} | {wanted or 'ok'} |", flush=True)
 
 

@@ -11,13 +11,12 @@ those that are never seen among the ones that are named here would be told. Then
 virtual PCI does, with the functions of guest a as the library has them, which has to agree. At last each kind of write is lost
 in turn, and each byte of it, which a transcript has to notice where the profile lets it; the others are listed. Status 1 says
 that a kind is lacking, that a right guest differs, or that a lost write isn't noticed."""
-import argparse
 import re
 import sys
 from collections import Counter
 from pathlib import Path
 
-import places  # noqa: F401
+import places
 import sweeps
 from pciguest import Machine, transcript
 from pciguest._board_file import text_of
@@ -193,15 +192,10 @@ def unnoticed(folder):
 
 
 def main():
-    parser = argparse.ArgumentParser(description=__doc__.split("\n\n")[0])
-    parser.add_argument("folder")
-    parser.add_argument("--transcripts", type=int, default=2000)
-    parser.add_argument("--seed", type=int, default=1)
-    parser.add_argument("--program")
-    options = parser.parse_args()
-    back_end = transcript.Process([options.program]) if options.program else transcript.Library()
-    wrong = Corpus(options.folder, options.transcripts, options.seed, back_end).write()
-    wrong += 0 if options.program else guest_differs(options.folder) + unnoticed(options.folder)
+    chosen = places.options(__doc__, "folder", "--program", transcripts=2000, seed=1)
+    back_end = transcript.Process([chosen.program]) if chosen.program else transcript.Library()
+    wrong = Corpus(chosen.folder, chosen.transcripts, chosen.seed, back_end).write()
+    wrong += 0 if chosen.program else guest_differs(chosen.folder) + unnoticed(chosen.folder)
     sys.exit(wrong > 0)
 
 

@@ -8,14 +8,13 @@ each line of firmware goes to QEMU by its qtest protocol, and to the board of th
 named; a second hand follows the registers. A reply that differs is by a rule that is named here or in
 tests/firmware/rules.py, or it fails. After that bridges get bus numbers at random, and it is asked which function a cycle
 reaches. Status 1 says that a reply differs by no rule; the last line counts."""
-import argparse
 import re
 import sys
 import tomllib
 from collections import Counter
 from contextlib import closing
 
-import places  # noqa: F401
+import places
 from pciguest._drawing import RandomChoices
 from pciguest._driven import Library, Program
 from pciguest._line_drawing import FirmwareLines
@@ -297,24 +296,19 @@ class Peer:
 
 
 def main():
-    parser = argparse.ArgumentParser(description=__doc__.split("\n\n")[0])
-    parser.add_argument("--trees", type=int, default=30)
-    parser.add_argument("--accesses", type=int, default=1000)
-    parser.add_argument("--seed", type=int, default=1)
-    parser.add_argument("--program")
-    options, failed, counts = parser.parse_args(), 0, Counter()
-    maker = Program(options.program) if options.program else Library()
-    for seed in range(options.seed, options.seed + options.trees):
-        with closing(Peer(seed, options.accesses, maker, counts)) as peer:
+    chosen, failed, counts = places.options(__doc__, "--program", trees=30, accesses=1000, seed=1), 0, Counter()
+    maker = Program(chosen.program) if chosen.program else Library()
+    for seed in range(chosen.seed, chosen.seed + chosen.trees):
+        with closing(Peer(seed, chosen.accesses, maker, counts)) as peer:
             try:
                 peer.run()
-                peer.route(options.accesses // 40)
+                peer.route(chosen.accesses // 40)
             except Differs as wrong:
                 failed += 1
                 print(f"FAILED: tree {seed}: {wrong}", flush=True)
     for name, count in sorted(counts.items()):
         print(f"  {count:7} {name}")
-    print(f"trees {options.trees}, of which differ by no rule {failed}")
+    print(f"trees {chosen.trees}, of which differ by no rule {failed}")
     sys.exit(failed > 0)
 
 

@@ -6,6 +6,9 @@ from pathlib import Path
 
 TOP = Path(__file__).resolve().parents[2]
 sys.path.insert(0, str(TOP / "library/python"))
+sys.path.append(str(TOP / "tests"))
+from options import options  # noqa: E402, F401
+
 _LOADED = {}
 
 

@@ -8,11 +8,12 @@ import socket
 import subprocess
 import sys
 import tempfile
+from contextlib import ExitStack, closing
 from pathlib import Path
 
 from migrated import elsewhere, host
 from relay import Relay
-from strangers import Server
+from strangers import Server, tallied
 
 SLOTS = ("a:0", "a:1", "a:2")
 PATIENCE = 240  # seconds that a machine may take to answer
@@ -41,14 +42,11 @@ class Machine:
     def answer(self):
         """All that the machine says until it is ready for a command."""
         lines = []
-        while True:
-            line = self.process.stdout.readline()
-            if not line:
-                raise SystemExit("linux_migrated: the machine ended")
-            line = line.decode(errors="replace").rstrip("\r\n")
-            if line == "==":
-                return "\n".join(lines)
-            lines.append(line)
+        for line in self.process.stdout:
+            lines.append(line.decode(errors="replace").rstrip("\r\n"))
+            if lines[-1] == "==":
+                return "\n".join(lines[:-1])
+        raise SystemExit("linux_migrated: the machine ended")
 
     def ask(self, command):
         self.process.stdin.write(command.encode() + b"\n")
@@ -107,50 +105,35 @@ def after(machine, shown, tell):
     machine.ask("echo Hello from there >&4; exec 4>&-; sleep 1")
 
 
-def main():
-    serve, attach, out, program, board = sys.argv[1:]
-    counts = {True: 0, False: 0}
-
-    def tell(name, holds):
-        counts[bool(holds)] += 1
-        if not holds:
-            print(f"FAILED: {name}", flush=True)
-
-    with tempfile.TemporaryDirectory() as room:
+def main(tell, serve, attach, out, program, board):
+    with tempfile.TemporaryDirectory() as room, ExitStack() as ends:
         other, file = f"{room}/elsewhere.toml", f"{room}/a.image"
         Path(other).write_text(elsewhere(Path(board).read_text()))
-        here, there = Server(serve, board, SLOTS), Server(serve, other, SLOTS)
+        here, there = (ends.enter_context(closing(Server(serve, each, SLOTS))) for each in (board, other))
         paths = [f"{room}/{slot.replace(':', '')}.relay" for slot in SLOTS]
         relay = Relay(zip(paths, map(here.path, SLOTS)))
-        machine = Machine(room, attach, out, paths)
-        try:
-            shown = before(machine, tell)
-            machine.control("stop")
-            tell("the machine is stopped", "paused" in machine.control("info status"))
-            tell("its guest is saved", host(here, f"host save a {file}") == "host: ok")
-            tell("and loaded over another board", host(there, f"host load a {file}") == "host: ok")
-            relay.change(zip(paths, map(there.path, SLOTS)))
-            control = host(here, "a cr 2 0x68 1")
-            machine.control("cont")
-            after(machine, shown, tell)
-            tell("the watchdog was closed there", host(there, "a cr 2 0x68 1") != control)
-            tell("and not where the guest was", host(here, "a cr 2 0x68 1") == control)
-            machine.process.stdin.write(b"poweroff -f\n")
-            machine.process.stdin.flush()
-            tell("the machine ends well", machine.process.wait(timeout=60) == 0)
-            for server in (here, there):
-                server.process.communicate(timeout=20)
-            tell("what Linux sent before went to the one board", sent(here.log) == "Hello from here\n")
-            tell("and what it sent after to the other", sent(there.log) == "Hello from there\n")
-            _, replies, again = here.run_again(program, board)
-            tell("the log of the first, run again, is answered alike", replies == again and replies)
-        finally:
-            machine.close()
-            here.close()
-            there.close()
-    print(f"linux_migrated: {counts[True]} passed, {counts[False]} failed")
-    return 1 if counts[False] else 0
+        machine = ends.enter_context(closing(Machine(room, attach, out, paths)))
+        shown = before(machine, tell)
+        machine.control("stop")
+        tell("the machine is stopped", "paused" in machine.control("info status"))
+        tell("its guest is saved", host(here, f"host save a {file}") == "host: ok")
+        tell("and loaded over another board", host(there, f"host load a {file}") == "host: ok")
+        relay.change(zip(paths, map(there.path, SLOTS)))
+        control = host(here, "a cr 2 0x68 1")
+        machine.control("cont")
+        after(machine, shown, tell)
+        tell("the watchdog was closed there", host(there, "a cr 2 0x68 1") != control)
+        tell("and not where the guest was", host(here, "a cr 2 0x68 1") == control)
+        machine.process.stdin.write(b"poweroff -f\n")
+        machine.process.stdin.flush()
+        tell("the machine ends well", machine.process.wait(timeout=60) == 0)
+        for server in (here, there):
+            server.process.communicate(timeout=20)
+        tell("what Linux sent before went to the one board", sent(here.log) == "Hello from here\n")
+        tell("and what it sent after to the other", sent(there.log) == "Hello from there\n")
+        _, replies, again = here.run_again(program, board)
+        tell("the log of the first, run again, is answered alike", replies == again and replies)
 
 
 if __name__ == "__main__":
-    sys.exit(main())
+    sys.exit(tallied("linux_migrated", main, *sys.argv[1:]))

@@ -7,9 +7,10 @@ import os
 import re
 import sys
 import tempfile
+from contextlib import closing
 from pathlib import Path
 
-from strangers import CONFIG_READ, CONFIG_WRITE, REGION_READ, REGION_WRITE, Server, ask, config, region
+from strangers import CONFIG_READ, CONFIG_WRITE, REGION_READ, REGION_WRITE, Server, ask, config, region, tallied
 
 BESIDE = Path(__file__).resolve().parents[1] / "library" / "beside.toml"
 BASE, WORD = 0x80000000, 0x12345678
@@ -72,29 +73,15 @@ def try_logs(here, there, tell, file):
          loaded >= 0 and told[1][loaded + 1:].count(f"#region a 0 bar1 memory {BASE:#x} 0x1000 open") == 1)
 
 
-def main():
-    serve, board = sys.argv[1:]
-    counts = {True: 0, False: 0}
-
-    def tell(name, holds):
-        counts[bool(holds)] += 1
-        if not holds:
-            print(f"FAILED: {name}", flush=True)
-
+def main(tell, serve, board):
     with tempfile.TemporaryDirectory() as room:
         other, file = Path(room, "elsewhere.toml"), os.path.join(room, "a.image")
         other.write_text(elsewhere(Path(board).read_text()))
-        here, there = Server(serve, board), Server(serve, other)
-        try:
+        with closing(Server(serve, board)) as here, closing(Server(serve, other)) as there:
             try_moved(here, there, tell, file)
             try_refused(here, tell, file)
             try_logs(here, there, tell, file)
-        finally:
-            here.close()
-            there.close()
-    print(f"migrated: {counts[True]} passed, {counts[False]} failed")
-    return 1 if counts[False] else 0
 
 
 if __name__ == "__main__":
-    sys.exit(main())
+    sys.exit(tallied("migrated", main, *sys.argv[1:]))

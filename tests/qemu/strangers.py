@@ -299,18 +299,17 @@ def try_full(serve, tell, program):
         with tempfile.TemporaryDirectory() as room:
             board = os.path.join(room, "board.toml")
             full_board(board, has_other)
-            server = Server(serve, board, ("a:3", "b:0") if has_other else ("a:3",))
-            with server.connect("a:3") as peer:
-                ask(peer, config(CONFIG_WRITE, 0x3C, 1, 0x55))
-                tell("a full guest: a reset", ask(peer, config(CONFIG_READ, 0x3C, 1)) == 0x55
-                     and ask(peer, message(RESET)) == 0 and ask(peer, config(CONFIG_READ, 0x3C, 1)) == 0)
-            server.process.communicate(timeout=20)
-            log, replies, again = server.run_again(program, board)
+            with contextlib.closing(Server(serve, board, ("a:3", "b:0")[:1 + has_other])) as server:
+                with server.connect("a:3") as peer:
+                    ask(peer, config(CONFIG_WRITE, 0x3C, 1, 0x55))
+                    tell("a full guest: a reset", ask(peer, config(CONFIG_READ, 0x3C, 1)) == 0x55
+                         and ask(peer, message(RESET)) == 0 and ask(peer, config(CONFIG_READ, 0x3C, 1)) == 0)
+                server.process.communicate(timeout=20)
+                log, replies, again = server.run_again(program, board)
             if has_other:
                 tell("a full guest: its log is answered alike", replies == again and b"host move a 3 b 31\n" in log)
             else:
                 tell("no empty slot: its log says a reset", b"\n#reset a 3\n" in log)
-            server.close()
 
 
 def try_words(serve, tell, board):
@@ -330,8 +329,8 @@ def try_words(serve, tell, board):
             tell(f"words {words}: no socket is left", not os.path.exists(path))
 
 
-def main():
-    serve, program, board = sys.argv[1:]
+def tallied(title, test, *words):
+    """Runs a test, which tells of each thing whether it holds; the status is 1 if any doesn't."""
     counts = {True: 0, False: 0}
 
     def tell(name, holds):
@@ -339,8 +338,13 @@ def main():
         if not holds:
             print(f"FAILED: {name}", flush=True)
 
-    server = Server(serve, board)
-    try:
+    test(tell, *words)
+    print(f"{title}: {counts[True]} passed, {counts[False]} failed")
+    return int(counts[False] > 0)
+
+
+def main(tell, serve, program, board):
+    with contextlib.closing(Server(serve, board)) as server:
         with server.connect("b:0") as peer:
             def other():
                 return ask(peer, config(CONFIG_READ, 0, 4)) == 0x000B1234
@@ -350,11 +354,7 @@ def main():
         try_end(server, tell, program, board)
         try_full(serve, tell, program)
         try_words(serve, tell, board)
-    finally:
-        server.close()
-    print(f"strangers: {counts[True]} passed, {counts[False]} failed")
-    return 1 if counts[False] else 0
 
 
 if __name__ == "__main__":
-    sys.exit(main())
+    sys.exit(tallied("strangers", main, *sys.argv[1:]))
