@@ -2,21 +2,25 @@
 
 A width is 1, 2 or 4 bytes, and a port or address is a multiple of it. A read that nothing answers gives all ones of
 the width; a write that nothing takes is dropped."""
+import subprocess
 import sys
 from pathlib import Path
 
-sys.path.append(str(Path(__file__).resolve().parents[2] / "library/python"))
+sys.path += map(str, (Path(__file__).resolve().parents[2] / "library/python", Path(__file__).resolve().parents[1]))
 import pciguest
+from options import options
 from pciguest._chipset import BoardError
+from pciguest._recording import RecordedBoard
 
 LATCH, DATA = 0xCF8, 0xCFC
+NOT_READY = "pciguest: fault 208 not ready\n"
 
 
 class LibraryBoard:
-    """The board of a file at reset, by calls of the library."""
+    """The board of a file at reset, by calls of the library, which keeps each as a line of firmware with its answer."""
 
     def __init__(self, file):
-        self.board = pciguest.Board(Path(file).read_bytes())
+        self.file, self.board = file, RecordedBoard(Path(file).read_bytes())
 
     def asked(self, what, access, *words):
         """The value of an access."""
@@ -36,6 +40,18 @@ class LibraryBoard:
 
     def memory_write(self, address, width, value):
         self.asked(f"a write at {address:#x}", self.board.memory.__setitem__, slice(address, width), value)
+
+    def told(self, program, command):
+        """The lines that the program's `audit` or `ready` tells after all accesses, each of which it has to answer as
+        the board did. `ready` ends with a fault where the board isn't ready."""
+        script = "".join(f"{line}\n" for line, _ in self.board.rows)
+        answers = [reply for _, reply in self.board.rows]
+        ran = subprocess.run([program, command, self.file], input=script, capture_output=True, text=True)
+        lines, count = ran.stdout.splitlines(), len(answers)
+        is_lacking = command == "ready" and lines[-1:] != ["ready: ok"]
+        if (ran.returncode, ran.stderr) != ((1, NOT_READY) if is_lacking else (0, "")) or lines[:count] != answers:
+            return [f"{command} answers otherwise, or ends with status {ran.returncode}: {ran.stderr.strip()}"]
+        return lines[count:]
 
     def close(self):
         self.board.close()

@@ -3,7 +3,6 @@ import tomllib
 from pathlib import Path
 from typing import NamedTuple
 
-from audit import Logged
 from board import BoardError, LibraryBoard, paths, registers
 from guests import Given
 from pciguest._pc import PC, BootError
@@ -82,18 +81,18 @@ def untrue(board, declared, ready):
 def boot(program, file, firmware):
     """Boots the firmware over the board of a file. A boot that doesn't end, or an access that is refused, is wrong."""
     declared = tomllib.loads(Path(file).read_text())
-    board = Logged(LibraryBoard(file))
+    board = LibraryBoard(file)
     pc = PC(board, Path(firmware.rom).read_bytes(), firmware.plain)
     pc.prompts = dict(firmware.prompts)
     try:
         pc.boot(firmware.ending)
-        accesses, audit, ready = len(board.lines), *(board.told(program, command, file) for command in ("audit", "ready"))
+        accesses, audit, ready = len(board.board.rows), *(board.told(program, command) for command in ("audit", "ready"))
         cells = registers(board)
         answered, wrong = answering(board, declared, cells)
-        wrong += untrue(board.board.board, declared, ready)
-        given = Given(program, file, board.board.board, audit, ready)
+        wrong += untrue(board.board, declared, ready)
+        given = Given(program, file, board.board, audit, ready)
     except (BoardError, BootError, OSError) as error:
-        return Left({}, 0, [str(error)], len(board.lines), pc.told, [], [], None)
+        return Left({}, 0, [str(error)], len(board.board.rows), pc.told, [], [], None)
     finally:
         board.close()
     expected = {entry["at"] for key in ("endpoint", "bridge") for entry in declared.get(key, [])}

@@ -8,15 +8,14 @@ Each row of BREAKS says what is changed, and what the program's `ready` then has
 audit tells too, or a lack. Each line that is told is held against the board itself (shown.py), and what the library tells is
 what the program does. A board with a problem is refused to its guests by 207, and one whose guests get a closed region by
 206. Status 1 says that a break was not told, or that something was told that isn't so."""
-import argparse
 import sys
 import tempfile
 import tomllib
+from contextlib import closing
 from pathlib import Path
 from typing import Callable, NamedTuple
 
-from audit import Logged
-from board import DATA, LATCH, LibraryBoard
+from board import DATA, LATCH, LibraryBoard, options
 from boot import SEABIOS, untrue
 from guests import Given
 from pciguest._board_file import text_of
@@ -96,24 +95,18 @@ class Broken:
 
 def examine(program, file, broken):
     """What is wrong with what is told after SeaBIOS, broken so: nothing, where it is right."""
-    board, declared = Logged(LibraryBoard(file)), tomllib.loads(file.read_text())
-    pc = PC(Broken(board, broken), Path(SEABIOS.rom).read_bytes(), SEABIOS.plain)
-    try:
-        pc.boot(SEABIOS.ending)
-        audit, ready = (board.told(program, command, file) for command in ("audit", "ready"))
+    with closing(LibraryBoard(file)) as board:
+        PC(Broken(board, broken), Path(SEABIOS.rom).read_bytes(), SEABIOS.plain).boot(SEABIOS.ending)
+        audit, ready = (board.told(program, command) for command in ("audit", "ready"))
         print(f"{broken.name}: {audit[-1]}, {ready[-1]}", *ready[:-1], sep="\n  ", flush=True)
-        wrong = untrue(board.board.board, declared, ready)
-        given = Given(program, file, board.board.board, audit, ready)
+        wrong = untrue(board.board, tomllib.loads(file.read_text()), ready)
+        given = Given(program, file, board.board, audit, ready)
         wrong += given.wrong + [f"it is refused to guests by {given.number}"] * (given.number != broken.refusal)
         return wrong + [f"isn't told: {broken.told}"] * (broken.told not in ready)
-    finally:
-        board.close()
 
 
 def main():
-    parser = argparse.ArgumentParser(description=__doc__.split("\n\n")[0])
-    parser.add_argument("program")
-    program, failed = parser.parse_args().program, 0
+    program, failed = options(__doc__, "program").program, 0
     with tempfile.TemporaryDirectory() as room:
         file = Path(room) / "server.toml"
         file.write_text(text_of({**tomllib.loads(SERVER.read_text()), "host": HOST}))

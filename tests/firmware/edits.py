@@ -5,11 +5,11 @@
 
 SeaBIOS boots on a random tree in QEMU, and here on the tree's board with each edit. Without an edit nothing may be
 noticed. Status 1 says that something was, or that an edit finds nothing to change in this tree."""
-import argparse
 import re
 import sys
 import tempfile
 
+from board import options
 from boot import SEABIOS, boot
 from firmware import Run
 from rules import Comparison
@@ -43,15 +43,11 @@ def differences(program, file, reset, theirs):
 
 
 def main():
-    parser = argparse.ArgumentParser(description=__doc__.split("\n\n")[0])
-    parser.add_argument("program")
-    parser.add_argument("--seed", type=int, default=2)
-    parser.add_argument("--keep")
-    options, wrong, noticed = parser.parse_args(), 0, 0
+    chosen, wrong, noticed = options(__doc__, "program", "--keep", seed=2), 0, 0
     with tempfile.TemporaryDirectory() as room:
-        run = Run(options, room)
-        tree, reading, file = run.read_tree(options.seed)
-        theirs = run.boot_machine(options.seed, tree, SEABIOS)
+        run = Run(chosen, room)
+        tree, reading, file = run.read_tree(chosen.seed)
+        theirs = run.boot_machine(chosen.seed, tree, SEABIOS)
         if differences(run.program, file, reading.reset, theirs):
             print("FAILED: something is noticed without an edit")
             wrong += 1

@@ -11,14 +11,14 @@ lacking is told, and each such line is held against the board. Then the board is
 refused, and scripts are told what they are after our own set-up. With --keep the consoles and the boards are kept. Status 1
 says that a boot went wrong, that a line of what is wrong or lacking isn't so, or that a byte differs and no rule names it.
 The last line counts."""
-import argparse
 import sys
 import tempfile
 import tomllib
 from collections import Counter
+from contextlib import closing
 from pathlib import Path
 
-from board import registers
+from board import options, registers
 from boot import SEABIOS, UBOOT, boot
 from guests import guests_text
 from machine import Machine, MachineError
@@ -84,11 +84,8 @@ class Run:
     def read_tree(self, seed):
         """A random tree as QEMU has it at reset, and the file of its board."""
         tree = Tree(seed)
-        machine = Machine(tree.words)
-        try:
+        with closing(Machine(tree.words)) as machine:
             reading = Reading(machine)
-        finally:
-            machine.close()
         file = self.room / f"tree{seed}.toml"
         file.write_text(reading.text + guests_text(reading.text, seed))
         return tree, reading, file
@@ -135,16 +132,6 @@ def examine(options, room):
     return run.failed
 
 
-def main():
-    parser = argparse.ArgumentParser(description=__doc__.split("\n\n")[0])
-    parser.add_argument("program")
-    parser.add_argument("--trees", type=int, default=30)
-    parser.add_argument("--seed", type=int, default=1)
-    parser.add_argument("--keep")
-    options = parser.parse_args()
-    with tempfile.TemporaryDirectory() as room:
-        sys.exit(examine(options, room) > 0)
-
-
 if __name__ == "__main__":
-    main()
+    with tempfile.TemporaryDirectory() as place:
+        sys.exit(examine(options(__doc__, "program", "--keep", trees=30, seed=1), place) > 0)

@@ -14,30 +14,19 @@ def number(cells, offset, width):
 
 
 def io_window(cells, decode):
-    """First and last port; None where the bridge has none."""
-    if decode == "none":
-        return None
-    first, last = (number(cells, 0x1C, 1) & 0xF0) << 8, (number(cells, 0x1D, 1) & 0xF0) << 8 | 0xFFF
+    """First and last port; the first is above the last where the bridge has none."""
+    first, last = (number(cells, 0x1C + n, 1) >> 4 << 12 for n in (0, 1))
     if decode == "32":
         first, last = first | number(cells, 0x30, 2) << 16, last | number(cells, 0x32, 2) << 16
-    return first, last
+    return (1, 0) if decode == "none" else (first, last | 0xFFF)
 
 
-def memory_window(cells):
-    """First and last address."""
-    base, limit = number(cells, 0x20, 2), number(cells, 0x22, 2)
-    return (base & 0xFFF0) << 16, (limit & 0xFFF0) << 16 | 0xFFFFF
-
-
-def prefetchable_window(cells, decode):
-    """First and last address; None where the bridge has none."""
-    if decode == "none":
-        return None
-    base, limit = number(cells, 0x24, 2), number(cells, 0x26, 2)
-    first, last = (base & 0xFFF0) << 16, (limit & 0xFFF0) << 16 | 0xFFFFF
+def memory_window(cells, at=0x20, decode="32"):
+    """First and last address of the memory window, or of the prefetchable one, which is at 24h; likewise."""
+    first, last = (number(cells, at + 2 * n, 2) >> 4 << 20 for n in (0, 1))
     if decode == "64":
         first, last = first | number(cells, 0x28, 4) << 32, last | number(cells, 0x2C, 4) << 32
-    return first, last
+    return (1, 0) if decode == "none" else (first, last | 0xFFFFF)
 
 
 class Walk:

@@ -65,8 +65,8 @@ class Shown:
         """What a bridge's windows hold, as pairs of first and last address, the prefetchable one last."""
         cells, table = self.cells[bridge], self.tables[bridge]
         if space == "I/O":
-            return [registers.io_window(cells, table["io"]) or (1, 0)]
-        return [registers.memory_window(cells), registers.prefetchable_window(cells, table["pref"]) or (1, 0)]
+            return [registers.io_window(cells, table["io"])]
+        return [registers.memory_window(cells), registers.memory_window(cells, 0x24, table["pref"])]
 
     def forwards(self, bridge, space, address):
         return self.opens(bridge, space) and any(first <= address <= last for first, last in self.windows(bridge, space))

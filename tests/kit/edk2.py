@@ -8,7 +8,6 @@ protocol, and written to a board with the same functions as a line of firmware; 
 QEMU's, or differs by a rule of tests/firmware/rules.py. The board is asked for all that is wrong there: problems of its
 audit, and what it lacks. With --tight devices with memory below 4 GB are added on bus 0, as long as our own set-up finds room
 for all of the tree, so that next to none is left; with --over one more is. Status 1 says that a boot went wrong, or that a byte differs by no rule; the last lines count."""
-import argparse
 import sys
 import tomllib
 from collections import Counter
@@ -138,7 +137,7 @@ class Count:
         """How long the windows of bridges are."""
         for bridge in (one for one in functions(document) if one.is_bridge):
             windows = {"memory": registers.memory_window(ours[bridge.at]),
-                       "prefetchable": registers.prefetchable_window(ours[bridge.at], bridge.table["pref"])}
+                       "prefetchable": registers.memory_window(ours[bridge.at], 0x24, bridge.table["pref"])}
             for name, (first, last) in windows.items():
                 self.windows[name, max(0, last + 1 - first) >> 20] += 1
 
@@ -150,16 +149,10 @@ class Count:
 
 
 def main(system, told):
-    parser = argparse.ArgumentParser(description=told.split("\n\n")[0])
-    parser.add_argument("--trees", type=int, default=30)
-    parser.add_argument("--seed", type=int, default=1)
-    parser.add_argument("--tight", action="store_true")
-    parser.add_argument("--over", action="store_true")
-    parser.add_argument("--program")
-    options = parser.parse_args()
-    count = Count(system, options.tight, options.over)
-    maker = Program(options.program) if options.program else Library()
-    for seed in range(options.seed, options.seed + options.trees):
+    chosen = places.options(told, "--program", trees=30, seed=1, tight=False, over=False)
+    count = Count(system, chosen.tight, chosen.over)
+    maker = Program(chosen.program) if chosen.program else Library()
+    for seed in range(chosen.seed, chosen.seed + chosen.trees):
         try:
             count.tree(seed, maker)
         except machine.MachineError as error:
@@ -168,7 +161,7 @@ def main(system, told):
     print(f"functions {count.comparison.functions}, regions {count.regions}; bytes compared {count.comparison.bytes}, "
           f"that differ by no rule {len(count.comparison.unnamed)}")
     print("windows: " + ", ".join(f"{number} {name} of {size} MB" for (name, size), number in sorted(count.windows.items())))
-    print(f"trees {options.trees}: in order by their audit {count.in_order}, ready {count.ready}; "
+    print(f"trees {chosen.trees}: in order by their audit {count.in_order}, ready {count.ready}; "
           + ", ".join(f"{kind} {number}" for kind, number in sorted(count.kinds.items())))
     sys.exit(count.failed > 0)
 

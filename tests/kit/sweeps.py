@@ -1,5 +1,4 @@
 """Lines that write each register at every width and read it back at every width, and what is noticed where writes are lost."""
-import tomllib
 from typing import NamedTuple
 
 import places  # noqa: F401

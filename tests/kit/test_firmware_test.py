@@ -3,7 +3,6 @@
 import contextlib
 import io
 import os
-import re
 import shutil
 import subprocess
 import sys
@@ -89,13 +88,15 @@ class FirmwareTest(unittest.TestCase):
         self.failed = Path(self.folder.name) / "failed.toml"
         self.board.write_text(BOARD)
 
-    def run_command(self, command, *options):
+    def run_words(self, *words):
         """The status and all that is told of firmware."""
-        words = ["--board", str(self.board), "--save", str(self.failed), "--junit", str(self.junit), *options, "--", *command]
         out, errors = io.StringIO(), io.StringIO()
         with contextlib.redirect_stdout(out), contextlib.redirect_stderr(errors):
-            status = firmware_test.main(words, SecondHand())
+            status = firmware_test.main(["--save", str(self.failed), *words], SecondHand())
         return status, out.getvalue() + errors.getvalue()
+
+    def run_command(self, command, *options):
+        return self.run_words("--board", str(self.board), "--junit", str(self.junit), *options, "--", *command)
 
     def run_firmware(self, code, *options):
         return self.run_command([sys.executable, "-c", ASK + code], *options)
@@ -104,7 +105,7 @@ class FirmwareTest(unittest.TestCase):
         """Firmware fails, and what is told of it has the pattern."""
         status, told = self.run_firmware(code, *options)
         self.assertEqual(status, 1, told)
-        self.assertTrue(re.search(pattern, told, re.DOTALL), told)
+        self.assertRegex(told, f"(?s){pattern}")
         return told
 
     def test_ready(self):
@@ -141,7 +142,7 @@ class FirmwareTest(unittest.TestCase):
         sizing = "ask('host cw 00:01.0 4 2 2'); ask('host cw 00:01.0 0x10 4 0xffffffff');"
         words = r"sizing: 00:01.0 bar0: all ones are written while memory decode is enabled \(Command 0x0002\)"
         told = self.fails(sizing + PLACE + OPEN, words)
-        self.assertTrue(re.search("host why mem (0xf+0+)\nwhy: memory \\1: 1.0 bar0 responds at offset 0x0\n", told), told)
+        self.assertRegex(told, "host why mem (0xf+0+)\nwhy: memory \\1: 1.0 bar0 responds at offset 0x0\n")
         ports = "ask('host iw 0xcf8 4 0x80000810'); ask('host iw 0xcfc 4 0xffffffff');"
         self.fails("ask('host cw 00:01.0 4 2 2');" + ports + PLACE + OPEN, "sizing: 00:01.0 bar0: all ones")
         self.assertEqual(self.run_firmware(ports + PLACE + OPEN)[0], 0)
@@ -226,19 +227,16 @@ class FirmwareTest(unittest.TestCase):
 
     def test_random_boards(self):
         self.board.unlink()
-        with mock.patch.object(firmware_test, "EXAMPLES", []), mock.patch.object(firmware_test, "SPECIAL", {}):
-            words = ["--boards", "3", "--save", str(self.failed), "--", "true"]
-            with contextlib.redirect_stdout(io.StringIO()) as out:
-                self.assertEqual(firmware_test.main(words, SecondHand()), 1)
-        wanted = r"FAILED on random board \d \(\d+ functions\), and on this board \(\d functions?\)"
-        self.assertTrue(re.search(wanted, out.getvalue()), out.getvalue())
+        with mock.patch.multiple(firmware_test, EXAMPLES=[], SPECIAL={}):
+            status, told = self.run_words("--boards", "3", "--", "true")
+        self.assertEqual(status, 1)
+        self.assertRegex(told, r"FAILED on random board \d \(\d+ functions\), and on this board \(\d functions?\)")
 
     def test_special_boards(self):
-        words = ["--special", "no_ports_left", "--save", str(self.failed), "--", "true"]
-        with contextlib.redirect_stdout(io.StringIO()) as out:
-            self.assertEqual(firmware_test.main(words, SecondHand()), 1)
-        self.assertIn("\nroom: not all regions fit, and the firmware doesn't report it\n", out.getvalue())
-        self.assertIn("--special no_ports_left -- true\n", out.getvalue())
+        status, told = self.run_words("--special", "no_ports_left", "--", "true")
+        self.assertEqual(status, 1)
+        self.assertIn("\nroom: not all regions fit, and the firmware doesn't report it\n", told)
+        self.assertIn("--special no_ports_left -- true\n", told)
 
     def test_no_room(self):
         self.board.write_text(BOARD.replace("0xdfffffff", "0xc00fffff").replace("size = 4096", "size = 0x200000"))
@@ -270,12 +268,10 @@ class FirmwareTest(unittest.TestCase):
 
     def test_only_roomy_boards(self):
         special = {name: SPECIAL[name] for name in ("top_of_memory", "no_ports_left", "from_zero")}
-        patched = {"EXAMPLES": [], "SPECIAL": special}
-        with mock.patch.multiple(firmware_test, **patched), contextlib.redirect_stdout(io.StringIO()) as out:
-            words = ["--boards", "4", "--roomy", "--all", "--save", str(self.failed), "--", "true"]
-            self.assertEqual(firmware_test.main(words, SecondHand()), 1)
-        self.assertIn("5 boards: the firmware fails on 5\n2 boards left out: less than twice the room that set-up needs\n",
-                      out.getvalue())
+        with mock.patch.multiple(firmware_test, EXAMPLES=[], SPECIAL=special):
+            status, told = self.run_words("--boards", "4", "--roomy", "--all", "--", "true")
+        self.assertEqual(status, 1)
+        self.assertIn("5 boards: the firmware fails on 5\n2 boards left out: less than twice the room that set-up needs\n", told)
 
     def test_a_second_run(self):
         sized = "ask('host cw 00:01.0 0x10 4 0xffffffff'); ask('host cw 00:01.0 0x14 4 0xffffffff');"

@@ -43,6 +43,9 @@ class Transcripts(unittest.TestCase):
     def setUp(self):
         self.sections = transcript.read(TEXT)
         self.right = {line: reply for section in self.sections for line, reply in section.rows}
+        patched = mock.patch.object(transcript, "rule_at", return_value="the rule")
+        patched.start()
+        self.addCleanup(patched.stop)
 
     def test_text(self):
         self.assertEqual(transcript.text_of(self.sections), TEXT)
@@ -71,8 +74,7 @@ class Transcripts(unittest.TestCase):
 
     def replay(self, replies, guest=None):
         back_end = Fixed(replies)
-        with mock.patch.object(transcript, "rule_at", return_value="the rule"):
-            found = transcript.replay(back_end, self.sections[0], "the board", guest)
+        found = transcript.replay(back_end, self.sections[0], "the board", guest)
         self.assertEqual(back_end.open, 0)
         return found
 
@@ -111,13 +113,12 @@ class Transcripts(unittest.TestCase):
                 ("a mr 0x80000000 4", "a: 0x00000001")]
         section = self.sections[0]._replace(rows=rows)
         without = {line: "a: 0x00000000" for line, _ in rows if "raise" not in line}
-        with mock.patch.object(transcript, "rule_at", return_value="the rule"):
-            self.assertIsNone(transcript.replay(Fixed(without), section, "the board"))
-            for line in ("a cr 0 8 4", "a mr 0x80000000 4"):
-                wrong = transcript.replay(Fixed({**without, line: "a: 0xffffffff"}), section, "the board")
-                self.assertEqual(wrong.line, line)
-            raised = {**without, "a raise 00 cfg 0x7 128": "a: ok"}
-            self.assertEqual(transcript.replay(Fixed(raised), section, "the board").line, "a cr 0 4 4")
+        self.assertIsNone(transcript.replay(Fixed(without), section, "the board"))
+        for line in ("a cr 0 8 4", "a mr 0x80000000 4"):
+            wrong = transcript.replay(Fixed({**without, line: "a: 0xffffffff"}), section, "the board")
+            self.assertEqual(wrong.line, line)
+        raised = {**without, "a raise 00 cfg 0x7 128": "a: ok"}
+        self.assertEqual(transcript.replay(Fixed(raised), section, "the board").line, "a cr 0 4 4")
 
     def test_who_takes_part(self):
         section = self.sections[0]
@@ -133,16 +134,14 @@ class Transcripts(unittest.TestCase):
             Path(room, "it.rows").write_text(TEXT)
             counts = transcript.replay_files([f"{room}/it.rows"], Fixed(self.right))
             self.assertEqual(counts, (2, 0))
-            with mock.patch.object(transcript, "rule_at", return_value="the rule"):
-                told = []
-                counts = transcript.replay_files([f"{room}/it.rows"], Fixed({"a cr 0 0 4": "a: 0x00000000"}), None, told.append)
+            told = []
+            counts = transcript.replay_files([f"{room}/it.rows"], Fixed({"a cr 0 0 4": "a: 0x00000000"}), None, told.append)
             self.assertEqual((counts, len(told)), ((1, 1), 1))
 
     def process(self, code, limits=Limits()):
         """The first difference with a process as the back end."""
         back_end = transcript.Process([sys.executable, "-c", code], limits)
-        with mock.patch.object(transcript, "rule_at", return_value="the rule"):
-            return transcript.replay(back_end, self.sections[0], "the board")
+        return transcript.replay(back_end, self.sections[0], "the board")
 
     def test_processes(self):
         echo = "import sys\nboard = open(sys.argv[2]).read()\nfor line in sys.stdin:\n    "
