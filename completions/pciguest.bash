@@ -1,24 +1,23 @@
 # Completion of the words of pciguest for bash. It is installed as share/bash-completion/completions/pciguest.
+# The commands and options are those that `pciguest help` and `pciguest help COMMAND` list.
 _pciguest() {
-  local IFS=$' \t\n' word=${COMP_WORDS[COMP_CWORD]} flags
+  local IFS=$' \t\n' word=${COMP_WORDS[COMP_CWORD]} before=("${COMP_WORDS[@]:1:COMP_CWORD-1}") help words one
   COMPREPLY=()
-  # by the words before this one
-  case "${COMP_WORDS[*]:1:COMP_CWORD-1}" in
-    '') mapfile -t COMPREPLY < <(compgen -W 'audit check demo firmware help list ready run --help --version' -- "$word"); return ;;
-    help) mapfile -t COMPREPLY < <(compgen -W 'audit check demo firmware list ready run' -- "$word"); return ;;
-    check) flags='--all --plain' ;;
-    'check --all') flags=--plain ;;
-    'check --plain') flags=--all ;;
-    audit | ready) flags='--json --strict' ;;
-    'audit --strict' | 'ready --strict') flags=--json ;;
-    'audit --json' | 'ready --json' | firmware | run) flags=--strict ;;
-    list) flags=--json ;;
-    'check --all --plain' | 'check --plain --all' | 'audit --json --strict' | 'audit --strict --json') flags='' ;;
-    'ready --json --strict' | 'ready --strict --json') flags='' ;;
-    'firmware --strict' | 'run --strict' | 'list --json') flags='' ;;
-    *) return ;;
-  esac
+  if [[ ${before[*]} == '' || ${before[*]} == help ]]; then
+    words=$("$1" help 2> /dev/null | sed -n 's/^  \([a-z]*\)  .*/\1/p')
+    [[ ${before[*]} == '' ]] && words+=' --help --version' || words=${words/help/}
+    mapfile -t COMPREPLY < <(compgen -W "$words" -- "$word")
+    return
+  fi
+  help=$("$1" help "${before[0]}" 2> /dev/null)
+  [[ $help == *' <BOARD>'* ]] || return
+  words=" $(sed -n 's/^ *\(--[a-z]*\)  .*/\1/p' <<< "$help" | tr '\n' ' ')"
+  # an option comes once, and nothing comes after the board
+  for one in "${before[@]:1}"; do
+    [[ $words == *" $one "* ]] || return
+    words=${words/ $one / }
+  done
   compopt -o filenames 2> /dev/null
-  mapfile -t COMPREPLY < <(compgen -f -X '!*.toml' -- "$word"; compgen -d -- "$word"; compgen -W "$flags" -- "$word")
+  mapfile -t COMPREPLY < <(compgen -f -X '!*.toml' -- "$word"; compgen -d -- "$word"; compgen -W "$words" -- "$word")
 }
 complete -F _pciguest pciguest

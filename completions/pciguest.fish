@@ -1,45 +1,38 @@
 # Completion of the words of pciguest for fish. It is installed as share/fish/vendor_completions.d/pciguest.fish.
-function __pciguest_board
+# The commands and options are those that `pciguest help` and `pciguest help COMMAND` list.
+function __pciguest_help
     set -l words (commandline -opc)
-    switch (count $words)
-        case 2
-            contains -- $words[2] audit check firmware list ready run
-        case 3
-            contains -- "$words[2] $words[3]" 'check --all' 'check --plain' 'audit --json' 'audit --strict' 'ready --json' 'ready --strict' 'firmware --strict' 'run --strict' 'list --json'
-        case 4
-            contains -- "$words[2] $words[3] $words[4]" 'check --all --plain' 'check --plain --all' 'audit --json --strict' 'audit --strict --json' 'ready --json --strict' 'ready --strict --json'
-        case '*'
-            false
+    $words[1] help $argv 2> /dev/null
+end
+
+# the commands, each with what it does, first and after help
+function __pciguest_commands
+    set -l words (commandline -opc)
+    set -l commands (__pciguest_help | sed -n 's/^  \([a-z]*\)  \+/\1\t/p')
+    switch "$words[2..]"
+        case ''
+            printf '%s\n' $commands
+        case help
+            string match -v 'help*' -- $commands
     end
 end
 
-# whether this is such a command, whose board and this flag are still to come
-function __pciguest_lacks
+# the options that may still come, each with what it does: once, and before a board; it fails where no board may come
+function __pciguest_options
     set -l words (commandline -opc)
-    __pciguest_board; and test $words[2] = $argv[1]; and not contains -- $argv[2] $words
+    set -l help (__pciguest_help $words[2])
+    string match -q '* <BOARD>*' -- $help; or return 1
+    set -l options (printf '%s\n' $help | sed -n 's/^ *\(--[a-z]*\)  \+/\1\t/p')
+    for word in $words[3..]
+        string match -q -- "$word"\t'*' $options; or return 1
+        set options (string match -v -- "$word"\t'*' $options)
+    end
+    test -z "$options"; or printf '%s\n' $options
 end
 
 set -l first 'test (count (commandline -opc)) = 1'
 complete -c pciguest -f
-for row in "audit Run firmware, then report what is wrong in the registers" \
-        "check Check a board file, and report every problem in it" \
-        "demo Run a script on a built-in board" \
-        "firmware Drive a board from reset with firmware commands" \
-        "list Set up a board, and report where everything is" \
-        "ready Run firmware, then report what is wrong and what is left to do" \
-        "run Set up a board, and run a script on it"
-    set -l one (string split -m 1 ' ' $row)
-    complete -c pciguest -n "$first; or test (commandline -opc | string join ' ') = 'pciguest help'" -a $one[1] -d $one[2]
-end
-complete -c pciguest -n $first -a help -d 'Print help'
+complete -c pciguest -a '(__pciguest_commands)'
 complete -c pciguest -n $first -l help -s h -d 'Print help'
 complete -c pciguest -n $first -l version -s V -d 'Print version'
-complete -c pciguest -n '__pciguest_lacks check --all' -l all -d 'Also warn about apertures more than ten times larger than needed'
-complete -c pciguest -n '__pciguest_lacks check --plain' -l plain -d 'Write only one line for each problem'
-complete -c pciguest -n '__pciguest_board; and contains -- (commandline -opc)[-1] list' -l json -d 'Write the report as JSON'
-complete -c pciguest -n '__pciguest_board; and contains -- (commandline -opc)[-1] firmware run' -l strict -d 'Exit with status 1 if a line is refused'
-complete -c pciguest -n '__pciguest_lacks audit --json' -l json -d 'Write the report as JSON'
-complete -c pciguest -n '__pciguest_lacks audit --strict' -l strict -d 'Exit with status 1 if a line is refused or something is wrong'
-complete -c pciguest -n '__pciguest_lacks ready --json' -l json -d 'Write the report as JSON'
-complete -c pciguest -n '__pciguest_lacks ready --strict' -l strict -d 'Exit with status 1 if a line is refused'
-complete -c pciguest -n __pciguest_board -a '(__fish_complete_suffix .toml)'
+complete -c pciguest -n "not $first; and __pciguest_options > /dev/null" -a '(__pciguest_options; __fish_complete_suffix .toml)'

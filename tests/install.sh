@@ -33,12 +33,15 @@ libdir=${prefix}/lib/x86_64-linux-gnu
 includedir=${prefix}/include' head -n 3 "$at/lib/x86_64-linux-gnu/pkgconfig/pciguest.pc"
 holds 'the installed program' same "$top/tests/help.txt" "$at/bin/pciguest" --help
 
-# ---- the completion of words
+# ---- the completion of words: those of the help, of which fish sorts the commands
+commands=$(sed -n 's/^  \([a-z]*\)  .*/\1/p' tests/help.txt)
+after_help=${commands%$'\n'help}
 completed() {
-  bash -c 'source "$1"; shift; COMP_WORDS=("$@"); COMP_CWORD=$(($# - 1)); _pciguest; echo "${COMPREPLY[@]}"' - \
+  PATH=$at/bin:$PATH bash -c 'source "$1"; shift; COMP_WORDS=("$@"); COMP_CWORD=$(($# - 1)); _pciguest "$1"; echo "${COMPREPLY[@]}"' - \
     "$at/share/bash-completion/completions/pciguest" "$@"
 }
-holds 'all words' same 'audit check demo firmware help list ready run --help --version' completed pciguest ''
+holds 'all words' same "$(echo $commands --help --version)" completed pciguest ''
+holds 'words of help' same "$(echo $after_help)" completed pciguest help ''
 holds 'a word of help' same 'run' completed pciguest help ru
 holds 'a word' same 'list' completed pciguest l
 board=$top/boards/chain.toml
@@ -59,14 +62,15 @@ holds 'no board of the demo' same '' completed pciguest demo "${board%ain.toml}"
 # the same of zsh and fish, where they are there; zsh's own functions are stood in for
 if command -v zsh > /dev/null; then
   in_zsh() {
-    echo $(zsh -f -c 'file=$1; shift; words=("$@") CURRENT=$#; cd "'"$(dirname "$board")"'"
+    echo $(PATH=$at/bin:$PATH zsh -f -c 'file=$1; shift; words=("$@") CURRENT=$#; cd "'"$(dirname "$board")"'"
+      _call_program() { eval "${@[2,-1]}"; }
       _describe() { local -a all=("${(@P)@[-1]}"); print -rl -- ${all%%:*}; }
       compadd() { print -rl -- "${@[2,-1]}"; }
       _files() { print -rl -- ${words[CURRENT]}*.toml(N); }
       source $file' - "$at/share/zsh/site-functions/_pciguest" "$@")
   }
-  holds 'all words in zsh' same 'audit check demo firmware list ready run help --help --version' in_zsh pciguest ''
-  holds 'words of help in zsh' same 'audit check demo firmware list ready run' in_zsh pciguest help ''
+  holds 'all words in zsh' same "$(echo $commands --help --version)" in_zsh pciguest ''
+  holds 'words of help in zsh' same "$(echo $after_help)" in_zsh pciguest help ''
   holds 'a word of a list in zsh' same '--json chain.toml' in_zsh pciguest list ch
   holds 'a board in zsh' same 'chain.toml' in_zsh pciguest list --json ch
   holds 'a word of a check in zsh' same '--all --plain chain.toml' in_zsh pciguest check ch
@@ -83,11 +87,11 @@ else
 fi
 if command -v fish > /dev/null; then
   in_fish() {
-    echo $(cd "$(dirname "$board")" && HOME=$room fish --no-config -c 'source $argv[1]; complete -C "$argv[2]"' \
+    echo $(cd "$(dirname "$board")" && HOME=$room PATH=$at/bin:$PATH fish --no-config -c 'source $argv[1]; complete -C "$argv[2]"' \
       "$at/share/fish/vendor_completions.d/pciguest.fish" "$1" | cut -f1)
   }
-  holds 'all words in fish' same 'audit check demo firmware help list ready run' in_fish 'pciguest '
-  holds 'words of help in fish' same 'audit check demo firmware list ready run' in_fish 'pciguest help '
+  holds 'all words in fish' same "$(echo $(sort <<< "$commands"))" in_fish 'pciguest '
+  holds 'words of help in fish' same "$(echo $(sort <<< "$after_help"))" in_fish 'pciguest help '
   holds 'a board in fish' same 'chain.toml' in_fish 'pciguest list ch'
   holds 'a word of a list in fish' same '--json' in_fish 'pciguest list -'
   holds 'a board after this in fish' same 'chain.toml' in_fish 'pciguest list --json ch'
