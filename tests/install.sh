@@ -31,10 +31,11 @@ done
 holds 'the places in pciguest.pc' same 'prefix=/usr
 libdir=${prefix}/lib/x86_64-linux-gnu
 includedir=${prefix}/include' head -n 3 "$at/lib/x86_64-linux-gnu/pkgconfig/pciguest.pc"
-holds 'the installed program' same "$top/tests/help.txt" "$at/bin/pciguest" --help
+help=$(awk '/^== / { inside = $0 == "== --help"; next } inside' tests/help.txt)
+holds 'the installed program' same "$help" "$at/bin/pciguest" --help
 
 # ---- the completion of words: those of the help, of which fish sorts the commands
-commands=$(sed -n 's/^  \([a-z]*\)  .*/\1/p' tests/help.txt)
+commands=$(sed -n 's/^  \([a-z]*\)  .*/\1/p' <<< "$help")
 after_help=${commands%$'\n'help}
 completed() {
   PATH=$at/bin:$PATH bash -c 'source "$1"; shift; COMP_WORDS=("$@"); COMP_CWORD=$(($# - 1)); _pciguest "$1"; echo "${COMPREPLY[@]}"' - \

@@ -478,14 +478,15 @@ wait "$pid"; status=$?
 cp run.wanted wanted.out; : > wanted.err; wanted=0
 tell 'run, line by line through a pipe'
 
-# ---- help
-cp "$top/tests/help.txt" wanted.out
+# ---- help, of the program and of each command that it lists
+help_of() { section "$1" "$top/tests/help.txt"; }
+help_of --help > wanted.out
 ends_with '--help' --help
 ends_with '-h' -h
 ends_with 'help' help
 full '--help' --help
-for verb in demo list check run firmware audit ready; do
-  section "$verb" "$top/tests/help_of_commands.txt" > wanted.out
+for verb in $(help_of --help | sed -n 's/^  \([a-z]*\)  .*/\1/p' | grep -vx help); do
+  help_of "$verb" > wanted.out
   ends_with "help $verb" help $verb
   ends_with "$verb --help" $verb --help
   ends_with "$verb -h and more" $verb -h x y
