@@ -89,30 +89,26 @@ static inline void pg_store(uint64_t address, int width, uint32_t value)
 
 /* ---- questions */
 
-/* Returns whether a line is the last line of a reply, and stores how many lines it says come before it. Such a line is
- * `audit: ok`, `ready: 1 problem, 2 left to do` or `why: 3 lines`, for example. */
+/* Returns whether a line is the last line of a reply, and stores how many lines it says come before it. Such a line has `ok` or
+ * counts after a word: `audit: ok`, `ready: 1 problem, 2 left to do` or `why: 3 lines`, for example. */
 static inline int pg_is_count(const char *line, unsigned long *count)
 {
-    int audit = 0, both = 0, ready = 0, why = 0;
-    unsigned long left = 0;
+    const char *rest = strchr(line, ':');
+    unsigned long one = 0;
+    int length = 0;
 
-    if (sscanf(line, "audit: %lu problem%n", count, &audit) == 1 && audit > 0)
-        return 1;
-    if (sscanf(line, "ready: %lu problem%*[s,] %lu left%n", count, &left, &both) == 2 && both > 0) {
-        *count += left;
-        return 1;
-    }
-    if (sscanf(line, "ready: %lu left%n", count, &ready) == 1 && ready > 0)
-        return 1;
-    if (sscanf(line, "ready: %lu problem%n", count, &ready) == 1 && ready > 0)
-        return 1;
-    if (sscanf(line, "why: %lu line%n", count, &why) == 1 && why > 0)
-        return 1;
     *count = 0;
-    return strcmp(line, "audit: ok\n") == 0 || strcmp(line, "ready: ok\n") == 0;
+    if (rest == NULL || strcmp(rest, ": ok\n") == 0)
+        return rest != NULL;
+    while (sscanf(rest, "%*[:,] %lu%*[ ]%*[a-z ]%n", &one, &length) == 1 && length > 0) {
+        *count += one;
+        rest += length;
+        length = 0;
+    }
+    return strcmp(rest, "\n") == 0;
 }
 
-/* Sends the question `host audit`, `host ready` or `host why ..`, and copies the lines of the reply to a stream such as
+/* Sends a question such as `host ready` or `host why mem 0xc0000000`, and copies the lines of the reply to a stream such as
  * stderr; if the stream is NULL, the lines are discarded. Returns the number of problems and readiness issues, or for
  * `host why ..` the number of lines in the answer. */
 static inline unsigned long pg_question(const char *question, FILE *out)
