@@ -6,13 +6,13 @@ from __future__ import annotations
 import re
 from typing import Callable, NamedTuple, Optional
 
-from ._calls import CONFIG, IO, MEMORY
+from ._calls import CONFIG, DECLARED, IO, MEMORY
 
 SPACES = {b"c": CONFIG, b"i": IO, b"m": MEMORY}
 #: most bytes of a line
 LONGEST = 200
-#: the second words of lines that ask of the registers; their replies may have several lines
-QUESTIONS = ("audit", "ready", "why")
+#: the second words of lines that ask of the registers, each of which a call answers as JSON; their replies may have several lines
+QUESTIONS = [name[len("board_") : -len("_json")] for name in DECLARED if re.fullmatch("board_.*_json", name)]
 
 
 class Access(NamedTuple):
@@ -46,7 +46,7 @@ def number_of(word: bytes) -> Optional[int]:
 def is_question(line: str) -> bool:
     """Whether a line asks of the registers of a board that firmware drives."""
     words = line.split()
-    return words[:1] == ["host"] and any(words[1:2] == [word] for word in QUESTIONS)
+    return words[:1] == ["host"] and len(words) > 1 and words[1] in QUESTIONS
 
 
 def access_of(line: bytes, index_of: Callable[[bytes], Optional[int]]) -> Optional[AskedFor]:
