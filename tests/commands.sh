@@ -12,7 +12,7 @@ program=$(readlink -f "${1:-$(dirname "$0")/../crates/pciguest/out/pciguest}") s
 cd "${2:-$(dirname "$0")/..}" || exit 1
 source "$shared"
 [ -x "$program" ] || { echo "no program at $program: make build"; echo '0 passed, 1 failed'; exit 1; }
-documents=(README.md docs/ARCHITECTURE.md docs/{board-file,script-language,errors,json,image-format}.md docs/PROOFS.md docs/RESULTS.md docs/lessons/*.md examples/audit/README.md man/pciguest.1)
+documents=(README.md docs/ARCHITECTURE.md docs/{board-file,script-language,errors,json,image-format}.md docs/PROOFS.md docs/RESULTS.md docs/lessons/*.md examples/audit/README.md man/pciguest.1.in)
 [ $# -lt 2 ] || documents=(README.md docs/{board-file,script-language,errors,json,image-format}.md docs/lessons/*.md examples/audit/README.md)
 
 ln -s "$program" "$room/pciguest"

@@ -155,18 +155,17 @@ strange_code() {
 }
 none "code of a crate of one's own that is not there" strange_code
 
-# ---- the manual: the numbers of docs/errors.md with their words, but for those that calls alone answer, and the calls of the
-# header
+# ---- the manual: the calls of the header; its numbers are those of docs/errors.md, each of which has a message in the header
 tools/bindings
-lacking_numbers() {
-  sed -n 's/^| \([1-8][0-9]\{2\}\) | `\([^`]*\)` |.*/\1 Ta \2 Ta/p' docs/errors.md | sort -u |
-    while read -r row; do grep -qF ".It $row " man/pciguest.1 || echo "man/pciguest.1: $row"; done
+other_numbers() {
+  diff <(sed -n 's/^| \([0-9]\{3\}\) | `[^`]*` | [a-z,; ]* |.*/\1/p' docs/errors.md) \
+    <(awk '/^};/ { inside = 0 } inside && /= [0-9]+,? +\/\* .+ \*\// { print $3 + 0 } /^enum pciguest_(status|told) {/ { inside = 1 }' library/pciguest.h | sort)
 }
 lacking_calls() {
   grep -o '^[A-Za-z][A-Za-z0-9_ *]*pciguest_[a-z_]*(' library/pciguest.h | sed 's/.*[ *]//; s/($//' | grep -v '_raw_' |
     while read -r call; do grep -q "^\.F[no] $call\( \|$\)" man/libpciguest.3 || echo "man/libpciguest.3: $call"; done
 }
-none 'numbers that the manual lacks' lacking_numbers
+none 'numbers of docs/errors.md that the header lacks, or has alone' other_numbers
 none 'calls that the manual lacks' lacking_calls
 
 # ---- the kit: README names those with which the gate has passed, and, if the one that is here is among them, its logic
