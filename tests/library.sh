@@ -21,7 +21,7 @@ cd "$room" || exit 1
 # build NAME FILE WORD..: compiles one file with the library
 build() {
   local name=$1 file=$2; shift 2
-  "$compile" -std=c11 -O1 -g -Wall -Wextra -Werror -I"$top/library" "$@" -o "$name" "$file" "$top/library/libpciguest.a"
+  "$compile" -std=c11 -O1 -g -Wall -Wextra -Werror -I. -I"$top/library" "$@" -o "$name" "$file" "$top/library/libpciguest.a"
 }
 
 # boards with their functions behind two more bridges, beside others and at other addresses
@@ -30,6 +30,8 @@ for name in main server demo; do
       "$top/boards/$name.toml"; cat "$top/tests/library/beside.toml"; } > "elsewhere.$name.toml"
 done
 
+# the numbers of docs/errors.md, each with its text
+sed -n 's/^| \([0-9]\{3\}\) | `\([^`]*\)` | .*/{\1, "\2"},/p' "$top/docs/errors.md" > errors.inc
 wraps=(-Wl,--wrap=malloc -Wl,--wrap=realloc -Wl,--wrap=free)
 
 # built FILE WORD..: compiles a program of this kind, NAME.KIND for NAME.c

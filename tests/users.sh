@@ -39,8 +39,9 @@ audits() { cat examples/audit/set_up.script examples/audit/"$1".script | outside
 holds 'an audit of broken firmware' sh -c 'echo "$1" | grep -q "not forwarded by bridge 2.0"' - "$(audits limit_short)"
 holds 'a session' same examples/session/session.stdout \
   outside sh -c './pciguest firmware examples/session/board.toml < examples/session/session.script 2> session.told'
+commands=$(echo host | outside ./pciguest run boards/main.toml 2>&1 | sed -n 's/.*missing command //p')
 holds 'why lines of it have no form' same session.told \
-  printf "script:%s: error: unknown command '%s' (expected cr, ir, mr or move)\n" 21 audit 22 ready 23 why
+  printf "script:%s: error: unknown command '%s' $commands\n" 21 audit 22 ready 23 why
 
 # ---- firmware: an enumerator on many boards, and with each of its mistakes, by the words of firmware-testing.md
 testing=docs/firmware-testing.md

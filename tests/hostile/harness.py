@@ -1,5 +1,6 @@
 """Runs the program and tells what it did: status, outputs, time and memory."""
 import os
+import re
 import struct
 import subprocess
 import tempfile
@@ -14,14 +15,9 @@ MAIN = str(BOARDS / "main.toml")
 LARGEST = str(BOARDS / "largest.toml")
 PLACES = str(BOARDS / "refused" / "many_places.toml")
 
-FAULTS = {
-    101: "not TOML", 102: "key", 103: "unknown key", 104: "number", 105: "place", 106: "register",
-    107: "size", 108: "too many", 109: "guest name", 110: "slot", 111: "aperture",
-    112: "cell masks", 199: "memory", 201: "buses", 202: "no I/O window", 203: "I/O pool",
-    204: "memory pool", 205: "prefetchable pool", 207: "not in order", 208: "not ready", 209: "refused line",
-    299: "memory", 501: "read failed", 502: "write failed", 599: "memory", 701: "usage", 702: "board file", 799: "memory",
-}
-
+# the words of each number
+FAULTS = {int(number): words for number, words in re.findall(
+    r"^\| (\d{3}) \| `([^`]*)` \| ", (TOP / "docs/errors.md").read_text(encoding="utf-8"), re.M)}
 
 # Growths of memory: all that a run makes, and those while the words of the command line are taken, until the board file
 # is read and before standard input is first read; and reads of standard input and writes of standard output.

@@ -8,18 +8,19 @@
 
 static const char *const guests[] = {"a", "b"};
 
+/* The numbers of docs/errors.md. */
+static const struct { uint32_t number; const char *text; } errors[] = {
+#include "errors.inc"
+};
+
 /* The line that a run writes for this reply. */
 static int reply_line(char *line, const char *who, uint32_t fault, bool is_read, uint32_t value, uint32_t width)
 {
-    static const struct { uint32_t number; const char *words; } refusals[] = {
-        {301, "misaligned"}, {302, "width"}, {303, "range"}, {601, "empty slot"}, {602, "slot taken"},
-    };
-
     if (fault == 0)
         return is_read ? sprintf(line, "%s: 0x%0*" PRIx32 "\n", who, (int)(2 * width), value) : sprintf(line, "%s: ok\n", who);
-    for (size_t i = 0; i < COUNT_OF(refusals); i++)
-        if (refusals[i].number == fault)
-            return sprintf(line, "%s: refused %" PRIu32 " %s\n", who, fault, refusals[i].words);
+    for (size_t i = 0; i < COUNT_OF(errors); i++)
+        if (errors[i].number == fault)
+            return sprintf(line, "%s: refused %" PRIu32 " %s\n", who, fault, errors[i].text);
     return sprintf(line, "%s: fault %" PRIu32 "\n", who, fault);
 }
 

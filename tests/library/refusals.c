@@ -474,8 +474,7 @@ static void message(uint32_t number, const char *wanted)
 
 static void all_messages(void)
 {
-    static const uint32_t without[] = {0, 1, 100, 113, 200, 210, 300, 304, 400, 404, 603, 900, 910, 0xffffffff, 0x10065};
-    uint32_t number, known = 0;
+    static const uint32_t without[] = {0, 1, 100, 200, 300, 400, 900, 0xffffffff, 0x10065};
 
     message(101, "board file is not valid TOML");
     message(112, "rw or w1c pattern is invalid, or config blocks overlap");
@@ -491,9 +490,8 @@ static void all_messages(void)
     message(909, "another call is running on this struct");
     for (size_t i = 0; i < COUNT_OF(without); i++)
         message(without[i], "");
-    for (number = 0; number < 1 << 17; number++)
-        known += pciguest_strerror(number)[0] != 0;
-    IS(known, 45);
+    for (uint32_t number = 0; number < 1 << 17; number++)
+        message(number, pciguest_strerror(number));
     IS(pciguest_version(), PCIGUEST_VERSION_NUMBER);
 }
 

@@ -150,18 +150,18 @@ def questions(library, board, wanted):
     for index in range(library.number("board_count", held)):
         library.number("board_function", held, index, of=declared.BoardFunctionTold)
     library.number("board_read", held, CONFIG, 0, 0, 0, 0, 4, of=c_uint32)
-    audit, ready = (library.text(name, held, more=[byref(count)]) for name in ("board_audit", "board_ready"))
-    for name in ("board_audit_json", "board_ready_json"):
-        library.text(name, held, more=[byref(count)])
+    # those that report on the board are called as an audit is
+    reports = {name.removeprefix("board_"): library.text(name, held, more=[byref(count)])
+               for name, form in declared.DECLARED.items() if form == declared.DECLARED["board_audit"]}
     for space, place in ((CONFIG, 0), (IO, 0x1000), (MEMORY, 0), (MEMORY, 0x80000000)):
         library.text("board_why_json", held, space, 0, 0, 0, place)
-    told = json.loads(library.text("board_ready_json", held, more=[byref(count)]))
+    told = json.loads(reports["ready_json"])
     found = len(told["problems"]), len(told["lacks"])
     library.tally.expect(f"{library.title}: problems and lacks", found == wanted, f"{found}, not {wanted}")
-    room = len(ready) + 100
-    library.tally.expect(f"{library.title}: host audit", library.line("board_run_line", held, b"host audit", room) == audit)
-    told = library.line("board_run_line", held, b"host ready", room)
-    library.tally.expect(f"{library.title}: host ready", told == ready)
+    room = max(map(len, reports.values())) + 100
+    for name in (name for name in reports if f"{name}_json" in reports):
+        told = library.line("board_run_line", held, f"host {name}".encode(), room)
+        library.tally.expect(f"{library.title}: host {name}", told == reports[name])
     for asked in (b"mem 0x80000000", b"mem 0", b"io 0x1000", b"io 0", b"cfg 01:00.0"):
         library.line("board_run_line", held, b"host why " + asked, 1 << 20)
 

@@ -73,11 +73,12 @@ def check(board: Union[str, bytes], name: str = NAME) -> Check:
 
 @contextmanager
 def explained(board: bytes, name: str) -> Iterator[None]:
-    """Lets the refusal of a board file, or of its board, tell what a check says of it."""
+    """Lets the refusal of a board file, or of its board, tell what a check says of it. These are the numbers below 300, but for
+    those of memory."""
     try:
         yield
     except Refusal as refusal:
-        if not (101 <= refusal.number <= 112 or 201 <= refusal.number <= 205):
+        if refusal.number in (199, 299) or refusal.number >= 300:
             raise
         raise check(board, name).refusal or refusal from None
 
