@@ -67,17 +67,11 @@ export function why_bad(line, whose) {
   return why === '' ? null : { why, ...wrong_word(line, at, whose) };
 }
 
-// What the numbers mean by which a line that has a lawful form is refused.
-export const MEANING = {
-  301: "the address, port or offset isn't a multiple of the width",
-  302: "the width isn't 1, 2 or 4",
-  303: 'a slot above 31, an offset above 255 or outside its region, or a port above 0xffffffff',
-  601: 'the slot is empty',
-  602: 'the slot already has a function',
-};
+// A line that only reads.
+export const is_read = line => ['cr', 'ir', 'mr'].includes(words_in(line)[1]?.word);
 
-// Why a reply refuses a line, or nothing.
+// Why a reply refuses a line, or nothing: of a line that has a lawful form, when docs/errors.md says that its number comes.
 export function why_refused(line, reply, whose) {
   const refused = /^\S+: refused (\d+) /.exec(reply);
-  return refused === null ? null : why_bad(line, whose)?.why ?? MEANING[refused[1]] ?? null;
+  return refused === null ? null : why_bad(line, whose)?.why ?? WORDS[refused[1]]?.replace(/^[^:]*: /, '') ?? null;
 }

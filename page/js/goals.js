@@ -5,7 +5,7 @@
 //   -> REPLY         a line of the reader's was answered so since the task began, while the conditions above held that are no replies
 
 import { asked_of, keeping_latch } from './asked.js';
-import { why_bad } from './forms.js';
+import { is_read, why_bad } from './forms.js';
 
 const ARROW = /^(.*?)\s*->\s*(.+)$/;
 
@@ -30,7 +30,7 @@ function why_none({ kind, line }, whose) {
   if (kind !== 'read') return kind !== 'told' && whose.as !== 'firmware' ? 'only firmware can run an audit' : null;
   const bad = why_bad(line, whose);
   if (bad !== null) return bad.why;
-  return /^\s*\S+\s+[cim]r\s/.test(line) ? null : 'this has to be a read, because it runs after each line';
+  return is_read(line) ? null : 'this has to be a read, because it runs after each line';
 }
 
 // The conditions of a goal.
