@@ -62,7 +62,11 @@ int main(void)
 {
     struct pg_root_bridge_io root = { NULL };
     unsigned char bytes[2];
+    unsigned long lines;
 
+    if (!pg_is_count("ready: 1 problem, 5 left to do\\n", &lines) || lines != 6 ||
+        pg_is_count("why: 2 BARs at 0x0 with decode disabled, as at reset\\n", &lines))
+        return 1;
     pg_root_bridge_io_read(&root, 1, UINT64_C(0x00010002), 1, bytes); /* of 00:01.0, two bytes at offset 2 */
     if (bytes[0] != 1 || bytes[1] != 0)
         return 1;
