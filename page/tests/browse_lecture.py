@@ -2,19 +2,15 @@
 tree and bars in one view, steps back and forward, a cycle on its way, and bits."""
 import json
 
-from tried import CUT, FIELD, PAINTED, holds, said_last, text_of, type_line, until
+from reader import FIELD
+from tried import BITS, CUT, SIZES, STOPS, answers, begins, contains, equals, holds, is_painted_well
 
-SIZES = [(1440, 900), (1280, 720)]
-WIDTHS = [(1440, 900), (1280, 720), (390, 844)]
 # Whether all of a part stands in the window.
 IN_VIEW = """(() => { const b = document.querySelector('%s').getBoundingClientRect();
   return b.height > 0 && b.top >= 0 && b.bottom <= innerHeight && b.left >= 0 && b.right <= innerWidth; })()"""
 WINDOW = ['host cw 00:02.0 0x20 4 0xc000c000', 'host cw 00:02.0 0x1c 2 0x1010', 'host cw 00:02.0 4 2 3']
-CHANGES = "[...document.querySelectorAll('#changes li')].map(one => one.textContent)"
-TOLD = "document.getElementById('step_told').textContent"
-MARKED = "[...document.querySelectorAll('#tree .change')].map(one => `${one.closest('.chip').dataset.path} ${one.querySelector('.mark').textContent}`)"
-BARS = "['.was-at', '.region.changed', '.window.changed'].map(find => document.querySelectorAll(`#addresses ${find}`).length)"
-STOPS = "[...document.querySelectorAll('#way li')].map(one => one.firstChild.textContent + [...one.children].map(each => each.textContent).join('; '))"
+BARS = ['#addresses .was-at', '#addresses .region.changed', '#addresses .window.changed']
+HINT = '#bits > .hint:last-child'
 # Of each control its height and width, but for one in a line of text; of a switch, that of its label.
 SMALL = """[...document.querySelectorAll('button, select, input, textarea, summary, [role=button]:not(svg *), [role=option]')].filter(one => one.checkVisibility())
   .map(one => [one, (/checkbox|radio|file/.test(one.type) && one.closest('label') || one).getBoundingClientRect()])
@@ -25,36 +21,34 @@ TINY = """[...document.querySelectorAll('body *:not(script, style, option)')].fi
 
 
 def all_is_in_one_view(browser, page):
-    for width, height in SIZES:
+    for width, height in SIZES[:2]:
         for lesson in ['window', 'size', 'number', 'ready']:
             browser.open(f'{page}#lesson={lesson}', width, height)
-            for line in WINDOW:
-                type_line(browser, line)
+            browser.type_lines(WINDOW)
             for part in ['#line', '#tree', '#addresses .bars', '#changes']:
                 if part != '#addresses .bars' or lesson in ('window', 'size'):
                     seen = browser.run(f"document.querySelector('{part}') === null || {IN_VIEW % part}")
                     holds(f'{part} of {lesson} is in view at {width} by {height}', seen is True, browser.run(f"JSON.stringify(document.querySelector('{part}').getBoundingClientRect())"))
     browser.open(f'{page}#lesson=move', 1440, 900)
-    type_line(browser, 'web cw 0 0x10 4 0x90000000')
+    browser.type_line('web cw 0 0x10 4 0x90000000')
     for part in ['#line', '#tree', '#maps .map']:
-        holds(f'{part} of a lesson of guests is in view', browser.run(IN_VIEW % part) is True)
+        equals(f'{part} of a lesson of guests is in view', browser.run(IN_VIEW % part), True)
 
 
 def a_phone_leads_there_and_back(browser, page):
     browser.open(f'{page}#lesson=window', 390, 844)
-    type_line(browser, WINDOW[0])
-    browser.run("document.getElementById('to_moment').click()")
-    holds('a button leads to what the line changed', browser.run(IN_VIEW % '#changes') is True)
-    browser.run("document.getElementById('back_to_line').click()")
-    holds('and one back to the line', browser.run(IN_VIEW % '#line') is True and browser.run('document.activeElement.id') == 'line', browser.run('document.activeElement.id'))
+    browser.type_line(WINDOW[0])
+    browser.click('#to_moment')
+    equals('a button leads to what the line changed', browser.run(IN_VIEW % '#changes'), True)
+    browser.click('#back_to_line')
+    holds('and one back to the line', browser.run(IN_VIEW % '#line') is True and browser.focused() == 'line', browser.focused())
 
 
 def controls_are_large(browser, page):
     for link, lines in [('lesson=window', WINDOW), ('lesson=wrong&part=5', ['host cr 01:00.0 0 4']), ('board=kinds&as=firmware', []), ('board=server', ['web cw 0 4 2 3'])]:
-        for width, height in WIDTHS:
+        for width, height in SIZES:
             browser.open(f'{page}#{link}', width, height)
-            for line in lines:
-                type_line(browser, line)
+            browser.type_lines(lines)
             browser.run("for (const one of document.querySelectorAll('details')) one.open = true; document.querySelector('#transcript button.reply')?.click()")
             holds(f'no control of {link} is below 24 pixels at {width}', browser.run(SMALL) == [], browser.run(SMALL)[:5])
             holds(f'no text of {link} is below 13 pixels at {width}', browser.run(TINY) == [], browser.run(TINY)[:5])
@@ -63,64 +57,57 @@ def controls_are_large(browser, page):
 
 def lines_can_be_gone_through(browser, page):
     browser.open(f'{page}#lesson=window', 1440, 900)
-    holds('the lines before a task can be gone through too', browser.run(TOLD) == '6 lines ran', browser.run(TOLD))
-    for line in WINDOW:
-        type_line(browser, line)
+    equals('the lines before a task can be gone through too', browser.text_of('step_told'), '6 lines ran')
+    browser.type_lines(WINDOW)
     wanted = ['00:02.0 Command: 0x0000 → 0x0003', '00:02.0 io window: disabled, 0x1000 to 0x1fff → 0x1000 to 0x1fff',
               '00:02.0 mem window: disabled, 0xc0000000 to 0xc00fffff → 0xc0000000 to 0xc00fffff']
-    found = browser.run(CHANGES)
+    found = browser.texts_of('#changes li')
     holds('what a line changed is told before and after', found[:3] == wanted and len(found) == 6 and found[3].startswith('− 01:00.0 (2.0/0.0) bar0'), found)
-    holds('and marked in the tree', browser.run(MARKED) == ['2.0 Δ 3'], browser.run(MARKED))
-    holds('and in the bars', browser.run(BARS) == [0, 0, 2], browser.run(BARS))
-    audit, state = text_of(browser, 'total'), text_of(browser, 'task_state')
+    equals('and marked in the tree', browser.signs_of('.change'), ['2.0 Δ 3'])
+    equals('and in the bars', browser.counts_of(*BARS), [0, 0, 2])
+    audit, state = browser.text_of('total'), browser.text_of('task_state')
     browser.press('F8')
-    holds('a key goes back by a line', browser.run(TOLD) == 'as after 8 of 9 lines' and text_of(browser, 'last').startswith(WINDOW[1]), browser.run(TOLD))
-    holds('problems are as they were', text_of(browser, 'total') == '3 problems', text_of(browser, 'total'))
-    command = f"{FIELD % ('Command', 'Memory space')}"
-    holds('so are registers, which nobody writes then', browser.run(f"[{command}.checked, {command}.disabled]") == [False, True])
-    holds('what that line changed is told', browser.run(CHANGES)[0] == '00:02.0 I/O Base, I/O Limit: 0x0000 → 0x1010', browser.run(CHANGES))
-    holds('its bytes are marked', browser.run("[...document.querySelectorAll('#bytes .changed')].map(one => one.title)") == ['0x1c: I/O Base', '0x1d: I/O Limit'],
-          browser.run("[...document.querySelectorAll('#bytes .changed')].map(one => one.title)"))
-    holds('the task stands', text_of(browser, 'task_state') == state, text_of(browser, 'task_state'))
-    browser.run("document.getElementById('step_back').click()")
-    browser.run("(() => { const one = document.getElementById('step'); one.value = 2; one.dispatchEvent(new Event('input')); })()")
-    holds('a slider goes anywhere', browser.run(TOLD) == 'as after 2 of 9 lines' and text_of(browser, 'last').startswith('host cw 01:00.0 0x10 4 0xc0000000'), text_of(browser, 'last'))
+    equals('a key goes back by a line', browser.text_of('step_told'), 'as after 8 of 9 lines')
+    begins('to what it changed', browser.text_of('last'), WINDOW[1])
+    equals('problems are as they were', browser.text_of('total'), '3 problems')
+    command = FIELD % ('Command', 'Memory space')
+    equals('so are registers, which nobody writes then', browser.run(f"[{command}.checked, {command}.disabled]"), [False, True])
+    equals('what that line changed is told', browser.texts_of('#changes li')[0], '00:02.0 I/O Base, I/O Limit: 0x0000 → 0x1010')
+    equals('its bytes are marked', browser.run("[...document.querySelectorAll('#bytes .changed')].map(one => one.title)"), ['0x1c: I/O Base', '0x1d: I/O Limit'])
+    equals('the task stands', browser.text_of('task_state'), state)
+    browser.click('#step_back')
+    browser.write('step', 2)
+    equals('a slider goes anywhere', browser.text_of('step_told'), 'as after 2 of 9 lines')
+    begins('with what it changed', browser.text_of('last'), 'host cw 01:00.0 0x10 4 0xc0000000')
     browser.press('F9')
-    holds('a key goes on', browser.run(TOLD) == 'as after 3 of 9 lines', browser.run(TOLD))
-    type_line(browser, 'host ir 0x1000 4')
-    holds('a line runs where one is', said_last(browser, 'reply') == 'host: 0xdeadbeef' and browser.run(TOLD) == '10 lines ran', browser.run(TOLD))
-    holds('and all is as it is', text_of(browser, 'total') == audit == 'ok' and text_of(browser, 'task_state') == 'Done.', text_of(browser, 'total'))
+    equals('a key goes on', browser.text_of('step_told'), 'as after 3 of 9 lines')
+    answers(browser, 'a line runs where one is', 'host ir 0x1000 4', 'host: 0xdeadbeef')
+    equals('behind the lines before it', browser.text_of('step_told'), '10 lines ran')
+    holds('and all is as it is', browser.text_of('total') == audit == 'ok' and browser.text_of('task_state') == 'Done.', browser.text_of('total'))
     browser.open(f'{page}#lesson=wrong&part=1', 1440, 900)
     holds('lines that are not shown can not be gone through', browser.run("document.getElementById('step_back').disabled"))
-    type_line(browser, 'host cw 00:02.0 0x22 2 0xc030')
-    moved = browser.run(CHANGES)
-    holds('a window that grows is told', moved[1] == '00:02.0 mem window: 0xc0000000 to 0xc02fffff → 0xc0000000 to 0xc03fffff', moved)
-    holds('and drawn before and after', browser.run(BARS) == [1, 0, 1], browser.run(BARS))
+    browser.type_line('host cw 00:02.0 0x22 2 0xc030')
+    equals('a window that grows is told', browser.texts_of('#changes li')[1], '00:02.0 mem window: 0xc0000000 to 0xc02fffff → 0xc0000000 to 0xc03fffff')
+    equals('and drawn before and after', browser.counts_of(*BARS), [1, 0, 1])
     browser.open(page)
-    browser.run("document.getElementById('leave').click()")
+    browser.click('#leave')
 
 
 def guests_lines_can_be_gone_through(browser, page):
     browser.open(f'{page}#lesson=move', 1440, 900)
-    type_line(browser, 'web cw 0 0x10 4 0x90000000')
-    found = browser.run(CHANGES)
-    holds("a guest's region that moves is told", found == ['01:00.0 Base Address Register 0: 0x80000000 → 0x90000000',
-          '01:00.0 guest web, slot 0 bar0: 0x80000000 to 0x8001ffff → 0x90000000 to 0x9001ffff'], found)
-    drawn = browser.run("['.was-at', '.joined.changed'].map(find => document.querySelectorAll(`#maps ${find}`).length)")
-    holds('and drawn before and after', drawn == [1, 1], drawn)
-    type_line(browser, 'host move web 0 store 2')
-    found = browser.run(CHANGES)
-    holds('a move is told', '01:00.0 assigned to: guest web, slot 0 → guest store, slot 2' in found, found)
-    browser.press('F8')
-    owner = browser.run("document.querySelector('#tree [data-path=\"2.0/0.0\"]').title")
-    holds('before it the function is where it was', 'guest web, slot 0' in owner and browser.run("document.querySelectorAll('.joined').length") == 1, owner)
-    browser.press('F9')
-    owner = browser.run("document.querySelector('#tree [data-path=\"2.0/0.0\"]').title")
-    holds('and after it where it is', 'guest store, slot 2' in owner and browser.run("document.querySelectorAll('.joined').length") == 0, owner)
-    browser.run("document.getElementById('leave').click()")
+    browser.type_line('web cw 0 0x10 4 0x90000000')
+    wanted = ['01:00.0 Base Address Register 0: 0x80000000 → 0x90000000', '01:00.0 guest web, slot 0 bar0: 0x80000000 to 0x8001ffff → 0x90000000 to 0x9001ffff']
+    equals("a guest's region that moves is told", browser.texts_of('#changes li'), wanted)
+    equals('and drawn before and after', browser.counts_of('#maps .was-at', '#maps .joined.changed'), [1, 1])
+    browser.type_line('host move web 0 store 2')
+    contains('a move is told', browser.texts_of('#changes li'), '01:00.0 assigned to: guest web, slot 0 → guest store, slot 2')
+    for key, name, owner, drawn in [('F8', 'before it the function is where it was', 'guest web, slot 0', 1), ('F9', 'and after it where it is', 'guest store, slot 2', 0)]:
+        browser.press(key)
+        holds(name, owner in browser.title_of('2.0/0.0') and browser.count_of('.joined') == drawn, browser.title_of('2.0/0.0'))
+    browser.click('#leave')
     browser.open(f'{page}#story=Three guests share a server&now', 1440, 900)
-    told = [browser.run(TOLD), text_of(browser, 'last')]
-    holds('remarks are no lines', told[0] == '12 lines ran' and told[1].startswith('12 lines, the last of them host move store 2 desk 0'), told)
+    equals('remarks are no lines', browser.text_of('step_told'), '12 lines ran')
+    begins('and the last line is told', browser.text_of('last'), '12 lines, the last of them host move store 2 desk 0')
 
 
 # What is sent, and what stands at its stops.
@@ -134,148 +121,111 @@ WAYS = [('host mr 0xc0020000 4', ['bus 00: 00:02.0 forwards it: its memory windo
 
 def a_cycle_can_be_followed(browser, page):
     browser.open(f'{page}#lesson=window', 1440, 900)
-    for line in WINDOW:
-        type_line(browser, line)
+    browser.type_lines(WINDOW)
     for line, stops in WAYS:
-        type_line(browser, line)
-        browser.press('F4')
-        for _ in stops[1:]:
-            browser.press('ArrowRight')
-        holds(f'the way of {line} is told stop by stop', browser.run(STOPS) == stops, browser.run(STOPS))
-    took = browser.run("[...document.querySelectorAll('#tree .took')].map(one => one.dataset.path)")
-    holds('who takes it is marked', took == ['2.0/0.0'], took)
-    holds('its address is marked in the bar', browser.run("document.querySelectorAll('#addresses [data-space=io] .asked-at').length") == 1)
+        browser.type_line(line)
+        browser.press('F4', *['ArrowRight'] * (len(stops) - 1))
+        equals(f'the way of {line} is told stop by stop', browser.run(STOPS), stops)
+    equals('who takes it is marked', browser.paths_of('#tree .took'), ['2.0/0.0'])
+    equals('its address is marked in the bar', browser.count_of('#addresses [data-space=io] .asked-at'), 1)
     browser.press('ArrowLeft')
     holds('a key goes a stop back', len(browser.run(STOPS)) == 1, browser.run(STOPS))
     browser.press('Escape')
-    holds('Escape leaves it', browser.run("document.getElementById('way').textContent") == '' and browser.run("document.querySelectorAll('#tree .took, #tree .cycle').length") == 0)
-    holds('and the button that began it has the keys', browser.run('document.activeElement.id') == 'follow', browser.run('document.activeElement.id'))
-    type_line(browser, 'host iw 0xcf8 4 0x80010800')
-    type_line(browser, 'host ir 0xcfc 4')
-    browser.press('F4')
-    browser.press('ArrowRight')
-    holds('a port of the latch goes as a configuration cycle', browser.run(STOPS)[-1:] == ['bus 01: 01:01.0 responds'], browser.run(STOPS))
-
-
-BITS = "[...document.querySelectorAll('#bits .of_bits')].map(one => one.getAttribute('aria-label'))"
+    equals('Escape leaves it', [browser.text_of('way'), browser.count_of('#tree .took, #tree .cycle')], ['', 0])
+    equals('and the button that began it has the keys', browser.focused(), 'follow')
+    browser.type_lines(['host iw 0xcf8 4 0x80010800', 'host ir 0xcfc 4'])
+    browser.press('F4', 'ArrowRight')
+    equals('a port of the latch goes as a configuration cycle', browser.run(STOPS)[-1:], ['bus 01: 01:01.0 responds'])
 
 
 def register_bits_are_boxes(browser, page):
     browser.open(f'{page}#lesson=size', 1440, 900)
-    browser.run("document.querySelector('#tree [data-path=\"2.0/0.0\"]').click()")
-    base = FIELD % ('bar0', 'base')
-    browser.run(f'{base}.focus(); {base}.select()')
-    browser.insert('0xc0012345')
-    holds('while one types, bits are as they would be read back', browser.run(BITS) == [f'bar0, 0x10: 0xc0000000, in bits {0xc0000000:032b}'], browser.run(BITS))
-    kinds = browser.run("['set', 'wired', 'kind'].map(kind => document.querySelectorAll(`#bits .boxes .${kind}`).length)")
-    holds('each bit is of a kind', kinds == [15, 13, 4], kinds)
-    told = browser.run("document.querySelector('#bits > .hint:last-child').textContent")
-    holds('what all ones read back is told, and why that is the size', 'reads back 0xfffe0000 in bar0' in told and 'one more is 0x20000: 128 KB' in told, told)
-    lines = browser.run("document.querySelectorAll('#transcript .said').length")
-    holds('typing is no line yet', lines == 0, lines)
-    browser.run("document.querySelector('#tree [data-path=\"2.0\"]').click()")
-    last = FIELD % ('Memory', 'last')
-    browser.run(f'{last}.focus(); {last}.select()')
-    browser.insert('0xc01fffff')
-    found = browser.run(BITS)
-    holds('a window has Base and Limit', found == ['Base, 0x20: 0x0000, in bits 0000000000000000', f'Limit, 0x22: 0xc010, in bits {0xc010:016b}'], found)
-    told = browser.run("document.querySelector('#bits > .hint:last-child').textContent")
-    holds('its unit is told', 'reads back 0xfff0 in Base and 0xfff0 in Limit' in told and 'units of 1 MB' in told, told)
+    browser.select('2.0/0.0')
+    browser.type_in_field('bar0', 'base', '0xc0012345')
+    equals('while one types, bits are as they would be read back', browser.labels_of(BITS), [f'bar0, 0x10: 0xc0000000, in bits {0xc0000000:032b}'])
+    equals('each bit is of a kind', browser.counts_of('#bits .boxes .set', '#bits .boxes .wired', '#bits .boxes .kind'), [15, 13, 4])
+    [told] = browser.texts_of(HINT)
+    contains('what all ones read back is told, and why that is the size', told, 'reads back 0xfffe0000 in bar0', 'one more is 0x20000: 128 KB')
+    equals('typing is no line yet', browser.count_of('#transcript .said'), 0)
+    browser.select('2.0')
+    browser.type_in_field('Memory', 'last', '0xc01fffff')
+    equals('a window has Base and Limit', browser.labels_of(BITS), ['Base, 0x20: 0x0000, in bits 0000000000000000', f'Limit, 0x22: 0xc010, in bits {0xc010:016b}'])
+    contains('its unit is told', browser.texts_of(HINT)[0], 'reads back 0xfff0 in Base and 0xfff0 in Limit', 'units of 1 MB')
     browser.run(f"{FIELD % ('Command', 'Memory space')}.focus()")
-    told = browser.run("document.querySelector('#bits > .hint:last-child').textContent")
-    holds('Command has switches and wired bits', 'Command: bits' in told and 'are hardwired' in told, told)
+    contains('Command has switches and wired bits', browser.texts_of(HINT)[0], 'Command: bits', 'are hardwired')
     browser.open(f'{page}#board=server', 1440, 900)
-    holds("a guest's registers have bits too", browser.run(BITS) != [], browser.run(BITS))
+    holds("a guest's registers have bits too", browser.count_of(BITS) > 0)
 
 
 def the_line_is_a_key_away(browser, page):
     browser.open(f'{page}#lesson=window', 1440, 900)
-    browser.run("document.getElementById('task_title').focus()")
-    browser.press('F2')
-    holds('a key leads from the lesson to the line', browser.run('document.activeElement.id') == 'line', browser.run('document.activeElement.id'))
-    holds('the key is shown', 'F2' in text_of(browser, 'to_line'), text_of(browser, 'to_line'))
-    browser.run("document.getElementById('task_title').focus()")
+    browser.press_on('#task_title', 'F2')
+    equals('a key leads from the lesson to the line', browser.focused(), 'line')
+    contains('the key is shown', browser.text_of('to_line'), 'F2')
+    browser.focus('#task_title')
     for count in range(12):
         browser.press('Tab')
-        if browser.run('document.activeElement.id') == 'line':
+        if browser.focused() == 'line':
             break
     holds('so do few Tabs', count < 11, count)
 
 
 def refusals_have_reasons(browser, page):
     browser.open(f'{page}#board=main&as=firmware', 1280, 720)
-    type_line(browser, 'host cr 00:02.0 0xg 4')
-    marked = browser.run("document.querySelector('#transcript mark').textContent")
-    holds('the word for which a line is refused is marked', marked == '0xg' and "invalid offset '0xg'" in said_last(browser, 'why'), marked)
-    browser.run("(() => { const one = document.getElementById('line'); one.value = ''; one.focus(); })()")
-    browser.insert('host cr 00:02.0 mem')
-    holds('a name that is typed is not told to be no number', text_of(browser, 'why') == "the offset: choose what 'mem' means from the list", text_of(browser, 'why'))
+    browser.type_line('host cr 00:02.0 0xg 4')
+    equals('the word for which a line is refused is marked', browser.texts_of('#transcript mark'), ['0xg'])
+    contains('and the reason told', browser.said_last('why'), "invalid offset '0xg'")
+    browser.fill('host cr 00:02.0 mem')
+    equals('a name that is typed is not told to be no number', browser.text_of('why'), "the offset: choose what 'mem' means from the list")
     edge = "getComputedStyle(document.getElementById('verdict')).borderLeftColor"
     fine = browser.run("(() => { const one = document.createElement('i'); one.style.color = 'var(--fine)'; document.body.append(one); return getComputedStyle(one).color; })()")
-    holds('no green edge stands beside problems', browser.run(edge) != fine and text_of(browser, 'total') == '2 problems', browser.run(edge))
+    holds('no green edge stands beside problems', browser.run(edge) != fine and browser.text_of('total') == '2 problems', browser.run(edge))
     browser.open(f'{page}#board=main', 1280, 720)
     browser.run("(() => { const one = document.getElementById('board'); one.value = one.value.replace('0x1234', '0x12g4'); one.dispatchEvent(new Event('input')); one.dispatchEvent(new Event('blur')); })()")
-    told = text_of(browser, 'verdict')
+    told = browser.text_of('verdict')
     holds('of a file that is no TOML the line is told, and no other reason', told.startswith('101 not TOML: ') and 'UTF-8' not in told and 'line 9' in told, told)
 
 
 def a_lesson_says_what_its_boxes_do(browser, page):
     browser.open(f'{page}#lesson=window', 1280, 720)
-    shown = browser.run("document.getElementById('boards').selectedOptions[0].textContent")
-    holds('the box for boards says whose board it is', shown == "the lesson's own", shown)
+    equals('the box for boards says whose board it is', browser.run("document.getElementById('boards').selectedOptions[0].textContent"), "the lesson's own")
     titles = browser.run("['again', 'leave', 'restart', 'boards'].map(name => document.getElementById(name).title.length > 20)")
-    holds('what begins again and what ends the lesson say so', titles == [True] * 4, titles)
-    browser.run("document.getElementById('leave').click()")
-
-
-WRITE = "(() => { const one = document.getElementById('%s'); one.value = %s; one.dispatchEvent(new Event('input')); })()"
-# Keeps the text of the next file that the page gives to save.
-KEPT = """(() => { const made = URL.createObjectURL; URL.createObjectURL = blob => { blob.text().then(text => { window.kept_file = text; }); return made.call(URL, blob); }; })()"""
-OPENS = """(() => { const files = new DataTransfer(); files.items.add(new File([%s], 'task.toml'));
-  const one = document.getElementById('open'); one.files = files.files; one.dispatchEvent(new Event('change')); })()"""
+    equals('what begins again and what ends the lesson say so', titles, [True] * 4)
+    browser.click('#leave')
 
 
 def tasks_go_elsewhere(browser, page):
     browser.open(f'{page}#board=main&as=firmware', 1280, 720)
-    type_line(browser, 'host cw 00:02.0 0x18 4 0x00010100')
-    browser.run("document.getElementById('own').open = true")
-    for name, text in [('own_title', 'Place it'), ('own_text', 'Two lines,\nwith `01:00.0`.'), ('own_goal', 'host cr 01:00.0 0x10 4 -> host: 0xc0000000\naudit: ok')]:
-        browser.run(WRITE % (name, json.dumps(text)))
+    browser.type_line('host cw 00:02.0 0x18 4 0x00010100')
     browser.run("navigator.clipboard && (navigator.clipboard.writeText = async text => { window.copied = text; })")
-    browser.run("document.getElementById('task_form').requestSubmit()")
-    until(browser, "location.hash.startsWith('#task=')")
-    holds('a link of a page from a disk is said to fit any copy', 'any copy of this page' in text_of(browser, 'handed'), text_of(browser, 'handed'))
+    browser.task_link('Place it', 'Two lines,\nwith `01:00.0`.', 'host cr 01:00.0 0x10 4 -> host: 0xc0000000\naudit: ok')
+    contains('a link of a page from a disk is said to fit any copy', browser.text_of('handed'), 'any copy of this page')
     copied, fragment = browser.run("window.copied ?? null"), browser.run('location.hash')
     holds('what is copied has no place on a disk', copied in (None, fragment), copied)
-    browser.run(KEPT)
-    browser.run("document.getElementById('own_file').click()")
-    until(browser, 'window.kept_file !== undefined')
-    file = browser.run('window.kept_file')
+    file = browser.saved_file('#own_file')
     holds('a task is kept as a board file', '#title Place it\n#text Two lines,\n#text with' in file and file.endswith('#end\n'), file)
-    for way, act in [('pasted', WRITE % ('paste', json.dumps(f'file:///elsewhere/pciguest.html{fragment}'))), ('opened as a file', OPENS % json.dumps(file))]:
+    for way, act in [('pasted', lambda: browser.write('paste', f'file:///elsewhere/pciguest.html{fragment}')),
+                     ('opened as a file', lambda: browser.open_file(json.dumps(file), 'task.toml'))]:
         browser.open(f'{page}#board=server', 1280, 720)
-        browser.run(act)
-        until(browser, "document.getElementById('task_title').textContent === 'Task: Place it'")
-        holds(f'a task that is {way} begins', text_of(browser, 'task_title') == 'Task: Place it' and 'Two lines' in text_of(browser, 'task_text'), text_of(browser, 'task_title'))
-        type_line(browser, 'host cw 01:00.0 0x10 4 0xc0000000')
-        holds(f'a task that is {way} is judged', text_of(browser, 'task_state') == 'Done.', text_of(browser, 'goals'))
-        browser.run("document.getElementById('leave').click()")
+        act()
+        browser.until("document.getElementById('task_title').textContent === 'Task: Place it'")
+        holds(f'a task that is {way} begins', browser.text_of('task_title') == 'Task: Place it' and 'Two lines' in browser.text_of('task_text'), browser.text_of('task_title'))
+        browser.type_line('host cw 01:00.0 0x10 4 0xc0000000')
+        holds(f'a task that is {way} is judged', browser.text_of('task_state') == 'Done.', browser.text_of('goals'))
+        browser.click('#leave')
 
 
 def a_lecture_looks_well(browser, page, folder, shot):
     views = [('window', 'lesson=window', WINDOW[:2], []), ('past', 'lesson=window', WINDOW, ['F8']), ('way', 'lesson=window', [*WINDOW, 'host mr 0xc0020000 4'], ['F4', 'ArrowRight']),
              ('guests', 'lesson=move', ['web cw 0 0x10 4 0x90000000'], [])]
     for name, link, lines, keys in views:
-        for width, height in WIDTHS:
+        for width, height in SIZES:
             browser.open(f'{page}#{link}', width, height if width > 400 else 2600)
-            for line in lines:
-                type_line(browser, line)
-            for key in keys:
-                browser.press(key)
-            text, fill = browser.run(PAINTED)
-            holds(f'small text of {name} is painted with 4.5:1 or more at {width}', text >= 4.5, text)
+            browser.type_lines(lines)
+            browser.press(*keys)
+            is_painted_well(browser, f'{name} of a lecture at {width}')
             browser.picture(folder / f'{shot}lecture_{name}_{width}.png')
-    browser.run("document.getElementById('leave').click()")
+    browser.click('#leave')
 
 
 ALL = [all_is_in_one_view, a_phone_leads_there_and_back, controls_are_large, lines_can_be_gone_through, guests_lines_can_be_gone_through, a_cycle_can_be_followed,

@@ -1,11 +1,9 @@
 """All lessons as somebody does them who knows the page alone, in any browser, for page/tests/browse: numbers are read off the tree, lines are
 those that words and hints give, with another number or offset in them, and what is wrong is mended in the fields."""
-from tried import FIELD, holds, said_last, text_of, type_line, write_field
+from itertools import product
 
-LOOKS = [(1400, 'light'), (1400, 'dark'), (400, 'light'), (400, 'dark')]
-STATE = "document.getElementById('task_state').textContent"
-CODES = "[...document.querySelectorAll('#%s code')].map(one => one.textContent)"
-AUDIT = "[...document.querySelectorAll('#audit li')].map(one => one.textContent)"
+from tried import begins, contains, holds
+
 # The number of a function, as its chip says it.
 NUMBER = """(() => { const chip = [...document.querySelectorAll('#tree .chip')].find(one => one.textContent.includes('%s'));
   return [...chip.childNodes].find(one => one.nodeType === 3).data.split(' ')[0]; })()"""
@@ -17,42 +15,40 @@ def number_of(browser, word):
 
 
 def reads(browser, line):
-    type_line(browser, line)
-    return int(said_last(browser, 'reply').split('0x')[1], 16)
+    browser.type_line(line)
+    return int(browser.said_last('reply').split('0x')[1], 16)
 
 
 def writes(browser, path, *fields):
     for group, name, value in fields:
-        browser.run(f"document.querySelector('#tree [data-path=\"{path}\"]').click()")
-        write_field(browser, group, name, value)
+        browser.select(path)
+        browser.write_field(group, name, value)
 
 
 def switches(browser, path, *names):
-    browser.run(f"document.querySelector('#tree [data-path=\"{path}\"]').click()")
+    browser.select(path)
     for name in names:
-        browser.run(f"{FIELD % ('Command', name)}.click()")
+        browser.switch('Command', name)
 
 
 def read_a_board(browser, words, hint):
     card, bridge = number_of(browser, 'network'), number_of(browser, 'bridge')
-    for line in [words[0].replace('00:02.0', card), f'host cr {bridge} 0x18 4', f'host cr {bridge} 0x20 4']:
-        type_line(browser, line)
+    browser.type_lines([words[0].replace('00:02.0', card), f'host cr {bridge} 0x18 4', f'host cr {bridge} 0x20 4'])
     base = reads(browser, f'host cr {card} 0x10 4')
-    type_line(browser, words[1].replace('ADDRESS', hex(base)))
+    browser.type_line(words[1].replace('ADDRESS', hex(base)))
 
 
 def number_a_bridge(browser, words, hint):
-    for line in [words[1], hint[0], hint[0].replace('0x19', '0x1a')]:
-        type_line(browser, line)
-    type_line(browser, f"host cr {number_of(browser, 'network')} 0 4")
+    browser.type_lines([words[1], hint[0], hint[0].replace('0x19', '0x1a')])
+    browser.type_line(f"host cr {number_of(browser, 'network')} 0 4")
 
 
 def size_a_region(browser, words, hint):
     sizes = []
     for number, offset in [(words[0], '0x10'), (words[0], '0x14'), (words[1], '0x24')]:
-        write, read = [line.replace(words[0], number).replace('0x10', offset) for line in hint]
-        type_line(browser, write)
-        sizes.append((~(reads(browser, read) & ~15) & 0xffffffff) + 1)
+        sent, back = [line.replace(words[0], number).replace('0x10', offset) for line in hint]
+        browser.type_line(sent)
+        sizes.append((~(reads(browser, back) & ~15) & 0xffffffff) + 1)
     writes(browser, '2.0/0.0', ('bar0', 'base', '0xc0000000'))
     writes(browser, '2.0/1.0', ('bar5', 'base', hex(0xc0000000 + sizes[0])))
 
@@ -70,18 +66,18 @@ MENDED = [('2.0', ('Memory', 'last', '0xc03fffff')), ('3.0', ('Memory', 'first',
 
 def find_what_is_wrong(browser, words, hint):
     for nth, fields in enumerate(MENDED):
-        holds(f'firmware {nth + 1} has something wrong', browser.run(AUDIT) != [], browser.run(AUDIT))
-        if browser.run("document.querySelector('#tree .lost') !== null"):
-            browser.run("document.querySelector('#tree .lost').click()")
-            holds('a function that is not found tells of its bridge', 'the bridge above it' in text_of(browser, 'asked'), text_of(browser, 'asked'))
+        holds(f'firmware {nth + 1} has something wrong', browser.count_of('#audit li') > 0)
+        if browser.count_of('#tree .lost') > 0:
+            browser.click('#tree .lost')
+            contains('a function that is not found tells of its bridge', browser.text_of('asked'), 'the bridge above it')
         if fields is None:
-            browser.run("document.querySelector('#audit button').click()")
-            switches(browser, browser.run("document.getElementById('chosen').value"), 'Memory space')
+            browser.click('#audit button')
+            switches(browser, browser.value_of('chosen'), 'Memory space')
         else:
             writes(browser, *fields)
-        holds(f'firmware {nth + 1} is mended', browser.run(STATE) == 'Done.', browser.run(AUDIT))
+        holds(f'firmware {nth + 1} is mended', browser.text_of('task_state') == 'Done.', browser.texts_of('#audit li'))
         if nth + 1 < len(MENDED):
-            browser.run("document.getElementById('next').click()")
+            browser.click('#next')
 
 
 def make_the_board_ready(browser, words, hint):
@@ -90,25 +86,24 @@ def make_the_board_ready(browser, words, hint):
     writes(browser, '2.0/1.0', ('bar5', 'base', '0xc0020000'))
     writes(browser, '1.0', ('bar0', 'base', '0x2000'))
     open_a_window(browser, words, hint)
-    for path, names in [('2.0/0.0', ['I/O space', 'Memory space']), ('2.0/1.0', ['Memory space']), ('1.0', ['I/O space'])]:
-        switches(browser, path, *names)
+    switches(browser, '2.0/0.0', 'I/O space', 'Memory space')
+    switches(browser, '2.0/1.0', 'Memory space')
+    switches(browser, '1.0', 'I/O space')
 
 
 def write_to_a_neighbour(browser, words, hint):
     place, opens, own, other = hint[:4]
     as_store = [line.replace('web', 'store') for line in (place.replace('0x10 ', '0x24 '), opens)]
-    for line in ['host guests', place, opens, own, 'store mr 0x80000010 4', other, *as_store, other]:
-        type_line(browser, line)
+    browser.type_lines(['host guests', place, opens, own, 'store mr 0x80000010 4', other, *as_store, other])
 
 
 def move_a_function(browser, words, hint):
-    for line in [*hint, 'store mr 0x90000010 4', 'host mr 0xc0000010 4']:
-        type_line(browser, line)
+    browser.type_lines([*hint, 'store mr 0x90000010 4', 'host mr 0xc0000010 4'])
 
 
 def an_address_above_4_gb(browser, words, hint):
     for offset in ['0x18', '0x1c']:
-        type_line(browser, f'host cw {words[0]} {offset} 4 0xffffffff')
+        browser.type_line(f'host cw {words[0]} {offset} 4 0xffffffff')
         reads(browser, f'host cr {words[0]} {offset} 4')
     writes(browser, '2.0/0.0', ('bar2', 'base', words[2]))
     writes(browser, '2.0', ('Prefetchable', 'first', words[2]), ('Prefetchable', 'last', hex(int(words[2], 16) + 0xffffff)))
@@ -117,15 +112,13 @@ def an_address_above_4_gb(browser, words, hint):
 
 
 def two_bridges_one_number(browser, words, hint):
-    type_line(browser, f'host cr {words[0]} 0 4')
-    type_line(browser, words[2])
+    browser.type_lines([f'host cr {words[0]} 0 4', words[2]])
     writes(browser, '3.0', ('Buses', 'Secondary', '2'), ('Buses', 'Subordinate', '2'))
-    type_line(browser, hint[-1])
+    browser.type_line(hint[-1])
 
 
 def a_guest_moves_live(browser, words, hint):
-    for line in [hint[1], hint[2], hint[3], 'host mr 0xc0000010 4', words[-1], hint[-1]]:
-        type_line(browser, line)
+    browser.type_lines([hint[1], hint[2], hint[3], 'host mr 0xc0000010 4', words[-1], hint[-1]])
 
 
 LESSONS = [read_a_board, number_a_bridge, size_a_region, open_a_window, find_what_is_wrong, make_the_board_ready, write_to_a_neighbour, move_a_function,
@@ -133,17 +126,17 @@ LESSONS = [read_a_board, number_a_bridge, size_a_region, open_a_window, find_wha
 
 
 def all_lessons_are_done(browser, page):
-    for width, scheme in LOOKS:
+    for width, scheme in product([1400, 400], ['light', 'dark']):
         browser.open(page, width, 900, scheme)
         browser.run('localStorage.clear()')
         browser.open(page, width, 900, scheme)
         for nth, act in enumerate(LESSONS):
             browser.run(f"document.querySelectorAll('#steps button')[{nth}].click()")
-            act(browser, browser.run(CODES % 'task_text'), browser.run(CODES % 'hint_text'))
+            act(browser, browser.texts_of('#task_text code'), browser.texts_of('#hint_text code'))
             where = f'lesson {nth + 1} in the {scheme} theme at {width} pixels'
-            holds(f'{where} is done by what the page says', browser.run(STATE) == 'Done.', text_of(browser, 'goals') + text_of(browser, 'lacks'))
+            holds(f'{where} is done by what the page says', browser.text_of('task_state') == 'Done.', browser.text_of('goals') + browser.text_of('lacks'))
             holds(f'{where} fits', browser.run(FITS))
-        holds('all are done', text_of(browser, 'progress').startswith('11 of 11 done'), text_of(browser, 'progress'))
+        begins('all are done', browser.text_of('progress'), '11 of 11 done')
         browser.run('localStorage.clear()')
 
 
@@ -154,7 +147,7 @@ NEEDED = [['0x18', '0x20', '0x10'], ['0x19', '0x1a'], ['0x10', '0x14', '0x24'], 
 def texts_say_what_lines_need(browser, page):
     for name, needed in zip(['read', 'number', 'size', 'window'], NEEDED):
         browser.open(f'{page}#lesson={name}', 1280, 720)
-        holds(f'the text of {name} says what its lines need', all(one in text_of(browser, 'task_text') for one in needed), text_of(browser, 'task_text'))
+        contains(f'the text of {name} says what its lines need', browser.text_of('task_text'), *needed)
 
 
 ALL = [all_lessons_are_done, texts_say_what_lines_need]

@@ -5,12 +5,13 @@ import os
 import shutil
 import subprocess
 import sys
-import time
+
+from reader import Reader
 
 CODES = {'Tab': 9, 'Enter': 13, 'Escape': 27, 'ArrowLeft': 37, 'ArrowUp': 38, 'ArrowRight': 39, 'ArrowDown': 40, 'F2': 113, 'F4': 115, 'F8': 119, 'F9': 120, '+': 187}
 
 
-class Browser:
+class Browser(Reader):
     """Chromium's own protocol, over two pipes."""
 
     def __init__(self, room):
@@ -61,24 +62,20 @@ class Browser:
         answer = self.ask('Runtime.evaluate', expression=script, returnByValue=True, awaitPromise=True)
         return answer['result'].get('value', answer.get('exceptionDetails'))
 
-    def open(self, address, width=1100, height=1000, scheme='light'):
+    def go(self, address, width, height, scheme):
         self.ask('Emulation.setDeviceMetricsOverride', width=width, height=height, deviceScaleFactor=1, mobile=False)
         self.ask('Emulation.setEmulatedMedia', features=[{'name': 'prefers-color-scheme', 'value': scheme}])
-        self.ask('Page.navigate', url='about:blank')
-        self.ask('Page.navigate', url=address)
-        for _ in range(1200):
-            if self.run("document.readyState === 'complete' && document.getElementById('verdict')?.textContent !== ''") is True:
-                return
-            time.sleep(0.05)
-        sys.exit(f'{address} does not come up')
+        for one in ('about:blank', address):
+            self.ask('Page.navigate', url=one)
 
     def insert(self, text):
         self.ask('Input.insertText', text=text)
 
-    def press(self, key):
-        how = {'key': key, 'code': key, 'windowsVirtualKeyCode': CODES[key]}
-        self.ask('Input.dispatchKeyEvent', type='keyDown', **how, **({'text': '\r'} if key == 'Enter' else {}))
-        self.ask('Input.dispatchKeyEvent', type='keyUp', **how)
+    def press(self, *keys):
+        for key in keys:
+            how = {'key': key, 'code': key, 'windowsVirtualKeyCode': CODES[key]}
+            self.ask('Input.dispatchKeyEvent', type='keyDown', **how, **({'text': '\r'} if key == 'Enter' else {}))
+            self.ask('Input.dispatchKeyEvent', type='keyUp', **how)
 
     def mouse(self, x, y, click=False):
         for kind in ['mouseMoved', *(['mousePressed', 'mouseReleased'] if click else [])]:

@@ -8,6 +8,8 @@ import subprocess
 import sys
 import time
 
+from reader import Reader
+
 PREFERENCES = {'browser.shell.checkDefaultBrowser': False, 'datareporting.policy.dataSubmissionEnabled': False, 'app.update.enabled': False,
                'browser.startup.page': 0, 'widget.gtk.overlay-scrollbars.enabled': False, 'toolkit.telemetry.enabled': False, 'marionette.port': 0}
 KEYS = {'Enter': '\ue007', 'Escape': '\ue00c', 'ArrowRight': '\ue014', 'ArrowDown': '\ue015', 'ArrowUp': '\ue013', 'ArrowLeft': '\ue012',
@@ -18,7 +20,7 @@ PLACE = """const [width, height, dark] = arguments; const one = gBrowser.selecte
   Services.prefs.setIntPref('layout.css.prefers-color-scheme.content-override', dark ? 0 : 1);"""
 
 
-class Browser:
+class Browser(Reader):
     def __init__(self, room):
         lines = [f'user_pref({json.dumps(name)}, {json.dumps(value)});\n' for name, value in PREFERENCES.items()]
         (pathlib.Path(room) / 'user.js').write_text(''.join(lines))
@@ -70,23 +72,18 @@ class Browser:
         """What an expression is, in the page."""
         return self.ask('WebDriver:ExecuteScript', script=f'return window.eval({json.dumps(script)});', args=[])['value']
 
-    def open(self, address, width=1100, height=1000, scheme='light'):
+    def go(self, address, width, height, scheme):
         self.ask('Marionette:SetContext', value='chrome')
         self.ask('WebDriver:ExecuteScript', script=PLACE, args=[width, height, scheme == 'dark'])
         self.ask('Marionette:SetContext', value='content')
         for one in ('about:blank', address):
             self.ask('WebDriver:Navigate', url=one)
-        for _ in range(1200):
-            if self.run("document.getElementById('verdict')?.textContent !== ''") is True:
-                return
-            time.sleep(0.05)
-        sys.exit(f'{address} does not come up')
 
     def insert(self, text):
         self.run(f"document.execCommand('insertText', false, {json.dumps(text)})")
 
-    def press(self, key):
-        acts = [{'type': kind, 'value': KEYS.get(key, key)} for kind in ('keyDown', 'keyUp')]
+    def press(self, *keys):
+        acts = [{'type': kind, 'value': KEYS.get(key, key)} for key in keys for kind in ('keyDown', 'keyUp')]
         self.ask('WebDriver:PerformActions', actions=[{'type': 'key', 'id': 'keys', 'actions': acts}])
 
     def mouse(self, x, y, click=False):

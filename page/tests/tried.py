@@ -1,8 +1,6 @@
 """What page/tests/browse asks of a page in any browser, and counts."""
-import json
 import pathlib
 import sys
-import time
 
 PAGE = pathlib.Path(__file__).resolve().parent.parent
 TOP = PAGE.parent
@@ -12,96 +10,16 @@ counts = {'passed': 0, 'failed': 0}
 # The sizes of the window, and the one of them that is tried.
 SIZES = [(1440, 900), (1280, 720), (390, 844)]
 tried_at = []
-
-
-def holds(name, good, found=''):
-    counts['passed' if good else 'failed'] += 1
-    if not good:
-        print(f"FAILED{''.join(tried_at)}: {name}: {found}")
-
-
-def text_of(browser, name):
-    return browser.run(f"document.getElementById('{name}').textContent")
-
-
-def at_each_size(browser, page, checks):
-    for width, height in SIZES:
-        tried_at[:] = [f' at {width} by {height}']
-        for check in checks:
-            check(browser, page, (width, height))
-    tried_at.clear()
-
-
-def until(browser, script):
-    for _ in range(400):
-        if browser.run(script) is True:
-            return True
-        time.sleep(0.05)
-    return False
-
-
-def lines_in(script):
-    """The lines of a script, without its remarks."""
-    return [line for line in script.read_text().splitlines() if line and not line.startswith('#')]
-
-
-def seen(browser, find):
-    """Whether an element is whole in the window, with nothing above it: in no part that scrolled away, and behind nothing."""
-    return browser.run(WHOLE % find) is True
-
-
-def type_board(browser, text):
-    """Types a text in place of the board file, and waits until it is set up."""
-    browser.run("document.getElementById('board').focus(); document.getElementById('board').select()")
-    browser.insert(text)
-    browser.run("document.getElementById('board').blur()")
-
-
-def paste(browser, name, text):
-    """Pastes a text, and gives whether the page leaves it to the browser. Firefox takes the text from `data`, Chromium from `clipboardData`."""
-    return browser.run(PASTE % (json.dumps(text), name))
-
-
-def type_line(browser, line):
-    browser.run("document.getElementById('line').focus({ preventScroll: true })")
-    browser.insert(line)
-    browser.press('Enter')
-
-
-def put_mouse(browser, find, across, down, click=False):
-    """Puts the mouse into an element, at a share of its width and so many pixels down."""
-    x, y, width = browser.run(f"(() => {{ const one = document.querySelector('{find}'); one.scrollIntoView({{ block: 'center' }}); "
-                              "const b = one.getBoundingClientRect(); return [b.x, b.y, b.width]; })()")
-    browser.mouse(x + width * across, y + down, click)
-
-
-def said_last(browser, name='said'):
-    return browser.run(f"[...document.querySelectorAll('#transcript .{name}')].at(-1)?.textContent{PLAIN.replace('.', '?.', 1)}")
-
-
-PASTE = """(() => { const data = %s, dataType = 'text/plain', clipboardData = new DataTransfer();
-  clipboardData.setData(dataType, data);
-  return document.getElementById('%s').dispatchEvent(new ClipboardEvent('paste', { data, dataType, clipboardData, bubbles: true, cancelable: true })); })()"""
-
-FIELD = """(() => { const set = [...document.querySelectorAll('#fields fieldset')].find(one => one.textContent.startsWith('%s'));
-  return [...set.querySelectorAll('label')].find(one => one.textContent.trim() === '%s').querySelector('input'); })()"""
-
-
-# Writes a field of the selected function by keys.
-def write_field(browser, group, name, value):
-    browser.run(f'{FIELD % (group, name)}.focus(); {FIELD % (group, name)}.select()')
-    browser.insert(value)
-    browser.press('Enter')
-
-
-WHOLE = """(() => { const one = document.querySelector('%s'), box = one.getBoundingClientRect();
-  const at = [[0.5, 0.5], [0.1, 0.2], [0.9, 0.8]].map(([x, y]) => document.elementFromPoint(box.left + x * box.width, box.top + y * box.height));
-  return box.height > 0 && box.top >= 0 && box.bottom <= innerHeight && at.every(found => one.contains(found)); })()"""
-
+# The widths at which nothing may be cut, and the looks of which a screenshot is left: each with its size and theme.
+WIDTHS = [1400, 1100, 700, 400]
+LOOKS = [('wide', 1400, 2000, 'light'), ('dark', 1400, 2000, 'dark'), ('narrow', 400, 2600, 'light'), ('narrow_dark', 400, 2600, 'dark')]
+# The last reply, which is a button if one can ask why.
+LAST = "[...document.querySelectorAll('#transcript button.reply')].at(-1)"
+# The range that the bar of memory shows.
+RANGE = "document.querySelector('[data-space=mem] .title span:nth-child(2)').textContent"
 # Elements that reach past the right edge, outside those that scroll or draw themselves.
 CUT = """[...document.querySelectorAll('body *')].filter(one => { const box = one.getBoundingClientRect();
   return box.width > 0 && box.right > document.documentElement.clientWidth + 0.5 && !one.closest('.text, svg, #last'); }).map(one => `${one.tagName} ${one.className} ${one.id}`)"""
-
 # The least contrast of the texts of the page, as the browser paints them, and of the fill of regions with the page.
 PAINTED = """(() => {
   const pen = Object.assign(document.createElement('canvas'), { width: 1, height: 1 }).getContext('2d', { willReadFrequently: true });
@@ -116,11 +34,75 @@ PAINTED = """(() => {
   const fills = [...document.querySelectorAll('.fill')].map(one => ratio(light(getComputedStyle(one).fill), light(getComputedStyle(document.body).backgroundColor)));
   return [Math.min(...texts), Math.min(...fills)];
 })()"""
-
-# Numbers in front of paths, which the page adds to the library's texts.
-PLAIN = r".replace(/[0-9a-f]{2}:[0-9a-f]{2}\.[0-7] \(([\d./]+)\)/g, '$1')"
-
+# The registers whose bits are shown.
+BITS = '#bits .of_bits'
+# The stops of a cycle on its way.
+STOPS = "[...document.querySelectorAll('#way li')].map(one => one.firstChild.textContent + [...one.children].map(each => each.textContent).join('; '))"
 # What guests open, as the page draws it.
 MAPS = "[...document.querySelectorAll('.joined')].map(one => one.getAttribute('aria-label'))"
 # Whether the head of a part is in the window.
 SEEN = "(() => { const b = document.getElementById('%s').getBoundingClientRect(); return b.top >= 0 && b.top < innerHeight - 60; })()"
+
+
+def holds(name, good, found=''):
+    counts['passed' if good else 'failed'] += 1
+    if not good:
+        print(f"FAILED{''.join(tried_at)}: {name}: {found}")
+
+
+def equals(name, found, wanted):
+    holds(name, type(found) is type(wanted) and found == wanted, found)
+
+
+def begins(name, found, wanted):
+    holds(name, found.startswith(wanted), found)
+
+
+def ends(name, found, wanted):
+    holds(name, found.endswith(wanted), found)
+
+
+def contains(name, found, *parts):
+    holds(name, all(part in found for part in parts), found)
+
+
+def nothing_is_cut(browser, page, what, link, act=lambda: None):
+    for width in WIDTHS:
+        browser.open(f'{page}#{link}', width, 800)
+        act()
+        equals(f'nothing of {what} is cut at {width} pixels', browser.run(CUT), [])
+
+
+def is_painted_well(browser, what):
+    """Holds that small text, and regions if there are some, stand out from what is below them."""
+    text, region = browser.run(PAINTED)
+    holds(f'{what}: small text is painted with 4.5:1 or more', text >= 4.5, text)
+    holds(f'{what}: regions are painted with 3:1 or more', region is None or region >= 3, region)
+
+
+def at_each_size(browser, page, checks):
+    for width, height in SIZES:
+        tried_at[:] = [f' at {width} by {height}']
+        for check in checks:
+            check(browser, page, (width, height))
+            browser.run('localStorage.clear()')
+    tried_at.clear()
+
+
+def lines_in(script):
+    """The lines of a script, without its remarks."""
+    return [line for line in script.read_text().splitlines() if line and not line.startswith('#')]
+
+
+def answers(browser, name, line, reply):
+    """Types a line, and holds that this is its reply."""
+    browser.type_line(line)
+    equals(name, browser.said_last('reply'), reply)
+
+
+def set_up(primary=0):
+    """The lines by which firmware sets up the main board."""
+    writes = [('00:01', '0x10', '0x1000'), ('00:01', '0x14', '0xd0000000'), ('00:01', 4, 3), ('00:02', '0x18', hex(0x10100 + primary)), ('00:02', '0x1c', '0x3030'),
+              ('00:02', '0x20', '0xd110d110'), ('00:02', '0x24', '0xd2f0d200'), ('00:02', 4, 3), ('01:00', '0x10', '0xd1100000'), ('01:00', '0x14', '0x3010'),
+              ('01:00', 4, 3), ('01:01', '0x10', '0xd2000000'), ('01:01', 4, 2)]
+    return [f'host cw {place}.0 {offset} 4 {value}' for place, offset, value in writes]
