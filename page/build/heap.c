@@ -104,27 +104,21 @@ wide __ashlti3(wide a, int by) {
     return (wide)shifted.all;
 }
 
-wide __lshrti3(wide a, int by) {
-    union halves x = {(unsigned_wide)a}, shifted = x;
+/* Shifted right, with the bits that come in from above. */
+static wide shifted_right(wide a, int by, word above) {
+    union halves x = {(unsigned_wide)a};
     if (by >= 64) {
-        shifted.half.low = x.half.high >> (by - 64);
-        shifted.half.high = 0;
-    } else if (by) {
-        shifted.half.low = x.half.low >> by | x.half.high << (64 - by);
-        shifted.half.high = x.half.high >> by;
+        x.half.low = x.half.high;
+        x.half.high = above;
+        by -= 64;
     }
-    return (wide)shifted.all;
+    if (by) {
+        x.half.low = x.half.low >> by | x.half.high << (64 - by);
+        x.half.high = x.half.high >> by | above << (64 - by);
+    }
+    return (wide)x.all;
 }
 
-wide __ashrti3(wide a, int by) {
-    union halves x = {(unsigned_wide)a}, shifted = x;
-    long high = (long)x.half.high;
-    if (by >= 64) {
-        shifted.half.low = (word)(high >> (by - 64));
-        shifted.half.high = (word)(high >> 63);
-    } else if (by) {
-        shifted.half.low = x.half.low >> by | x.half.high << (64 - by);
-        shifted.half.high = (word)(high >> by);
-    }
-    return (wide)shifted.all;
-}
+wide __lshrti3(wide a, int by) { return shifted_right(a, by, 0); }
+
+wide __ashrti3(wide a, int by) { return shifted_right(a, by, a < 0 ? -1UL : 0); }
