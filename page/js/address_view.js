@@ -154,15 +154,12 @@ export class Addresses {
   }
 
   title(space, spans, range, aperture) {
-    const title = make('div', 'title'), buttons = make('span', 'buttons'), size = range[1] - range[0] + 1n;
-    title.append(make('span', '', NAMES[space]), make('span', 'range', `${hex(range[0])} to ${hex(range[1])}, ${size_in_words(size)}`
-      + ` of the aperture's ${size_in_words(aperture[1] - aperture[0] + 1n)}`), buttons);
-    const out = [most(range[0] - size / 2n, aperture[0]), least(range[1] + size / 2n, aperture[1])];
-    for (const [name, words, act] of [['−', 'Zoom out', () => this.zoom(space, out)], ['+', 'Zoom in', () => this.zoom_in(space, spans, range)],
-      ['Fit', 'Show what is used', () => this.zoom(space, null)], ['All', 'Show the whole aperture', () => this.zoom(space, aperture)]]) {
-      buttons.append(Object.assign(make_button(name, act, '', `${words}, ${NAMES[space]}`), { title: words }));
-    }
-    return title;
+    const size = range[1] - range[0] + 1n, out = [most(range[0] - size / 2n, aperture[0]), least(range[1] + size / 2n, aperture[1])];
+    const acts = [['−', 'Zoom out', () => this.zoom(space, out)], ['+', 'Zoom in', () => this.zoom_in(space, spans, range)],
+      ['Fit', 'Show what is used', () => this.zoom(space, null)], ['All', 'Show the whole aperture', () => this.zoom(space, aperture)]];
+    const buttons = acts.map(([name, words, act]) => Object.assign(make_button(name, act, '', `${words}, ${NAMES[space]}`), { title: words }));
+    const told = `${hex(range[0])} to ${hex(range[1])}, ${size_in_words(size)} of the aperture's ${size_in_words(aperture[1] - aperture[0] + 1n)}`;
+    return make('div', 'title', make('span', '', NAMES[space]), make('span', 'range', told), make('span', 'buttons', ...buttons));
   }
 
   // How a bar maps addresses to places: its range, between two gutters where firmware drives the board.

@@ -1,6 +1,6 @@
 // A board from reset on, as firmware sees it: where functions are found, what they open, what is wrong and what is lacking.
 
-import { TO_BYTES, TO_TEXT } from './engine.js';
+import { TO_BYTES } from './engine.js';
 import { hex, parent_of, two_digits } from './report.js';
 import { keeping_latch } from './asked.js';
 import { UNNUMBERED } from './names.js';

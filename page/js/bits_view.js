@@ -28,9 +28,8 @@ function box_of({ bit, on, kind }, name) {
 function boxes_of(bits, names) {
   const row = make('div', 'boxes');
   for (let at = 0; at < bits.length; at += NIBBLE) {
-    const group = make('span', 'nibble'), those = bits.slice(at, at + NIBBLE);
-    group.append(make('small', '', `${those[0].bit}`), ...those.map(one => box_of(one, names.get(one.bit))));
-    row.append(group);
+    const those = bits.slice(at, at + NIBBLE);
+    row.append(make('span', 'nibble', make('small', '', `${those[0].bit}`), ...those.map(one => box_of(one, names.get(one.bit)))));
   }
   return row;
 }
@@ -81,18 +80,15 @@ export class Bits {
   }
 
   row_of(register, value, names) {
-    const row = make('div', 'of_bits'), bits = bits_of_register(register, value);
-    const told = make('span', 'unit', `${register.name}, ${hex(register.offset)}: ${digits(value_of(bits), register.width)}`);
-    row.append(told, boxes_of(bits, names));
+    const bits = bits_of_register(register, value), told = `${register.name}, ${hex(register.offset)}: ${digits(value_of(bits), register.width)}`;
+    const row = make('div', 'of_bits', make('span', 'unit', told), boxes_of(bits, names));
     row.setAttribute('role', 'img');
-    row.setAttribute('aria-label', `${told.textContent}, in bits ${bits.map(one => (one.on ? 1 : 0)).join('')}`);
+    row.setAttribute('aria-label', `${told}, in bits ${bits.map(one => (one.on ? 1 : 0)).join('')}`);
     return row;
   }
 
   key() {
-    const key = make('p', 'hint');
-    for (const [kind, words] of Object.entries(KINDS)) key.append(make('span', `bit ${kind}`, '\u00a0'), ` ${words}\u2003`);
-    return key;
+    return make('p', 'hint', ...Object.entries(KINDS).flatMap(([kind, words]) => [make('span', `bit ${kind}`, '\u00a0'), ` ${words}\u2003`]));
   }
 
   in_words(form, registers) {

@@ -1,12 +1,13 @@
 // The tree of buses and the table of functions. Buses fold, and a large board begins folded.
 
 import { hex, parent_of, size_in_words } from './report.js';
-import { badge, colour, make, make_button, mark_of, owner_in_words, sign } from './marks.js';
+import { badge, colour, head_of, make, make_button, mark_of, named_row, owner_in_words, sign, when_pointed } from './marks.js';
 import { number_shown, UNNUMBERED, with_numbers } from './names.js';
 import { same_list, same_owners } from './same.js';
 
 export const LARGE = 64;
 const MANY = 12, TOLD = 8;
+const COLUMNS = ['Number', 'Guest', 'Path', 'Class and identity', 'Regions and windows', 'Interrupt'];
 
 // What a function holds, part by part, except regions whose being disabled is already told as left to do.
 export function places_of(one, lacks = []) {
@@ -22,19 +23,15 @@ export function places_of(one, lacks = []) {
 // The first of many texts, and how many more there are.
 const few_of = texts => (texts.length > TOLD ? [...texts.slice(0, TOLD), `${texts.length - TOLD} more`] : texts);
 
-// A sign with how many texts it stands for.
-function sign_of(name, seen, meaning, texts) {
-  const one = make('b', name);
-  one.append(...sign(texts.length === 1 ? seen : `${seen} ${texts.length}`, ` ${meaning}: ${texts.length} `));
-  return one;
+// A sign with how many texts it stands for, if any.
+function signs_of(name, seen, meaning, texts) {
+  if (texts.length === 0) return [];
+  return [make('b', name, ...sign(texts.length === 1 ? seen : `${seen} ${texts.length}`, ` ${meaning}: ${texts.length} `))];
 }
 
 // The path, which no other function has and a line may end in behind each bridge, and the identity.
 function small_of({ path, identity }) {
-  const small = make('small', ''), shown = make('span', 'path');
-  shown.append(...path.split(/(?<=\/)/).flatMap(step => [step, document.createElement('wbr')]));
-  small.append(shown, ' ', identity);
-  return small;
+  return make('small', '', make('span', 'path', ...path.split(/(?<=\/)/).flatMap(step => [step, make('wbr')])), ' ', identity);
 }
 
 // Two buses may have one number, but for all that have none.
@@ -43,11 +40,7 @@ function bus_in_table({ bus, path }) {
   return bus === UNNUMBERED || above === '' ? `bus ${bus}` : `bus ${bus} behind ${above}`;
 }
 
-function line_of(name, seen, meaning, text) {
-  const one = make('div', name);
-  one.append(...sign(`${seen} `, `${meaning}: `), text);
-  return one;
-}
+const line_of = (name, seen, meaning, text) => make('div', name, ...sign(`${seen} `, `${meaning}: `), text);
 
 // Whether a table that is drawn is as it would be drawn again. What the last line changed isn't in it.
 function table_is_as_drawn(one, other) {
@@ -64,12 +57,8 @@ export class Board {
 
   // The texts that name a function, by its path: as wrong, as lacking something, as a cause of what was asked, and as changed by the last line.
   draw(functions, owners, marks, { troubles, lacks, causes, changes }) {
-    Object.assign(this, { functions, owners, marks, troubles, lacks, causes, changes, below: new Map(), behind: new Map() });
-    for (const one of functions) {
-      const parent = parent_of(one.path);
-      if (!this.below.has(parent)) this.below.set(parent, []);
-      this.below.get(parent).push(one);
-    }
+    const below = Map.groupBy(functions, one => parent_of(one.path));
+    Object.assign(this, { functions, owners, marks, troubles, lacks, causes, changes, below, behind: new Map() });
     this.redraw();
   }
 
@@ -88,24 +77,20 @@ export class Board {
   }
 
   bus_of(parent, name) {
-    const bus = make('div', 'bus'), on = make('div', 'on'), all = this.below.get(parent) ?? [];
-    const few = all.length > MANY * 2 && !this.whole.has(parent) ? all.slice(0, MANY) : all;
-    on.append(...few.map(one => this.function_of(one)));
+    const all = this.below.get(parent) ?? [], few = all.length > MANY * 2 && !this.whole.has(parent) ? all.slice(0, MANY) : all;
+    const on = make('div', 'on', ...few.map(one => this.function_of(one))), rail = make('div', 'rail', `bus ${name}`);
     if (all.length > MANY * 2) {
       const words = few === all ? 'show fewer' : `${all.length - MANY} more`;
       const more = make_button(words, () => this.turn(this.whole, parent, `[data-more="${parent}"]`), 'fold', `bus ${name}: ${words}`);
       more.dataset.more = parent;
       on.append(more);
     }
-    const rail = make('div', 'rail', `bus ${name}`);
     if (name === UNNUMBERED) rail.title = `This bus has no number: Secondary of ${parent}, the bridge before it, is 00`;
-    bus.append(rail, on);
-    return bus;
+    return make('div', 'bus', rail, on);
   }
 
   function_of(one) {
-    const row = make('div', 'function');
-    row.append(this.chip_of(one));
+    const row = make('div', 'function', this.chip_of(one));
     if (one.kind !== 'bridge') return row;
     const open = this.is_open(one.path), count = (this.below.get(one.path) ?? []).length;
     const fold = make_button(open ? '−' : `+${count}`, () => this.turn(this.turned, one.path, `[data-fold="${one.path}"]`), 'fold',
@@ -142,18 +127,15 @@ export class Board {
     chip.tabIndex = 0;
     if (one.kind === 'bridge') chip.classList.add('bridge');
     else { colour(chip, mark); chip.append(badge(mark)); }
-    const signs = make('span', 'signs');
-    signs.append(...(troubles.length > 0 ? [sign_of('bang', '!', 'wrong', troubles)] : []),
-      ...(lacks.length > 0 ? [sign_of('lack', '○', 'left to do', lacks)] : []), ...(causes.length > 0 ? [sign_of('cause', '?', 'why', causes)] : []),
-      ...(changes.length > 0 ? [sign_of('change', 'Δ', 'changed', changes)] : []));
+    const signs = make('span', 'signs', ...signs_of('bang', '!', 'wrong', troubles), ...signs_of('lack', '○', 'left to do', lacks),
+      ...signs_of('cause', '?', 'why', causes), ...signs_of('change', 'Δ', 'changed', changes));
     chip.append(`${number_shown(one)} ${one.words}`, signs, small_of(one));
     chip.classList.toggle('troubled', troubles.length > 0);
     chip.classList.toggle('lost', Boolean(one.lost));
     chip.classList.toggle('changed', changes.length > 0);
     if (this.chosen !== null) this.let_choose(chip, one);
     const tell = said => { this.parts.told.textContent = said ? words.join('; ') : ''; this.light(said ? one.path : null); };
-    for (const event of ['focus', 'pointerenter']) chip.addEventListener(event, () => tell(true));
-    for (const event of ['blur', 'pointerleave']) chip.addEventListener(event, () => tell(false));
+    when_pointed(chip, () => tell(true), () => tell(false));
     return chip;
   }
 
@@ -171,38 +153,27 @@ export class Board {
     const now = { functions, owners: new Map(owners), marks, troubles, lacks, causes, turned: [...this.turned].join() };
     if (this.tabled !== null && table_is_as_drawn(now, this.tabled)) return;
     this.tabled = now;
-    const names = ['Number', 'Guest', 'Path', 'Class and identity', 'Regions and windows', 'Interrupt'], head = make('tr', '');
-    head.append(...names.map(name => make('th', '', name)));
-    const buses = new Map();
-    for (const one of this.functions) {
-      const key = bus_in_table(one);
-      buses.set(key, [...(buses.get(key) ?? []), one]);
-    }
-    const groups = [...buses].flatMap(([key, all]) => {
-      const open = this.is_open(key), row = make('tr', 'group'), cell = make('td', '');
+    const groups = [...Map.groupBy(functions, bus_in_table)].flatMap(([key, all]) => {
+      const open = this.is_open(key);
       const fold = make_button(`${open ? '−' : '+'} ${key}: ${all.length}`, () => this.turn(this.turned, key, `[data-fold="${key}"]`), 'fold',
         `${open ? 'Fold' : 'Unfold'} ${key} of the table`);
       fold.dataset.fold = key;
       fold.setAttribute('aria-expanded', open);
-      cell.colSpan = names.length;
-      cell.append(fold);
-      row.append(cell);
-      return [row, ...(open ? all.map(one => this.row_of(one, names)) : [])];
+      const cell = Object.assign(make('td', '', fold), { colSpan: COLUMNS.length });
+      return [make('tr', 'group', cell), ...(open ? all.map(one => this.row_of(one)) : [])];
     });
-    this.parts.table.replaceChildren(head, ...groups);
+    this.parts.table.replaceChildren(head_of(COLUMNS), ...groups);
   }
 
-  row_of(one, names) {
-    const row = make('tr', ''), owner = this.owners.get(one.path), held = make('td', ''), taken = make('td', 'owner');
-    row.dataset.path = one.path;
+  row_of(one) {
+    const owner = this.owners.get(one.path), lacks = this.lacks.get(one.path) ?? [], taken = make('td', 'owner');
     const [troubles, said_lacks, causes] = [this.troubles, this.lacks, this.causes].map(texts => (texts.get(one.path) ?? []).map(text => with_numbers(text, this.functions)));
-    const lacks = this.lacks.get(one.path) ?? [];
-    held.append(...troubles.map(text => line_of('wrong', '!', 'wrong', text)), ...said_lacks.map(text => line_of('lacks', '○', 'left to do', text)),
-      ...causes.map(text => line_of('causes', '?', 'why', text)));
-    for (const place of places_of(one, lacks)) held.append(make('div', '', place));
+    const held = make('td', '', ...troubles.map(text => line_of('wrong', '!', 'wrong', text)), ...said_lacks.map(text => line_of('lacks', '○', 'left to do', text)),
+      ...causes.map(text => line_of('causes', '?', 'why', text)), ...places_of(one, lacks).map(place => make('div', '', place)));
     if (one.kind !== 'bridge') taken.append(badge(mark_of(owner, this.marks)), owner ? `${owner.guest}, slot\u00a0${owner.slot}` : 'no guest');
-    row.append(make('td', '', number_shown(one)), taken, make('td', '', one.path), make('td', '', `${one.words} ${one.identity}`), held, make('td', '', one.interrupt));
-    [...row.children].forEach((cell, nth) => { cell.dataset.name = names[nth]; });
+    const [number, path, kind, interrupt] = [number_shown(one), one.path, `${one.words} ${one.identity}`, one.interrupt].map(text => make('td', '', text));
+    const row = named_row(COLUMNS, [number, taken, path, kind, held, interrupt]);
+    row.dataset.path = one.path;
     return row;
   }
 }

@@ -1,7 +1,7 @@
 // The 256 bytes of a function's configuration space, beside its fields: those of a field are marked with it, and those that changed.
 
 import { two_digits } from './report.js';
-import { make, put_text } from './marks.js';
+import { head_of, make, put_text } from './marks.js';
 import { register_at } from './register_names.js';
 
 const ACROSS = 16, HEADER = 64;
@@ -25,14 +25,11 @@ export class Bytes {
   }
 
   build(rows, kind) {
-    const head = make('tr', ''), corner = make('th', '', '0x');
-    head.append(corner, ...Array.from({ length: ACROSS }, (_, nth) => make('th', '', nth.toString(16))));
+    const columns = Array.from({ length: ACROSS }, (_, nth) => nth);
     this.cells = [];
-    this.into.replaceChildren(head, ...rows.map(row => {
-      const line = make('tr', ''), name = make('th', '', two_digits(row * ACROSS));
-      name.scope = 'row';
-      line.append(name, ...Array.from({ length: ACROSS }, (_, nth) => this.cell_of(row * ACROSS + nth, kind)));
-      return line;
+    this.into.replaceChildren(head_of(['0x', ...columns.map(nth => nth.toString(16))]), ...rows.map(row => {
+      const name = Object.assign(make('th', '', two_digits(row * ACROSS)), { scope: 'row' });
+      return make('tr', '', name, ...columns.map(nth => this.cell_of(row * ACROSS + nth, kind)));
     }));
   }
 

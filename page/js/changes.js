@@ -1,8 +1,10 @@
 // What a line changed: what it wrote, and after it numbers, regions, windows and who has a function, each before and after.
 
+import { grouped } from './findings.js';
 import { hex } from './report.js';
 import { called } from './names.js';
 import { number_of, words_in } from './forms.js';
+import { function_named } from './register_in_line.js';
 import { register_at } from './register_names.js';
 import { owner_in_words } from './marks.js';
 
@@ -69,18 +71,13 @@ export function written_by(line, { functions, owners }) {
   const asks = `${[who, reads, ...rest.slice(0, -1)].join(' ')}`;
   if (verb !== 'cw') return { line: asks, path: null, offset: 0, words: `${verb === 'iw' ? 'I/O port' : 'memory'} ${rest[0]}${who === 'host' ? '' : ` of ${who}`}` };
   const [where, offset, width] = rest, [from, bytes] = [offset, width].map(word => Number(number_of(word ?? '') ?? 0n));
-  const is_it = who === 'host' ? one => one.place === where?.toLowerCase() && !one.lost
-    : one => owners.get(one.path)?.guest === who && BigInt(owners.get(one.path).slot) === number_of(where ?? '');
-  const one = functions.find(is_it), titles = new Set(Array.from({ length: bytes }, (_, nth) => register_at(one?.kind ?? 'endpoint', from + nth)?.title ?? 'bytes of its own'));
+  const one = function_named(who, where ?? '', functions.filter(each => !each.lost), owners), titles = new Set(Array.from({ length: bytes }, (_, nth) => register_at(one?.kind ?? 'endpoint', from + nth)?.title ?? 'bytes of its own'));
   return { line: asks, path: one?.path ?? null, called: one && called(one), offset: from, words: [...titles].join(', ') };
 }
 
 // What was changed of each function, in words, by its path.
-export function texts_of_changes(changes) {
-  const texts = new Map();
-  for (const { path, name, before, after } of changes) if (path !== null) texts.set(path, [...(texts.get(path) ?? []), `${name}: ${before}, now ${after}`]);
-  return texts;
-}
+export const texts_of_changes = changes => grouped(changes.filter(({ path }) => path !== null)
+  .map(({ path, name, before, after }) => [path, `${name}: ${before}, now ${after}`]));
 
 // The bytes that are others after a write, by their offsets.
 function offsets_between({ offset, before, after }) {

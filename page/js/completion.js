@@ -2,18 +2,13 @@
 
 import { hex, two_digits } from './report.js';
 import { DOES, form_of, forms_of, number_of, shape_of, words_in } from './forms.js';
+import { function_named } from './register_in_line.js';
 import { register_at, registers_of } from './register_names.js';
 
 // An offer has what is put in, what is told beside it, and the names by which it is found.
 const offer = (text, told, ...names) => ({ text, told, names: [text, ...names] });
 
 const SPACE = { i: 'io', m: 'mem' };
-
-// The function that a line speaks of: by its number, or by a guest's slot.
-function function_in(words, { functions, owners }) {
-  if (words[0].word === 'host') return functions.find(one => one.place.toLowerCase() === words[2].word.toLowerCase());
-  return functions.find(one => owners.get(one.path)?.guest === words[0].word && BigInt(owners.get(one.path).slot) === number_of(words[2].word));
-}
 
 // Registers are also found by any part of their names, and those of a bridge's windows as such.
 const registers_in = kind => registers_of(kind).map(({ name, title, offset, width }) => ({
@@ -24,15 +19,15 @@ const regions_in = (space, { places }, who) => places(who).filter(one => one.spa
 
 // What may stand in the place of a word of a form.
 function offers_for({ name, words: those = [] }, words, board) {
-  const who = words[0].word, verb = words[1].word;
+  const who = words[0].word, verb = words[1].word, spoken_of = () => function_named(who, words[2].word, board.functions, board.owners);
   if (name === 'the function') return board.functions.filter(one => !one.lost).map(one => offer(one.place, `${one.path} ${one.words}`, one.path));
   if (name === 'the slot' && verb !== 'move') {
     return board.functions.filter(one => board.owners.get(one.path)?.guest === who)
       .map(one => offer(`${board.owners.get(one.path).slot}`, `${one.path} ${one.words}`, one.path));
   }
-  if (name === 'the offset' && /^c[rw]$/.test(verb)) return registers_in(function_in(words, board)?.kind ?? 'endpoint');
+  if (name === 'the offset' && /^c[rw]$/.test(verb)) return registers_in(spoken_of()?.kind ?? 'endpoint');
   if (name === 'the width' && /^c[rw]$/.test(verb)) {
-    const one = function_in(words, board), register = one && register_at(one.kind, Number(number_of(words[3].word) ?? 256n));
+    const one = spoken_of(), register = one && register_at(one.kind, Number(number_of(words[3].word) ?? 256n));
     return register ? [offer(`${register.width}`, `bytes of ${register.title}`)] : [];
   }
   if (name === 'the address' || name === 'the port') return regions_in(verb === 'why' ? words[2].word : SPACE[verb[0]], board, who);

@@ -75,8 +75,7 @@ export class Console {
     this.begins(line, true);
     this.said = [...this.said, line];
     if (line.trimStart().startsWith('#')) { this.put('remark', line.trimStart().slice(1).trim()); this.ran(line, ''); return; }
-    const row = this.put('row', '');
-    row.append(make('span', 'said', line));
+    const row = this.put('row', make('span', 'said', line));
     this.ran(line, this.tell(line, this.machine(), row));
   }
 
@@ -128,9 +127,8 @@ export class Console {
   prepare(script, shows) {
     const machine = this.machine(), lines = script.split('\n').filter(line => line.trim() !== '');
     if (machine === null || lines.length === 0) return;
-    const told = `${count_in_words(lines.filter(line => !line.startsWith('#')).length, 'line')} ran before`, before = make(shows ? 'details' : 'div', 'before');
-    before.append(...(shows ? [make('summary', '', told), make('pre', '', lines.join('\n'))] : [told]));
-    this.parts.transcript.append(before);
+    const told = `${count_in_words(lines.filter(line => !line.startsWith('#')).length, 'line')} ran before`;
+    this.parts.transcript.append(shows ? make('details', 'before', make('summary', '', told), make('pre', '', lines.join('\n'))) : make('div', 'before', told));
     for (const line of lines) {
       this.prepared.push(line);
       this.begins(line, false);

@@ -1,8 +1,7 @@
 // The library's module, called from JavaScript: addresses and lengths are BigInts, since its memory has 64-bit addresses.
 
 import { findings_in } from './findings.js';
-import { number_at } from './report.js';
-import { read_json } from './json.js';
+import { number_at, read_json } from './report.js';
 
 const HANDLE = 16;
 const NONE_THERE = 901;

@@ -1,7 +1,11 @@
 // The board file as one edits it: its lines are numbered, and those that a check reports are marked. The board is set up again once one has
 // stopped typing.
 
-import { LARGEST_FILE, too_large } from './limits.js';
+import { make, make_button } from './marks.js';
+
+// How large a file the page takes, and what it says about a larger one.
+export const LARGEST_FILE = 1 << 20;
+export const too_large = bytes => `${(bytes / LARGEST_FILE).toFixed(1)} MB is too large: the page takes board files of up to 1 MB.`;
 
 // Milliseconds without a letter after which one has stopped typing, and how many lines are numbered at once: of a longer file those around what
 // is shown, as all of them take the browser seconds.
@@ -63,13 +67,8 @@ export class FileView {
       const [, line, warning] = /^board\.toml:(\d+):\d+: (warning: )?/.exec(one) ?? [];
       return { one, line: Number(line ?? 0), warns: warning !== undefined };
     }).filter(({ warns }) => !warns || as !== 'firmware');
-    this.parts.check.replaceChildren(...told.map(({ one, line, warns }) => {
-      const item = document.createElement('li'), shown = Object.assign(document.createElement(line === 0 ? 'span' : 'button'), { textContent: one });
-      if (line !== 0) { shown.type = 'button'; shown.addEventListener('click', () => this.go_to(line)); }
-      item.classList.toggle('warns', warns);
-      item.append(shown);
-      return item;
-    }));
+    this.parts.check.replaceChildren(...told.map(({ one, line, warns }) => make('li', warns ? 'warns' : '',
+      line === 0 ? make('span', '', one) : make_button(one, () => this.go_to(line)))));
     const lines_of = what => new Set(told.filter(({ warns }) => warns === what).map(({ line }) => line));
     this.number_lines(lines_of(false), lines_of(true));
     return told.find(({ line }) => line !== 0)?.line ?? null;

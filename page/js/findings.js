@@ -22,19 +22,16 @@ export function findings_in({ problems, lacks }, text) {
   return { problems: all.slice(0, problems.length), lacks: all.slice(problems.length) };
 }
 
+// Texts by the path that each comes with.
+export const grouped = pairs => new Map([...Map.groupBy(pairs, ([path]) => path)].map(([path, those]) => [path, those.map(([, text]) => text)]));
+
 // What was told of findings that are drawn again.
 const TEXTS = new WeakMap();
 
 // Of problems, lacks or causes, the texts that name each function: each text once, also where it names two regions of one function.
 export function texts_by_path(findings) {
   if (TEXTS.has(findings)) return TEXTS.get(findings);
-  const texts = new Map();
-  for (const { text, of } of findings) {
-    for (const path of new Set(of.map(one => one.path))) {
-      if (!texts.has(path)) texts.set(path, []);
-      texts.get(path).push(text);
-    }
-  }
+  const texts = grouped(findings.flatMap(({ text, of }) => [...new Set(of.map(one => one.path))].map(path => [path, text])));
   TEXTS.set(findings, texts);
   return texts;
 }

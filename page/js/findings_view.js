@@ -1,7 +1,7 @@
 // Problems, lacks or the lines of a reply as a list. Each leads to the functions that it names.
 
 import { parent_of } from './report.js';
-import { make, make_button, put_text } from './marks.js';
+import { make, make_button, put_text, when_pointed } from './marks.js';
 import { with_numbers } from './names.js';
 
 export class Findings {
@@ -20,20 +20,16 @@ export class Findings {
     const { all, few, whole } = this;
     this.list.replaceChildren(...(whole ? all : all.slice(0, few)).map(one => this.item_of(one)));
     if (all.length <= few) return;
-    const item = make('li', ''), turn = () => { this.whole = !whole; this.redraw(); this.list.lastChild.firstChild.focus({ preventScroll: true }); };
-    item.append(make_button(whole ? 'show fewer' : `${all.length - few} more`, turn, 'fold'));
-    this.list.append(item);
+    const turn = () => { this.whole = !whole; this.redraw(); this.list.lastChild.firstChild.focus({ preventScroll: true }); };
+    this.list.append(make('li', '', make_button(whole ? 'show fewer' : `${all.length - few} more`, turn, 'fold')));
   }
 
   // A function that isn't found leads to the bridge above it; what names none leads nowhere.
   item_of({ text, of, number }) {
     const said = with_numbers(text, this.functions());
     if (of.length === 0) return make('li', '', said);
-    const item = make('li', this.came.includes(text) ? 'came' : ''), last = of[of.length - 1].path;
-    const button = make_button(said, () => this.choose(number === null ? last : parent_of(last) || last));
-    for (const event of ['focus', 'pointerenter']) button.addEventListener(event, () => this.light(...of.map(one => one.path)));
-    for (const event of ['blur', 'pointerleave']) button.addEventListener(event, () => this.light());
-    item.append(button);
-    return item;
+    const last = of.at(-1).path, button = make_button(said, () => this.choose(number === null ? last : parent_of(last) || last));
+    when_pointed(button, () => this.light(...of.map(one => one.path)), () => this.light());
+    return make('li', this.came.includes(text) ? 'came' : '', button);
   }
 }

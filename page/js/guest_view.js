@@ -2,7 +2,7 @@
 // is drawn in dashes where its registers put it.
 
 import { hex, size_in_words } from './report.js';
-import { badge, make, mark_of } from './marks.js';
+import { badge, head_of, make, mark_of, named_row, when_pointed } from './marks.js';
 import { before_box, ghost_box, region_box, svg, ticks } from './bars.js';
 import { open_among } from './guest_map.js';
 import { question_of } from './why.js';
@@ -78,62 +78,48 @@ function picture({ those, shut, all, were }, scales, marks, width, { tell, ask }
 // A region that Command disables, with its name where no region is open.
 function ghost_of(one, those, scale, top) {
   const x = scale.at(one.first), is_free = those.every(({ first, last }) => last < one.first || one.last < first);
-  const all = ghost_box(x, scale.at(one.last + 1n) - x, top, BAR, is_free ? [`slot ${one.owner.slot} ${one.region.name}`, one.region.name] : [], BAR, ' shut');
+  const names = is_free ? [`slot ${one.owner.slot} ${one.region.name}`, one.region.name] : [];
+  const all = ghost_box(x, scale.at(one.last + 1n) - x, top, BAR, names, BAR, ' shut', svg('title', {}, shut_in_words(one)));
   all.dataset.one = name_of(one);
-  all.append(svg('title', {}, shut_in_words(one)));
   return all;
 }
 
 function joined(one, scales, marks, top, below, { tell, ask }) {
   const a = scales.guest.at(one.first), b = scales.guest.at(one.last + 1n), place = on_board(one);
   const c = scales.board.at(place.first), d = scales.board.at(place.last + 1n), mark = mark_of(one.owner, marks);
-  const all = svg('g', { class: 'joined', tabindex: 0, role: 'button', 'aria-label': in_words(one), 'data-one': name_of(one) });
-  all.style.setProperty('--hue', mark.hue);
-  all.append(svg('path', { d: `M${a} ${top + BAR}L${b} ${top + BAR}L${d} ${below}L${c} ${below}Z`, class: 'link' }),
+  const all = svg('g', { class: 'joined', tabindex: 0, role: 'button', 'aria-label': in_words(one), 'data-one': name_of(one) },
+    svg('path', { d: `M${a} ${top + BAR}L${b} ${top + BAR}L${d} ${below}L${c} ${below}Z`, class: 'link' }),
     region_box(a, b - a, top, BAR, mark, [`slot ${one.owner.slot} ${one.region.name}`, one.region.name]),
     region_box(c, d - c, below, BAR, mark, [`${one.of.place} ${one.region.name}`, one.of.place]));
-  for (const event of ['pointerenter', 'focus']) all.addEventListener(event, () => tell(one));
-  for (const event of ['pointerleave', 'blur']) all.addEventListener(event, () => tell(null));
+  all.style.setProperty('--hue', mark.hue);
+  when_pointed(all, () => tell(one), () => tell(null));
   all.addEventListener('keydown', event => { if (event.key === 'Enter') ask(one.first, name_of(one)); });
   return all;
 }
 
 function table_of(all, marks) {
-  const table = make('table', 'opened');
-  const head = make('tr', '');
   const names = ['Guest', 'Slot', 'Register', "Guest's addresses", "Board's addresses", 'Size'];
-  head.append(...names.map(name => make('th', '', name)));
-  table.append(head, ...all.map(one => {
-    const row = make('tr', ''), guest = make('td', '');
+  return make('table', 'opened', head_of(names), ...all.map(one => {
+    const guest = make('td', '', badge(mark_of(one.owner, marks)), one.owner.guest);
+    const row = named_row(names, [guest, ...[one.owner.slot, `${one.region.name} ${one.region.kind}`, `${hex(one.first)} to ${hex(one.last)}${one.open ? '' : ', disabled'}`,
+      `${hex(one.region.first)} to ${hex(on_board(one).last)}, ${one.of.place}`, size_in_words(one.region.size)].map(text => make('td', '', text))]);
     row.dataset.path = one.of.path;
-    guest.append(badge(mark_of(one.owner, marks)), one.owner.guest);
-    row.append(guest, ...[one.owner.slot, `${one.region.name} ${one.region.kind}`, `${hex(one.first)} to ${hex(one.last)}${one.open ? '' : ', disabled'}`,
-      `${hex(one.region.first)} to ${hex(on_board(one).last)}, ${one.of.place}`, size_in_words(one.region.size)].map(text => make('td', '', text)));
-    [...row.children].forEach((cell, nth) => { cell.dataset.name = names[nth]; });
     return row;
   }));
-  return table;
 }
 
 // What to type where nothing is open: the line that opens the first function of the first guest.
 function hint(owners) {
-  const one = make('p', 'hint'), first = [...owners.values()][0];
-  if (first === undefined) one.append('No guest has a function.');
-  else {
-    one.append('Nothing is enabled: no guest has set a Command bit. ', make('code', '', `${first.guest} cw ${first.slot} 4 2 3`),
-      ` enables the function in slot ${first.slot} of guest ${first.guest}.`);
-  }
-  return one;
+  const [first] = owners.values();
+  if (first === undefined) return make('p', 'hint', 'No guest has a function.');
+  return make('p', 'hint', 'Nothing is enabled: no guest has set a Command bit. ', make('code', '', `${first.guest} cw ${first.slot} 4 2 3`),
+    ` enables the function in slot ${first.slot} of guest ${first.guest}.`);
 }
 
 // The guests that have functions and nothing open, where others have.
 function shut_of(all, owners, marks) {
   const open = new Set(all.map(one => one.owner.guest)), held = new Set([...owners.values()].map(one => one.guest));
-  return [...marks].filter(([guest]) => held.has(guest) && !open.has(guest)).map(([guest, mark]) => {
-    const line = make('div', 'whose');
-    line.append(badge(mark), `guest ${guest}: nothing is enabled`);
-    return line;
-  });
+  return [...marks].filter(([guest]) => held.has(guest) && !open.has(guest)).map(([guest, mark]) => make('div', 'whose', badge(mark), `guest ${guest}: nothing is enabled`));
 }
 
 // `light` is given the path of a function, or null; `question` is what one asks, whose box stands in `below`.
@@ -164,14 +150,14 @@ export class GuestMaps {
   }
 
   figure(space, placed, marks, told, changes) {
-    const width = Math.max(this.width(), 240), figure = make('div', 'space'), all = open_among(placed);
+    const width = Math.max(this.width(), 240), all = open_among(placed);
     const were = changes.filter(({ was, now }) => (was ?? now)?.owner && (was ?? now).space === space);
     const scales = { guest: scale_of([...placed, ...were.flatMap(one => one.was ?? [])], width), board: scale_of(all.map(on_board), width) };
-    figure.append(make('div', 'title', `${SPACES[space]}: in the order of addresses; gaps and sizes are not to scale`));
+    const figure = make('div', 'space', make('div', 'title', `${SPACES[space]}: in the order of addresses; gaps and sizes are not to scale`));
     const tell = one => { told.textContent = one === null ? '' : in_words(one); this.light(one?.of.path ?? null); };
     for (const guest of new Set(placed.map(one => one.owner.guest))) {
-      const line = make('div', 'whose'), own = placed.filter(one => one.owner.guest === guest), shut = own.filter(one => !one.open);
-      line.append(badge(marks.get(guest)), `guest ${guest} above, the board below`);
+      const line = make('div', 'whose', badge(marks.get(guest)), `guest ${guest} above, the board below`);
+      const own = placed.filter(one => one.owner.guest === guest), shut = own.filter(one => !one.open);
       const ask = (address, name) => this.ask(guest, space, address, name);
       const drawn = { those: open_among(own), shut, all, were: were.filter(({ was, now }) => (was ?? now).owner.guest === guest) };
       figure.append(line, picture(drawn, scales, marks, width, { tell, ask }), this.place_of(guest, space));
@@ -195,9 +181,7 @@ export class GuestMaps {
     told.setAttribute('role', 'status');
     const figures = Object.keys(SPACES).map(space => all.filter(one => one.space === space).length > 0
       ? [this.figure(space, all.filter(one => one.space === space), marks, told, changes)] : []).flat();
-    const scroll = make('div', 'scroll few');
-    scroll.tabIndex = 0;
-    scroll.append(table_of(all, marks));
+    const scroll = Object.assign(make('div', 'scroll few', table_of(all, marks)), { tabIndex: 0 });
     const open = open_among(all);
     return [...figures, ...(open.length === 0 ? [] : shut_of(open, owners, marks)), told, scroll];
   }

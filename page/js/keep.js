@@ -22,6 +22,16 @@ export const kilobytes = length => `${Math.max(1, Math.round(length / 1024))} KB
 export const is_too_long = fragment => fragment.length > LONGEST_LINK;
 export const TOO_LONG = `mail and chat programs cut those above ${kilobytes(LONGEST_LINK)}`;
 
+// Milliseconds after which a file is surely being saved.
+const FORGOTTEN = 60000;
+
+// Gives a text to the browser, which saves it as a file.
+export function save_as(name, text, type) {
+  const place = URL.createObjectURL(new Blob([text], { type }));
+  Object.assign(document.createElement('a'), { href: place, download: name }).click();
+  setTimeout(() => URL.revokeObjectURL(place), FORGOTTEN);
+}
+
 // What is handed out of a link: of a page from a disk the fragment alone, since its place is none elsewhere. It can be pasted into any page.
 export const LINK = /^\S*(#(?:kept|task)=[\w.-]+)$/;
 export const link_of = fragment => (location.protocol === 'file:' ? `#${fragment}` : location.href);

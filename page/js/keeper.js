@@ -1,7 +1,7 @@
 // The board goes elsewhere with its state: into a link, into a file, and back from there.
 
-import { fragment_of, is_too_long, kilobytes, LINK, link_of, PASTE, TOO_LONG } from './keep.js';
-import { LARGEST_FILE, too_large } from './limits.js';
+import { fragment_of, is_too_long, kilobytes, LINK, link_of, PASTE, save_as, TOO_LONG } from './keep.js';
+import { LARGEST_FILE, too_large } from './file_view.js';
 import { is_script } from './scripts.js';
 import { count_in_words } from './report.js';
 import { reveal } from './reveal.js';
@@ -9,8 +9,6 @@ import { State } from './state.js';
 import { file_of, parts_of } from './state_file.js';
 
 const FILE_NAME = 'board_with_state.toml', TASK_NAME = 'task.toml';
-// Milliseconds after which a file is surely being saved.
-const FORGOTTEN = 60000;
 // What the image of a machine begins with.
 const MAGIC = 'PCIM';
 
@@ -69,9 +67,8 @@ export class Keeper {
   }
 
   save(kept) {
-    const text = file_of(kept), place = URL.createObjectURL(new Blob([text], { type: 'application/toml' }));
-    Object.assign(document.createElement('a'), { href: place, download: kept.task ? TASK_NAME : FILE_NAME }).click();
-    setTimeout(() => URL.revokeObjectURL(place), FORGOTTEN);
+    const text = file_of(kept);
+    save_as(kept.task ? TASK_NAME : FILE_NAME, text, 'application/toml');
     if (kept.task) return;
     this.tell(`${FILE_NAME} (${kilobytes(text.length)}) holds ${told_of(kept, this.page.is_refused())}. It is a board file to all others too.`);
   }

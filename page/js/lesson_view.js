@@ -8,11 +8,7 @@ const NOTES = ['Show', 'Ask', 'The mistake that students make'];
 
 // A text with code between backticks, and an empty line between paragraphs.
 function paragraphs_of(text) {
-  return text.trim().split(/\n\s*\n/).map(one => {
-    const paragraph = make('p', '');
-    paragraph.append(...one.split('`').map((part, nth) => (nth % 2 === 1 ? make('code', '', part) : part)));
-    return paragraph;
-  });
+  return text.trim().split(/\n\s*\n/).map(one => make('p', '', ...one.split('`').map((part, nth) => (nth % 2 === 1 ? make('code', '', part) : part))));
 }
 
 // Takes its room before it is seen, so that a lesson that is done moves nothing.
@@ -48,13 +44,12 @@ export class LessonView {
     const kept = lessons.progress.keeps ? '' : '. This browser keeps nothing: what is done counts until the page is closed';
     this.parts.progress.textContent = `${done} of ${this.tasks.length} done${kept}`;
     this.parts.steps.replaceChildren(...this.tasks.map((task, nth) => {
-      const item = make('li', ''), is_done = lessons.is_done(task);
+      const is_done = lessons.is_done(task);
       const button = make_button(`${nth + 1}`, () => (task === lessons.task ? this.show() : this.acts.begin(nth)), '', `Lesson ${nth + 1}: ${task.title}${is_done ? ', done' : ''}`);
       button.append(make('span', 'title', ` ${task.title}`), tick_of(is_done));
       button.title = task.title;
       if (task === lessons.task) button.setAttribute('aria-current', 'step');
-      item.append(button);
-      return item;
+      return make('li', '', button);
     }));
     const open = Math.max(this.tasks.findIndex(task => !lessons.is_done(task)), 0);
     this.parts.begin.dataset.nth = open;
@@ -66,11 +61,10 @@ export class LessonView {
     const { task, part } = lessons, nth = this.tasks.indexOf(task), those = task === null ? [] : lessons.parts_of(task);
     this.parts.parts.hidden = those.length === 0;
     this.parts.parts.replaceChildren(...those.map((one, at) => {
-      const item = make('li', ''), button = make_button(one.title, () => this.acts.begin(nth, at), '', `${one.title}${one.done ? ', done' : ''}`);
+      const button = make_button(one.title, () => this.acts.begin(nth, at), '', `${one.title}${one.done ? ', done' : ''}`);
       button.append(tick_of(one.done));
       if (at === part) button.setAttribute('aria-current', 'step');
-      item.append(button);
-      return item;
+      return make('li', '', button);
     }));
   }
 
@@ -87,11 +81,7 @@ export class LessonView {
 
   // Each condition with whether it holds, and what is wrong or lacking where the goal asks for that.
   draw_goal(lessons, rows, done) {
-    this.parts.goals.replaceChildren(...rows.map(({ words, met }) => {
-      const item = make('li', met ? 'met' : '');
-      item.append(...(met ? sign('✓', 'done: ') : sign('○', 'not yet: ')), words);
-      return item;
-    }));
+    this.parts.goals.replaceChildren(...rows.map(({ words, met }) => make('li', met ? 'met' : '', ...(met ? sign('✓', 'done: ') : sign('○', 'not yet: ')), words)));
     const { lacks } = lessons.goals, more = lacks.length > LACKS_SHOWN ? [`${lacks.length - LACKS_SHOWN} more`] : [];
     this.parts.lacks.replaceChildren(...[...lacks.slice(0, LACKS_SHOWN), ...more].map(one => make('li', '', one)));
     this.parts.lacks.hidden = !lessons.goals.wants_ready;

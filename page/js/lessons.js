@@ -1,7 +1,6 @@
 // Tasks: each a board, a state and a goal. Eight stand in the page, and a link may bring another one.
 
 import { Goals } from './goals.js';
-import { Progress } from './progress.js';
 import { LessonView } from './lesson_view.js';
 
 // A task of a link or of what was kept, or null: { title, text, board, as, lines, goal }, all of them texts, and a state or null.
@@ -10,6 +9,27 @@ export function read_task(found) {
   if (typeof found !== 'object' || found === null || names.some(name => typeof found[name] !== 'string')) return null;
   const { as, state } = found;
   return { ...Object.fromEntries(names.map(name => [name, found[name]])), as: as === 'firmware' ? as : 'guests', state: state ?? null, hint: '' };
+}
+
+// Which tasks are done, kept in the browser; where it keeps nothing, as some do for files, as long as the page is open.
+const PROGRESS_KEY = 'pciguest-lessons';
+
+class Progress {
+  constructor() {
+    this.keeps = true;
+    try {
+      const found = JSON.parse(localStorage.getItem(PROGRESS_KEY) ?? '[]');
+      this.done = new Set(Array.isArray(found) ? found.filter(one => typeof one === 'string') : []);
+      localStorage.setItem(PROGRESS_KEY, JSON.stringify([...this.done]));
+    } catch { this.done ??= new Set(); this.keeps = false; }
+  }
+
+  has(name) { return this.done.has(name); }
+
+  add(name) {
+    this.done.add(name);
+    try { localStorage.setItem(PROGRESS_KEY, JSON.stringify([...this.done])); } catch { this.keeps = false; }
+  }
 }
 
 export class Lessons {

@@ -1,10 +1,9 @@
 // The page: its parts, and what happens as one types.
 
 import { Engine } from './engine.js';
-import { apertures_in, counts_in_words, report_in } from './report.js';
+import { apertures_in, counts_in_words, read_json, report_in } from './report.js';
 import { light } from './light.js';
 import { register_in } from './register_in_line.js';
-import { read_json } from './json.js';
 import { class_of } from './classes.js';
 import { draw_key, marks_of } from './marks.js';
 import { patterns } from './bars.js';
@@ -284,11 +283,8 @@ function set_up() {
   board.forget();
   addresses.forget();
   question.forget();
-  if (report.number === 0) {
-    take(report.text, file);
-  } else {
-    tell(true, `${report.number} ${WORDS[report.number] ?? ''}${report.number === NOT_TOML && line !== null ? `; it can't be parsed from line ${line} on` : ''}`);
-  }
+  if (report.number === 0) take(report.text, file);
+  else tell(true, `${report.number} ${WORDS[report.number] ?? ''}${report.number === NOT_TOML && line !== null ? `; it can't be parsed from line ${line} on` : ''}`);
   if (as === 'firmware') firmware.open(engine.open_at_reset(file).made, machine, machine === null ? [] : functions);
   else guest_registers.open(machine === null ? [] : functions, owners);
   script_console.clear(marks, first_line());

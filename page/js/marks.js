@@ -11,11 +11,26 @@ export function marks_of(guests) {
 
 export const mark_of = (owner, marks) => owner === undefined ? undefined : marks.get(owner.guest);
 
-export function make(tag, name, text = '') {
+// An element with its class, and what is in it: texts and elements.
+export function make(tag, name = '', ...parts) {
   const element = document.createElement(tag);
   element.className = name;
-  element.textContent = text;
+  element.append(...parts);
   return element;
+}
+
+// Acts while one points at an element, or has the keys at it.
+export function when_pointed(element, enters, leaves) {
+  for (const event of ['focus', 'pointerenter']) element.addEventListener(event, enters);
+  for (const event of ['blur', 'pointerleave']) element.addEventListener(event, leaves);
+}
+
+// A table's rows, whose cells have the names of their columns.
+export const head_of = names => make('tr', '', ...names.map(name => make('th', '', name)));
+
+export function named_row(names, cells) {
+  cells.forEach((cell, nth) => { cell.dataset.name = names[nth]; });
+  return make('tr', '', ...cells);
 }
 
 // A button; `words` are its name where the text says less.
@@ -57,9 +72,5 @@ export const owner_in_words = owner => owner === undefined ? 'no guest' : `guest
 export function draw_key(into, marks, some_have_none) {
   const those = [...marks].map(([guest, mark]) => [`guest ${guest}`, mark]);
   if (some_have_none) those.push(['no guest', undefined]);
-  into.replaceChildren(...those.map(([name, mark]) => {
-    const one = make('span', 'one');
-    one.append(badge(mark), name);
-    return one;
-  }));
+  into.replaceChildren(...those.map(([name, mark]) => make('span', 'one', badge(mark), name)));
 }

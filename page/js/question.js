@@ -15,15 +15,12 @@ export class Question {
   // `reveal` brings an element into view.
   constructor(heard, { driven, held, path_in, light, choose, changed, functions, reveal }) {
     Object.assign(this, { heard, driven, held, path_in, changed, functions, reveal, ...UNASKED });
-    const head = make('div', 'line'), line = make('code', ''), list = make('ul', '');
-    const now = make('span', '', 'now: ');
-    now.append(line);
-    head.append(now, make_button('×', () => this.close(), 'fold', 'Close the question'));
+    const line = make('code'), list = make('ul');
+    const head = make('div', 'line', make('span', '', 'now: ', line), make_button('×', () => this.close(), 'fold', 'Close the question'));
     this.about = make('p', 'about');
-    this.box = make('div', 'question');
+    this.box = make('div', 'question', head, this.about, list);
     for (const [name, value] of [['role', 'group'], ['aria-label', 'Why'], ['aria-live', 'off']]) this.box.setAttribute(name, value);
     this.box.addEventListener('keydown', event => { if (event.key === 'Escape') this.close(); });
-    this.box.append(head, this.about, list);
     this.findings = new Findings({ total: line, list, few: LINES_SHOWN }, light, choose, functions);
   }
 

@@ -23,7 +23,7 @@ export function seen_in(one, bytes, decodes) {
   return { ...one, decodes, values: new Map(ALL_DWORDS.map(offset => [offset, view.getUint32(offset, true)])) };
 }
 
-const labelled = (name, input) => { const label = make('label', ''); label.append(...(input.type === 'checkbox' ? [input, name] : [name, input])); return label; };
+const labelled = (name, input) => make('label', '', ...(input.type === 'checkbox' ? [input, name] : [name, input]));
 
 export class Registers {
   // `parts` are the elements `chosen`, `lost`, `identity`, `fields`, `bytes`, `byte` and `bits`; `choose` is given a path, `wired` gives what
@@ -92,12 +92,8 @@ export class Registers {
   build(groups) {
     const box = (type, name) => Object.assign(make('input', ''), type === 'text' ? { type, spellcheck: false, autocomplete: 'off' } : { type, name });
     this.inputs = groups.map(group => [...group.switches.map(({ name }) => box('checkbox', name)), ...group.fields.map(() => box('text'))]);
-    this.parts.fields.replaceChildren(...groups.map((group, nth) => {
-      const set = make('fieldset', group.bytes ? 'bytes' : ''), legend = make('legend', '', group.title);
-      legend.append(make('small', ''));
-      set.append(legend, ...[...group.switches, ...group.fields].map(({ name }, at) => labelled(name, this.inputs[nth][at])));
-      return set;
-    }));
+    this.parts.fields.replaceChildren(...groups.map((group, nth) => make('fieldset', group.bytes ? 'bytes' : '', make('legend', '', group.title, make('small')),
+      ...[...group.switches, ...group.fields].map(({ name }, at) => labelled(name, this.inputs[nth][at])))));
     this.told = [...this.parts.fields.querySelectorAll('legend small')];
   }
 

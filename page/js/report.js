@@ -1,6 +1,8 @@
 // The report of a board, as functions, windows and slots.
 
-const number = text => BigInt(text);
+// JSON that the module writes, as values: its numbers may have 64 bits, and stay digits until they are asked for.
+export const read_json = text => JSON.parse(text.replace(/":(\d+)/g, '":"$1"'));
+
 const four_digits = value => Number(value).toString(16).padStart(4, '0');
 
 // A number of a function, as lines have it.
@@ -10,8 +12,8 @@ export const number_at = ({ bus, device, function: nth }) => `${two_digits(Numbe
 function reported_function({ path, type, vendor, device_id, regions = [], windows, buses, interrupt, ...place }) {
   const name = number_at(place), bus_named = bus => two_digits(Number(bus));
   return { place: name, path, kind: type, identity: `${four_digits(vendor)}:${four_digits(device_id)}`, bus: name.slice(0, 2), depth: path.split('/').length - 1,
-    regions: regions.map(({ bar, kind, base, size }) => ({ name: `bar${bar}`, kind, first: number(base), size: number(size) })),
-    windows: Object.entries(windows ?? {}).flatMap(([space, window]) => (window === null ? [] : [{ space, first: number(window.first), last: number(window.last) }])),
+    regions: regions.map(({ bar, kind, base, size }) => ({ name: `bar${bar}`, kind, first: BigInt(base), size: BigInt(size) })),
+    windows: Object.entries(windows ?? {}).flatMap(([space, window]) => (window === null ? [] : [{ space, first: BigInt(window.first), last: BigInt(window.last) }])),
     buses: buses ? [buses.primary, buses.secondary, buses.subordinate].map(bus_named) : null,
     interrupt: interrupt ? `${interrupt.pin} at ${interrupt.root_device} ${interrupt.root_pin}` : '' };
 }
@@ -37,12 +39,8 @@ export const regions_of = one => one.all_regions ?? one.regions.map(region => ({
 // The apertures of a board file that was taken, as [first, last], by their keys' names. Only the host's keys
 // have these names and two numbers.
 export function apertures_in(file) {
-  const found = {};
-  const keys = /\b(io|mem|pref)\s*=\s*\[\s*(\w+)\s*,\s*(\w+)\s*,?\s*\]/g;
-  for (const [, name, first, last] of file.replace(/#.*$/gm, '').matchAll(keys)) {
-    found[name] = [first, last].map(word => number(word.replaceAll('_', '')));
-  }
-  return found;
+  const keys = /\b(io|mem|pref)\s*=\s*\[\s*(\w+)\s*,\s*(\w+)\s*,?\s*\]/g, found = [...file.replace(/#.*$/gm, '').matchAll(keys)];
+  return Object.fromEntries(found.map(([, name, ...ends]) => [name, ends.map(word => BigInt(word.replaceAll('_', '')))]));
 }
 
 export const parent_of = path => (path.includes('/') ? path.slice(0, path.lastIndexOf('/')) : '');

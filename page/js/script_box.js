@@ -47,11 +47,9 @@ export class ScriptBox {
   show(offers) {
     this.offers = offers;
     this.list.replaceChildren(...offers.map((one, nth) => {
-      const item = make('li', ''), told = make('small', '', one.told);
-      Object.assign(item, { id: `offer${nth}` });
+      const item = Object.assign(make('li', '', make('b', '', one.text), ' ', make('small', '', one.told)), { id: `offer${nth}` });
       item.setAttribute('role', 'option');
       item.setAttribute('aria-selected', false);
-      item.append(make('b', '', one.text), ' ', told);
       item.addEventListener('pointerdown', event => { event.preventDefault(); this.take(nth); });
       return item;
     }));

@@ -1,8 +1,7 @@
 // Lines in bulk: several that are pasted into the line box, those of a script file, the lines that have run as a file, and lines that are taken back.
 
 import { is_remark } from './changes.js';
-
-const SCRIPT_NAME = 'lines.script', KEPT_FOR = 60000;
+import { save_as } from './keep.js';
 
 export const is_script = name => name.endsWith('.script');
 
@@ -18,7 +17,7 @@ export class Scripts {
     });
     parts.undo.addEventListener('click', () => this.keep(page.console.said.findLastIndex(line => !is_remark(line))));
     parts.go_on.addEventListener('click', () => this.keep(page.steps.stops[page.steps.at] - page.console.prepared.length));
-    parts.save_lines.addEventListener('click', () => this.save());
+    parts.save_lines.addEventListener('click', () => save_as('lines.script', `${page.console.all_lines()}\n`, 'text/plain'));
   }
 
   run(text) { this.page.console.play(text.replaceAll('\r', ''), true); }
@@ -30,11 +29,5 @@ export class Scripts {
     this.page.steps.to_now();
     this.page.start_again();
     this.run(lines.join('\n'));
-  }
-
-  save() {
-    const place = URL.createObjectURL(new Blob([`${this.page.console.all_lines()}\n`], { type: 'text/plain' }));
-    Object.assign(document.createElement('a'), { href: place, download: SCRIPT_NAME }).click();
-    setTimeout(() => URL.revokeObjectURL(place), KEPT_FOR);
   }
 }

@@ -16,10 +16,9 @@ function spans_of(one) {
 // All windows and regions by the aperture that they belong to, each aperture's in the order of addresses, with the depth of their bus. What
 // Command disables is `open: false`, at the place that its registers name.
 export function spans_by_aperture(functions, apertures, names) {
-  const found = new Map(names.map(name => [name, []]));
-  for (const span of functions.flatMap(spans_of)) found.get(aperture_of(span.space, span.first, apertures)).push(span);
-  for (const those of found.values()) those.sort((a, b) => (a.first === b.first ? a.depth - b.depth : a.first < b.first ? -1 : 1));
-  return found;
+  const spans = functions.flatMap(spans_of).sort((a, b) => (a.first === b.first ? a.depth - b.depth : a.first < b.first ? -1 : 1));
+  const found = Map.groupBy(spans, span => aperture_of(span.space, span.first, apertures));
+  return new Map(names.map(name => [name, found.get(name) ?? []]));
 }
 
 export const least = (one, other) => (one < other ? one : other);

@@ -1,7 +1,7 @@
 // The lines that ran, to go back and forward through: a slider, buttons and keys, and what each line changed, before and after.
 
 import { count_in_words } from './report.js';
-import { make, make_button, put_text } from './marks.js';
+import { make, make_button, put_text, when_pointed } from './marks.js';
 import { with_numbers } from './names.js';
 
 const SHOWN = 8;
@@ -9,14 +9,9 @@ const KEYS = { F8: -1, F9: 1 };
 
 // One change in words, which leads to its function.
 function item_of({ path, called: one_called, name, before, after }, choose, light) {
-  const item = make('li', ''), words = path === null ? name : `${one_called} ${name}`;
-  const one = path === null ? make('span', '', words) : make_button(words, () => choose(path), 'plain');
-  if (path !== null) {
-    for (const event of ['focus', 'pointerenter']) one.addEventListener(event, () => light(path));
-    for (const event of ['blur', 'pointerleave']) one.addEventListener(event, () => light());
-  }
-  item.append(one, ': ', make('del', '', before), ' → ', make('ins', '', after));
-  return item;
+  const one = path === null ? make('span', '', name) : make_button(`${one_called} ${name}`, () => choose(path), 'plain');
+  if (path !== null) when_pointed(one, () => light(path), () => light());
+  return make('li', '', one, ': ', make('del', '', before), ' → ', make('ins', '', after));
 }
 
 const noted = (name, sign, texts, functions) => texts.map(text => make('li', name, `${sign} ${with_numbers(text, functions)}`));

@@ -67,20 +67,15 @@ export class WayView {
   }
 
   draw() {
-    const { stops, sent, told } = this.way, list = make('ol', ''), is_end = this.at === stops.length - 1, buttons = make('div', 'bar');
+    const { stops, sent, told } = this.way, is_end = this.at === stops.length - 1;
     const had = this.into.contains(document.activeElement) ? document.activeElement.title : '';
-    for (const [text, title, act] of [['‹ Stop', 'The stop before (left arrow)', () => this.go(this.at - 1)],
-      ['Stop ›', 'The next stop (right arrow)', () => this.go(this.at + 1)], ['Close', 'Escape', () => this.leave()]]) {
-      buttons.append(Object.assign(make_button(text, act), { title }));
-    }
-    list.append(...stops.slice(0, this.at + 1).map(({ name, met }) => {
-      const item = make('li', '', `${name}: `);
-      item.append(...met.map(({ called: one, takes, text }) => make('div', takes ? 'takes' : 'drops', `${one} ${text}`)));
-      return item;
-    }));
+    const acts = [['‹ Stop', 'The stop before (left arrow)', () => this.go(this.at - 1)],
+      ['Stop ›', 'The next stop (right arrow)', () => this.go(this.at + 1)], ['Close', 'Escape', () => this.leave()]];
     const end = make('p', '', is_end ? `${told}.` : '');
     end.setAttribute('role', 'status');
-    buttons.append(end);
+    const buttons = make('div', 'bar', ...acts.map(([text, title, act]) => Object.assign(make_button(text, act), { title })), end);
+    const list = make('ol', '', ...stops.slice(0, this.at + 1).map(({ name, met }) => make('li', '', `${name}: `,
+      ...met.map(({ called: one, takes, text }) => make('div', takes ? 'takes' : 'drops', `${one} ${text}`)))));
     this.into.replaceChildren(buttons, make('p', 'unit', `From bus 00 down: ${sent.words}`), list);
     this.into.parentElement.scrollTop = this.into.offsetHeight;
     (buttons.querySelector(`[title="${had}"]`) ?? buttons.children[1]).focus({ preventScroll: true });

@@ -1,7 +1,7 @@
 // Why something responds to an access, or why nothing does: what is asked about a place, and the lines of the reply.
 
 import { party } from './findings.js';
-import { read_json } from './json.js';
+import { read_json } from './report.js';
 import { number_of, words_in } from './forms.js';
 
 const HEAD = 'why: '.length;

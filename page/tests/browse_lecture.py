@@ -3,12 +3,11 @@ tree and bars in one view, steps back and forward, a cycle on its way, and bits.
 import json
 
 from reader import FIELD
-from tried import BITS, CUT, SIZES, STOPS, answers, begins, contains, equals, holds, is_painted_well
+from tried import BITS, CUT, SIZES, STOPS, WINDOW, answers, begins, contains, equals, holds, is_painted_well
 
 # Whether all of a part stands in the window.
 IN_VIEW = """(() => { const b = document.querySelector('%s').getBoundingClientRect();
   return b.height > 0 && b.top >= 0 && b.bottom <= innerHeight && b.left >= 0 && b.right <= innerWidth; })()"""
-WINDOW = ['host cw 00:02.0 0x20 4 0xc000c000', 'host cw 00:02.0 0x1c 2 0x1010', 'host cw 00:02.0 4 2 3']
 BARS = ['#addresses .was-at', '#addresses .region.changed', '#addresses .window.changed']
 HINT = '#bits > .hint:last-child'
 # Of each control its height and width, but for one in a line of text; of a switch, that of its label.
@@ -41,7 +40,7 @@ def a_phone_leads_there_and_back(browser, page):
     browser.click('#to_moment')
     equals('a button leads to what the line changed', browser.run(IN_VIEW % '#changes'), True)
     browser.click('#back_to_line')
-    holds('and one back to the line', browser.run(IN_VIEW % '#line') is True and browser.focused() == 'line', browser.focused())
+    equals('and one back to the line', [browser.run(IN_VIEW % '#line'), browser.focused()], [True, 'line'])
 
 
 def controls_are_large(browser, page):
@@ -50,9 +49,8 @@ def controls_are_large(browser, page):
             browser.open(f'{page}#{link}', width, height)
             browser.type_lines(lines)
             browser.run("for (const one of document.querySelectorAll('details')) one.open = true; document.querySelector('#transcript button.reply')?.click()")
-            holds(f'no control of {link} is below 24 pixels at {width}', browser.run(SMALL) == [], browser.run(SMALL)[:5])
-            holds(f'no text of {link} is below 13 pixels at {width}', browser.run(TINY) == [], browser.run(TINY)[:5])
-            holds(f'nothing of {link} is cut at {width}', browser.run(CUT) == [], browser.run(CUT)[:5])
+            for name, find in [('no control is below 24 pixels', SMALL), ('no text is below 13 pixels', TINY), ('nothing is cut', CUT)]:
+                equals(f'{name} in {link} at {width}', browser.run(find)[:5], [])
 
 
 def lines_can_be_gone_through(browser, page):

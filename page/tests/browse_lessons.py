@@ -14,7 +14,7 @@ import browse_sight
 import browse_state
 import browse_why
 from reader import FIELD
-from tried import LOOKS, PAGE, answers, at_each_size, begins, contains, ends, equals, holds, is_painted_well, nothing_is_cut
+from tried import LOOKS, PAGE, WINDOW, answers, at_each_size, begins, contains, ends, equals, holds, is_painted_well, nothing_is_cut
 
 TASKS = tomllib.loads((PAGE / 'tasks.toml').read_text())['task']
 
@@ -24,7 +24,7 @@ SOLUTIONS = {
     'number': ['host cr 01:00.0 0 4', 'host cw 00:02.0 0x19 1 5', 'host cw 00:02.0 0x1a 1 5', 'host cr 05:00.0 0 4'],
     'size': ['host cw 01:00.0 0x10 4 0xffffffff', 'host cr 01:00.0 0x10 4', 'host cw 01:00.0 0x14 4 0xffffffff', 'host cr 01:00.0 0x14 4',
              'host cw 01:01.0 0x24 4 0xffffffff', 'host cr 01:01.0 0x24 4', 'host cw 01:00.0 0x10 4 0xc0000000', 'host cw 01:01.0 0x24 4 0xc0020000'],
-    'window': ['host cw 00:02.0 0x20 4 0xc000c000', 'host cw 00:02.0 0x1c 2 0x1010', 'host cw 00:02.0 4 2 3'],
+    'window': WINDOW,
     'wrong/limit_short': ['host cw 00:02.0 0x22 2 0xc030'],
     'wrong/shared_unit': ['host cw 00:03.0 0x20 2 0xc040'],
     'wrong/subordinate_ff': ['host cw 00:02.0 0x1a 1 2'],
@@ -53,8 +53,11 @@ FORGET = "localStorage.removeItem('pciguest-lessons')"
 
 
 def parts_of(task):
-    return [(f"{task['name']}/{part['name']}", f"lesson={task['name']}&part={nth + 1}") for nth, part in enumerate(task['part'])] if 'part' in task \
-        else [(task['name'], f"lesson={task['name']}")]
+    """The names and links of a lesson, or of each part of one."""
+    name = task['name']
+    if 'parts' not in task:
+        return [(name, f'lesson={name}')]
+    return [(f'{name}/{part}', f'lesson={name}&part={nth}') for nth, part in enumerate(task['parts'], 1)]
 
 
 def lessons_are_done(browser, page):
@@ -169,6 +172,10 @@ def lines_are_explained(browser, page):
                              ('a cr 0 0 4 4', "unexpected word '4' (expected 'cr SLOT OFFSET WIDTH')", True), ('a cr 0 0 4', '', False)]:
         browser.fill(text)
         equals(f'{text} is explained while it is typed', [browser.text_of('why'), browser.run(INVALID)], [why, str(wrong).lower()])
+
+
+def what_fits_is_offered(browser, page):
+    browser.open(f'{page}#board=main')
     for text, wanted in [('a', []), ('host c', ['cr']), ('host cr 2.0', ['00:02.0', '01:00.0', '01:01.0']), ('host cr 00:02.0 sec', ['0x19 1', '0x1b 1', '0x1e 2']),
                          ('a cw 0 comm', ['0x4 2']), ('host cr 00:02.0 bus', ['0x18 1', '0x19 1', '0x1a 1']),
                          ('host cr 00:02.0 window', ['0x1c 1', '0x1d 1', '0x20 2', '0x22 2', '0x24 2', '0x26 2', '0x28 4', '0x2c 4', '0x30 2', '0x32 2']),
@@ -278,7 +285,7 @@ def everything_has_a_name(browser, page):
         equals(f'all controls of {link} have names', browser.run(UNNAMED), [])
 
 
-ALL = [lessons_are_done, a_reply_counts_in_its_place, a_lesson_leads_on, a_teacher_hands_out, lines_are_explained, registers_have_words, functions_can_be_told_apart, everything_has_a_name]
+ALL = [lessons_are_done, a_reply_counts_in_its_place, a_lesson_leads_on, a_teacher_hands_out, lines_are_explained, what_fits_is_offered, registers_have_words, functions_can_be_told_apart, everything_has_a_name]
 
 
 def in_browser(browser, page, folder, shot=''):

@@ -4,9 +4,8 @@ import json
 import zlib
 
 from reader import PLAIN
-from tried import TOP, answers, ends, equals, holds, set_up
+from tried import TOP, answers, ends, equals, holds, lines_in, set_up
 
-EXAMPLES = TOP / 'examples/audit'
 LEFT = '#lacking li'
 BARS = [f'#addresses {find}' for find in ['.lack-at', '.region.lacks', '.window.lacks', '.bang-at', '.region.wrong']]
 SEEN = "document.querySelector('#tree [data-path=\"1.0\"]')"
@@ -20,7 +19,7 @@ def link_of(held, name):
 
 
 def lines_of(name):
-    return [line for line in (EXAMPLES / f'{name}.script').read_text().splitlines() if not line.startswith('#')]
+    return lines_in(TOP / f'examples/audit/{name}.script')
 
 
 def what_is_left_is_listed(browser, page):

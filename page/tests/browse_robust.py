@@ -91,9 +91,7 @@ def a_browser_may_be_unable(browser, page):
     browser.ask('Page.enable')
     script = browser.ask('Page.addScriptToEvaluateOnNewDocument', source=WITHOUT)['identifier']
     for width, height in SIZES:
-        browser.ask('Emulation.setDeviceMetricsOverride', width=width, height=height, deviceScaleFactor=1, mobile=False)
-        browser.ask('Page.navigate', url='about:blank')
-        browser.ask('Page.navigate', url=page)
+        browser.go(page, width, height, 'light')
         browser.until("document.getElementById('unable')?.checkVisibility() === true")
         told = browser.text_of('unable')
         holds(f'without 64-bit memories the reason is at the top at {width}', told.startswith("This browser can't run the page: it has no WebAssembly memories with 64-bit")

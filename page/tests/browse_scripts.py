@@ -1,36 +1,35 @@
 """Scripts, lines that are taken back, registers that follow the line, and the route of an access, in any browser, for page/tests/browse."""
 import json
 
-from tried import BITS, STOPS, ends, equals, holds
+from tried import BITS, STOPS, WINDOW, ends, equals, holds
 
-LINES = ['host cw 00:02.0 0x20 4 0xc000c000', 'host cw 00:02.0 0x1c 2 0x1010', 'host cw 00:02.0 4 2 3']
 SAID = '#transcript .said'
 GO_ON = "getComputedStyle(document.getElementById('go_on')).visibility"
 
 
 def scripts_come_and_go(browser, page, size):
     browser.open(f'{page}#lesson=window', *size)
-    browser.paste('line', '\n'.join(LINES))
-    equals('several lines that are pasted run', [browser.texts_of(SAID), browser.text_of('task_state')], [LINES, 'Done.'])
+    browser.paste('line', '\n'.join(WINDOW))
+    equals('several lines that are pasted run', [browser.texts_of(SAID), browser.text_of('task_state')], [WINDOW, 'Done.'])
     text = browser.saved_file('#save_lines')
-    holds('lines are saved, with those before them', text.endswith('\n'.join(LINES) + '\n') and text.startswith('# The bridge is numbered'), text)
+    holds('lines are saved, with those before them', text.endswith('\n'.join(WINDOW) + '\n') and text.startswith('# The bridge is numbered'), text)
     browser.click('#again')
-    browser.open_file(json.dumps('\r\n'.join(LINES[:2])), 'lines.script')
+    browser.open_file(json.dumps('\r\n'.join(WINDOW[:2])), 'lines.script')
     browser.until(f"document.querySelectorAll('{SAID}').length === 2")
-    equals('a script file runs', browser.texts_of(SAID), LINES[:2])
+    equals('a script file runs', browser.texts_of(SAID), WINDOW[:2])
 
 
 def lines_are_taken_back(browser, page, size):
     browser.open(f'{page}#lesson=window', *size)
     equals('at the present there is nothing to go on from', browser.run(GO_ON), 'hidden')
-    browser.type_lines(LINES)
+    browser.type_lines(WINDOW)
     browser.click('#undo')
-    equals('a line is taken back', [browser.texts_of(SAID), browser.text_of('task_state')], [LINES[:2], '2 of 6 conditions met'])
+    equals('a line is taken back', [browser.texts_of(SAID), browser.text_of('task_state')], [WINDOW[:2], '2 of 6 conditions met'])
     browser.press('F8')
     equals('where one went back one can go on', browser.run(GO_ON), 'visible')
     browser.click('#go_on')
-    equals('which forgets the lines after it', [browser.texts_of(SAID), browser.text_of('step_told')], [LINES[:1], '7 lines ran'])
-    browser.type_lines(LINES[1:])
+    equals('which forgets the lines after it', [browser.texts_of(SAID), browser.text_of('step_told')], [WINDOW[:1], '7 lines ran'])
+    browser.type_lines(WINDOW[1:])
     equals('and the lesson can be done from there', browser.text_of('task_state'), 'Done.')
     browser.open(f'{page}#board=main', *size)
     browser.click('#undo')
@@ -54,7 +53,7 @@ def registers_follow_the_line(browser, page, size):
 
 def the_route_is_lit(browser, page, size):
     browser.open(f'{page}#lesson=window', *size)
-    browser.type_lines([*LINES, 'host mr 0xc0020000 4'])
+    browser.type_lines([*WINDOW, 'host mr 0xc0020000 4'])
     browser.press('F4', 'ArrowRight')
     equals('the edges of the route are lit', browser.paths_of('#tree .passed'), ['2.0', '2.0/1.0'])
     lit = browser.run("getComputedStyle(document.querySelector('#tree [data-path=\"2.0/1.0\"]').parentElement, '::before').borderTopWidth")

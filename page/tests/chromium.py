@@ -48,15 +48,9 @@ class Browser(Reader):
                     sys.exit(f'{method}: {answer["error"]["message"]}')
                 return answer['result']
 
-    def close(self):
-        """Lets it end with all its processes, which write into its folder until then."""
+    def quit(self):
         self.session = None
-        try:
-            self.say('Browser.close')
-            self.process.wait(60)
-        except (OSError, subprocess.TimeoutExpired):
-            self.process.kill()
-            self.process.wait()
+        self.say('Browser.close')
 
     def run(self, script):
         answer = self.ask('Runtime.evaluate', expression=script, returnByValue=True, awaitPromise=True)

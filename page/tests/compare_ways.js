@@ -1,8 +1,7 @@
 // Compares where the page says that a cycle ends on its way down the tree with what the module tells of why it does.
 
 import { AtReset, decodes_of } from '../js/at_reset.js';
-import { report_in } from '../js/report.js';
-import { read_json } from '../js/json.js';
+import { read_json, report_in } from '../js/report.js';
 import { sent_by, way_of } from '../js/way.js';
 import { question_at } from '../js/why.js';
 

@@ -60,13 +60,8 @@ class Browser(Reader):
             sys.exit(f'{name}: {wrong["message"]}')
         return answer
 
-    def close(self):
-        try:
-            self.ask('Marionette:Quit', flags=['eForceQuit'])
-            self.process.wait(60)
-        except (OSError, subprocess.TimeoutExpired, SystemExit):
-            self.process.kill()
-            self.process.wait()
+    def quit(self):
+        self.ask('Marionette:Quit', flags=['eForceQuit'])
 
     def run(self, script):
         """What an expression is, in the page."""

@@ -1,6 +1,7 @@
 """What a reader does with the page, and sees on it, in any browser, for page/tests/browse."""
 import contextlib
 import json
+import subprocess
 import sys
 import tempfile
 import time
@@ -31,7 +32,7 @@ def chip_of(path):
 
 
 class Reader:
-    """Uses a page in a browser, whose class has `go`, `run`, `insert`, `press`, `mouse` and `picture`."""
+    """Uses a page in a browser, whose class has `process`, `quit`, `go`, `run`, `insert`, `press`, `mouse` and `picture`."""
 
     @classmethod
     @contextlib.contextmanager
@@ -43,6 +44,15 @@ class Reader:
                 yield browser
             finally:
                 browser.close()
+
+    def close(self):
+        """Lets it end with all its processes, which write into its folder until then."""
+        try:
+            self.quit()
+            self.process.wait(60)
+        except (OSError, subprocess.TimeoutExpired, SystemExit):
+            self.process.kill()
+            self.process.wait()
 
     def open(self, address, width=1100, height=1000, scheme='light'):
         """Opens a page in a window of this size, and waits until it shows a board."""

@@ -13,6 +13,8 @@ tried_at = []
 # The widths at which nothing may be cut, and the looks of which a screenshot is left: each with its size and theme.
 WIDTHS = [1400, 1100, 700, 400]
 LOOKS = [('wide', 1400, 2000, 'light'), ('dark', 1400, 2000, 'dark'), ('narrow', 400, 2600, 'light'), ('narrow_dark', 400, 2600, 'dark')]
+# What opens the windows of the lesson on them.
+WINDOW = ['host cw 00:02.0 0x20 4 0xc000c000', 'host cw 00:02.0 0x1c 2 0x1010', 'host cw 00:02.0 4 2 3']
 # The last reply, which is a button if one can ask why.
 LAST = "[...document.querySelectorAll('#transcript button.reply')].at(-1)"
 # The range that the bar of memory shows.
