@@ -472,7 +472,7 @@ uint32_t pciguest_save_all(struct pciguest *machine, void *image, size_t room, s
  * the call, or what state the guests are in. The call first tries the load on a second machine,
  * which it frees at the end, so an image that is refused changes nothing. It then takes every
  * function from its guest, as pciguest_take does, and assigns and loads functions, as pciguest_give
- * and pciguest_load do. The count that pciguest_changed stores increases for every guest. Script
+ * and pciguest_load do. For each guest, the count that pciguest_changed stores increases. Script
  * lines can't do this.
  * Returns 0 on success; 907 if the board, its guests or its set-up differ; 906 if a slot would get
  * something that can't be assigned to it, or a function is declared differently; 908 if the image,
@@ -546,14 +546,14 @@ uint32_t pciguest_changed(struct pciguest *machine, size_t guest, uint64_t *coun
 /* Updates rows that say where a guest's regions are, and stores in `count` how many of these rows
  * changed: those of regions that moved, or that were enabled or disabled. The caller keeps the rows
  * from call to call and sets all their bytes to 0 before the first call. The row for slot S and
- * base address register B is `places[6 * S + B]`. `room` is the number of rows that the caller has;
- * PCIGUEST_PLACES rows cover all slots. In each of these rows, `now` says where the region is,
- * `before` says where it was when the row was last updated, and `has_moved` says whether the two
- * differ. A region that is back where it was, as at the end of sizing, has not moved. Because two
- * regions may have swapped addresses, a hypervisor goes twice through the rows whose `has_moved` is
- * 1: it first unmaps each `before` whose `is_open` is 1, and then maps each `now` whose `is_open`
- * is 1. The hypervisor calls pciguest_moved again when pciguest_changed stores a different count.
- * Allocates no memory.
+ * base address register B is `places[6 * S + B]`. `room` is the number of rows in the caller's
+ * array; PCIGUEST_PLACES rows cover all slots. In each of these rows, `now` says where the region
+ * is, `before` says where it was when the row was last updated, and `has_moved` says whether the
+ * two differ. A region that is back where it was, as at the end of sizing, has not moved. Because
+ * two regions may have swapped addresses, a hypervisor goes twice through the rows whose
+ * `has_moved` is 1: it first unmaps each `before` whose `is_open` is 1, and then maps each `now`
+ * whose `is_open` is 1. The hypervisor calls pciguest_moved again when pciguest_changed stores a
+ * different count. Allocates no memory.
  * Returns 0 on success; 902 if there is no such guest. Since 0.4.0. */
 uint32_t pciguest_moved(struct pciguest *machine, size_t guest, struct pciguest_place *places,
                         size_t room, size_t *count);
@@ -673,8 +673,8 @@ void pciguest_board_free(struct pciguest_board *board);
 /* Reads as firmware does, whatever state the registers are in. Configuration space is addressed by
  * bus, device, function and byte offset, I/O by port, and memory by address. The value is all ones
  * if nothing responds. `bus`, `device` and `function` are used only in configuration space, which
- * can also be reached through the ports CF8h and CFCh. A read of configuration space by bus, device
- * and function sets CONFIG_ADDRESS (CF8h) to 0; every other read changes nothing.
+ * can also be reached through the ports CF8h and CFCh. A read that addresses configuration space by
+ * bus, device and function sets CONFIG_ADDRESS (CF8h) to 0; every other read changes nothing.
  * Returns 0 on success; 302 if the width isn't 1, 2 or 4; 301 if `place` isn't a multiple of the
  * width; 303 if the offset is above 255, or the port is above FFFFFFFFh; 902 if there is no such
  * space, the device is above 31, or the function is above 7. Since 0.3.0. */
@@ -686,7 +686,8 @@ uint32_t pciguest_board_read(struct pciguest_board *board, uint32_t space, uint8
  * Configuration space is addressed by bus, device, function and byte offset, I/O by port, and
  * memory by address. The write is dropped if nothing responds. `bus`, `device` and `function` are
  * used only in configuration space, which can also be reached through the ports CF8h and CFCh. A
- * write to configuration space by bus, device and function sets CONFIG_ADDRESS (CF8h) to 0.
+ * write that addresses configuration space by bus, device and function sets CONFIG_ADDRESS (CF8h)
+ * to 0.
  * Returns 0 on success; 302 if the width isn't 1, 2 or 4; 301 if `place` isn't a multiple of the
  * width; 303 if the offset is above 255, or the port is above FFFFFFFFh; 902 if there is no such
  * space, the device is above 31, or the function is above 7. Since 0.3.0. */
