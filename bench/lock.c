@@ -13,8 +13,9 @@
 #define MOST 8
 #define CALLS 200000
 
+/* in cache lines of its own, so that threads over different boards don't wait for each other */
 struct board {
-    pthread_mutex_t lock;
+    _Alignas(128) pthread_mutex_t lock;
     struct pciguest machine;
 };
 
@@ -31,14 +32,15 @@ static void *call(void *given)
 {
     struct caller *me = given;
     uint64_t address = 0xc0100000 + 4 * (uint64_t)(me - callers);
-    uint32_t value = 0;
+    uint32_t value = 0, faults = 0;
 
     for (uint32_t i = 0; i < CALLS; i++) {
         pthread_mutex_lock(&me->board->lock);
-        me->faults += i % 2 ? pciguest_read(&me->board->machine, 0, PCIGUEST_MEMORY, 0, address, 4, &value)
-                            : pciguest_write(&me->board->machine, 0, PCIGUEST_MEMORY, 0, address, 4, i);
+        faults += i % 2 ? pciguest_read(&me->board->machine, 0, PCIGUEST_MEMORY, 0, address, 4, &value)
+                        : pciguest_write(&me->board->machine, 0, PCIGUEST_MEMORY, 0, address, 4, i);
         pthread_mutex_unlock(&me->board->lock);
     }
+    me->faults += faults;
     return NULL;
 }
 
