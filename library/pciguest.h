@@ -4,9 +4,9 @@
  * docs/library-c.md explains how to build and use the library; docs/PROOFS.md says what is proved
  * about it.
  *
- * Return values. Most calls return 0 or an error number (enum pciguest_status). There are six
- * exceptions: pciguest_version, pciguest_strerror, pciguest_piece and pciguest_ends_within return a
- * result, and pciguest_free and pciguest_board_free return nothing.
+ * Return values. Most calls return 0 or an error number (enum pciguest_status). The exceptions are
+ * pciguest_version, pciguest_strerror, pciguest_piece and pciguest_ends_within, which return a
+ * result, and pciguest_free and pciguest_board_free, which return nothing.
  *
  * Errors. A call that returns an error has changed nothing and stored nothing, with two exceptions.
  * If the buffer for a text or an image is too small, the call stores the required length, provided
@@ -65,8 +65,8 @@ struct pciguest_board {
 
 #define PCIGUEST_BOARD_INIT {false, NULL}
 
-/* The address space of an access, which determines what the `place` of the access means: a byte
- * offset in the configuration space of the function in a slot, an I/O port, or a memory address. */
+/* The address space of an access, which determines what its `place` means: a byte offset in the
+ * configuration space of the function in a slot, an I/O port, or a memory address. */
 enum pciguest_space { PCIGUEST_CONFIG = 0, PCIGUEST_IO = 1, PCIGUEST_MEMORY = 2 };
 
 /* The part of a function that a raise or a device's own access refers to: configuration space, or a
@@ -74,9 +74,9 @@ enum pciguest_space { PCIGUEST_CONFIG = 0, PCIGUEST_IO = 1, PCIGUEST_MEMORY = 2 
  * name that PCIGUEST_PART_CONFIG had before 0.4.0. */
 enum pciguest_part { PCIGUEST_PART_CONFIG = 6, PCIGUEST_RAISE_CONFIG = 6 };
 
-/* Describes where a region of a guest's function is now, according to the guest's own registers.
- * The region occupies `size` addresses of its space, starting at `first`, and responds to them
- * while `is_open` is 1. */
+/* Describes where a region of a guest's function is now, according to the guest's own registers. It
+ * occupies `size` addresses of its space, starting at `first`, and responds to them while `is_open`
+ * is 1. */
 struct pciguest_region {
     uint64_t first;
     uint64_t size;
@@ -85,7 +85,7 @@ struct pciguest_region {
     uint32_t is_open;      /* 1 if the guest's Command enables the space, otherwise 0 */
 };
 
-/* Describes where a region of a guest is now, and where it was when this row was last updated. All
+/* Describes where a region of a guest is now, and where it was at the row's previous update. All
  * fields of `now` are 0 if there is no region now, and all fields of `before` are 0 if there was
  * none then. */
 struct pciguest_place {
@@ -114,9 +114,9 @@ struct pciguest_hit {
  * reserved fields without changing the size of the struct. */
 enum { PCIGUEST_PATH = 80, PCIGUEST_BARS = 6, PCIGUEST_WINDOWS = 3, PCIGUEST_ROOM = 4 };
 
-/* Describes the region that begins at a base address register. The region's address is the one in
- * the board's register, not in a guest's copy. The region occupies `size` addresses of its space,
- * starting at `first`. All fields are 0 if no region begins at the register. */
+/* Describes the region that begins at a base address register. Its address is the one in the
+ * board's register, not in a guest's copy. It occupies `size` addresses of its space, starting at
+ * `first`. All fields are 0 if no region begins at the register. */
 struct pciguest_bar {
     uint64_t first;
     uint64_t size;
@@ -172,8 +172,7 @@ struct pciguest_function {
 };
 
 /* Describes a function of a board that firmware drives, according to its current registers. No
- * guest has the function. The fields of `interrupt` are 0, because firmware reads the pin
- * itself. */
+ * guest has it. The fields of `interrupt` are 0, because firmware reads the pin itself. */
 struct pciguest_board_function {
     struct pciguest_function function; /* its bus is the bridge's current Secondary Bus Number */
     uint32_t is_found;                 /* 1 if an access to its BDF reaches it, otherwise 0 */
@@ -196,16 +195,14 @@ struct pciguest_limits {
 
 /* Buffer sizes in bytes. PCIGUEST_REPLY: the size that pciguest_run_line and
  * pciguest_board_run_line require for a reply. PCIGUEST_GUEST_NAME: a size that is enough for every
- * name that pciguest_guest_name writes. */
+ * name. */
 enum { PCIGUEST_REPLY = 48, PCIGUEST_GUEST_NAME = 16 };
 
 /* The error numbers that calls return, each with its message; docs/errors.md explains them. 101 to
- * 112: the board file is refused. 199, 299: out of memory. 201 to 205: the board can't be set up.
- * 206, 207: functions can't be assigned to guests. 301 to 303: an access or a path is refused. 601:
- * a slot that must contain a function is empty. 602: a slot that must be empty contains a function,
- * or a guest already has the function. 901 to 904: the struct or an argument isn't valid for the
- * call. 905 to 908: bytes can't be loaded as the image of a guest or of a machine. 909: another
- * call is running on the struct. */
+ * 112: the board file is refused. 201 to 205: the board can't be set up. 206, 207: functions can't
+ * be assigned to guests. 301 to 303: an access or a path is refused. 602 also means that a guest
+ * already has the function. 901 to 904: the struct or an argument isn't valid for the call. 905 to
+ * 908: bytes can't be loaded as the image of a guest or of a machine. */
 enum pciguest_status {
     PCIGUEST_OK = 0,
     PCIGUEST_NOT_TOML = 101,          /* board file is not valid TOML */
@@ -274,8 +271,8 @@ const char *pciguest_strerror(uint32_t number);
 uint32_t pciguest_limits(struct pciguest_limits *limits);
 
 /* Creates a machine from the bytes of a board file: sets up the board and assigns its functions to
- * the guests that the file declares. The machine then contains what the file declares; no access
- * has been made yet.
+ * the guests that the file declares. The machine then contains what the file declares, and nothing
+ * has accessed it yet.
  * Returns 0 on success; 101 to 112 or 201 to 205 for the first check that the file or its board
  * fails; 199 or 299 if memory runs out; 903 if the struct already holds a machine. */
 uint32_t pciguest_new(struct pciguest *machine, const void *board, size_t length);
@@ -285,16 +282,16 @@ uint32_t pciguest_new(struct pciguest *machine, const void *board, size_t length
 void pciguest_free(struct pciguest *machine);
 
 /* Finds a guest by name and stores its index, which other calls take as `guest`. Guests are
- * numbered from 0 on, in the order of the board file.
+ * numbered from 0, in the order in which the board file declares them.
  * Returns 0 on success; 902 if no guest has this name. */
 uint32_t pciguest_guest(struct pciguest *machine, const char *name, size_t length, size_t *guest);
 
 /* Stores the number of guests that the machine has. Since 0.4.0. */
 uint32_t pciguest_guest_count(struct pciguest *machine, size_t *count);
 
-/* Writes the name of a guest, and stores the length of the name in `needed`. The index of the guest
- * must be less than the count that pciguest_guest_count stores. The name isn't terminated by a 0. A
- * buffer of PCIGUEST_GUEST_NAME bytes is always large enough.
+/* Writes the name of a guest, and stores its length in `needed`. The index of the guest must be
+ * less than the count that pciguest_guest_count stores. The name isn't null-terminated. A buffer of
+ * PCIGUEST_GUEST_NAME bytes is always large enough.
  * Returns 0 on success; 902 if the buffer is too small (only the length is stored), or if there is
  * no such guest (nothing is stored). Since 0.4.0. */
 uint32_t pciguest_guest_name(struct pciguest *machine, size_t guest, char *text, size_t room,
@@ -339,9 +336,9 @@ static inline bool pciguest_ends_within(uint32_t space, uint64_t place, uint32_t
 
 /* Reads 1 to 8 bytes as a guest, at any alignment. The location is a slot and offset, a port, or an
  * address, as the guest sees it. A processor can make such an access in one step, but the bus may
- * need several cycles for it. Therefore, the call splits the access as a bridge would: into the
- * pieces that pciguest_piece returns, in ascending order of addresses. The byte at the lowest
- * address is the lowest byte of the value.
+ * need several cycles for it, so the call splits it as a bridge would: into the pieces that
+ * pciguest_piece returns, in ascending order of addresses. The byte at the lowest address is the
+ * lowest byte of the value.
  * Returns 0 on success; 302 if the width isn't 1 to 8; 303 if the access extends past the end of
  * its space, or if the slot is out of range; 902 if there is no such guest or space. The call
  * checks the width and the end of the access first, even before it checks for 901 and 902. Since
@@ -351,9 +348,9 @@ uint32_t pciguest_read_wide(struct pciguest *machine, size_t guest, uint32_t spa
 
 /* Writes the low `width` bytes (1 to 8) of a value as a guest, at any alignment. The location is a
  * slot and offset, a port, or an address, as the guest sees it. A processor can make such an access
- * in one step, but the bus may need several cycles for it. Therefore, the call splits the access as
- * a bridge would: into the pieces that pciguest_piece returns, in ascending order of addresses. The
- * byte at the lowest address is the lowest byte of the value.
+ * in one step, but the bus may need several cycles for it, so the call splits it as a bridge would:
+ * into the pieces that pciguest_piece returns, in ascending order of addresses. The byte at the
+ * lowest address is the lowest byte of the value.
  * Returns 0 on success; 302 if the width isn't 1 to 8; 303 if the access extends past the end of
  * its space, or if the slot is out of range; 902 if there is no such guest or space. The call
  * checks the width and the end of the access first, even before it checks for 901 and 902. Since
@@ -362,7 +359,7 @@ uint32_t pciguest_write_wide(struct pciguest *machine, size_t guest, uint32_t sp
                              uint64_t place, uint32_t width, uint64_t value);
 
 /* Reads 1 to 8 bytes, as a guest, from a region of one of its functions. The bytes are identified
- * by slot, base address register and offset, not by address. This call suits a hypervisor that maps
+ * by slot, base address register and offset, not by address. The call suits a hypervisor that maps
  * each region itself. While the guest's Command disables the region, the value is all ones. Even if
  * two regions of the guest are at the same address, this call can read either of them. The byte at
  * the lowest offset is the lowest byte of the value.
@@ -374,7 +371,7 @@ uint32_t pciguest_region_read(struct pciguest *machine, size_t guest, uint64_t s
 
 /* Writes the low `width` bytes (1 to 8) of a value, as a guest, to a region of one of its
  * functions. The bytes are identified by slot, base address register and offset, not by address.
- * This call suits a hypervisor that maps each region itself. While the guest's Command disables the
+ * The call suits a hypervisor that maps each region itself. While the guest's Command disables the
  * region, the write is dropped. Even if two regions of the guest are at the same address, this call
  * can write to either of them. The byte at the lowest offset is the lowest byte of the value. If
  * any byte is refused, none is written.
@@ -399,7 +396,7 @@ uint32_t pciguest_host_read(struct pciguest *machine, uint32_t space, uint8_t bu
                             uint8_t function, uint64_t place, uint32_t width, uint32_t *value);
 
 /* Moves the function in a slot of one guest to a slot of another guest, or to another slot of the
- * same guest. A move resets the function, so no state is carried over.
+ * same guest. The function is reset, so no state is carried over.
  * Returns 0 on success; 303 if a slot is above 31; 601 if the source slot is empty; 602 if the
  * target slot is occupied; 902 if there is no such guest. */
 uint32_t pciguest_move(struct pciguest *machine, size_t from, uint64_t slot, size_t to,
@@ -413,28 +410,27 @@ uint32_t pciguest_move(struct pciguest *machine, size_t from, uint64_t slot, siz
 uint32_t pciguest_reset(struct pciguest *machine, size_t guest, uint64_t slot);
 
 /* Resets every function of a guest, without moving any of them, and the guest's own CONFIG_ADDRESS.
- * No state is carried over. The count that pciguest_changed stores increases by one. Allocates no
- * memory. Script lines can't do this.
+ * No state is carried over. The count that pciguest_changed stores increases by one. Script lines
+ * can't do this.
  * Returns 0 on success; 902 if there is no such guest. Since 0.4.0. */
 uint32_t pciguest_reset_guest(struct pciguest *machine, size_t guest);
 
-/* Saves a guest: writes its image, and stores the length of the image in `needed`. The image
- * contains the guest's complete state: its CONFIG_ADDRESS and, for each of its 32 slots, the
- * declaration of the function and the contents of its registers, as the guest sees them. The image
- * contains nothing about the board, about other guests, or about where the guest's functions are.
- * docs/image-format.md describes the bytes. The rest of the buffer stays unchanged. To get only the
- * length, pass a null pointer for `image` and 0 for `room`; the call then returns 902. The length
- * stays the same as long as the guest has the same functions in the same slots; accesses, devices,
- * resets and loads don't change the length. Allocates no memory, and doesn't change the machine.
+/* Writes the image of a guest, and stores its length in `needed`. The image contains the guest's
+ * complete state: its CONFIG_ADDRESS and, for each of its 32 slots, the declaration of the function
+ * and the contents of its registers, as the guest sees them. It contains nothing about the board,
+ * other guests, or where the guest's functions are. docs/image-format.md describes the bytes. The
+ * rest of the buffer stays unchanged. To get only the length, pass a null pointer for `image` and 0
+ * for `room`; the call then returns 902. The length stays the same as long as the guest has the
+ * same functions in the same slots. Doesn't change the machine.
  * Returns 0 on success; 902 if the buffer is too small (only the length is stored), or if there is
  * no such guest (nothing is stored). Since 0.4.0. */
 uint32_t pciguest_save(struct pciguest *machine, size_t guest, void *image, size_t room,
                        size_t *needed);
 
 /* Loads an image into a guest, which then has the state of the saved guest. The guest must have
- * functions in exactly the same slots as the image, with the same declarations. The functions may
- * be in other places, even on another board. Other guests can't observe the load. The count that
- * pciguest_changed stores increases by one. Allocates no memory. Script lines can't do this.
+ * functions in exactly the same slots as the image, with the same declarations. They may be in
+ * other places, even on another board. Other guests can't observe the load. The count that
+ * pciguest_changed stores increases by one. Script lines can't do this.
  * Returns 0 on success; 906 if the image and the guest don't have functions in the same slots, or
  * if a function is declared differently; 908 if the image has an unsupported format version; 905 if
  * the bytes are not an image, for example because a register can't hold its value; 902 if there is
@@ -442,26 +438,25 @@ uint32_t pciguest_save(struct pciguest *machine, size_t guest, void *image, size
  * 0.4.0. */
 uint32_t pciguest_load(struct pciguest *machine, size_t guest, const void *image, size_t length);
 
-/* Finds the first wrong byte of an image that pciguest_load refuses with 906 or 908. Stores the
- * offset of the byte in `offset`. Stores in `slot` the slot, 0 to 31, whose part of the image
- * contains the byte, or 32 if the byte is in front of the slots. For any other image, including one
- * that fits, stores 32 in `slot` and the length of the image in `offset`. docs/image-format.md
- * describes the field at each offset. The result depends only on the image and on the guest's own
- * functions. Allocates no memory and changes nothing.
+/* Finds the first wrong byte of an image that pciguest_load refuses with 906 or 908. Stores its
+ * offset in `offset`, and in `slot` the slot, 0 to 31, whose part of the image contains the byte,
+ * or 32 if the byte is in front of the slots. For any other image, including one that fits, stores
+ * 32 in `slot` and the length of the image in `offset`. docs/image-format.md describes the field at
+ * each offset. The result depends only on the image and on the guest's own functions. Changes
+ * nothing.
  * Returns 0 on success; 902 if there is no such guest. Since 0.4.0. */
 uint32_t pciguest_image_fault(struct pciguest *machine, size_t guest, const void *image,
                               size_t length, uint64_t *slot, size_t *offset);
 
 /* Stores the size in bytes of the image that pciguest_save_all would now write for the whole
  * machine. The size stays the same as long as the guests have the same functions in the same slots.
- * Allocates no memory and changes nothing. Since 0.4.0. */
+ * Changes nothing. Since 0.4.0. */
 uint32_t pciguest_image_size_all(struct pciguest *machine, size_t *size);
 
-/* Saves the whole machine: writes its image, and stores the length of the image in `needed`. The
- * image says which guest has which function of the board in which slot, and contains each guest's
- * state. The image also identifies the board, how the board is set up, and its guests.
- * docs/image-format.md describes the bytes. The rest of the buffer stays unchanged. Allocates no
- * memory, and doesn't change the machine.
+/* Writes the image of the whole machine, and stores its length in `needed`. The image says which
+ * guest has which function of the board in which slot, and contains each guest's state. It also
+ * identifies the board, how it is set up, and its guests. docs/image-format.md describes the bytes.
+ * The rest of the buffer stays unchanged. Doesn't change the machine.
  * Returns 0 on success; 902 if the buffer is too small (only the length is stored). Since 0.4.0. */
 uint32_t pciguest_save_all(struct pciguest *machine, void *image, size_t room, size_t *needed);
 
@@ -484,8 +479,8 @@ uint32_t pciguest_load_all(struct pciguest *machine, const void *image, size_t l
 /* Assigns a function of the board to an empty slot of a guest. No guest may have the function
  * already. The function is reset, both in the slot and on the board, with one exception: the
  * registers that guests have their own copies of keep their values on the board. The function is
- * named by its path, a text as in board files and in struct pciguest_function. Script lines can't
- * do this.
+ * identified by its path, written as in board files and in struct pciguest_function. Script lines
+ * can't do this.
  * Returns 0 on success; 303 if the slot is above 31, or there is no endpoint at the path; 602 if a
  * guest already has the function, or if the slot is occupied; 206 if one of the function's regions
  * is disabled on the board; 902 if there is no such guest. Since 0.4.0. */
@@ -525,8 +520,8 @@ uint32_t pciguest_device_write_wide(struct pciguest *machine, size_t guest, uint
 /* Stores where a region of the function in a guest's slot is now, as the guest sees it. The region
  * is the one that begins at base address register `bar`, 0 to 5. The result stays valid until the
  * guest writes Command or a base address register of this function, or until the function is moved,
- * reset, loaded or taken. As long as pciguest_changed stores the same count for the guest, no
- * result of pciguest_region for the guest changes. Allocates no memory and changes nothing.
+ * reset, loaded or taken. No result for the guest changes while pciguest_changed stores the same
+ * count. Changes nothing.
  * Returns 0 on success; 303 if the slot is above 31, or no region begins at this register; 601 if
  * the slot is empty; 902 if there is no such guest. Since 0.3.0. */
 uint32_t pciguest_region(struct pciguest *machine, size_t guest, uint64_t slot, uint32_t bar,
@@ -538,22 +533,21 @@ uint32_t pciguest_region(struct pciguest *machine, size_t guest, uint64_t slot, 
  * pciguest_take that touches one of the guest's slots in a way that may change one of these
  * results. It also increases by one with each pciguest_reset_guest or pciguest_load of the guest,
  * and by one or more with each pciguest_load_all. Nothing else increases the count. In a new
- * machine, the count is 0; after `2^64 - 1`, it returns to 0. Allocates no memory and changes
- * nothing.
+ * machine, the count is 0; after `2^64 - 1`, it returns to 0. Changes nothing.
  * Returns 0 on success; 902 if there is no such guest. Since 0.4.0. */
 uint32_t pciguest_changed(struct pciguest *machine, size_t guest, uint64_t *count);
 
 /* Updates rows that say where a guest's regions are, and stores in `count` how many of these rows
- * changed: those of regions that moved, or that were enabled or disabled. The caller keeps the rows
+ * changed. A row changes if its region moved, or was enabled or disabled. The caller keeps the rows
  * from call to call and sets all their bytes to 0 before the first call. The row for slot S and
  * base address register B is `places[6 * S + B]`. `room` is the number of rows in the caller's
  * array; PCIGUEST_PLACES rows cover all slots. In each of these rows, `now` says where the region
- * is, `before` says where it was when the row was last updated, and `has_moved` says whether the
- * two differ. A region that is back where it was, as at the end of sizing, has not moved. Because
- * two regions may have swapped addresses, a hypervisor goes twice through the rows whose
- * `has_moved` is 1: it first unmaps each `before` whose `is_open` is 1, and then maps each `now`
- * whose `is_open` is 1. The hypervisor calls pciguest_moved again when pciguest_changed stores a
- * different count. Allocates no memory.
+ * is, `before` says where it was at the row's previous update, and `has_moved` says whether the two
+ * differ. A region that is back where it was, as at the end of sizing, has not moved. Because two
+ * regions may have swapped addresses, a hypervisor goes twice through the rows whose `has_moved` is
+ * 1: it first unmaps each `before` whose `is_open` is 1, and then maps each `now` whose `is_open`
+ * is 1. The hypervisor calls pciguest_moved again when the count that pciguest_changed stores has
+ * changed.
  * Returns 0 on success; 902 if there is no such guest. Since 0.4.0. */
 uint32_t pciguest_moved(struct pciguest *machine, size_t guest, struct pciguest_place *places,
                         size_t room, size_t *count);
@@ -561,23 +555,23 @@ uint32_t pciguest_moved(struct pciguest *machine, size_t guest, struct pciguest_
 /* Finds the byte that a guest access to a slot and offset, to a port, or to an address reaches: a
  * byte of a function in one of the guest's slots, or nothing. Every access to that location begins
  * at this byte, except a 4-byte access to port CF8h, which reaches the guest's own CONFIG_ADDRESS.
- * Allocates no memory and changes nothing.
+ * Changes nothing.
  * Returns 0 on success; 303 if the slot, offset or port is out of range; 902 if there is no such
  * guest or space. Since 0.3.0. */
 uint32_t pciguest_locate(struct pciguest *machine, size_t guest, uint32_t space, uint64_t slot,
                          uint64_t place, struct pciguest_hit *hit);
 
 /* Explains why a guest's access to a slot and offset, a port, or an address reaches what it does,
- * or why it reaches nothing. Writes one line for each fact, and stores the length of the text in
- * `needed`. The text isn't terminated by a 0. For port CF8h, and for CFCh to CFFh, a line says how
- * the guest's CONFIG_ADDRESS decides what the port accesses (PCI Local Bus 3.0, 3.2.2.3.2). If a
- * function responds, the next line names the slot, the region or configuration space, and the
- * offset there. Otherwise, the next line says that nothing responds, that the slot is empty, or
- * that CONFIG_ADDRESS selects no slot. If nothing responds at a port or an address, one more line
- * follows for each region of the guest that contains the port or address but is disabled, because
- * Command doesn't enable its space (6.2.5). These lines are ordered by slot and then by register.
- * The text depends only on the guest's own functions and CONFIG_ADDRESS: two guests in which these
- * are equal get the same text. Changes nothing.
+ * or nothing. Writes one line for each fact, and stores the text's length in `needed`. The text
+ * isn't null-terminated. For port CF8h, and for CFCh to CFFh, a line says how the guest's
+ * CONFIG_ADDRESS decides what the port accesses (PCI Local Bus 3.0, 3.2.2.3.2). If a function
+ * responds, the next line gives its slot, the part of it that the access reaches (a region or
+ * configuration space), and the offset in that part. Otherwise, the next line says that nothing
+ * responds, that the slot is empty, or that CONFIG_ADDRESS selects no slot. If nothing responds at
+ * a port or an address, one more line follows for each region of the guest that contains the port
+ * or address but is disabled, because Command doesn't enable its space (6.2.5). These lines are
+ * ordered by slot and then by register. The text depends only on the guest's own functions and
+ * CONFIG_ADDRESS. Changes nothing.
  * Returns 0 on success; 303 if the slot, offset or port is out of range; 902 if there is no such
  * guest or space, or if the buffer is too small (only the length is stored); 299 if memory runs
  * out. Since 0.4.0. */
@@ -585,9 +579,9 @@ uint32_t pciguest_why(struct pciguest *machine, size_t guest, uint32_t space, ui
                       uint64_t place, char *text, size_t room, size_t *needed);
 
 /* Explains, as a one-line JSON object, why a guest's access to a slot and offset, a port, or an
- * address reaches what it does, or why it reaches nothing, and stores the length of the text in
- * `needed`. The text isn't terminated by a 0. The object contains everything that the lines of
- * pciguest_why say, except the value of CONFIG_ADDRESS. Changes nothing.
+ * address reaches what it does, or nothing, and stores the text's length in `needed`. The text
+ * isn't null-terminated. The object contains everything that the lines of pciguest_why say, except
+ * the value of CONFIG_ADDRESS. Changes nothing.
  * Returns 0 on success; 303 if the slot, offset or port is out of range; 902 if there is no such
  * guest or space, or if the buffer is too small (only the length is stored); 299 if memory runs
  * out. Since 0.4.0. */
@@ -601,26 +595,25 @@ uint32_t pciguest_count(struct pciguest *machine, size_t *count);
 /* Stores a row that describes the function at `index`. Functions are counted from 0 in path order,
  * so a bridge comes before what is behind it; `index` must be less than the count that
  * pciguest_count stores. The row's bus, device and function numbers, regions and windows come from
- * the board's own registers, which no guest writes. The row's guest and slot are the current ones,
- * after the last move. Allocates no memory and changes nothing.
+ * the board's own registers, which no guest writes. The row's guest and slot reflect all moves so
+ * far. Changes nothing.
  * Returns 0 on success; 902 if there is no such function. Since 0.4.0. */
 uint32_t pciguest_function(struct pciguest *machine, size_t index,
                            struct pciguest_function *function);
 
-/* Stores a row that describes the function in a guest's slot. pciguest_function stores the same row
- * for the function. The row's bus, device and function numbers and regions come from the board's
- * own registers, which no guest writes. To find out only whether the guest has set Interrupt
- * Disable, read Command with pciguest_read, which is faster. Allocates no memory and changes
- * nothing.
+/* Stores the row that describes the function in a guest's slot, as pciguest_function does. The
+ * row's bus, device and function numbers and regions come from the board's own registers, which no
+ * guest writes. To find out only whether the guest has set Interrupt Disable, read Command with
+ * pciguest_read, which is faster. Changes nothing.
  * Returns 0 on success; 303 if the slot is above 31; 601 if the slot is empty; 902 if there is no
  * such guest. Since 0.4.0. */
 uint32_t pciguest_slot(struct pciguest *machine, size_t guest, uint64_t slot,
                        struct pciguest_function *function);
 
-/* Runs one line of a script, writes the reply, and stores the length of the reply in `written`. The
- * line may end with its line feed; a line feed anywhere else makes it a bad line. The reply is one
- * line with its line feed, or nothing for a blank line or a comment. The reply isn't terminated by
- * a 0. If the line is refused, the reply says so, and the call still returns 0.
+/* Runs one line of a script, writes the reply, and stores its length in `written`. The line may end
+ * with its line feed; a line feed anywhere else makes it a bad line. The reply is one line with its
+ * line feed, or nothing for a blank line or a comment. The reply isn't null-terminated. If the line
+ * is refused, the reply says so, and the call still returns 0.
  * Returns 0 on success; 902 if the buffer is smaller than PCIGUEST_REPLY. */
 uint32_t pciguest_run_line(struct pciguest *machine, const char *line, size_t length, char *reply,
                            size_t room, size_t *written);
@@ -628,22 +621,21 @@ uint32_t pciguest_run_line(struct pciguest *machine, const char *line, size_t le
 /* Explains why a line of a script is refused with 401, 402 or 403. Writes a sentence without a line
  * feed, such as "missing width (expected 'cr SLOT OFFSET WIDTH')", and stores its length in
  * `needed`. Stores the position of the wrong word in `word`: 0 for the name, 1 for the word after
- * the name, and so on. For any other line, the text is empty. The text isn't terminated by a 0. The
- * line isn't run, and may end with its line feed. Allocates no memory and changes nothing.
+ * the name, and so on. For any other line, the text is empty. The text isn't null-terminated. The
+ * line isn't run, and may end with its line feed. Changes nothing.
  * Returns 0 on success; 902 if the buffer is too small (only the length is stored). Since 0.4.0. */
 uint32_t pciguest_explain_line(struct pciguest *machine, const char *line, size_t length,
                                size_t *word, char *text, size_t room, size_t *needed);
 
-/* Writes the report of a board file, as `pciguest list` does, and stores the length of the text in
- * `needed`. The text isn't terminated by a 0. Needs no machine.
+/* Writes the report of a board file, as `pciguest list` does, and stores the text's length in
+ * `needed`. The text isn't null-terminated. Needs no machine.
  * Returns 0 on success; 101 to 112 or 201 to 205 for the first check that the file or its board
  * fails; 199 or 299 if memory runs out; 902 if the buffer is too small (only the length is
  * stored). */
 uint32_t pciguest_report(const void *board, size_t length, char *text, size_t room, size_t *needed);
 
 /* Writes the report of a board file as a JSON object on one line, as `pciguest list --json` does,
- * and stores the length of the text in `needed`. The text isn't terminated by a 0. Needs no
- * machine.
+ * and stores the text's length in `needed`. The text isn't null-terminated. Needs no machine.
  * Returns 0 on success; 101 to 112 or 201 to 205 for the first check that the file or its board
  * fails; 199 or 299 if memory runs out; 902 if the buffer is too small (only the length is stored).
  * Since 0.4.0. */
@@ -651,8 +643,8 @@ uint32_t pciguest_report_json(const void *board, size_t length, char *text, size
                               size_t *needed);
 
 /* Writes what is wrong with a board file, or that its board fits, as `pciguest check board.toml`
- * does, and stores the length of the text in `needed`. The warnings that `--all` adds are not
- * included. The text isn't terminated by a 0. Needs no machine.
+ * does, and stores the text's length in `needed`. The warnings that `--all` adds are not included.
+ * The text isn't null-terminated. Needs no machine.
  * Returns 0 if the board fits; 101 to 112 or 201 to 205 if the file or its board is refused, and
  * the text says why; 199 or 299 if memory runs out (nothing is written or stored); 902 if the
  * buffer is too small (only the length is stored). */
@@ -695,24 +687,24 @@ uint32_t pciguest_board_write(struct pciguest_board *board, uint32_t space, uint
                               uint8_t device, uint8_t function, uint64_t place, uint32_t width,
                               uint32_t value);
 
-/* Runs one line of a session, as `pciguest firmware` does, writes the reply, and stores the length
- * of the reply in `written`. The line may end with its line feed. While firmware drives the board,
- * the line can be a firmware line or one of four requests. The replies to `host audit` and
- * `host ready` are the texts of pciguest_board_audit and pciguest_board_ready. The reply to
- * `host why ..` explains why an address, a port, or a bus/device/function number leads where it
- * does, or nowhere. The request `host guests` hands the board over to the guests that its file
- * declares, as pciguest_board_guests does; if that fails, the reply says why. Once the board has
- * been handed over, the line is a script line. The struct then holds the machine, which
- * pciguest_board_guests can move to a struct of its own. Apart from pciguest_board_run_line,
- * pciguest_board_guests and pciguest_board_free, calls on a board then return 901
- * (pciguest_board_new returns 903). If a line is refused, the reply says so, and the call still
- * returns 0. The reply is one line with its line feed, or nothing. Only the replies to
+/* Runs one line of a session, as `pciguest firmware` does, writes the reply, and stores its length
+ * in `written`. The line may end with its line feed. While firmware drives the board, the line can
+ * be any firmware line: an access, `host audit`, `host ready`, `host why ..` or `host guests`. The
+ * replies to `host audit` and `host ready` are the texts that pciguest_board_audit and
+ * pciguest_board_ready write. The reply to `host why ..` explains why an address, a port, or a
+ * bus/device/function number leads where it does, or nowhere. `host guests` hands the board over to
+ * the guests that its file declares, as pciguest_board_guests does; if that fails, the reply says
+ * why. Once the board has been handed over, the line is a script line. The struct then holds the
+ * machine, which pciguest_board_guests can move to a struct of its own. Apart from
+ * pciguest_board_run_line, pciguest_board_guests and pciguest_board_free, calls on a board then
+ * return 901 (pciguest_board_new returns 903). If a line is refused, the reply says so, and the
+ * call still returns 0. The reply is one line with its line feed, or nothing. Only the replies to
  * `host audit`, `host ready`, `host why ..` and a refused `host guests` can have more lines. The
- * reply isn't terminated by a 0.
+ * reply isn't null-terminated.
  * Returns 0 on success; 902 if the buffer is smaller than PCIGUEST_REPLY, or if it is too small for
  * a reply of several lines (the length of that reply is stored); 299 if memory runs out for
  * `host audit`, `host ready`, `host why ..` or `host guests`. If the call returns 902 or 299, the
- * line has no other effect. Only these four lines allocate memory. Since 0.3.0. */
+ * line has no effect. Only these four lines allocate memory. Since 0.3.0. */
 uint32_t pciguest_board_run_line(struct pciguest_board *board, const char *line, size_t length,
                                  char *reply, size_t room, size_t *written);
 
@@ -722,20 +714,20 @@ uint32_t pciguest_board_count(struct pciguest_board *board, size_t *count);
 
 /* Stores a row that describes the function at `index`. Functions are counted from 0 in path order,
  * and `index` must be less than the count that pciguest_board_count stores. The row reflects the
- * registers as they are now, in whatever state firmware left them. The row contains the function's
- * bus, device and function numbers, whether a configuration access to these numbers reaches the
+ * registers as they are now, in whatever state firmware left them. It contains the function's bus,
+ * device and function numbers, whether a configuration access to these numbers reaches the
  * function, its base address registers or windows, and whether its Command enables their spaces.
- * Allocates no memory and changes nothing, not even CONFIG_ADDRESS.
+ * Changes nothing, not even CONFIG_ADDRESS.
  * Returns 0 on success; 902 if there is no such function. Since 0.4.0. */
 uint32_t pciguest_board_function(struct pciguest_board *board, size_t index,
                                  struct pciguest_board_function *function);
 
 /* Reports what is wrong in the registers of a board as they are now, no matter who wrote them:
- * writes one line for each problem, then a last line, `audit: ok` or `audit: N problems`. There are
- * three kinds of problem: a bridge above an enabled region doesn't forward every byte of the
- * region; two enabled regions or bridges respond to the same address on one bus; or no
- * configuration cycle reaches a function. Stores the length of the text in `needed` and the number
- * of problems in `count`. The text isn't terminated by a 0. The board stays unchanged.
+ * writes one line for each problem, then a last line, `audit: ok` or `audit: N problems`. A problem
+ * is one of three kinds: a bridge above an enabled region doesn't forward every byte of the region;
+ * two enabled regions or bridges respond to the same address on one bus; or no configuration cycle
+ * reaches a function. Stores the text's length in `needed` and the number of problems in `count`.
+ * The text isn't null-terminated. Changes nothing.
  * Returns 0 on success; 902 if the buffer is too small (only the length is stored); 299 if memory
  * runs out. Since 0.3.0. */
 uint32_t pciguest_board_audit(struct pciguest_board *board, char *text, size_t room, size_t *needed,
@@ -743,9 +735,8 @@ uint32_t pciguest_board_audit(struct pciguest_board *board, char *text, size_t r
 
 /* Reports what is wrong in the registers of a board as a JSON object on one line, as
  * `pciguest audit --json` does. The object contains every problem that pciguest_board_audit
- * reports, in the same order and with the same information. Stores the length of the text in
- * `needed` and the number of problems in `count`. The text isn't terminated by a 0. The board stays
- * unchanged.
+ * reports, in the same order and with the same information. Stores the text's length in `needed`
+ * and the number of problems in `count`. The text isn't null-terminated. Changes nothing.
  * Returns 0 on success; 902 if the buffer is too small (only the length is stored); 299 if memory
  * runs out. Since 0.4.0. */
 uint32_t pciguest_board_audit_json(struct pciguest_board *board, char *text, size_t room,
@@ -756,9 +747,9 @@ uint32_t pciguest_board_audit_json(struct pciguest_board *board, char *text, siz
  * last line, `ready: ok` or counts such as `ready: 1 problem, 2 left to do`. There are four kinds
  * of readiness issue: a region is disabled; a region is outside the apertures; a region is
  * prefetched although it isn't prefetchable; or a bridge's Primary Bus Number isn't the number of
- * the bus that it is on. Stores the length of the text in `needed`, and in `count` the number of
- * problems and readiness issues, which is 0 if the board is ready. The text isn't terminated by a
- * 0. The board stays unchanged.
+ * the bus that it is on. Stores the text's length in `needed`, and in `count` the number of
+ * problems and readiness issues, which is 0 if the board is ready. The text isn't null-terminated.
+ * Changes nothing.
  * Returns 0 on success; 902 if the buffer is too small (only the length is stored); 299 if memory
  * runs out. Since 0.4.0. */
 uint32_t pciguest_board_ready(struct pciguest_board *board, char *text, size_t room, size_t *needed,
@@ -766,9 +757,9 @@ uint32_t pciguest_board_ready(struct pciguest_board *board, char *text, size_t r
 
 /* Reports what is wrong in the registers of a board and what is left to do as a JSON object on one
  * line, as `pciguest ready --json` does. The object contains every problem and readiness issue that
- * pciguest_board_ready reports, in the same order and with the same information. Stores the length
- * of the text in `needed`, and in `count` the number of problems and readiness issues, which is 0
- * if the board is ready. The text isn't terminated by a 0. The board stays unchanged.
+ * pciguest_board_ready reports, in the same order and with the same information. Stores the text's
+ * length in `needed`, and in `count` the number of problems and readiness issues, which is 0 if the
+ * board is ready. The text isn't null-terminated. Changes nothing.
  * Returns 0 on success; 902 if the buffer is too small (only the length is stored); 299 if memory
  * runs out. Since 0.4.0. */
 uint32_t pciguest_board_ready_json(struct pciguest_board *board, char *text, size_t room,
@@ -778,8 +769,8 @@ uint32_t pciguest_board_ready_json(struct pciguest_board *board, char *text, siz
  * leads where it does, or nowhere, given what the registers hold now. The object contains
  * everything that the lines of `host why ..` say, except the value of CONFIG_ADDRESS. The arguments
  * are those of pciguest_board_read, except that `place` is ignored in configuration space. A port
- * above FFFFFFFFh is accepted, and nothing responds to it. Stores the length of the text in
- * `needed`. The text isn't terminated by a 0. The board stays unchanged, including CONFIG_ADDRESS.
+ * above FFFFFFFFh is accepted, and nothing responds to it. Stores the text's length in `needed`.
+ * The text isn't null-terminated. Changes nothing, not even CONFIG_ADDRESS.
  * Returns 0 on success; 902 if there is no such space, device or function, or if the buffer is too
  * small (only the length is stored); 299 if memory runs out. Since 0.4.0. */
 uint32_t pciguest_board_why_json(struct pciguest_board *board, uint32_t space, uint8_t bus,
