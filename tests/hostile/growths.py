@@ -15,6 +15,7 @@ from harness import AUDIT, BOARDS, LARGEST, MAIN, PLACES, Room, fault_line
 SCRIPTS = ["guest.script", "two_guests.script", "raise.script", "host.script", "ports.script", "move.script"]
 BROKEN = ["set_up", "limit_short", "half_base", "same_secondary"]
 DEMO = str(BOARDS / "demo.toml")
+MALFORMED = b"a cr 0\nhost move nobody 0 a 0\n"
 # guests for the largest board, which has none: a move of a guest that isn't there is malformed, and to explain it takes memory
 GUESTS = b"""
 [[guest]]
@@ -37,13 +38,15 @@ def growths_of_board(room, board):
 def numbers_of(room, words, script, board, ends):
     """The number that each growth of a run answers, in their order. While the words of the command line are taken it is
     799, for the output that is kept back 299, while the board file is read 702, while a board is made of its bytes 199,
-    and while it is set up, told of and run 299. What is told of a file that is refused takes memory by 199."""
+    and while it is set up, told of and run 299. What is told of a file that is refused takes memory by 199. None stands
+    for the explanations of malformed lines, which `run` makes at its end, and leaves out where there is no memory."""
     _, counts = room.counted(words, script)
     numbers = [799] * counts.for_words + [299]
     numbers += [702] * (counts.until_file_read - len(numbers))
-    left = counts.growths - len(numbers)
+    explained = counts.growths - counts.before_reading if words[0] == "run" else 0
+    left = counts.growths - explained - len(numbers)
     made = growths_of_board(room, board) if ends in ("ok", "208") else left
-    return numbers + [199] * made + [299] * (left - made)
+    return numbers + [199] * made + [299] * (left - made) + [None] * explained
 
 
 def tally_of(answers):
@@ -52,7 +55,7 @@ def tally_of(answers):
 
 
 def refuse_each(room, name, words, script, mode, board=MAIN, ends="ok"):
-    """Refuses each growth in turn. Each refused run answers the growth's number and writes nothing. Where one growth
+    """Refuses each growth in turn. Each refused run answers the growth's number and writes nothing more. Where one growth
     alone is refused, the run may also ask again at once, for no more bytes, and then end as one to which none is refused."""
     table = room.write("table", b"")
     # each growth forks the process: on the largest board that takes minutes, and more where others use the processors
@@ -67,9 +70,9 @@ def refuse_each(room, name, words, script, mode, board=MAIN, ends="ok"):
     answers = []
     for number, (growth, asked_again, *ended) in zip(numbers, rows):
         whole = mode == "once" and asked_again == b"1" and tuple(ended) == end
-        holds = whole or ended == [b"1", b"0", fault_line(number).rstrip(b"\n")]
+        holds = whole or ended == ([b"1", b"0", fault_line(number).rstrip(b"\n")] if number else [b"0", b"0", b""])
         room.expect(f"{name}, growth {growth.decode()} refused {mode}", holds, f"{ended} in place of {number}")
-        answers.append("whole output" if whole else number)
+        answers.append("whole output" if whole else number or "no explanation")
     print(f"| {name} | {mode} | {len(rows)} | {tally_of(answers)} | {run.passed / 1000:.1f} |", flush=True)
 
 
@@ -124,6 +127,7 @@ def main(program, *options):
         refuse_each(room, "check, many places", ["check", PLACES], b"", mode, PLACES, "105")
         refuse_each(room, "run, main board, empty script", ["run", MAIN], b"", mode)
         refuse_each(room, "run, main board", ["run", MAIN], every, mode)
+        refuse_each(room, "run, malformed lines", ["run", MAIN], MALFORMED, mode)
         for verb, ends in [("audit", "ok"), ("ready", "208")]:
             refuse_each(room, f"{verb}, broken", [verb, AUDIT / "board.toml"], broken, mode, AUDIT / "board.toml", ends)
         if largest:
