@@ -184,14 +184,16 @@ other_kit_crates() {
 }
 none 'crates of the kit that the README names' other_kit_crates
 
-# ---- edits that the gate doesn't try: each text that one replaces stands once in its file
+# ---- edits that the gate doesn't try, and mistakes of the examples: each text that one replaces stands once in its file
 lost_edits() {
   local edit file line
-  for edit in tests/edits/*/*.edit; do
+  for edit in tests/edits/*/*.edit examples/*/mistakes/*.edit; do
     while IFS= read -r line; do
-      case $line in
-        'file: '*) file=crates/$(basename "$(dirname "$edit")")/${line#file: } ;;
-        'old: '*) [ "$(grep -oF -- "${line#old: }" "$file" | wc -l)" = 1 ] || echo "$edit: ${line#old: }" ;;
+      case $edit:$line in
+        *:'file: pciguest.h') file=library/pciguest.h ;;
+        tests/*:'file: '*) file=crates/$(basename "$(dirname "$edit")")/${line#file: } ;;
+        examples/*:'file: '*) file=${edit%/mistakes/*}/${line#file: } ;;
+        *:'old: '*) [ "$(grep -oF -- "${line#old: }" "$file" | wc -l)" = 1 ] || echo "$edit: ${line#old: }" ;;
       esac
     done < "$edit"
   done
