@@ -42,7 +42,7 @@ config_blocks : (bs : List ConfigBlock) → IsConfigFile (flat_map block_cells b
 config_blocks [] = tt
 config_blocks (b ∷ bs) = each_append (λ (e : PlacedCell). IsConfig e.place) (block_cells b) (flat_map block_cells bs) (config_cells_from b.offset b.cells) (config_blocks bs)
 
-block_outside : (q a w : ℕ) → IsElsewhere q → 0x40 ≤ a → a + w ≤ 0x100 → IsOutside q a w
+block_outside : (q a w : ℕ) → IsElsewhere q → 0x34 ≤ a → a + w ≤ 0x100 → IsOutside q a w
 block_outside q a w h low high = grind arith
 
 none_blocks : (q : ℕ) (bs : List ConfigBlock) → Each IsConfigBlock bs → IsElsewhere q → has_place (flat_map block_cells bs) (config q) ≡ false

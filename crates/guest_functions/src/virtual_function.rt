@@ -45,7 +45,7 @@ impl VirtualFunction {
     pub fn new(decls: [Option<BarDecl>; 6]) -> VirtualFunction
         requires { HasLawfulRegions (map opened (at_reset decls)) }
         ensures copies { result ≡ record { command = 0; bases = at_reset decls } }
-        ensures reset { (d : Endpoint) → Each (λ b. 0x40 ≤ b.offset) d.blocks
+        ensures reset { (d : Endpoint) → Each (λ b. 0x34 ≤ b.offset) d.blocks
             → map closed d.regions ≡ at_reset decls →
             HoldsOwn (endpoint_reset d false) result }
     {
@@ -115,7 +115,7 @@ impl VirtualFunction {
         ensures copies { self.new
             ≡ record { command = 0; bases = map with_no_base self.old.bases } }
         ensures regions { map opened self.new.bases ≡ map opened self.old.bases }
-        ensures reset { (d : Endpoint) → Each (λ b. 0x40 ≤ b.offset) d.blocks
+        ensures reset { (d : Endpoint) → Each (λ b. 0x34 ≤ b.offset) d.blocks
             → map bare d.regions ≡ map opened self.old.bases →
             HoldsOwn (endpoint_reset d false) self.new }
     {

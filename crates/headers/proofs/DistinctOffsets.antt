@@ -1,7 +1,7 @@
 -- No two cells of a header and of blocks that lie apart have one offset.
-use Rattle.std.{proofs.{Common.{◌≡◌, ◌≢◌, ℕ, ◌+◌, ◌<◌, ◌≤◌, Bool, true, List, [], ◌∷◌, ◌++◌, length, eqb, sym, subst, arith, rules}, lemmas.Bool.{ltb-true, Decides.nat_tests}}, specs.Prelude.{IsTrue, ◌⊎◌, flat_map, not}}
+use Rattle.std.{proofs.{Common.{◌≡◌, ◌≢◌, ℕ, ◌+◌, ◌<◌, ◌≤◌, inl, inr, Bool, true, ◌&&◌, ltb, List, [], ◌∷◌, ◌++◌, length, eqb, refl, sym, subst, arith}, lemmas.Bool.{Decides.nat_tests}}, specs.Prelude.{IsTrue, ◌⊎◌, flat_map, not}}
 use Rattle.lists.{specs.Elements.{Each, EachPair, all_pairs}, proofs.EachLemmas.{each_map, each_test, pairs_test, each_append, pairs_map}}
-use Rattle.model_registers.specs.{Cell.Cell, Registers.{config, offset_of, PlacedCell, File, cells_from}, Declarations.{ConfigBlock, Endpoint, Bridge}, BridgeTable.bridge_reset, DeclarationRules.{blocks_apart, IsConfigBlock, IsLawfulEndpoint}, EndpointTable.{block_cells, config_reset}}
+use Rattle.model_registers.specs.{Cell.Cell, Registers.{config, offset_of, PlacedCell, File, cells_from}, Declarations.{ConfigBlock, Endpoint, Bridge}, BridgeTable.bridge_reset, DeclarationRules.{blocks_apart, IsConfigBlock, IsLawfulEndpoint}, EndpointTable.{block_cells, header_cells, config_reset}}
 use Rattle.config_bytes.specs.CellFile.{HasDistinctOffsets, file_of}
 
 abbrev at : PlacedCell → ℕ
@@ -40,9 +40,20 @@ blocks_distinct : (bs : List ConfigBlock) → EachPair (λ (b c : ConfigBlock). 
 blocks_distinct [] h = tt
 blocks_distinct (b ∷ bs) h = grind (arith, blocks_distinct bs, pairs_append, block_distinct, each_map, all_outside, block_within, nat_tests)
 
-blocks_above : (bs : List ConfigBlock) → Each IsConfigBlock bs → Each (λ (e : PlacedCell). 0x40 ≤ at e) (flat_map block_cells bs)
-blocks_above [] h = tt
-blocks_above (b ∷ bs) h = grind (arith, each_append, each_map, block_within, blocks_above bs)
+-- at 40h or above, or the Capabilities Pointer
+abbrev IsOwn : PlacedCell → Type 0
+IsOwn e = (0x40 ≤ at e) ⊎ (at e ≡ 0x34)
+
+within_block : (o n a : ℕ) → (0x40 ≤ o) ⊎ ((o ≡ 0x34) × (n ≡ 1)) → o ≤ a → a < o + n → (0x40 ≤ a) ⊎ (a ≡ 0x34)
+within_block o n a (inl low) from to = inl (omega arith)
+within_block o n a (inr is) from to = inr (omega (arith, is.0, is.1))
+
+blocks_own : (bs : List ConfigBlock) → Each IsConfigBlock bs → Each IsOwn (flat_map block_cells bs)
+blocks_own [] h = tt
+blocks_own (b ∷ bs) h =
+    each_append IsOwn (block_cells b) (flat_map block_cells bs)
+    (each_map (Within b.offset (b.offset + length b.cells)) IsOwn (block_cells b) (λ e w. within_block b.offset (length b.cells) (at e) h.0.in_place w.0 w.1) (block_within b.offset b.cells))
+    (blocks_own bs h.1)
 
 -- ---- the header
 
@@ -56,8 +67,21 @@ differ_lem m n h = grind (arith, nat_tests)
 distinct_by_test : (file : File) → all_pairs differ file ≡ true → EachPair Differ file
 distinct_by_test file h = pairs_map (λ (e f : PlacedCell). IsTrue (differ e f)) Differ file (λ e f t. differ_lem (at e) (at f) t) (pairs_test differ file h)
 
+-- no cell of the header is where a block may have one
+abbrev is_elsewhere : PlacedCell → Bool
+is_elsewhere e = ltb (at e) 0x40 && not (eqb (at e) 0x34)
+
+elsewhere : (m n : ℕ) → (ltb m 0x40 && not (eqb m 0x34)) ≡ true → (0x40 ≤ n) ⊎ (n ≡ 0x34) → m ≢ n
+elsewhere m n h own = grind (arith, nat_tests)
+
 reset_distinct : (d : Endpoint) (multifunction : Bool) → Each IsConfigBlock d.blocks → EachPair (λ (b c : ConfigBlock). IsTrue (blocks_apart b c)) d.blocks → EachPair Differ (config_reset d multifunction)
-reset_distinct d multifunction lawful apart = search (rules, pairs_append, blocks_distinct, each_map, blocks_above, ltb-true, each_test, distinct_by_test)
+reset_distinct d multifunction lawful apart =
+    let header : File = header_cells d multifunction 0 in
+    let blocks : File = flat_map block_cells d.blocks in
+    pairs_append header blocks (distinct_by_test header refl) (blocks_distinct d.blocks apart)
+    (each_map (λ (e : PlacedCell). IsTrue (is_elsewhere e)) (λ e. Each (Differ e) blocks) header
+    (λ e t. each_map IsOwn (Differ e) blocks (λ f own. elsewhere (at e) (at f) t own) (blocks_own d.blocks lawful))
+    (each_test is_elsewhere header refl))
 
 -- ---- as lists
 

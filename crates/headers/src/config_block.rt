@@ -6,8 +6,9 @@ ghost use Rattle.model_registers.specs.DeclarationRules.{is_config_block, blocks
 use config_bytes::Cell;
 use std::marker::Model;
 
-/// Consecutive register bytes from offset `off` on. In a valid declaration they lie within 40h to
-/// FFh, and there is at least one.
+/// Consecutive register bytes from offset `off` on. In a valid declaration there is at least one,
+/// and they lie within 40h to FFh. A single byte may also be at 34h: the Capabilities Pointer (PCI
+/// Local Bus 3.0, chapter 6.7).
 #[derive(Clone, Debug, Drop)]
 pub struct ConfigBlock {
     pub off: u16,
@@ -28,7 +29,7 @@ impl ConfigBlock {
     {
         let off = usize::from(self.off);
         let len = self.block.len();
-        off >= 0x40 && len > 0 && off + len <= 0x100
+        (off >= 0x40 || off == 0x34 && len == 1) && len > 0 && off + len <= 0x100
     }
 
     fn is_apart(&self, other: &ConfigBlock) -> bool
@@ -46,7 +47,7 @@ impl ConfigBlock {
     }
 }
 
-/// Returns whether each block is nonempty and lies within 40h to FFh.
+/// Returns whether each block is nonempty and lies within 40h to FFh, or is one byte at 34h.
 pub(crate) fn are_lawful(blocks: &[ConfigBlock]) -> bool
     ensures { result ≡ list_all is_config_block blocks.now }
 {

@@ -8,6 +8,7 @@
 mod apertures;
 mod bridge;
 mod bridge_decl;
+mod capabilities;
 mod config_block;
 mod config_register;
 mod decodes;
@@ -25,6 +26,7 @@ mod windows;
 pub use apertures::{Aperture, ApertureFault, Apertures};
 pub use bridge::{Bridge, bridge_rows, io_rows, pref_rows};
 pub use bridge_decl::BridgeDecl;
+pub use capabilities::Capability;
 pub use config_block::ConfigBlock;
 pub use config_register::ConfigRegister;
 pub use decodes::{IoDecode, PrefDecode};

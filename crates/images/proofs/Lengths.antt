@@ -40,7 +40,7 @@ parts_length d rs bs regions blocks = grind (arith, length-append, endpoint_head
 pub few_regions : (d : Endpoint) (rs : List Region) → IsLawfulEndpoint d → rs ≡ d.regions → length rs ≤ 6
 few_regions d rs h same = let few = region_count d h in let as_many = ap (λ (l : List Region). length l) same in omega arith
 
-pub few_blocks : (d : Endpoint) (bs : List ConfigBlock) → IsLawfulEndpoint d → bs ≡ d.blocks → length bs ≤ 192
+pub few_blocks : (d : Endpoint) (bs : List ConfigBlock) → IsLawfulEndpoint d → bs ≡ d.blocks → length bs ≤ 204
 few_blocks d bs h same = let few = block_count d h in let as_many = ap (λ (l : List ConfigBlock). length l) same in omega arith
 
 -- ---- how many cells

@@ -24,9 +24,9 @@ fn regions_size(regions: &[Region]) -> usize
 
 fn blocks_size(blocks: &[ConfigBlock]) -> usize
     requires lawful { Each IsConfigBlock blocks.now }
-    requires few { length blocks.now ≤ 192 }
+    requires few { length blocks.now ≤ 204 }
     ensures size { result ≡ length (flat_map block_bytes blocks.now) }
-    ensures bound { result ≤ 110976 }
+    ensures bound { result ≤ 125256 }
 {
     let mut left = blocks;
     let mut size = 0;
@@ -40,7 +40,7 @@ fn blocks_size(blocks: &[ConfigBlock]) -> usize
 /// Returns the total size of the parts of a declaration, in bytes.
 fn parts_size(decl: &EndpointDecl) -> usize
     ensures size { result ≡ length (declared_bytes decl.now) }
-    ensures bound { result ≤ 184795 }
+    ensures bound { result ≤ 199075 }
 {
     let values = decl.values();
     19 + regions_size(&values.bar) + blocks_size(&values.config)
@@ -50,7 +50,7 @@ fn parts_size(decl: &EndpointDecl) -> usize
 #[tactic(auto, using(crate::proofs::DeclaredBytes::declared_is))]
 pub fn declaration_size(decl: &EndpointDecl) -> usize
     ensures size { result ≡ length (declaration_bytes decl.now) }
-    ensures bound { result ≤ 184795 }
+    ensures bound { result ≤ 199075 }
 {
     parts_size(decl)
 }
@@ -73,9 +73,9 @@ fn regions_cells(regions: &[Region]) -> usize
 
 fn blocks_cells(blocks: &[ConfigBlock]) -> usize
     requires lawful { Each IsConfigBlock blocks.now }
-    requires few { length blocks.now ≤ 192 }
+    requires few { length blocks.now ≤ 204 }
     ensures size { result ≡ length (flat_map block_cells blocks.now) }
-    ensures bound { result ≤ 36864 }
+    ensures bound { result ≤ 41616 }
 {
     let mut left = blocks;
     let mut size = 0;
@@ -89,7 +89,7 @@ fn blocks_cells(blocks: &[ConfigBlock]) -> usize
 /// Returns how many register bytes a declared endpoint has. Each takes one byte in a saved state.
 pub fn values_size(decl: &EndpointDecl) -> usize
     ensures size { result ≡ length (endpoint_reset decl.now false) }
-    ensures bound { result ≤ 61511 }
+    ensures bound { result ≤ 66263 }
 {
     let values = decl.values();
     23 + blocks_cells(&values.config) + regions_cells(&values.bar)

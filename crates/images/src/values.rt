@@ -25,7 +25,7 @@ fn can_hold(row: &ConfigRegister, byte: u8) -> bool
     let value = (row.value % 256) as u8;
     let writable = (row.writable % 256) as u8;
     let clearable = (row.clearable % 256) as u8;
-    let is_device = off == 6 || off == 7 || off >= 0x40;
+    let is_device = off == 6 || off == 7 || off == 0x34 || off >= 0x40;
     is_device || byte & !writable & !clearable == value & !writable & !clearable
 }
 

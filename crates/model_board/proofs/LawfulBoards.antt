@@ -13,7 +13,7 @@ behind_2 d h = grind arith
 pub main_is_board : IsBoard main_board
 main_is_board = grind (arith, on_bus_0, behind_2)
 
-pub plain_is_lawful : (id status pin : ℕ) (rs : List Region) → id < 2 ^ 16 → bit_and status 0xf900 ≡ status → pin ≤ 4 → HasLawfulRegions rs → Each (λ r. length r.cells ≤ 4096) rs
+pub plain_is_lawful : (id status pin : ℕ) (rs : List Region) → id < 2 ^ 16 → bit_and status 0xf910 ≡ status → pin ≤ 4 → HasLawfulRegions rs → Each (λ r. length r.cells ≤ 4096) rs
     → IsLawfulEndpoint (plain id status pin rs)
 plain_is_lawful id status pin rs device status_is small regions blocks = grind arith
 

@@ -26,11 +26,11 @@ not_raised m p own (e ∷ es) low = grind (arith, not_raised m p own es, low_cel
 
 -- ---- files at reset
 
-cells_low : (a : ℕ) (cs : List Cell) → 0x40 ≤ a → StaysLow (cells_from (config a) cs)
+cells_low : (a : ℕ) (cs : List Cell) → 0x34 ≤ a → StaysLow (cells_from (config a) cs)
 cells_low a [] h = tt
 cells_low a (c ∷ cs) h = grind (arith, cells_low (a + 1) cs, nat_tests)
 
-blocks_low : (bs : List ConfigBlock) → Each (λ b. 0x40 ≤ b.offset) bs → StaysLow (flat_map block_cells bs)
+blocks_low : (bs : List ConfigBlock) → Each (λ b. 0x34 ≤ b.offset) bs → StaysLow (flat_map block_cells bs)
 blocks_low [] h = tt
 blocks_low (b ∷ bs) h = each_append (λ e. stays_low e ≡ true) (block_cells b) (flat_map block_cells bs) (cells_low b.offset b.cells h.0) (blocks_low bs h.1)
 

@@ -8,16 +8,24 @@ use Rattle.lists.{specs.Elements.{Each, EachPair}, proofs.EachLemmas.{each_map, 
 abbrev BlocksApart : ConfigBlock → ConfigBlock → Type 0
 BlocksApart b c = (b.offset + length b.cells ≤ c.offset) ⊎ (c.offset + length c.cells ≤ b.offset)
 
+-- at 40h or above, or the Capabilities Pointer
+abbrev InPlace : ConfigBlock → Type 0
+InPlace b = (0x40 ≤ b.offset) ⊎ ((b.offset ≡ 0x34) × (length b.cells ≡ 1))
+
 record HasLawfulPlaces (d : Endpoint) : Type 0 where
   regions : HasLawfulRegions d.regions
-  blocks : Each (λ b. 0x40 ≤ b.offset) d.blocks
+  blocks : Each (λ b. 0x34 ≤ b.offset) d.blocks
+  in_place : Each InPlace d.blocks
   blocks_apart : EachPair BlocksApart d.blocks
 
-pub own_blocks : (d : Endpoint) → IsLawfulEndpoint d → Each (λ b. 0x40 ≤ b.offset) d.blocks
-own_blocks d lawful = each_map IsConfigBlock (λ b. 0x40 ≤ b.offset) d.blocks (λ b h. h.begins) lawful.config_blocks
+pub own_blocks : (d : Endpoint) → IsLawfulEndpoint d → Each (λ b. 0x34 ≤ b.offset) d.blocks
+own_blocks d lawful = each_map IsConfigBlock (λ b. 0x34 ≤ b.offset) d.blocks (λ b h. h.begins) lawful.config_blocks
+
+placed_blocks : (d : Endpoint) → IsLawfulEndpoint d → Each InPlace d.blocks
+placed_blocks d lawful = each_map IsConfigBlock InPlace d.blocks (λ b h. h.in_place) lawful.config_blocks
 
 lawful_places : (d : Endpoint) → IsLawfulEndpoint d → HasLawfulPlaces d
-lawful_places d lawful = grind (arith, own_blocks, pairs_map, leb-true)
+lawful_places d lawful = grind (arith, own_blocks, placed_blocks, pairs_map, leb-true)
 
 -- ---- runs of places
 
@@ -159,10 +167,20 @@ header_distinct = grind (arith, pairs_append, config_run, configs_apart, both_ap
 header_apart : (ps : List Place) → AllApart (run (config 0) 15) ps → AllApart (run (config 0x2c) 4) ps → AllApart (run (config 0x3c) 4) ps → AllApart header_run ps
 header_apart ps f g h = both_apart (run (config 0) 15 ++ run (config 0x2c) 4) (run (config 0x3c) 4) ps (both_apart (run (config 0) 15) (run (config 0x2c) 4) ps f g) h
 
-header_and_block : (b : ConfigBlock) → 0x40 ≤ b.offset → AllApart header_run (block_run_of b)
+behind_ids : (b : ConfigBlock) → InPlace b → 0x34 ≤ b.offset
+behind_ids b (inl low) = omega arith
+behind_ids b (inr is) = omega (arith, is.0)
+
+-- the pointer is before 3Ch, and all other blocks are behind 3Fh
+beside_last : (b : ConfigBlock) → InPlace b → (0x3c + 4 ≤ b.offset) ⊎ (b.offset + length b.cells ≤ 0x3c)
+beside_last b (inl low) = inl (omega arith)
+beside_last b (inr is) = inr (omega (arith, is.0, is.1))
+
+header_and_block : (b : ConfigBlock) → InPlace b → AllApart header_run (block_run_of b)
 header_and_block b h =
-    header_apart (block_run_of b) (configs_apart 0 15 b.offset (length b.cells) (inl (omega arith))) (configs_apart 0x2c 4 b.offset (length b.cells) (inl (omega arith)))
-    (configs_apart 0x3c 4 b.offset (length b.cells) (inl (omega arith)))
+    let behind = behind_ids b h in
+    header_apart (block_run_of b) (configs_apart 0 15 b.offset (length b.cells) (inl (omega (arith, behind)))) (configs_apart 0x2c 4 b.offset (length b.cells) (inl (omega (arith, behind))))
+    (configs_apart 0x3c 4 b.offset (length b.cells) (beside_last b h))
 
 header_and_base : (i n : ℕ) → i + n ≤ 6 → AllApart header_run (run (base_register i) (4 * n))
 header_and_base i n h =
@@ -175,10 +193,10 @@ header_and_region r h =
     apart_from_both header_run (base_run_of r) cells (header_and_base r.index (registers_of r.kind) h.registers)
     (header_apart cells (config_and_block 0 15 r.index 0 (length r.cells)) (config_and_block 0x2c 4 r.index 0 (length r.cells)) (config_and_block 0x3c 4 r.index 0 (length r.cells)))
 
-block_and_base : (a m i n : ℕ) → 0x40 ≤ a → i + n ≤ 6 → AllApart (run (config a) m) (run (base_register i) (4 * n))
+block_and_base : (a m i n : ℕ) → 0x34 ≤ a → i + n ≤ 6 → AllApart (run (config a) m) (run (base_register i) (4 * n))
 block_and_base a m i n h k = configs_apart a m (0x10 + 4 * i) (4 * n) (inr (omega arith))
 
-block_and_region : (b : ConfigBlock) (r : Region) → 0x40 ≤ b.offset → IsLawfulRegion r → AllApart (block_run_of b) (region_run_of r)
+block_and_region : (b : ConfigBlock) (r : Region) → 0x34 ≤ b.offset → IsLawfulRegion r → AllApart (block_run_of b) (region_run_of r)
 block_and_region b r h k =
     apart_from_both (block_run_of b) (base_run_of r) (run (block r.index 0) (length r.cells))
     (block_and_base b.offset (length b.cells) r.index (registers_of r.kind) h k.registers) (config_and_block b.offset (length b.cells) r.index 0 (length r.cells))
@@ -212,7 +230,7 @@ regions_distinct (r ∷ rs) apart =
     (regions_distinct rs apart.1)
     (apart_from_all region_run_of (region_run_of r) rs (each_map (λ s. r.index + registers_of r.kind ≤ s.index) (λ s. AllApart (region_run_of r) (region_run_of s)) rs (λ s h. regions_apart r s h) apart.0))
 
-blocks_and_regions : (bs : List ConfigBlock) (rs : List Region) → Each (λ b. 0x40 ≤ b.offset) bs → Each IsLawfulRegion rs → AllApart (flat_map block_run_of bs) (flat_map region_run_of rs)
+blocks_and_regions : (bs : List ConfigBlock) (rs : List Region) → Each (λ b. 0x34 ≤ b.offset) bs → Each IsLawfulRegion rs → AllApart (flat_map block_run_of bs) (flat_map region_run_of rs)
 blocks_and_regions [] rs h k = tt
 blocks_and_regions (b ∷ bs) rs h k = grind (arith, blocks_and_regions bs rs, both_apart, apart_from_all, each_map, block_and_region)
 
@@ -226,7 +244,7 @@ distinct d lawful multifunction command bases = subst (EachPair Apart) (sym (end
     all =
         pairs_append (header_run ++ blocks) (flat_map region_run_of d.regions)
         (pairs_append header_run blocks header_distinct (blocks_distinct d.blocks lawful.blocks_apart)
-        (apart_from_all block_run_of header_run d.blocks (each_map (λ b. 0x40 ≤ b.offset) (λ b. AllApart header_run (block_run_of b)) d.blocks (λ b h. header_and_block b h) lawful.blocks)))
+        (apart_from_all block_run_of header_run d.blocks (each_map InPlace (λ b. AllApart header_run (block_run_of b)) d.blocks (λ b h. header_and_block b h) lawful.in_place)))
         (regions_distinct d.regions lawful.regions.in_order)
         (both_apart header_run blocks (flat_map region_run_of d.regions)
         (apart_from_all region_run_of header_run d.regions (each_map IsLawfulRegion (λ r. AllApart header_run (region_run_of r)) d.regions (λ r h. header_and_region r h) lawful.regions.each))

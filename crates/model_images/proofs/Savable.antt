@@ -44,9 +44,9 @@ few_regions [] n low all order above = omega arith
 few_regions (r ∷ rs) n low all order above = grind (arith, registers_positive, each_map, few_regions rs (r.index + 1))
 
 abbrev places : List ConfigBlock → List ℕ
-places bs = map (λ (b : ConfigBlock). b.offset - 0x40) bs
+places bs = map (λ (b : ConfigBlock). b.offset - 0x34) bs
 
-other_places : (b : ConfigBlock) (cs : List ConfigBlock) → IsConfigBlock b → Each IsConfigBlock cs → Each (λ c. IsTrue (blocks_apart b c)) cs → AllByRecursion (λ n. eqb (b.offset - 0x40) n ≡ false) (places cs)
+other_places : (b : ConfigBlock) (cs : List ConfigBlock) → IsConfigBlock b → Each IsConfigBlock cs → Each (λ c. IsTrue (blocks_apart b c)) cs → AllByRecursion (λ n. eqb (b.offset - 0x34) n ≡ false) (places cs)
 other_places b [] h all apart = tt
 other_places b (c ∷ cs) h all apart = grind (arith, ne_eqb, other_places b cs h all.1 apart.1)
 
@@ -55,14 +55,14 @@ unfolding IsDistinct
 distinct_places [] all apart = tt
 distinct_places (b ∷ bs) all apart = (other_places b bs all.0 all.1 apart.0, distinct_places bs all.1 apart.1)
 
-low_places : (bs : List ConfigBlock) → Each IsConfigBlock bs → (q : ℕ) → list_any (eqb q) (places bs) ≡ true → q < 192
+low_places : (bs : List ConfigBlock) → Each IsConfigBlock bs → (q : ℕ) → list_any (eqb q) (places bs) ≡ true → q < 204
 low_places [] all q h = cc
 low_places (b ∷ bs) all q h = grind (arith, low_places bs all.1 q, eqb-true)
 
-few_blocks : (bs : List ConfigBlock) → Each IsConfigBlock bs → EachPair (λ b c. IsTrue (blocks_apart b c)) bs → length bs ≤ 192
+few_blocks : (bs : List ConfigBlock) → Each IsConfigBlock bs → EachPair (λ b c. IsTrue (blocks_apart b c)) bs → length bs ≤ 204
 few_blocks bs all apart =
-    let most = length-le_from_distinct_below (places bs) 192 (distinct_places bs all apart) (low_places bs all) in
-    let same = length-map bs (λ (b : ConfigBlock). b.offset - 0x40) in
+    let most = length-le_from_distinct_below (places bs) 204 (distinct_places bs all apart) (low_places bs all) in
+    let same = length-map bs (λ (b : ConfigBlock). b.offset - 0x34) in
     omega arith
 
 all_above : (rs : List Region) → Each (λ r. 0 ≤ r.index) rs
@@ -72,7 +72,7 @@ all_above (r ∷ rs) = (omega arith, all_above rs)
 pub region_count : (d : Endpoint) → IsLawfulEndpoint d → length d.regions ≤ 6
 region_count d h = let a = few_regions d.regions 0 (omega arith) h.regions.each h.regions.in_order (all_above d.regions) in omega arith
 
-pub block_count : (d : Endpoint) → IsLawfulEndpoint d → length d.blocks ≤ 192
+pub block_count : (d : Endpoint) → IsLawfulEndpoint d → length d.blocks ≤ 204
 block_count d h = few_blocks d.blocks h.config_blocks h.blocks_apart
 
 -- ---- declarations

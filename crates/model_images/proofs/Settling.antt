@@ -64,6 +64,6 @@ put_cells (e ∷ es) = (λ v low holds. ap (λ t. with_value t e.cell) (mod-eq_o
 
 -- ---- places
 
-pub no_device_bytes : (a n : ℕ) → 8 ≤ a → a + n ≤ 0x40 → AreNoDeviceBytes (config a) n
+pub no_device_bytes : (a n : ℕ) → 8 ≤ a → a + n ≤ 0x34 → AreNoDeviceBytes (config a) n
 no_device_bytes a zero low high = tt
 no_device_bytes a (suc n) low high = grind (arith, nat_tests, no_device_bytes (a + 1) n)

@@ -25,7 +25,7 @@ record Numbers (d : Endpoint) : Type 0 where
   vendor : d.vendor < 0xffff
   class : d.class < 2 ^ 24
   pin : d.pin ≤ 4
-  status : bit_and d.status 0xf900 ≡ d.status
+  status : bit_and d.status 0xf910 ≡ d.status
   short : Each (λ r. length r.cells ≤ 4096) d.regions
   blocks : Each IsConfigBlock d.blocks
 
@@ -37,7 +37,7 @@ numbers d h =
     let a = ltb d.vendor 0xffff in
     let b = ltb d.class (2 ^ 24) in
     let c = leb d.pin 4 in
-    let e = eqb (bit_and d.status 0xf900) d.status in
+    let e = eqb (bit_and d.status 0xf910) d.status in
     let f = list_all (λ r. leb (length r.cells) 4096) d.regions in
     let g = list_all is_config_block d.blocks in
     let abcef = left_true (a && b && c && e && f) g h in

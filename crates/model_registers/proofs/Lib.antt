@@ -12,3 +12,4 @@ pub mod Sizes
 pub mod Owned
 pub mod BareRegions
 pub mod DeviceBytes
+pub mod Capabilities

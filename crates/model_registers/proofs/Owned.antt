@@ -131,7 +131,7 @@ pub cells_elsewhere : (cs : List Cell) (n a q : ℕ) (rest : File) → cell_at (
 cells_elsewhere [] n a q rest = refl
 cells_elsewhere (c ∷ cs) n a q rest = cells_elsewhere cs n (a + 1) q rest
 
-blocks_above : (bs : List ConfigBlock) → Each (λ (b : ConfigBlock). 0x40 ≤ b.offset) bs → (q : ℕ) → q < 0x40 → (rest : File) → cell_at (flat_map block_cells bs ++ rest) (config q) ≡ cell_at rest (config q)
+blocks_above : (bs : List ConfigBlock) → Each (λ (b : ConfigBlock). 0x34 ≤ b.offset) bs → (q : ℕ) → q < 0x34 → (rest : File) → cell_at (flat_map block_cells bs ++ rest) (config q) ≡ cell_at rest (config q)
 blocks_above [] h q low rest = refl
 blocks_above (b ∷ bs) h q low rest = grind (arith, blocks_above bs, append_assoc, cells_above)
 

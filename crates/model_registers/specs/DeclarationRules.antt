@@ -4,7 +4,7 @@
 --     endpoint_rules, bridge_rules      the rules for a declaration, in the order in which they are checked
 --     in_register_order      regions in the order of their registers
 --     IsLawfulEndpoint, IsLawfulBridge      the properties of a declaration that follows the rules
-use Rattle.std.specs.{Prelude.{List, [], ◌∷◌, ◌≡◌, ℕ, ◌+◌, ◌^◌, ◌<◌, ◌≤◌, ◌==◌, Bool, ◌&&◌, ◌||◌, nat_lt, nat_le, IsTrue, if◌then◌else◌, Option, Some, None, length, filter, flat_map, count_by, bit_and}, List.list_all}
+use Rattle.std.specs.{Prelude.{List, [], ◌∷◌, ◌≡◌, ℕ, ◌+◌, ◌^◌, ◌<◌, ◌≤◌, ◌==◌, Bool, ◌&&◌, ◌||◌, ◌⊎◌, nat_lt, nat_le, IsTrue, if◌then◌else◌, Option, Some, None, length, filter, flat_map, count_by, bit_and}, List.list_all}
 use Rattle.lists.specs.Elements.{Each, EachPair, all_pairs}
 use Rattle.model_registers.specs.Declarations.{registers_of, Region, HasLawfulRegions, ConfigBlock, Endpoint, Bridge}
 
@@ -12,14 +12,16 @@ abbrev pub first_broken : List (ℕ × Bool) → Option ℕ
 first_broken [] = None
 first_broken (rule ∷ rules) = if rule.1 then first_broken rules else Some rule.0
 
--- device-specific registers are at 40h to FFh
+-- device-specific registers are at 40h to FFh, and the Capabilities Pointer is the byte at 34h
 abbrev pub is_config_block : ConfigBlock → Bool
-is_config_block b = nat_le 0x40 b.offset && nat_lt 0 (length b.cells) && nat_le (b.offset + length b.cells) 0x100
+is_config_block b =
+    (nat_le 0x40 b.offset || (b.offset == 0x34 && length b.cells == 1))
+    && nat_lt 0 (length b.cells) && nat_le (b.offset + length b.cells) 0x100
 
 -- Vendor ID FFFFh means that no function is present
 abbrev pub has_lawful_numbers : Endpoint → Bool
 has_lawful_numbers d =
-    nat_lt d.vendor 0xffff && nat_lt d.class (2 ^ 24) && nat_le d.pin 4 && (bit_and d.status 0xf900 == d.status)
+    nat_lt d.vendor 0xffff && nat_lt d.class (2 ^ 24) && nat_le d.pin 4 && (bit_and d.status 0xf910 == d.status)
     && list_all (λ r. nat_le (length r.cells) 4096) d.regions && list_all is_config_block d.blocks
 
 -- a 64-bit region uses two registers
@@ -51,7 +53,8 @@ abbrev pub with_ordered_regions : Endpoint → Endpoint
 with_ordered_regions d = record d { regions = in_register_order d.regions }
 
 pub record IsConfigBlock (b : ConfigBlock) : Type 0 where
-  pub begins : 0x40 ≤ b.offset
+  pub begins : 0x34 ≤ b.offset
+  pub in_place : (0x40 ≤ b.offset) ⊎ ((b.offset ≡ 0x34) × (length b.cells ≡ 1))
   pub not_empty : 0 < length b.cells
   pub ends : b.offset + length b.cells ≤ 0x100
 
@@ -69,7 +72,7 @@ pub record IsLawfulEndpoint (d : Endpoint) : Type 0 where
   pub vendor : d.vendor < 0xffff
   pub class : d.class < 2 ^ 24
   pub pin : d.pin ≤ 4
-  pub status : bit_and d.status 0xf900 ≡ d.status
+  pub status : bit_and d.status 0xf910 ≡ d.status
   pub regions : HasLawfulRegions d.regions
   pub region_blocks : Each (λ r. length r.cells ≤ 4096) d.regions
   pub config_blocks : Each IsConfigBlock d.blocks

@@ -18,3 +18,4 @@ pub mod OwnCopies
 pub mod ConfigAddress
 pub mod CopiedFiles
 pub mod DeviceBytes
+pub mod Capabilities

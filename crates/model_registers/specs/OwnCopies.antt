@@ -59,5 +59,5 @@ OwnHits = (own : OwnCopies) → IsLawfulOwn own → (file : File) → HoldsOwn f
 
 -- at reset, Command and all bases are 0, whatever the device-specific registers hold
 abbrev pub ResetHoldsOwn : Type 0
-ResetHoldsOwn = (d : Endpoint) → Each (λ b. 0x40 ≤ b.offset) d.blocks
+ResetHoldsOwn = (d : Endpoint) → Each (λ b. 0x34 ≤ b.offset) d.blocks
     → HoldsOwn (endpoint_reset d false) (record { command = 0; bases = map closed d.regions })

@@ -7,7 +7,7 @@ use Rattle.model_board.{proofs.Routing.same_number, specs.Windows.{Window, windo
 
 -- ---- a register is read past cells of other places
 
-past_blocks : (bs : List ConfigBlock) (k : ℕ) (rest : File) → Each (λ b. 0x40 ≤ b.offset) bs → k < 0x40 → cell_at (flat_map block_cells bs ++ rest) (config k) ≡ cell_at rest (config k)
+past_blocks : (bs : List ConfigBlock) (k : ℕ) (rest : File) → Each (λ b. 0x34 ≤ b.offset) bs → k < 0x34 → cell_at (flat_map block_cells bs ++ rest) (config k) ≡ cell_at rest (config k)
 past_blocks [] k rest h l = refl
 past_blocks (b ∷ bs) k rest h l = grind (arith, append_assoc, cells_above, past_blocks bs k rest h.1 l)
 
@@ -76,12 +76,12 @@ without_type kind b file n fits e = grind arith
 
 -- each base address register of an endpoint's file holds its base
 module _ (d : Endpoint) (multifunction : Bool) (command : ℕ) (bases : Region → ℕ) where
-  bases_from : (rest : File) (rs : List Region) → Each (λ b. 0x40 ≤ b.offset) d.blocks → rest ≡ flat_map (region_cells bases) d.regions → Each (λ r. r.index + registers_of r.kind ≤ 6) rs → Each (λ r. FitsRegister r.kind (bases r)) rs
+  bases_from : (rest : File) (rs : List Region) → Each (λ b. 0x34 ≤ b.offset) d.blocks → rest ≡ flat_map (region_cells bases) d.regions → Each (λ r. r.index + registers_of r.kind ≤ 6) rs → Each (λ r. FitsRegister r.kind (bases r)) rs
       → Each (Reads bases rest) rs → Each (λ r. base (endpoint_file d multifunction command bases) r.index r.kind ≡ bases r) rs
   bases_from rest [] far e few fits h = tt
   bases_from rest (r ∷ rs) far e few fits h = search (rules, without_type, past_header, same_cells, past_blocks, bases_from rest rs far e few.1 fits.1 h.1)
 
-  pub bases_read : Each (λ b. 0x40 ≤ b.offset) d.blocks → EachPair (λ r s. r.index + registers_of r.kind ≤ s.index) d.regions → Each (λ r. r.index + registers_of r.kind ≤ 6) d.regions → Each (λ r. FitsRegister r.kind (bases r)) d.regions
+  pub bases_read : Each (λ b. 0x34 ≤ b.offset) d.blocks → EachPair (λ r s. r.index + registers_of r.kind ≤ s.index) d.regions → Each (λ r. r.index + registers_of r.kind ≤ 6) d.regions → Each (λ r. FitsRegister r.kind (bases r)) d.regions
       → Each (λ r. base (endpoint_file d multifunction command bases) r.index r.kind ≡ bases r) d.regions
   bases_read far order few fits = bases_from (flat_map (region_cells bases) d.regions) d.regions far refl few fits (regions_read bases d.regions order)
 

@@ -24,7 +24,7 @@ module _ (b : Board) (a : Apertures) (can : CanBePlaced b a) (lawful : IsLawful 
   pub bases : (r : Row) (e : Endpoint) → IsIn r b → r.decl ≡ endpoint e → Each (λ g. base (set_up_file b a r.path (endpoint e)) g.index g.kind ≡ first_of b a r.path g) e.regions
   bases r e m decl_is =
       let regions : HasLawfulRegions e.regions = lawful_regions b can.declarations r e m decl_is in
-      bases_read e (is_multifunction b r.path) (command_of e) (first_of b a r.path) (each_from (λ k. 0x40 ≤ k.offset) e.blocks (λ k i. (each_in IsConfigBlock k e.blocks (lawful_decl b can.declarations r e m decl_is).config_blocks i).begins)) regions.in_order
+      bases_read e (is_multifunction b r.path) (command_of e) (first_of b a r.path) (each_from (λ k. 0x34 ≤ k.offset) e.blocks (λ k i. (each_in IsConfigBlock k e.blocks (lawful_decl b can.declarations r e m decl_is).config_blocks i).begins)) regions.in_order
       (each_from (λ g. g.index + registers_of g.kind ≤ 6) e.regions (λ g k. (each_in IsLawfulRegion g e.regions regions.each k).registers))
       (each_from (λ g. FitsRegister g.kind (first_of b a r.path g)) e.regions (λ g k.
       let there : IsIn (region_row b a r.path g) (layout b a) = region_there b a has r e g m decl_is k in

@@ -44,7 +44,7 @@ module _ (s : State) (i : ℕ) (p : Path) (f : Function) (is : IsStanding s i p 
 
   module _ (bars : List (Option Bar)) (rest : at_reset bars ≡ map with_no_base (bases_nth s.functions i)) where
     pub held_at_first : (own : OwnCopies) → own ≡ record { command = 0; bases = at_reset bars }
-        → ((e : Endpoint) → Each (λ b. 0x40 ≤ b.offset) e.blocks → map closed e.regions ≡ at_reset bars → HoldsOwn (endpoint_reset e false) own)
+        → ((e : Endpoint) → Each (λ b. 0x34 ≤ b.offset) e.blocks → map closed e.regions ≡ at_reset bars → HoldsOwn (endpoint_reset e false) own)
         → (placed : List (Option BarWithBase)) → bases_from 0 placed ≡ bases_nth s.functions i
         → IsHeld s p f (record { own = own; placed = placed; index = i })
     held_at_first own own_is reset placed bases = search (rules, bases_there, closed_there, each_map, map_at, opened_closed)

@@ -72,11 +72,15 @@ few_taken zero xs = omega arith
 few_taken (suc n) [] = omega arith
 few_taken (suc n) (x ∷ xs) = let few = few_taken n xs in omega arith
 
-own_byte : (off : ℕ) → 0x40 ≤ off → is_device_byte (config off) ≡ true
+own_byte : (off : ℕ) → (0x40 ≤ off) ⊎ (off ≡ 0x34) → is_device_byte (config off) ≡ true
 own_byte off low = grind (arith, nat_tests)
 
+-- a byte of a block
+own_place : (b : ConfigBlock) → IsConfigBlock b → (m : ℕ) → m < length b.cells → (0x40 ≤ b.offset + m) ⊎ (b.offset + m ≡ 0x34)
+own_place b is m low = grind (arith, is.in_place)
+
 pub block_reached : (f : Function) (b : ConfigBlock) → IsConfigBlock b → (m : ℕ) → m < length b.cells → ReachesByte f Cfg (b.offset + m)
-block_reached f b is m low = grind (arith, begins, config_reached, own_byte)
+block_reached f b is m low = let ends = is.ends in config_reached f (b.offset + m) (omega arith) (own_byte (b.offset + m) (own_place b is m low))
 
 pub region_reached : (f : Function) (j : ℕ) (r : Region) → slice_get f.decl.regions j ≡ Some r → IsLawfulRegion r → (m : ℕ) → m < length r.cells → ReachesByte f (Bar r.index) (0 + m)
 region_reached f j r at is m low =

@@ -18,7 +18,7 @@ held_reset s p f h is_lawful held = record {
   placed = held.placed;
   regions = held.regions ∙ sym (no_base_opened h.own.bases);
   own = subst (λ (bs : List BaseAddress). HoldsOwn (endpoint_reset f.decl false) (record { command = 0; bases = bs })) (closed_as_opened f.decl.regions h.own.bases held.regions)
-      (reset_holds_own f.decl (each_map IsConfigBlock (λ (c : ConfigBlock). 0x40 ≤ c.offset) f.decl.blocks (λ c is. is.begins) is_lawful.config_blocks));
+      (reset_holds_own f.decl (each_map IsConfigBlock (λ (c : ConfigBlock). 0x34 ≤ c.offset) f.decl.blocks (λ c is. is.begins) is_lawful.config_blocks));
 }
 
 -- ---- what happens at a device of a world that is kept

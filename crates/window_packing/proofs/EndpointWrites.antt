@@ -99,9 +99,9 @@ block_none : (cs : List Cell) (m a n : ℕ) → HasNoneBelow (cells_from (block 
 block_none [] m a n k l = refl
 block_none (c ∷ cs) m a n k l = block_none cs m (a + 1) n k l
 
-blocks_none : (bs : List ConfigBlock) → Each (λ b. 0x40 ≤ b.offset) bs → HasNoneBelow (flat_map block_cells bs) 0x40
+blocks_none : (bs : List ConfigBlock) → Each (λ b. 0x34 ≤ b.offset) bs → HasNoneBelow (flat_map block_cells bs) 0x34
 blocks_none [] h k l = refl
-blocks_none (b ∷ bs) h k l = joined_none (block_cells b) (flat_map block_cells bs) 0x40 (cells_none b.cells b.offset 0x40 h.0) (blocks_none bs h.1) k l
+blocks_none (b ∷ bs) h k l = joined_none (block_cells b) (flat_map block_cells bs) 0x34 (cells_none b.cells b.offset 0x34 h.0) (blocks_none bs h.1) k l
 
 -- registers of two regions of which one is behind the other
 abbrev AreApart : ℕ → Kind → ℕ → Kind → Type 0
@@ -135,12 +135,12 @@ header_leaves d multifunction command (suc (suc (suc (suc (suc zero))))) x h = r
 header_leaves d multifunction command (suc (suc (suc (suc (suc (suc reg)))))) x h = absurd (omega arith)
 
 abbrev pub StandBehind : Endpoint → Type 0
-StandBehind d = Each (λ b. 0x40 ≤ b.offset) d.blocks
+StandBehind d = Each (λ b. 0x34 ≤ b.offset) d.blocks
 
 config_leaves : (d : Endpoint) → StandBehind d → (multifunction : Bool) (command reg x : ℕ) → reg < 6 → write (four true true true true) x (base_register reg) (config_cells d multifunction command) ≡ config_cells d multifunction command
 config_leaves d behind multifunction command reg x h =
     joined_write (four true true true true) x (base_register reg) (header_cells d multifunction command) (flat_map block_cells d.blocks)
-    ∙ ap₂ (λ (x y : File). x ++ y) (header_leaves d multifunction command reg x h) (stays (flat_map block_cells d.blocks) 0x40 (blocks_none d.blocks behind) (four true true true true) x (0x10 + 4 * reg) (omega arith))
+    ∙ ap₂ (λ (x y : File). x ++ y) (header_leaves d multifunction command reg x h) (stays (flat_map block_cells d.blocks) 0x34 (blocks_none d.blocks behind) (four true true true true) x (0x10 + 4 * reg) (omega arith))
 
 base_leaves_config : (d : Endpoint) → StandBehind d → (multifunction : Bool) (command index : ℕ) (kind : Kind) (size base : ℕ) → index + registers_of kind ≤ 6
     → file_after (base_words (base_of index kind size base)) (config_cells d multifunction command) ≡ config_cells d multifunction command
@@ -236,7 +236,7 @@ command_written d behind multifunction bases u v =
     joined_write low (command_in u v) (config 0x04) (config_cells d multifunction 0) (flat_map (region_cells bases) d.regions)
     ∙ ap₂ (λ (x y : File). x ++ y)
     (joined_write low (command_in u v) (config 0x04) (header_cells d multifunction 0) (flat_map block_cells d.blocks)
-    ∙ ap₂ (λ (x y : File). x ++ y) (header_commanded d multifunction u v) (stays (flat_map block_cells d.blocks) 0x40 (blocks_none d.blocks behind) low (command_in u v) 0x04 (omega arith)))
+    ∙ ap₂ (λ (x y : File). x ++ y) (header_commanded d multifunction u v) (stays (flat_map block_cells d.blocks) 0x34 (blocks_none d.blocks behind) low (command_in u v) 0x04 (omega arith)))
     (regions_stay bases (command_in u v) d.regions)
 
 pub endpoint_written : (d : Endpoint) → StandBehind d → HasLawfulRegions d.regions → (multifunction : Bool) (bases : Region → ℕ) → Each (λ r. IsLawfulBase (based bases r)) d.regions

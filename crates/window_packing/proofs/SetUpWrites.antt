@@ -75,7 +75,7 @@ module _ (b : Board) (a : Apertures) (can : CanBePlaced b a) (few : Enumerates b
   own_file : (r : Row) → IsIn r b → (d : Decl) → r.decl ≡ d → file_after (words_of (writes_of b a r.path d)) (numbered_file b (board_numbers b) r.path d) ≡ set_up_file b a r.path d
   own_file r m (endpoint d) e =
       let lawful = lawful_decl b can.declarations r d m e in
-      endpoint_written d (each_from (λ k. 0x40 ≤ k.offset) d.blocks (λ k i. (each_in IsConfigBlock k d.blocks lawful.config_blocks i).begins)) lawful.regions (is_multifunction b r.path) (first_of b a r.path) (bases_fit b a can r d m e)
+      endpoint_written d (each_from (λ k. 0x34 ≤ k.offset) d.blocks (λ k i. (each_in IsConfigBlock k d.blocks lawful.config_blocks i).begins)) lawful.regions (is_multifunction b r.path) (first_of b a r.path) (bases_fit b a can r d m e)
   own_file r m (bridge d) e = bridge_written d (is_multifunction b r.path) (board_numbers b r.path) (windows_of b a r.path)
 
   one_setting : (done : Board) (r : Row) (todo : Board) → b ≡ done ++ r ∷ todo

@@ -15,13 +15,13 @@ use crate::guest::AssignedFunction;
 use accesses::{Place, Refusal, Reply};
 use host_bridge::Route;
 
-/// Returns whether a byte belongs to the device: Status, a configuration register from 40h on, or a
-/// byte of a region.
+/// Returns whether a byte belongs to the device: Status, the Capabilities Pointer, a configuration
+/// register from 40h on, or a byte of a region.
 fn is_device_byte(place: Place, off: u64) -> bool
     ensures { result ≡ is_device_byte (place_of place off) }
 {
     match place {
-        Place::Cfg => off == 0x06 || off == 0x07 || off >= 0x40,
+        Place::Cfg => off == 0x06 || off == 0x07 || off == 0x34 || off >= 0x40,
         Place::Bar(_) => true,
     }
 }

@@ -7,7 +7,7 @@ abbrev pub invariant-loop-block : goal.invariant-loop-block
 invariant-loop-block l = record {
   lawful : Each IsConfigBlock l.left;
   all : l.size + length (flat_map block_cells l.left) ≡ length (flat_map block_cells l.blocks);
-  bound : l.size + 192 * length l.left ≤ 36864;
+  bound : l.size + 204 * length l.left ≤ 41616;
 }
 
 abbrev pub decreases-loop-block : goal.decreases-loop-block

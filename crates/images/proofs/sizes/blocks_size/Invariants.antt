@@ -8,7 +8,7 @@ abbrev pub invariant-loop-block : goal.invariant-loop-block
 invariant-loop-block l = record {
   lawful : Each IsConfigBlock l.left;
   all : l.size + length (flat_map block_bytes l.left) ≡ length (flat_map block_bytes l.blocks);
-  bound : l.size + 578 * length l.left ≤ 110976;
+  bound : l.size + 614 * length l.left ≤ 125256;
 }
 
 abbrev pub decreases-loop-block : goal.decreases-loop-block

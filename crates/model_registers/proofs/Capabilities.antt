@@ -1,0 +1,201 @@
+-- A capability list is found as it was declared.
+use Rattle.std.{proofs.{Common.{◌≡◌, ℕ, ◌+◌, ◌*◌, ◌/◌, ◌%◌, ◌^◌, ◌<◌, ◌≤◌, ◌⊎◌, inl, inr, Bool, true, false, ◌&&◌, cond, List, [], ◌∷◌, ◌++◌, length, refl, sym, ap, ◌∙◌, subst, arith, eqb, ltb, append_assoc}, lemmas.{Bool.{Decides.nat_tests, and_parts, ltb-true}, Nat.{and_mask, and_mod, and_shr, and_block, or_block, and_or_self}}, Math.Nat.{mod-eq_of_lt}}, specs.{Prelude.{IsTrue, bit_and, bit_or, flat_map}, Int.Bits.{or_zero_r, and_zero_r}}}
+use Rattle.lists.specs.Elements.{Each, EachPair}
+use Rattle.model_registers.{specs.{Cell.{Cell, constant, no_cell, written, raised}, Registers.{Place, config, block, place_eq, after, File, cell_at, changed, write, raise, cells_from}, Declarations.{ConfigBlock, Region, Endpoint}, DeclarationRules.{blocks_apart, IsConfigBlock, IsLawfulEndpoint}, EndpointTable.{block_cells, header_cells, region_cells, endpoint_file}, Capabilities.{Capability, first_offset, structure, structures, pointer, with_capabilities, byte, Finds, ShowsList, Change, writes, raises, after_change, after_changes, ListStays}}, proofs.{RegisterFiles.{change_at_place, self, above, below}, Owned.{no_cell_stays, raised_none}}}
+
+-- ---- a byte that always reads the same
+
+abbrev Holds : File → Place → ℕ → Type 0
+Holds file p v = cell_at file p ≡ constant v
+
+same_byte : (v : ℕ) → v < 256 → bit_and v 255 ≡ v
+same_byte v h = and_mask v 8 ∙ mod-eq_of_lt h
+
+written_still : (b v : ℕ) → v < 256 → written b (constant v) ≡ constant v
+written_still b v h =
+    let kept : bit_and (bit_and v 255) 255 ≡ v = ap (λ n. bit_and n 255) (same_byte v h) ∙ same_byte v h in
+    let none : bit_and (bit_and v 0) (255 - b) ≡ 0 = ap (λ n. bit_and n (255 - b)) (and_zero_r v) in
+    grind (arith, kept, none, and_zero_r, or_zero_r)
+
+raised_still : (m v : ℕ) → raised m (constant v) ≡ constant v
+raised_still m v = ap (λ n. record { value = n; writable = 0; clearable = 0 }) (ap (bit_or v) (and_zero_r m) ∙ or_zero_r v)
+
+either_way : (t : Bool) (c d e : Cell) → c ≡ e → d ≡ e → cond t c d ≡ e
+either_way t c d e h k = grind arith
+
+changed_still : (f : Cell → Cell) → f no_cell ≡ no_cell → (v : ℕ) → f (constant v) ≡ constant v → (file : File) (p q : Place) → Holds file q v → Holds (changed f p file) q v
+changed_still f none v still file p q h = change_at_place f none file p q ∙ either_way (place_eq p q) (f (cell_at file q)) (cell_at file q) (constant v) (ap f h ∙ still) h
+
+write_still : (ons : List Bool) (x v : ℕ) → v < 256 → (p q : Place) (file : File) → Holds file q v → Holds (write ons x p file) q v
+write_still [] x v fits p q file h = h
+write_still (true ∷ ons) x v fits p q file h =
+    write_still ons (x / 256) v fits (after p) q (changed (written (x % 256)) p file)
+    (changed_still (written (x % 256)) (no_cell_stays (x % 256)) v (written_still (x % 256) v fits) file p q h)
+write_still (false ∷ ons) x v fits p q file h = write_still ons (x / 256) v fits (after p) q file h
+
+change_still : (c : Change) (v : ℕ) → v < 256 → (q : Place) (file : File) → Holds file q v → Holds (after_change file c) q v
+change_still (writes ons x p) v fits q file h = write_still ons x v fits p q file h
+change_still (raises m p) v fits q file h = changed_still (raised m) (raised_none m) v (raised_still m v) file p q h
+
+pub changes_still : (cs : List Change) (v : ℕ) → v < 256 → (q : Place) (file : File) → Holds file q v → Holds (after_changes file cs) q v
+changes_still [] v fits q file h = h
+changes_still (c ∷ cs) v fits q file h = changes_still cs v fits q (after_change file c) (change_still c v fits q file h)
+
+-- ---- the header of each structure
+
+abbrev HoldsEach : File → List Capability → Type 0
+HoldsEach file [] = ⊤
+HoldsEach file (c ∷ cs) = Holds file (config c.offset) c.id × Holds file (config (c.offset + 1)) (first_offset cs) × HoldsEach file cs
+
+-- no cell of the file is at an offset
+abbrev Passes : File → ℕ → Type 0
+Passes file q = (rest : File) → cell_at (file ++ rest) (config q) ≡ cell_at rest (config q)
+
+abbrev PassesEach : File → List Capability → Type 0
+PassesEach file cs = Each (λ (c : Capability). Passes file c.offset × Passes file (c.offset + 1)) cs
+
+behind : (file rest : File) (cs : List Capability) → PassesEach file cs → HoldsEach rest cs → HoldsEach (file ++ rest) cs
+behind file rest [] pass h = tt
+behind file rest (c ∷ cs) pass h = (pass.0.0 rest ∙ h.0, (pass.0.1 rest ∙ h.1.0, behind file rest cs pass.1 h.1.1))
+
+cells_passed : (cs : List Cell) (a q : ℕ) → (q < a) ⊎ (a + length cs ≤ q) → Passes (cells_from (config a) cs) q
+cells_passed [] a q h rest = refl
+cells_passed (c ∷ cs) a q h rest = grind (arith, above, below, cells_passed cs (a + 1) q)
+
+-- a structure takes two bytes or more
+two_passed : (b : ConfigBlock) (c : Capability) (next : ℕ) → IsTrue (blocks_apart b (structure c next)) → Passes (block_cells b) c.offset × Passes (block_cells b) (c.offset + 1)
+two_passed b c next apart =
+    let outside : (c.offset + 2 ≤ b.offset) ⊎ (b.offset + length b.cells ≤ c.offset) = grind (arith, nat_tests) in
+    (cells_passed b.cells b.offset c.offset (grind arith), cells_passed b.cells b.offset (c.offset + 1) (grind arith))
+
+block_passed : (b : ConfigBlock) (cs : List Capability) (more : List ConfigBlock) → Each (λ (e : ConfigBlock). IsTrue (blocks_apart b e)) (structures cs ++ more) → PassesEach (block_cells b) cs
+block_passed b [] more h = tt
+block_passed b (c ∷ cs) more h = (two_passed b c (first_offset cs) h.0, block_passed b cs more h.1)
+
+first_two : (c : Capability) (next : ℕ) (rest : File) → Holds (block_cells (structure c next) ++ rest) (config c.offset) c.id × Holds (block_cells (structure c next) ++ rest) (config (c.offset + 1)) next
+first_two c next rest = grind (arith, self, below, above)
+
+pub structures_held : (cs : List Capability) (more : List ConfigBlock) (rest : File) → EachPair (λ (b e : ConfigBlock). IsTrue (blocks_apart b e)) (structures cs ++ more) → HoldsEach (flat_map block_cells (structures cs ++ more) ++ rest) cs
+structures_held [] more rest apart = tt
+structures_held (c ∷ cs) more rest apart =
+    let own : File = block_cells (structure c (first_offset cs)) in
+    let others : File = flat_map block_cells (structures cs ++ more) in
+    let here = first_two c (first_offset cs) (others ++ rest) in
+    let all : HoldsEach (own ++ (others ++ rest)) (c ∷ cs) = (here.0, (here.1, behind own (others ++ rest) cs (block_passed (structure c (first_offset cs)) cs more apart.0) (structures_held cs more rest apart.1))) in
+    subst (λ (f : File). HoldsEach f (c ∷ cs)) (sym (append_assoc own others rest)) all
+
+-- ---- what is before the structures
+
+is_low : Place → Bool
+is_low (config a) = ltb a 0x40
+is_low (block n a) = true
+
+are_low : File → Bool
+are_low [] = true
+are_low (e ∷ es) = is_low e.place && are_low es
+
+low_apart : (p : Place) (q : ℕ) → is_low p ≡ true → 0x40 ≤ q → place_eq p (config q) ≡ false
+unfolding is_low
+low_apart p q h high = grind (arith, ltb-true, below)
+
+low_passed : (file : File) (q : ℕ) → are_low file ≡ true → 0x40 ≤ q → Passes file q
+unfolding are_low
+low_passed [] q h high rest = refl
+low_passed (e ∷ es) q h high rest = grind (arith, and_parts, low_apart, low_passed es q)
+
+header_low : (d : Endpoint) (multifunction : Bool) (command : ℕ) → are_low (header_cells d multifunction command) ≡ true
+unfolding are_low is_low
+header_low d multifunction command = refl
+
+-- a structure isn't the pointer, which has one byte
+record IsPlaced (c : Capability) : Type 0 where
+  high : 0x40 ≤ c.offset
+  ends : c.offset + 2 ≤ 0x100
+
+placed : (c : Capability) (next : ℕ) → IsConfigBlock (structure c next) → IsPlaced c
+placed c next is =
+    let ends : c.offset + (2 + length c.cells) ≤ 0x100 = grind (arith, is.ends) in
+    record { high = grind (arith, is.in_place); ends = omega (arith, ends) }
+
+all_placed : (cs : List Capability) (more : List ConfigBlock) → Each IsConfigBlock (structures cs ++ more) → Each IsPlaced cs
+all_placed [] more h = tt
+all_placed (c ∷ cs) more h = (placed c (first_offset cs) h.0, all_placed cs more h.1)
+
+placed_passed : (file : File) → are_low file ≡ true → (cs : List Capability) → Each IsPlaced cs → PassesEach file cs
+placed_passed file low [] h = tt
+placed_passed file low (c ∷ cs) h =
+    let high : 0x40 ≤ c.offset = h.0.high in
+    ((low_passed file c.offset low high, low_passed file (c.offset + 1) low (omega (arith, high))), placed_passed file low cs h.1)
+
+-- ---- the walk
+
+next_fits : (cs : List Capability) → Each IsPlaced cs → first_offset cs < 256
+next_fits [] h = omega arith
+next_fits (c ∷ cs) h = let ends : c.offset + 2 ≤ 0x100 = h.0.ends in omega (arith, ends)
+
+each_stays : (changes : List Change) (file : File) (cs : List Capability) → Each IsPlaced cs → Each (λ (c : Capability). c.id < 256) cs → HoldsEach file cs → HoldsEach (after_changes file changes) cs
+each_stays changes file [] at fits h = tt
+each_stays changes file (c ∷ cs) at fits h =
+    (changes_still changes c.id fits.0 (config c.offset) file h.0, (changes_still changes (first_offset cs) (next_fits cs at.1) (config (c.offset + 1)) file h.1.0, each_stays changes file cs at.1 fits.1 h.1.1))
+
+held_byte : (file : File) (off v : ℕ) → Holds file (config off) v → byte file off ≡ v
+held_byte file off v h = ap (λ (c : Cell). c.value + 256 * 0) h
+
+walk_of : (file : File) (cs : List Capability) (at : ℕ) → at ≡ first_offset cs → HoldsEach file cs → Finds file at cs
+walk_of file [] at e h = e
+walk_of file (c ∷ cs) at e h =
+    let id : byte file at ≡ c.id = ap (byte file) e ∙ held_byte file c.offset c.id h.0 in
+    let next : byte file (at + 1) ≡ first_offset cs = ap (λ n. byte file (n + 1)) e ∙ held_byte file (c.offset + 1) (first_offset cs) h.1.0 in
+    (e, (id, walk_of file cs (byte file (at + 1)) next h.1.1))
+
+-- ---- the law
+
+listed_bit : (s : ℕ) → bit_and (bit_or s 0x10 % 256) 0x10 ≡ 0x10
+listed_bit s = sym (and_mod (bit_or s 0x10) 0x10 8) ∙ ap (λ n. n % 256) (and_or_self 0x10 s)
+
+module _ (d : Endpoint) (c : Capability) (cs : List Capability) (lawful : IsLawfulEndpoint (with_capabilities (c ∷ cs) d)) (multifunction : Bool) (command : ℕ) (bases : Region → ℕ) where
+  abbrev first : File
+  first = endpoint_file (with_capabilities (c ∷ cs) d) multifunction command bases
+
+  status_held : Holds first (config 6) (bit_or d.status 0x10 % 256)
+  status_held = refl
+
+  pointer_held : Holds first (config 0x34) c.offset
+  pointer_held = refl
+
+  places : Each IsPlaced (c ∷ cs)
+  places = all_placed (c ∷ cs) d.blocks lawful.config_blocks.1
+
+  pub each_held : HoldsEach first (c ∷ cs)
+  each_held =
+      let header : File = header_cells (with_capabilities (c ∷ cs) d) multifunction command in
+      let regions : File = flat_map (region_cells bases) d.regions in
+      let others : File = flat_map block_cells (structures (c ∷ cs) ++ d.blocks) in
+      let start : File = block_cells (pointer (c ∷ cs)) in
+      let held : HoldsEach (others ++ regions) (c ∷ cs) = structures_held (c ∷ cs) d.blocks regions lawful.blocks_apart.1 in
+      let more : HoldsEach (start ++ (others ++ regions)) (c ∷ cs) = behind start (others ++ regions) (c ∷ cs) (placed_passed start refl (c ∷ cs) places) held in
+      let all : HoldsEach (header ++ (start ++ (others ++ regions))) (c ∷ cs) = behind header (start ++ (others ++ regions)) (c ∷ cs) (placed_passed header (header_low _ multifunction command) (c ∷ cs) places) more in
+      subst (λ (f : File). HoldsEach f (c ∷ cs)) (sym (append_assoc header (start ++ others) regions)) all
+
+pub list_stays : ListStays
+list_stays d c cs lawful ids multifunction command bases changes =
+    let first = endpoint_file (with_capabilities (c ∷ cs) d) multifunction command bases in
+    let now = after_changes first changes in
+    let at = places d c cs lawful multifunction command bases in
+    let status : Holds now (config 6) (bit_or d.status 0x10 % 256) = changes_still changes (bit_or d.status 0x10 % 256) (omega arith) (config 6) first (status_held d c cs lawful multifunction command bases) in
+    let start : Holds now (config 0x34) c.offset = changes_still changes c.offset (next_fits (c ∷ cs) at) (config 0x34) first (pointer_held d c cs lawful multifunction command bases) in
+    let each : HoldsEach now (c ∷ cs) = each_stays changes first (c ∷ cs) at ids (each_held d c cs lawful multifunction command bases) in
+    record {
+      status = ap (λ n. bit_and n 0x10) (held_byte now 6 _ status) ∙ listed_bit d.status;
+      walk = walk_of now (c ∷ cs) (byte now 0x34) (held_byte now 0x34 c.offset start) each;
+    }
+
+-- ---- Status of a lawful declaration
+
+pub status_with_list : (s : ℕ) → bit_and s 0xf900 ≡ s → bit_and (bit_or s 0x10) 0xf910 ≡ bit_or s 0x10
+status_with_list s h =
+    let low : s % 256 ≡ 0 = ap (λ n. n % 256) (sym h) ∙ and_mod s 0xf900 8 ∙ and_zero_r (s % 256) in
+    let high : bit_and (s / 256) 0xf9 ≡ s / 256 = sym (and_shr s 0xf900 8) ∙ ap (λ n. n / 256) h in
+    let split : s ≡ s / 256 * 256 + 0 = omega (arith, low) in
+    let joined : bit_or s 0x10 ≡ s / 256 * 256 + 0x10 = ap (λ n. bit_or n 0x10) split ∙ or_block 8 (s / 256) 0 0 0x10 (omega arith) (omega arith) ∙ ap (λ n. n * 256 + 0x10) (or_zero_r (s / 256)) in
+    ap (λ n. bit_and n 0xf910) joined ∙ and_block 8 (s / 256) 0xf9 0x10 0x10 (omega arith) (omega arith) ∙ ap (λ n. n * 256 + 0x10) high ∙ sym joined

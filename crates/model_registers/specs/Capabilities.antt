@@ -1,0 +1,75 @@
+-- Capability lists: PCI Local Bus 3.0, chapter 6.7 and appendix H.
+--     Capability      a structure of a list: its identity, its offset, and the cells after the two bytes of its header
+--     first_offset cs      the offset of the first structure, or 0 if there is none
+--     structures cs      the blocks of a list: Capability ID, Next Capability, and the cells of each structure
+--     pointer cs      the block of the Capabilities Pointer at 34h
+--     with_capabilities cs d      the endpoint d with this list: bit 4 of Status is set if there is a structure
+--     byte file off      what a read of one byte of configuration space returns
+--     Finds file at cs      a walk from a pointer with the value `at` finds these structures, and then the end
+--     ShowsList file cs      Status says that there is a list, and the walk from 34h finds these structures
+--     Change, after_changes file cs      a write or a raise of registers; the file after all of them
+--     ListStays      the list is found in every state that accesses and raises can reach
+use Rattle.std.specs.Prelude.{◌≡◌, ℕ, ◌+◌, ◌<◌, Bool, true, List, [], ◌∷◌, ◌++◌, bit_and, bit_or}
+use Rattle.lists.specs.Elements.{Each}
+use Rattle.model_registers.specs.{Cell.{Cell, constant}, Registers.{Place, config, File, read, write, raise}, Declarations.{ConfigBlock, Region, Endpoint}, DeclarationRules.IsLawfulEndpoint, EndpointTable.endpoint_file}
+
+pub record Capability : Type 0 where
+  pub id : ℕ
+  pub offset : ℕ
+  pub cells : List Cell
+
+abbrev pub first_offset : List Capability → ℕ
+first_offset [] = 0
+first_offset (c ∷ cs) = c.offset
+
+-- a structure that is followed by one at this offset, or by none
+abbrev pub structure : Capability → ℕ → ConfigBlock
+structure c next = record { offset = c.offset; cells = constant c.id ∷ constant next ∷ c.cells }
+
+abbrev pub structures : List Capability → List ConfigBlock
+structures [] = []
+structures (c ∷ cs) = structure c (first_offset cs) ∷ structures cs
+
+abbrev pub pointer : List Capability → ConfigBlock
+pointer cs = record { offset = 0x34; cells = constant (first_offset cs) ∷ [] }
+
+abbrev pub with_capabilities : List Capability → Endpoint → Endpoint
+with_capabilities [] d = d
+with_capabilities (c ∷ cs) d = record d {
+  status = bit_or d.status 0x10;
+  blocks = pointer (c ∷ cs) ∷ structures (c ∷ cs) ++ d.blocks;
+}
+
+-- ---- the walk
+
+abbrev pub byte : File → ℕ → ℕ
+byte file off = read file (config off) (true ∷ [])
+
+abbrev pub Finds : File → ℕ → List Capability → Type 0
+Finds file at [] = at ≡ 0
+Finds file at (c ∷ cs) = (at ≡ c.offset) × (byte file at ≡ c.id) × Finds file (byte file (at + 1)) cs
+
+pub record ShowsList (file : File) (cs : List Capability) : Type 0 where
+  pub status : bit_and (byte file 6) 0x10 ≡ 0x10
+  pub walk : Finds file (byte file 0x34) cs
+
+-- ---- the law
+
+pub data Change : Type 0 where
+  writes : List Bool → ℕ → Place → Change
+  raises : ℕ → Place → Change
+
+abbrev pub after_change : File → Change → File
+after_change file (writes enables v p) = write enables v p file
+after_change file (raises m p) = raise m p file
+
+abbrev pub after_changes : File → List Change → File
+after_changes file [] = file
+after_changes file (c ∷ cs) = after_changes (after_change file c) cs
+
+-- of identities that are bytes, whatever Command and the bases are at first
+abbrev pub ListStays : Type 0
+ListStays = (d : Endpoint) (c : Capability) (cs : List Capability)
+    → IsLawfulEndpoint (with_capabilities (c ∷ cs) d) → Each (λ e. e.id < 256) (c ∷ cs)
+    → (multifunction : Bool) (command : ℕ) (bases : Region → ℕ) (changes : List Change)
+    → ShowsList (after_changes (endpoint_file (with_capabilities (c ∷ cs) d) multifunction command bases) changes) (c ∷ cs)
