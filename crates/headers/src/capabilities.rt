@@ -37,11 +37,7 @@ fn first_offset(list: &[Capability]) -> u8
 
 /// Returns the registers of a structure that is followed by one at offset `next`, or by none if
 /// that is 0.
-fn structure(
-    alloc: Global,
-    capability: &Capability,
-    next: u8,
-) -> Result<ConfigBlock, AllocError>
+fn structure(alloc: Global, capability: &Capability, next: u8) -> Result<ConfigBlock, AllocError>
     ensures { IfOk result (λ b. b ≡ structure capability.now next) }
 {
     let mut block = Vec::new(alloc);

@@ -32,3 +32,4 @@ pub mod DeviceSeats
 pub mod DeviceBytes
 pub mod Calls
 pub mod DeviceExamples
+pub mod CapabilityLists

@@ -27,3 +27,4 @@ pub mod DeviceLaws
 pub mod DeviceByteLaws
 pub mod Calls
 pub mod DeviceExamples
+pub mod CapabilityLists

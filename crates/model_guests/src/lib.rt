@@ -4,7 +4,7 @@
 //! events at their devices, with theorems about isolation.
 #![tactic(auto)]
 
-ghost use Rattle.model_guests.specs.{Isolation.{Isolated, IsolatedByOwnLines, OwnLinesAlone, TwoWorlds, TwoWorldsByOwnLines}, Seated.{ByIndex, SeatedAfterEvents, SeatedAfterMoves, SeatedAlong, SeatedAtFirst}, AgreedLaws.{CopiesNeverRise, FileOfSeat, ShowsFile}, ChangeLaws.{ChangesOneFunction, EventReachesBoard, LatchKeepsBoard, MoveResetsOneFunction, OneFile, RaisesAlike, ResetsAlike, WritesAlike}, ViewLaws.{ViewAgrees, ViewIsFile}, MoveLaws.{InputsWithin, MoveBetween, MoveWithin, MovedFunction}, LineRuns.{AfterAlong, CutIsBeginning, LinesOfPieces, OutputAlong, StoppedIsBeginning}, WorldNow.world_protocol, WorldLaws.{HandoffStays, LongLinesAlike, NamesAlong, NamesStay}, DeviceByteLaws.{ReadsLeaveGuests, ReadsWritten, WriteReachesBoard}, DeviceExamples.CountingDevice, DeviceLaws.{NamesAfterDevices, OthersAfterDevice, OwnAfterDevice, ResetByMoves, ResetReachesBoard, SeatedAfterDevices}};
+ghost use Rattle.model_guests.specs.{Isolation.{Isolated, IsolatedByOwnLines, OwnLinesAlone, TwoWorlds, TwoWorldsByOwnLines}, Seated.{ByIndex, SeatedAfterEvents, SeatedAfterMoves, SeatedAlong, SeatedAtFirst}, AgreedLaws.{CopiesNeverRise, FileOfSeat, ShowsFile}, ChangeLaws.{ChangesOneFunction, EventReachesBoard, LatchKeepsBoard, MoveResetsOneFunction, OneFile, RaisesAlike, ResetsAlike, WritesAlike}, ViewLaws.{ViewAgrees, ViewIsFile}, MoveLaws.{InputsWithin, MoveBetween, MoveWithin, MovedFunction}, LineRuns.{AfterAlong, CutIsBeginning, LinesOfPieces, OutputAlong, StoppedIsBeginning}, WorldNow.world_protocol, WorldLaws.{HandoffStays, LongLinesAlike, NamesAlong, NamesStay}, DeviceByteLaws.{ReadsLeaveGuests, ReadsWritten, WriteReachesBoard}, DeviceExamples.CountingDevice, DeviceLaws.{NamesAfterDevices, OthersAfterDevice, OwnAfterDevice, ResetByMoves, ResetReachesBoard, SeatedAfterDevices}, CapabilityLists.{GuestsFindLists, BoardShowsLists}};
 
 /// Proves isolation over any handoff: a script's replies to a guest, and the guest's state
 /// afterwards, depend only on the guest's own functions and CONFIG_ADDRESS, its own lines, and the
@@ -117,4 +117,12 @@ pub fn devices_own_bytes()
 /// driver.
 pub fn counting_device()
     ensures { CountingDevice }
+{}
+
+/// Proves that a guest that walks the capability list of a function in a slot finds the declared
+/// structures, in order, after any of its own lines and any moves; and that the list on the board
+/// is the same one.
+pub fn capability_lists()
+    ensures guests { GuestsFindLists }
+    ensures board { BoardShowsLists }
 {}

@@ -1,7 +1,7 @@
 -- A capability list is found as it was declared.
-use Rattle.std.{proofs.{Common.{◌≡◌, ℕ, ◌+◌, ◌*◌, ◌/◌, ◌%◌, ◌^◌, ◌<◌, ◌≤◌, ◌⊎◌, inl, inr, Bool, true, false, ◌&&◌, cond, List, [], ◌∷◌, ◌++◌, length, refl, sym, ap, ◌∙◌, subst, arith, eqb, ltb, append_assoc}, lemmas.{Bool.{Decides.nat_tests, and_parts, ltb-true}, Nat.{and_mask, and_mod, and_shr, and_block, or_block, and_or_self}}, Math.Nat.{mod-eq_of_lt}}, specs.{Prelude.{IsTrue, bit_and, bit_or, flat_map}, Int.Bits.{or_zero_r, and_zero_r}}}
+use Rattle.std.{proofs.{Common.{◌≡◌, ℕ, ◌+◌, ◌-◌, ◌*◌, ◌/◌, ◌%◌, ◌^◌, ◌<◌, ◌≤◌, ◌⊎◌, inl, inr, Bool, true, false, ◌&&◌, cond, List, [], ◌∷◌, ◌++◌, length, refl, sym, ap, ◌∙◌, subst, arith, eqb, ltb, append_assoc}, lemmas.{Bool.{Decides.nat_tests, and_parts, ltb-true}, Nat.{and_mask, and_mod, and_shr, and_block, or_block, and_or_self}}, Math.Nat.{mod-eq_of_lt}}, specs.{Prelude.{⊤, IsTrue, bit_and, bit_or, flat_map}, Int.Bits.{or_zero_r, and_zero_r}}}
 use Rattle.lists.specs.Elements.{Each, EachPair}
-use Rattle.model_registers.{specs.{Cell.{Cell, constant, no_cell, written, raised}, Registers.{Place, config, block, place_eq, after, File, cell_at, changed, write, raise, cells_from}, Declarations.{ConfigBlock, Region, Endpoint}, DeclarationRules.{blocks_apart, IsConfigBlock, IsLawfulEndpoint}, EndpointTable.{block_cells, header_cells, region_cells, endpoint_file}, Capabilities.{Capability, first_offset, structure, structures, pointer, with_capabilities, byte, Finds, ShowsList, Change, writes, raises, after_change, after_changes, ListStays}}, proofs.{RegisterFiles.{change_at_place, self, above, below}, Owned.{no_cell_stays, raised_none}}}
+use Rattle.model_registers.{specs.{Cell.{Cell, constant, no_cell, written, raised}, Registers.{Place, config, block, place_eq, after, File, cell_at, changed, write, raise, cells_from}, Declarations.{ConfigBlock, Region, Endpoint}, DeclarationRules.{blocks_apart, IsConfigBlock, IsLawfulEndpoint}, EndpointTable.{block_cells, header_cells, region_cells, endpoint_file}, Capabilities.{Capability, first_offset, structure, structures, pointer, with_capabilities, byte, Finds, ShowsList, Change, write_of, raise_of, after_change, after_changes, ListStays}}, proofs.{RegisterFiles.{change_at_place, self, above, below}, Owned.{no_cell_stays, raised_none}}}
 
 -- ---- a byte that always reads the same
 
@@ -34,8 +34,8 @@ write_still (true ∷ ons) x v fits p q file h =
 write_still (false ∷ ons) x v fits p q file h = write_still ons (x / 256) v fits (after p) q file h
 
 change_still : (c : Change) (v : ℕ) → v < 256 → (q : Place) (file : File) → Holds file q v → Holds (after_change file c) q v
-change_still (writes ons x p) v fits q file h = write_still ons x v fits p q file h
-change_still (raises m p) v fits q file h = changed_still (raised m) (raised_none m) v (raised_still m v) file p q h
+change_still (write_of ons x p) v fits q file h = write_still ons x v fits p q file h
+change_still (raise_of m p) v fits q file h = changed_still (raised m) (raised_none m) v (raised_still m v) file p q h
 
 pub changes_still : (cs : List Change) (v : ℕ) → v < 256 → (q : Place) (file : File) → Holds file q v → Holds (after_changes file cs) q v
 changes_still [] v fits q file h = h
@@ -56,7 +56,7 @@ PassesEach file cs = Each (λ (c : Capability). Passes file c.offset × Passes f
 
 behind : (file rest : File) (cs : List Capability) → PassesEach file cs → HoldsEach rest cs → HoldsEach (file ++ rest) cs
 behind file rest [] pass h = tt
-behind file rest (c ∷ cs) pass h = (pass.0.0 rest ∙ h.0, (pass.0.1 rest ∙ h.1.0, behind file rest cs pass.1 h.1.1))
+behind file rest (c ∷ cs) pass h = (pass.0.0 rest ∙ h.0, pass.0.1 rest ∙ h.1, behind file rest cs pass.1 h.2)
 
 cells_passed : (cs : List Cell) (a q : ℕ) → (q < a) ⊎ (a + length cs ≤ q) → Passes (cells_from (config a) cs) q
 cells_passed [] a q h rest = refl
@@ -81,7 +81,7 @@ structures_held (c ∷ cs) more rest apart =
     let own : File = block_cells (structure c (first_offset cs)) in
     let others : File = flat_map block_cells (structures cs ++ more) in
     let here = first_two c (first_offset cs) (others ++ rest) in
-    let all : HoldsEach (own ++ (others ++ rest)) (c ∷ cs) = (here.0, (here.1, behind own (others ++ rest) cs (block_passed (structure c (first_offset cs)) cs more apart.0) (structures_held cs more rest apart.1))) in
+    let all : HoldsEach (own ++ (others ++ rest)) (c ∷ cs) = (here.0, here.1, behind own (others ++ rest) cs (block_passed (structure c (first_offset cs)) cs more apart.0) (structures_held cs more rest apart.1)) in
     subst (λ (f : File). HoldsEach f (c ∷ cs)) (sym (append_assoc own others rest)) all
 
 -- ---- what is before the structures
@@ -106,6 +106,10 @@ low_passed (e ∷ es) q h high rest = grind (arith, and_parts, low_apart, low_pa
 header_low : (d : Endpoint) (multifunction : Bool) (command : ℕ) → are_low (header_cells d multifunction command) ≡ true
 unfolding are_low is_low
 header_low d multifunction command = refl
+
+pointer_low : (cs : List Capability) → are_low (block_cells (pointer cs)) ≡ true
+unfolding are_low is_low
+pointer_low cs = refl
 
 -- a structure isn't the pointer, which has one byte
 record IsPlaced (c : Capability) : Type 0 where
@@ -136,17 +140,17 @@ next_fits (c ∷ cs) h = let ends : c.offset + 2 ≤ 0x100 = h.0.ends in omega (
 each_stays : (changes : List Change) (file : File) (cs : List Capability) → Each IsPlaced cs → Each (λ (c : Capability). c.id < 256) cs → HoldsEach file cs → HoldsEach (after_changes file changes) cs
 each_stays changes file [] at fits h = tt
 each_stays changes file (c ∷ cs) at fits h =
-    (changes_still changes c.id fits.0 (config c.offset) file h.0, (changes_still changes (first_offset cs) (next_fits cs at.1) (config (c.offset + 1)) file h.1.0, each_stays changes file cs at.1 fits.1 h.1.1))
+    (changes_still changes c.id fits.0 (config c.offset) file h.0, changes_still changes (first_offset cs) (next_fits cs at.1) (config (c.offset + 1)) file h.1, each_stays changes file cs at.1 fits.1 h.2)
 
 held_byte : (file : File) (off v : ℕ) → Holds file (config off) v → byte file off ≡ v
-held_byte file off v h = ap (λ (c : Cell). c.value + 256 * 0) h
+held_byte file off v h = let same : (cell_at file (config off)).value ≡ v = ap (λ (c : Cell). c.value) h in omega (arith, same)
 
 walk_of : (file : File) (cs : List Capability) (at : ℕ) → at ≡ first_offset cs → HoldsEach file cs → Finds file at cs
 walk_of file [] at e h = e
 walk_of file (c ∷ cs) at e h =
     let id : byte file at ≡ c.id = ap (byte file) e ∙ held_byte file c.offset c.id h.0 in
-    let next : byte file (at + 1) ≡ first_offset cs = ap (λ n. byte file (n + 1)) e ∙ held_byte file (c.offset + 1) (first_offset cs) h.1.0 in
-    (e, (id, walk_of file cs (byte file (at + 1)) next h.1.1))
+    let next : byte file (at + 1) ≡ first_offset cs = ap (λ n. byte file (n + 1)) e ∙ held_byte file (c.offset + 1) (first_offset cs) h.1 in
+    (e, id, walk_of file cs (byte file (at + 1)) next h.2)
 
 -- ---- the law
 
@@ -173,8 +177,8 @@ module _ (d : Endpoint) (c : Capability) (cs : List Capability) (lawful : IsLawf
       let others : File = flat_map block_cells (structures (c ∷ cs) ++ d.blocks) in
       let start : File = block_cells (pointer (c ∷ cs)) in
       let held : HoldsEach (others ++ regions) (c ∷ cs) = structures_held (c ∷ cs) d.blocks regions lawful.blocks_apart.1 in
-      let more : HoldsEach (start ++ (others ++ regions)) (c ∷ cs) = behind start (others ++ regions) (c ∷ cs) (placed_passed start refl (c ∷ cs) places) held in
-      let all : HoldsEach (header ++ (start ++ (others ++ regions))) (c ∷ cs) = behind header (start ++ (others ++ regions)) (c ∷ cs) (placed_passed header (header_low _ multifunction command) (c ∷ cs) places) more in
+      let more : HoldsEach (start ++ (others ++ regions)) (c ∷ cs) = behind start (others ++ regions) (c ∷ cs) (placed_passed start (pointer_low (c ∷ cs)) (c ∷ cs) places) held in
+      let all : HoldsEach (header ++ (start ++ (others ++ regions))) (c ∷ cs) = behind header (start ++ (others ++ regions)) (c ∷ cs) (placed_passed header (header_low (with_capabilities (c ∷ cs) d) multifunction command) (c ∷ cs) places) more in
       subst (λ (f : File). HoldsEach f (c ∷ cs)) (sym (append_assoc header (start ++ others) regions)) all
 
 pub list_stays : ListStays

@@ -56,12 +56,12 @@ pub record ShowsList (file : File) (cs : List Capability) : Type 0 where
 -- ---- the law
 
 pub data Change : Type 0 where
-  writes : List Bool → ℕ → Place → Change
-  raises : ℕ → Place → Change
+  write_of : List Bool → ℕ → Place → Change
+  raise_of : ℕ → Place → Change
 
 abbrev pub after_change : File → Change → File
-after_change file (writes enables v p) = write enables v p file
-after_change file (raises m p) = raise m p file
+after_change file (write_of enables v p) = write enables v p file
+after_change file (raise_of m p) = raise m p file
 
 abbrev pub after_changes : File → List Change → File
 after_changes file [] = file
