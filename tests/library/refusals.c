@@ -327,7 +327,7 @@ static void gifts(struct pciguest *machine)
     IS((uint64_t)blocks, (uint64_t)before);
 }
 
-/* A device reaches Status, 40h to FFh and its regions, and no other byte: not the guest's copies, nor identity. What it
+/* A device reaches Status, the Capabilities Pointer (34h), 40h to FFh and its regions, and no other byte: not the guest's copies, nor identity. What it
  * writes its driver reads, whatever the driver's own writes may change; it takes no memory. */
 static void devices(struct pciguest *machine)
 {
@@ -336,7 +336,7 @@ static void devices(struct pciguest *machine)
 
     calls_left = 1;
     for (uint64_t offset = 0; offset < 0x101; offset++) {
-        bool reached = offset == 6 || offset == 7 || (offset >= 0x40 && offset < 0x100);
+        bool reached = offset == 6 || offset == 7 || offset == 0x34 || (offset >= 0x40 && offset < 0x100);
 
         IS(pciguest_device_read_wide(machine, 0, 0, PCIGUEST_PART_CONFIG, offset, 1, &wide), reached ? 0 : 303);
         IS(pciguest_device_write_wide(machine, 0, 0, PCIGUEST_PART_CONFIG, offset, 1, wide), reached ? 0 : 303);

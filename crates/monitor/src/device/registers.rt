@@ -61,9 +61,9 @@ impl<R: Route> Engine<R> {
 
     /// Returns a byte of a guest's function as its device reads it. An undeclared byte reads as 0.
     /// Refuses with 303 if the slot is above 31, else with 601 if it is empty, else with 303 for a
-    /// configuration offset that is neither 6, 7 nor 40h to FFh, a base address register at which
-    /// no region begins, or an offset that is not below the region's size. Changes nothing, and
-    /// allocates no memory.
+    /// configuration offset that is neither 6, 7, 34h nor 40h to FFh, a base address register at
+    /// which no region begins, or an offset that is not below the region's size. Changes nothing,
+    /// and allocates no memory.
     pub fn device_read(&mut self, guest: usize, slot: u64, place: Place, off: u64) -> Reply
         requires { guest < length self.old.world.guests }
         ensures reply { let e = device_reads (device_byte slot place off) in
