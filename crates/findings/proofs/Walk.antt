@@ -4,7 +4,7 @@ use Rattle.lists.{specs.Elements.IsIn, proofs.Members.{each_from, in_map, in_fro
 use Rattle.model_registers.{specs.Decoding.{Space, same_space}, proofs.HitRegions.space_same}
 use Rattle.model_board.{specs.Paths.{Path, parent}, proofs.PathOrder.path_same}
 use Rattle.model_findings.{specs.{Agents.{Extent, Agent, answers}, Orderly.AreAlone, Problems.{contention, contentions}}, proofs.Problems.{Within, by_extent, no_contention}}
-use Rattle.findings.specs.{declared.span.Span.Span, Spans.{bus_key, space_key, group_of, extent_span, agent_spans, spans_from, place_of, key_of, crowds, AreApartBut, is_crowded}}
+use Rattle.findings.specs.{declared.span.Span.Span, Spans.{bus_hash, space_key, bus_and_space_hash, extent_span, agent_spans, spans_from, place_of, key_of, crowds, AreApartBut, is_crowded}}
 
 -- ---- spans in order
 
@@ -70,13 +70,13 @@ module _ (all spans : List Span) (moved : IsPermutation all spans) (rising : IsN
       by true e = absurd (clash (by_extent space x a h) (by_extent space x b e))
         where
           clash : (same_space a.space space ≡ true) × (e : Extent) × IsIn e a.extents × Within x e → (same_space b.space space ≡ true) × (e : Extent) × IsIn e b.extents × Within x e → ⊥
-          clash (s, e, i, v) (t, f, j, w) = of (two_spans spans rising groups apart (extent_span m (group_of a) e) (extent_span n (group_of b) f)
-              (Contains-permutation all spans (extent_span m (group_of a) e) moved (contained (extent_span m (group_of a) e) all (own (extent_span m (group_of a) e) (in_map (extent_span m (group_of a)) e a.extents i))))
-              (Contains-permutation all spans (extent_span n (group_of b) f) moved (contained (extent_span n (group_of b) f) all (other (extent_span n (group_of b) f) (in_map (extent_span n (group_of b)) f b.extents j))))
+          clash (s, e, i, v) (t, f, j, w) = of (two_spans spans rising groups apart (extent_span m (bus_and_space_hash a) e) (extent_span n (bus_and_space_hash b) f)
+              (Contains-permutation all spans (extent_span m (bus_and_space_hash a) e) moved (contained (extent_span m (bus_and_space_hash a) e) all (own (extent_span m (bus_and_space_hash a) e) (in_map (extent_span m (bus_and_space_hash a)) e a.extents i))))
+              (Contains-permutation all spans (extent_span n (bus_and_space_hash b) f) moved (contained (extent_span n (bus_and_space_hash b) f) all (other (extent_span n (bus_and_space_hash b) f) (in_map (extent_span n (bus_and_space_hash b)) f b.extents j))))
               (λ k. omega arith) same_group (quiet_there quiet))
             where
-              same_group : group_of a ≡ group_of b
-              same_group = ap₂ (λ (p : Path) (z : Space). bus_key p * 2 + space_key z) (path_same (parent a.path) (parent b.path) bus) (space_same a.space space s ∙ sym (space_same b.space space t))
+              same_group : bus_and_space_hash a ≡ bus_and_space_hash b
+              same_group = ap₂ (λ (p : Path) (z : Space). bus_hash p * 2 + space_key z) (path_same (parent a.path) (parent b.path) bus) (space_same a.space space s ∙ sym (space_same b.space space t))
 
               quiet_there : (is_crowded groups a ≡ false) ⊎ (is_crowded groups b ≡ false) → is_crowded groups b ≡ false
               quiet_there (inl k) = ap (crowds groups) (sym same_group) ∙ k

@@ -1,5 +1,5 @@
 -- The addresses that agents answer, as one list of spans with a number for each bus and space.
---     bus_key, group_of      a number of a bus, and of an agent's bus and space
+--     bus_hash, bus_and_space_hash      a hash of a bus, and of an agent's bus and space
 --     window_span, agent_spans, spans_from      the spans of a window, of an agent and of agents from an index on
 --     place_of, key_of      a first address; the order of spans: by bus and space, then by first address
 --     EndsBefore s t      a span ends before the next one begins, if that is of the same bus and space
@@ -13,16 +13,16 @@ use Rattle.model_findings.specs.Agents.{Extent, Agent}
 use Rattle.bridge_forward.specs.declared.routing.Window.{Window}
 use Rattle.findings.specs.declared.span.Span.{Span}
 
-abbrev pub bus_key : Path → ℕ
-bus_key [] = 0
-bus_key (p ∷ ps) = (p.device * 8 + p.function + 1 + bus_key ps * 131) % 0x100000000
+abbrev pub bus_hash : Path → ℕ
+bus_hash [] = 0
+bus_hash (p ∷ ps) = (p.device * 8 + p.function + 1 + bus_hash ps * 131) % 0x100000000
 
 abbrev pub space_key : Space → ℕ
 space_key io = 0
 space_key memory = 1
 
-abbrev pub group_of : Agent → ℕ
-group_of a = bus_key (parent a.path) * 2 + space_key a.space
+abbrev pub bus_and_space_hash : Agent → ℕ
+bus_and_space_hash a = bus_hash (parent a.path) * 2 + space_key a.space
 
 abbrev pub window_span : ℕ → ℕ → Window → Span
 window_span agent group w = record { agent = agent; group = group; first = w.first; last = w.last }
@@ -31,7 +31,7 @@ abbrev pub extent_span : ℕ → ℕ → Extent → Span
 extent_span agent group e = record { agent = agent; group = group; first = e.first; last = e.end - 1 }
 
 abbrev pub agent_spans : ℕ → Agent → List Span
-agent_spans n a = map (extent_span n (group_of a)) a.extents
+agent_spans n a = map (extent_span n (bus_and_space_hash a)) a.extents
 
 abbrev pub spans_from : ℕ → List Agent → List Span
 spans_from n [] = []
@@ -56,4 +56,4 @@ AreApartBut groups spans = (i : ℕ) (d : Span) → i + 1 < length spans
     → EndsBefore (slice_index_or spans i d) (slice_index_or spans (i + 1) d)
 
 abbrev pub is_crowded : List ℕ → Agent → Bool
-is_crowded groups a = crowds groups (group_of a)
+is_crowded groups a = crowds groups (bus_and_space_hash a)

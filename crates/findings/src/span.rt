@@ -2,7 +2,7 @@
 //! the buses on which addresses overlap.
 ghost use Rattle.std.specs.{Prelude.{◌≡◌, ℕ, ◌++◌, ◌^◌, ◌<◌, IfOk, OnOk, IsTrue, map, filter}, Option.option_to_list, List.Sorted.{IsNonDecreasingBy, IsPermutation}};
 ghost use Rattle.model_findings.specs.Problems.{contentions};
-ghost use Rattle.findings.specs.Spans.{bus_key, group_of, key_of, window_span, agent_spans, spans_from, EndsBefore, crowds, AreApartBut, is_crowded};
+ghost use Rattle.findings.specs.Spans.{bus_hash, bus_and_space_hash, key_of, window_span, agent_spans, spans_from, EndsBefore, crowds, AreApartBut, is_crowded};
 
 use crate::agent::Agent;
 use bars::Space;
@@ -21,28 +21,28 @@ pub(crate) struct Span {
 
 /// Returns a hash of a bus. A collision is harmless: responders with equal hashes are only compared
 /// more closely.
-fn bus_key(bus: &[Part]) -> u64
-    ensures value { result ≡ bus_key bus.now }
+fn bus_hash(bus: &[Part]) -> u64
+    ensures value { result ≡ bus_hash bus.now }
     ensures small { result < 2 ^ 32 }
 {
     match bus {
         [] => 0,
         [part, bus @ ..] => {
-            (u64::from(part.device()) * 8 + u64::from(part.function()) + 1 + bus_key(bus) * 131)
+            (u64::from(part.device()) * 8 + u64::from(part.function()) + 1 + bus_hash(bus) * 131)
                 % 0x1_0000_0000
         }
     }
 }
 
 /// Returns a hash of a responder's bus and space.
-fn group_of(agent: &Agent) -> u64
-    ensures { result ≡ group_of agent.now }
+fn bus_and_space_hash(agent: &Agent) -> u64
+    ensures { result ≡ bus_and_space_hash agent.now }
 {
     let space = match agent.space {
         Space::Io => 0,
         Space::Mem => 1,
     };
-    bus_key(agent.path.parent()) * 2 + space
+    bus_hash(agent.path.parent()) * 2 + space
 }
 
 /// Appends the addresses of a window, if there is one.
@@ -70,7 +70,7 @@ fn add_span(
 fn add_agent(spans: &mut Vec<Span>, index: usize, agent: &Agent) -> Result<(), AllocError>
     ensures { OnOk result (spans.new.items ≡ spans.old.items ++ agent_spans index agent.now) }
 {
-    let group = group_of(agent);
+    let group = bus_and_space_hash(agent);
     add_span(spans, index, group, agent.one)?;
     add_span(spans, index, group, agent.other)
 }
@@ -159,7 +159,7 @@ fn crowded_agents(alloc: Global, agents: &[Agent], groups: &[u64]) -> Result<Vec
 {
     let mut crowded = Vec::new(alloc);
     for agent in agents {
-        if crowds(groups, group_of(agent)) {
+        if crowds(groups, bus_and_space_hash(agent)) {
             crowded.push(agent.copied())?;
         }
     }
