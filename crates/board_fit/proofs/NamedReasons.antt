@@ -6,7 +6,7 @@ use Rattle.model_registers.specs.Declarations.{IoDecode}
 use Rattle.model_board.{specs.{Paths.Path, Board.{Row, Board, is_bridge}, BusNumbers.{bridge_count, numbers_suffice}, Places.{row_inserted, board_of}}, proofs.PlacesLaw.each_to_board}
 use Rattle.model_set_up.specs.Pools.{opens_io, has_io, bridges_above, has_io_paths}
 use Rattle.board_file.{specs.{Entries.{Bar, Bridge, Endpoint, File}, Functions.{endpoint_row, bridge_row, rows}, PathTexts.path_at}, proofs.{FirstBroken.{alone, broken_at}, Searches.{position_none, not_empty, both_empty}}}
-use Rattle.board_fit.{specs.{ReasonLaws.ReasonsAreTold, Misfits.{is_io, is_closed, first_closed, closed_region, closed_bars, closed_in, closed_regions, bridge_too_many}}, proofs.BridgesAbove.{all_above, by_file}}
+use Rattle.board_fit.{specs.{ReasonLaws.ReasonsAreTold, Misfits.{is_io, is_closed, first_without_io_window, no_io_window, closed_bars, closed_in, closed_regions, bridge_too_many}}, proofs.BridgesAbove.{all_above, by_file}}
 use Rattle.model_registers.specs.Declarations as declared
 
 -- ---- bridges
@@ -35,11 +35,11 @@ bridge_named f h = grind (arith, common_steps, count_board, count_rows, not_empt
 passed : (t : Bool) (d : IoDecode) → (is_closed d && t) ≡ false → (not t || has_io d) ≡ true
 passed t d h = grind arith
 
-all_open : (bs : List Bridge) (p : Path) → first_closed bs p ≡ None → all_above (λ b. has_io b.io) bs p ≡ true
+all_open : (bs : List Bridge) (p : Path) → first_without_io_window bs p ≡ None → all_above (λ b. has_io b.io) bs p ≡ true
 all_open bs p h = grind (arith, all_from, passed, position_none)
 
 -- an endpoint has no regions of I/O, where none is named behind a bridge
-no_io_bars : (i k n : ℕ) (bars : List Bar) → map (closed_region i k) (filter (λ p. is_io p.1.kind) (enumerate_from n bars)) ≡ [] → list_any (λ (b : Bar). is_io b.kind) bars ≡ false
+no_io_bars : (i k n : ℕ) (bars : List Bar) → map (no_io_window i k) (filter (λ p. is_io p.1.kind) (enumerate_from n bars)) ≡ [] → list_any (λ (b : Bar). is_io b.kind) bars ≡ false
 no_io_bars i k n [] h = refl
 no_io_bars i k n (b ∷ bars) h = grind (arith, no_io_bars i k (n + 1) bars)
 
@@ -47,7 +47,7 @@ opens_none : (e : Endpoint) → list_any (λ (b : Bar). is_io b.kind) e.bars ≡
 opens_none e h = grind (arith, common_steps, false_from_ne_true, from_any, from_flat_map, from_map, from_filter, both_ways, any_in)
 
 -- what is named behind the first bridge that is closed
-closed_behind : (bs : List Bridge) (i : ℕ) (e : Endpoint) → closed_in bs (i, e) ≡ [] → option_map_or (λ k. closed_bars i k e.bars) (first_closed bs (path_at e.at)) [] ≡ []
+closed_behind : (bs : List Bridge) (i : ℕ) (e : Endpoint) → closed_in bs (i, e) ≡ [] → option_map_or (λ k. closed_bars i k e.bars) (first_without_io_window bs (path_at e.at)) [] ≡ []
 unfolding closed_in
 closed_behind bs i e h = h
 
@@ -56,12 +56,12 @@ module _ (f : File) where
   keeps r = (not (opens_io r.decl) || list_all (λ d. has_io d.io) (bridges_above (board_of (rows f)) r.path)) ≡ true
 
   endpoint_keeps : (i : ℕ) (e : Endpoint) → closed_in f.bridges (i, e) ≡ [] → keeps (endpoint_row e)
-  endpoint_keeps i e h = by_bridge (first_closed f.bridges (path_at e.at)) refl
+  endpoint_keeps i e h = by_bridge (first_without_io_window f.bridges (path_at e.at)) refl
     where
       either : (a b : Bool) → (a ≡ false) ⊎ (b ≡ true) → (not a || b) ≡ true
       either a b k = grind arith
 
-      by_bridge : (o : Option ℕ) → first_closed f.bridges (path_at e.at) ≡ o → keeps (endpoint_row e)
+      by_bridge : (o : Option ℕ) → first_without_io_window f.bridges (path_at e.at) ≡ o → keeps (endpoint_row e)
       by_bridge None is =
           either (opens_io (endpoint_row e).decl) (list_all (λ d. has_io d.io) (bridges_above (board_of (rows f)) (path_at e.at)))
           (inr (by_file (λ (d : declared.Bridge). has_io d.io) (path_at e.at) (λ b. has_io b.io) (λ b. refl) f ∙ all_open f.bridges (path_at e.at) is))

@@ -1,5 +1,5 @@
 -- The entries of a file that prevent its board from being set up.
---     first_closed bs p      of these bridges the first above the function at a path that has no I/O window
+--     first_without_io_window bs p      of these bridges the first above the function at a path that has no I/O window
 --     closed_regions      all regions of I/O behind such a bridge, in order
 --     bridge_too_many      the bridge after the 255 that have bus numbers
 --     reasons f fault      the one or the other, where the fault is that
@@ -24,22 +24,22 @@ is_closed io32 = false
 abbrev pub closes : Path → Bridge → Bool
 closes p b = is_closed b.io && is_ancestor_of (path_at b.at) p
 
-abbrev pub first_closed : List Bridge → Path → Option ℕ
-first_closed bs p = position (closes p) bs
+abbrev pub first_without_io_window : List Bridge → Path → Option ℕ
+first_without_io_window bs p = position (closes p) bs
 
-abbrev pub closed_region : ℕ → ℕ → ℕ × Bar → Remark
-closed_region i k (j, b) = remark.ClosedRegion i j k
+abbrev pub no_io_window : ℕ → ℕ → ℕ × Bar → Remark
+no_io_window i k (j, b) = remark.NoIoWindow i j k
 
 -- those of a list of regions
 abbrev pub closed_bars : ℕ → ℕ → List Bar → List Remark
-closed_bars i k bars = map (closed_region i k) (filter (λ p. is_io p.1.kind) (enumerate_from 0 bars))
+closed_bars i k bars = map (no_io_window i k) (filter (λ p. is_io p.1.kind) (enumerate_from 0 bars))
 
 -- if there is such a bridge
 abbrev pub closed_by : ℕ → Option ℕ → List Bar → List Remark
 closed_by i o bars = option_map_or (λ k. closed_bars i k bars) o []
 
 unfoldable pub closed_in : List Bridge → ℕ × Endpoint → List Remark
-closed_in bs (i, e) = closed_by i (first_closed bs (path_at e.at)) e.bars
+closed_in bs (i, e) = closed_by i (first_without_io_window bs (path_at e.at)) e.bars
 
 abbrev pub closed_regions : File → List Remark
 closed_regions f = flat_map (closed_in f.bridges) (enumerate_from 0 f.endpoints)

@@ -19,7 +19,7 @@ entry_of (remark.EndpointOfNone i) = entry.Endpoint i
 entry_of (remark.GuestWithoutSlots i) = entry.Guest i
 entry_of (remark.WideAperture pool) = entry.Host
 entry_of (remark.BridgeTooMany i) = entry.Bridge i
-entry_of (remark.ClosedRegion i j k) = entry.Bar i j
+entry_of (remark.NoIoWindow i j k) = entry.Bar i j
 
 abbrev pub key_of : Remark → List ℕ
 key_of (remark.EmptyBridge i) = codes "at"
@@ -27,11 +27,11 @@ key_of (remark.EndpointOfNone i) = codes "at"
 key_of (remark.GuestWithoutSlots i) = codes "name"
 key_of (remark.WideAperture pool) = aperture_key pool
 key_of (remark.BridgeTooMany i) = codes "at"
-key_of (remark.ClosedRegion i j k) = codes "kind"
+key_of (remark.NoIoWindow i j k) = codes "kind"
 
 -- the bridge above the region
 abbrev pub other_of : Remark → Option Entry
-other_of (remark.ClosedRegion i j k) = Some (entry.Bridge k)
+other_of (remark.NoIoWindow i j k) = Some (entry.Bridge k)
 other_of _ = None
 
 -- the key of the other entry at which its line is told

@@ -2,7 +2,7 @@
 ghost use Rattle.std.specs.Prelude.{◌≡◌, IfOk};
 ghost use Rattle.bars.specs.Kinds.{kind_of};
 ghost use Rattle.headers.specs.Decodes.{io_decode_of};
-ghost use Rattle.board_fit.specs.Misfits.{is_io, is_closed, closes, first_closed, closed_bars, closed_by, closed_in, closed_regions, bridge_too_many, reasons};
+ghost use Rattle.board_fit.specs.Misfits.{is_io, is_closed, closes, first_without_io_window, closed_bars, closed_by, closed_in, closed_regions, bridge_too_many, reasons};
 
 use crate::remark::Remark;
 use bars::Kind;
@@ -40,8 +40,8 @@ fn closes(path: &Path, bridge: &BridgeEntry<'_>) -> bool
 }
 
 /// Returns the index of the first bridge above the path that has no I/O window.
-fn first_closed(bridges: &[BridgeEntry<'_>], path: &Path) -> Option<usize>
-    ensures { result ≡ first_closed bridges.now path.now }
+fn first_without_io_window(bridges: &[BridgeEntry<'_>], path: &Path) -> Option<usize>
+    ensures { result ≡ first_without_io_window bridges.now path.now }
 {
     bridges.iter().position(|bridge| closes(path, bridge))
 }
@@ -58,7 +58,7 @@ fn closed_bars(
     bars.iter()
         .enumerate()
         .filter(|(_, bar)| is_io(bar.kind))
-        .map(|(index, _)| Remark::ClosedRegion(endpoint, index, bridge))
+        .map(|(index, _)| Remark::NoIoWindow(endpoint, index, bridge))
         .collect(alloc)
 }
 
@@ -87,7 +87,7 @@ fn closed_in(
 ) -> Result<Vec<Remark>, AllocError>
     ensures { IfOk result (λ v. v.items ≡ closed_in bridges.now (index, endpoint.now)) }
 {
-    let bridge = first_closed(bridges, &endpoint.at.path());
+    let bridge = first_without_io_window(bridges, &endpoint.at.path());
     closed_by(alloc, index, bridge, &endpoint.bars)
 }
 

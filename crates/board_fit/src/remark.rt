@@ -21,7 +21,7 @@ pub enum Remark {
     BridgeTooMany(usize),
     /// An I/O BAR behind a bridge without an I/O window: the indices of its endpoint, of the BAR in
     /// the endpoint's list, and of the bridge.
-    ClosedRegion(usize, usize, usize),
+    NoIoWindow(usize, usize, usize),
 }
 
 /// Returns the key of a pool's aperture in the host table.
@@ -46,7 +46,7 @@ impl Remark {
             Remark::GuestWithoutSlots(index) => Entry::Guest(index),
             Remark::WideAperture(_) => Entry::Host,
             Remark::BridgeTooMany(index) => Entry::Bridge(index),
-            Remark::ClosedRegion(endpoint, bar, _) => Entry::Bar(endpoint, bar),
+            Remark::NoIoWindow(endpoint, bar, _) => Entry::Bar(endpoint, bar),
         }
     }
 
@@ -58,7 +58,7 @@ impl Remark {
             Remark::EmptyBridge(_) | Remark::EndpointOfNone(_) | Remark::BridgeTooMany(_) => "at",
             Remark::GuestWithoutSlots(_) => "name",
             Remark::WideAperture(pool) => aperture_key(pool),
-            Remark::ClosedRegion(_, _, _) => "kind",
+            Remark::NoIoWindow(_, _, _) => "kind",
         }
     }
 
@@ -67,7 +67,7 @@ impl Remark {
         ensures { result ≡ other_of self }
     {
         match self {
-            Remark::ClosedRegion(_, _, bridge) => Some(Entry::Bridge(bridge)),
+            Remark::NoIoWindow(_, _, bridge) => Some(Entry::Bridge(bridge)),
             _ => None,
         }
     }

@@ -38,14 +38,14 @@ impl fmt::Display for PoolFit {
 const OPEN_IT: &str = "  help: give the bridge io = \"16\" or \"32\", or the BAR a memory kind\n";
 
 /// Appends what is wrong with the entry of a remark.
-fn push_said(text: &mut String, placed: &PlacedRemark) -> Result<(), AllocError> {
+fn push_message(text: &mut String, placed: &PlacedRemark) -> Result<(), AllocError> {
     text.push_str(match placed.remark {
         Remark::EmptyBridge(_) => "is a bridge with nothing behind it",
         Remark::EndpointOfNone(_) => "is not in the slots of any guest",
         Remark::GuestWithoutSlots(_) => "has no slots",
         Remark::WideAperture(_) => "is more than ten times as large as its pool needs",
         Remark::BridgeTooMany(_) => "is one bridge too many (at most 255)",
-        Remark::ClosedRegion(_, _, _) => "requires an I/O window, but ",
+        Remark::NoIoWindow(_, _, _) => "requires an I/O window, but ",
     })?;
     match placed.other {
         Some(bridge) => write!(text, "{bridge} above it has none (io = \"none\")"),
@@ -156,9 +156,9 @@ pub fn verdict_text<'a>(
         let (entry, key) = (placed.remark.entry(), placed.remark.key());
         let head = head_at(telling, source, verdict.fault, entry, key, placed.place);
         write!(text, "{head}{} ", Subject(head))?;
-        push_said(&mut text, placed)?;
+        push_message(&mut text, placed)?;
         push_end(alloc, &mut text, verdict.fault, &head)?;
-        if let Remark::ClosedRegion(_, _, _) = placed.remark {
+        if let Remark::NoIoWindow(_, _, _) = placed.remark {
             text.push_str(OPEN_IT)?;
         }
     }
