@@ -119,7 +119,7 @@ impl Enumeration {
     {
         let last = self.last;
         let row = &mut self.rows[index];
-        row.end_numbers(last);
+        row.set_subordinate(last);
         write_numbers(host, at, bus, number, last);
     }
 

@@ -4,7 +4,7 @@ ghost use Rattle.images.specs.{Faults.number_of, Shown.after_filled};
 
 use crate::comparing::after_declaration;
 use crate::fault::ImageFault;
-use crate::heading::after_tag;
+use crate::heading::after_slot_tag;
 use crate::values::after_values;
 use bridge_forward::EndpointFn;
 
@@ -18,7 +18,7 @@ pub fn after_function<'a>(endpoint: &EndpointFn, bytes: &'a [u8]) -> Result<&'a 
         after_filled endpoint.now.decl bytes.now ≡ Err (number_of why)) }
 {
     let decl = endpoint.decl();
-    let bytes = after_tag(true, bytes)?;
+    let bytes = after_slot_tag(true, bytes)?;
     let bytes = after_declaration(decl, bytes)?;
     after_values(decl, bytes)
 }

@@ -81,7 +81,7 @@ pub fn after_latch(bytes: &[u8]) -> Result<(u32, &[u8]), ImageFault>
 }
 
 /// Strips the byte that tags a slot as filled or empty.
-pub fn after_tag(is_filled: bool, bytes: &[u8]) -> Result<&[u8], ImageFault>
+pub fn after_slot_tag(is_filled: bool, bytes: &[u8]) -> Result<&[u8], ImageFault>
     ensures left { IfOk result (λ rest.
         after_bytes 906 ((if is_filled then 1 else 0) ∷ []) bytes.now ≡ Ok rest.now) }
     ensures refused { IfErr result (λ why.

@@ -23,6 +23,6 @@ pub use declarations::read_declarations;
 pub use fault::ImageFault;
 pub use function_comparing::after_function;
 pub use function_writing::{function_size, write_function};
-pub use heading::{after_header, after_latch, after_tag, at_end, header, latch_bytes};
+pub use heading::{after_header, after_latch, after_slot_tag, at_end, header, latch_bytes};
 pub use sizes::{declaration_size, values_size};
 pub use writing::put;

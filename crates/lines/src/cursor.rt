@@ -65,7 +65,7 @@ pub(crate) fn name_word(text: &[u8]) -> Option<(&[u8], &[u8])>
 /// Returns the first word and the text after it. A word of two letters, such as `mr`, takes a fast
 /// path.
 #[inline(always)]
-pub(crate) fn form_word(text: &[u8]) -> Option<(&[u8], &[u8])>
+pub(crate) fn op_word(text: &[u8]) -> Option<(&[u8], &[u8])>
     ensures { MatchOption result (words text.now ≡ []) (λ p.
         words text.now ≡ p.0.now ∷ words p.1.now) }
 {

@@ -5,7 +5,7 @@ ghost use Rattle.paths.specs.BusAddresses.{bus_address_of};
 ghost use Rattle.accesses.specs.Accesses.{access_of, target_of, op_of, part_of, host_access_of};
 ghost use Rattle.lines.specs.Forms.{event_asked, placed, operated};
 
-use crate::cursor::{first_number, form_word, is_end, other_number, short_number};
+use crate::cursor::{first_number, is_end, op_word, other_number, short_number};
 use crate::numbers::{digit_in, number_of};
 use crate::words::first_words;
 use accesses::{Access, At, Bdf, HostAccess, HostAt, Op, Place};
@@ -122,7 +122,7 @@ fn access_form(space: u8, kind: u8, text: &[u8]) -> Option<Access>
 /// Parses a guest's request, given its first word, which doesn't have two letters, and the words
 /// after it.
 #[tactic(auto, using(crate::proofs::GuestForms::other_length, crate::proofs::GuestForms::no_form))]
-fn longer_form(op: &[u8], words: &[&[u8]]) -> Option<GuestRequest>
+fn raise_or_none(op: &[u8], words: &[&[u8]]) -> Option<GuestRequest>
     requires { length op.now ≡ 2 → ⊥ }
     ensures { option_map event_asked result ≡ event_of (op.now ∷ map (λ w. w.now) words.now) }
 {
@@ -137,7 +137,7 @@ fn longer_form(op: &[u8], words: &[&[u8]]) -> Option<GuestRequest>
 pub(crate) fn guest_access_form(text: &[u8]) -> Option<Access>
     ensures { IfSome result (λ a. event_of (words text.now) ≡ Some (access (access_of a))) }
 {
-    let (op, rest) = form_word(text)?;
+    let (op, rest) = op_word(text)?;
     match op {
         [space, kind] => access_form(*space, *kind, rest),
         _ => None,
@@ -148,10 +148,10 @@ pub(crate) fn guest_access_form(text: &[u8]) -> Option<Access>
 pub(crate) fn guest_form(text: &[u8]) -> Option<GuestRequest>
     ensures { option_map event_asked result ≡ event_of (words text.now) }
 {
-    let (op, rest) = form_word(text)?;
+    let (op, rest) = op_word(text)?;
     match op {
         [space, kind] => access_form(*space, *kind, rest).map(GuestRequest::Access),
-        _ => longer_form(op, first_words(rest).as_slice()),
+        _ => raise_or_none(op, first_words(rest).as_slice()),
     }
 }
 

@@ -11,7 +11,7 @@ use bridge_forward::EndpointFn;
 use guest_functions::VirtualFunction;
 use host_bridge::{Host, Route};
 use images::{
-    ImageFault, after_function, after_header, after_latch, after_tag, at_end, function_size,
+    ImageFault, after_function, after_header, after_latch, after_slot_tag, at_end, function_size,
     header, latch_bytes, put, write_function,
 };
 
@@ -120,7 +120,7 @@ pub(crate) fn after_slot<'a>(
 {
     match slot_shown(host, slot) {
         Some((endpoint, _)) => after_function(endpoint, bytes),
-        None => after_tag(false, bytes),
+        None => after_slot_tag(false, bytes),
     }
 }
 

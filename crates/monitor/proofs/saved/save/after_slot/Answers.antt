@@ -14,8 +14,8 @@ returns-in-Some-clause-refused c =
 
 pub returns-in-None-clause-left : goal.returns-in-None-clause-left
 returns-in-None-clause-left c =
-    subst (λ (x : Left). IfOk c.after_tag.result (λ rest. x ≡ Ok rest.now)) (empty_after (slot_shown c.args.host.now.state.functions c.args.slot.now) c.args.bytes.now c.in-None.ensures) c.after_tag.ensures.left
+    subst (λ (x : Left). IfOk c.after_slot_tag.result (λ rest. x ≡ Ok rest.now)) (empty_after (slot_shown c.args.host.now.state.functions c.args.slot.now) c.args.bytes.now c.in-None.ensures) c.after_slot_tag.ensures.left
 
 pub returns-in-None-clause-refused : goal.returns-in-None-clause-refused
 returns-in-None-clause-refused c =
-    subst (λ (x : Left). IfErr c.after_tag.result (λ why. x ≡ Err (number_of why))) (empty_after (slot_shown c.args.host.now.state.functions c.args.slot.now) c.args.bytes.now c.in-None.ensures) c.after_tag.ensures.refused
+    subst (λ (x : Left). IfErr c.after_slot_tag.result (λ why. x ≡ Err (number_of why))) (empty_after (slot_shown c.args.host.now.state.functions c.args.slot.now) c.args.bytes.now c.in-None.ensures) c.after_slot_tag.ensures.refused
