@@ -9,7 +9,7 @@ use crate::problems::placed_problems;
 use crate::sentences::push_sentence;
 use board_file::{BoardFault, Source};
 use diagnostics::{
-    Head, Position, RenderOptions, Style, TextPlace, line_of, push_below, push_shown_line,
+    Head, MessageLayout, Position, RenderOptions, TextPlace, line_of, push_below, push_shown_line,
 };
 use std::alloc::{AllocError, Global};
 use toml::de::Error;
@@ -63,7 +63,7 @@ fn push_problem<'a>(
 /// if it is known.
 pub fn refusal_text(
     alloc: Global,
-    style: Style,
+    layout: MessageLayout,
     name: &str,
     source: &Source<'_>,
     fault: BoardFault,
@@ -74,7 +74,7 @@ pub fn refusal_text(
         push_problem(
             alloc,
             &mut text,
-            RenderOptions { style, name },
+            RenderOptions { layout, name },
             &*source,
             &*problem,
         )?;
@@ -104,7 +104,7 @@ fn place_of_error(bytes: &[u8], error: &Error) -> Option<TextPlace>
 /// `name` is the file name to show. With excerpts, the line at which parsing failed is shown below.
 pub fn unread_text(
     alloc: Global,
-    style: Style,
+    layout: MessageLayout,
     name: &str,
     bytes: &[u8],
     error: &Error,
@@ -120,6 +120,6 @@ pub fn unread_text(
         text,
         "{name}{position}: error: invalid TOML: {reason} ({number})"
     )?;
-    push_shown_line(alloc, &mut text, style, bytes, true, place)?;
+    push_shown_line(alloc, &mut text, layout, bytes, true, place)?;
     Ok(text)
 }

@@ -12,7 +12,7 @@ ghost use Rattle.board_file.specs.Faults as of_file;
 use board_file::{BoardFault, Source};
 use board_fit::{WarningLevel, judge, verdict_text};
 use board_refusal::{refusal_text, unread_text};
-use diagnostics::{RenderOptions, Style};
+use diagnostics::{MessageLayout, RenderOptions};
 use host_bridge::Host;
 use session::OpenFault;
 use std::alloc::{AllocError, Global};
@@ -38,7 +38,7 @@ fn refuse_bytes(
     ensures fault { IfOk result (λ c. IsFaultOf board.now c.fault) }
     ensures memory { IfErr result IsOutOfMemory }
 {
-    match unread_text(alloc, telling.style, telling.name, board, error) {
+    match unread_text(alloc, telling.layout, telling.name, board, error) {
         Ok(text) => Ok(Checked {
             text,
             fault: Some(OpenFault::File(BoardFault::NotToml)),
@@ -63,7 +63,7 @@ fn refuse(
     if fault == BoardFault::Memory {
         return Err(OpenFault::File(fault));
     }
-    match refusal_text(alloc, telling.style, telling.name, source, fault) {
+    match refusal_text(alloc, telling.layout, telling.name, source, fault) {
         Ok(text) => Ok(Checked {
             text,
             fault: Some(OpenFault::File(fault)),
@@ -121,11 +121,11 @@ fn accept(
 }
 
 /// Checks a board file. The text has a line for each entry that breaks a rule, or the verdict on
-/// the declared board. `name` is the file name to print. With `Style::WithExcerpts`, the offending
-/// line of the file follows each message. Fails only if memory is exhausted (199 or 299).
+/// the declared board. `name` is the file name to print. With `MessageLayout::WithExcerpts`, the
+/// offending line of the file follows each message. Fails only if memory is exhausted (199 or 299).
 pub fn check_text(
     alloc: Global,
-    style: Style,
+    layout: MessageLayout,
     warned: WarningLevel,
     name: &str,
     board: &[u8],
@@ -133,7 +133,7 @@ pub fn check_text(
     ensures fault { IfOk result (λ c. IsFaultOf board.now c.fault) }
     ensures memory { IfErr result IsOutOfMemory }
 {
-    let telling = RenderOptions { style, name };
+    let telling = RenderOptions { layout, name };
     let document = match toml::table_from_slice(alloc, board) {
         Ok(document) => document,
         Err(e) if e.is_memory() => return Err(OpenFault::File(BoardFault::Memory)),

@@ -18,7 +18,7 @@ mod listing;
 pub use board_fit::WarningLevel;
 pub use checking::{Checked, check_text};
 pub use closed::ClosedInSlot;
-pub use diagnostics::Style;
+pub use diagnostics::MessageLayout;
 pub use fault::Fault;
 pub use finding::{Finding, WhyFault, find};
 pub use guest_why::guest_why_in;

@@ -1,7 +1,7 @@
 //! Excerpts of a file: a line with its number, and marks below a value.
 
 use crate::heads::Head;
-use crate::style::Style;
+use crate::message_layout::MessageLayout;
 use crate::text_place::TextPlace;
 use board_file::tables::value_at;
 use std::alloc::{AllocError, Global};
@@ -92,12 +92,12 @@ fn line_after(text: &[u8], offset: usize) -> &[u8] {
 pub fn push_shown_line(
     alloc: Global,
     shown: &mut String,
-    style: Style,
+    layout: MessageLayout,
     text: &[u8],
     has_value: bool,
     place: Option<TextPlace>,
 ) -> Result<(), AllocError> {
-    let (Style::WithExcerpts, Some(place)) = (style, place) else {
+    let (MessageLayout::WithExcerpts, Some(place)) = (layout, place) else {
         return Ok(());
     };
     let number = format!(in alloc; "{}", place.line)?;
@@ -124,7 +124,7 @@ pub fn push_below(alloc: Global, shown: &mut String, head: &Head<'_>) -> Result<
     push_shown_line(
         alloc,
         shown,
-        head.telling.style,
+        head.telling.layout,
         head.bytes,
         has_value,
         head.place,

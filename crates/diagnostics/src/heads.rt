@@ -2,8 +2,8 @@
 
 use crate::entry_texts::EntryText;
 use crate::excerpts::line_before;
+use crate::message_layout::RenderOptions;
 use crate::shown::Shown;
-use crate::style::RenderOptions;
 use crate::text_place::TextPlace;
 use board_file::Entry;
 use board_file::tables::{owner_name, value_at};

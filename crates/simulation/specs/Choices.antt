@@ -1,6 +1,6 @@
 -- The effect of each of the program's commands.
 --     form_of json      the form of a report or of an audit
---     style_of plain, warned_of all      the style of a check, and the warnings that it gives
+--     layout_of plain, warned_of all      the layout of a check's messages, and the warnings that it gives
 --     Prints text at result, Lists form board at result, Checks board at result      a text was written
 --         whole and flushed, or a beginning of it where a write or flush failed: one that is given, the report of a
 --         board, or what a check says
@@ -14,7 +14,7 @@ use Rattle.model_guests.specs.Text.{Text}
 use Rattle.streams.specs.Ends.{AppendsPart}
 use Rattle.lines.specs.{Runs.{Ends}, declared.watching.RunStats.{RunStats}}
 use Rattle.command_line.specs.declared.choice.Choice.{Choice, TheVariants.{Help, Demo, List, Check, Run, Firmware, Audit, Ready}}
-use Rattle.diagnostics.specs.declared.style.Style.{Style, TheVariants.{Plain, WithExcerpts}}
+use Rattle.diagnostics.specs.declared.message_layout.MessageLayout.{MessageLayout, TheVariants.{Plain, WithExcerpts}}
 use Rattle.board_fit.specs.declared.warning_level.WarningLevel.{WarningLevel}
 use Rattle.session.specs.declared.questions.ReportForm.{ReportForm, TheVariants.{Lines, Json}}
 use Rattle.board_told.specs.declared.fault.Fault.{Fault, TheVariants.{SetUp, Write}}
@@ -42,8 +42,8 @@ Checks board at (Err f) = IsRefusal f → IsChecked board (open_fault f) at.befo
 abbrev pub form_of : Bool → ReportForm
 form_of json = if json then Json else Lines
 
-abbrev pub style_of : Bool → Style
-style_of plain = if plain then Plain else WithExcerpts
+abbrev pub layout_of : Bool → MessageLayout
+layout_of plain = if plain then Plain else WithExcerpts
 
 abbrev pub warned_of : Bool → WarningLevel
 warned_of all = if all then of.All else of.Likely

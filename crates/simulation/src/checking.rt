@@ -5,7 +5,7 @@ ghost use Rattle.simulation.specs.{Faults.{write_faults, open_fault, IsOfList, I
 use crate::choice::print;
 use board_fit::WarningLevel;
 use board_told::{Fault, check_text};
-use diagnostics::Style;
+use diagnostics::MessageLayout;
 use session::OpenFault;
 use std::alloc::Global;
 use streams::Writer;
@@ -15,7 +15,7 @@ use streams::Writer;
 /// Returns the same result as `list`, except for faults in writing the report.
 pub fn check<W: Writer>(
     alloc: Global,
-    style: Style,
+    layout: MessageLayout,
     warned: WarningLevel,
     name: &str,
     board: &[u8],
@@ -42,7 +42,7 @@ pub fn check<W: Writer>(
     // A write fault is returned exactly if the writer failed during the call.
     ensures failures { W.failures writer.new ≡ W.failures writer.old + write_faults result }
 {
-    let checked = check_text(alloc, style, warned, name, board)?;
+    let checked = check_text(alloc, layout, warned, name, board)?;
     print(checked.text.as_str(), writer)?;
     match checked.fault {
         None => Ok(()),

@@ -2,7 +2,7 @@
 ghost use Rattle.std.specs.{Prelude.{◌≡◌, ◌≢◌, ◌+◌, ◌-◌, ◌^◌, ◌<◌, ◌⊎◌, OnOk, OnErr, IfErr}, Io.KnownBytes.Appends};
 ghost use Rattle.streams.specs.Ends.{AppendsPart};
 ghost use Rattle.lines.specs.Runs.{ends};
-ghost use Rattle.simulation.specs.{Choices.{form_of, style_of, warned_of, Does, IsUntold, IsTelling, IsLacking, IsOfChoice}, Faults.{read_faults, write_faults, IsToldLast}};
+ghost use Rattle.simulation.specs.{Choices.{form_of, layout_of, warned_of, Does, IsUntold, IsTelling, IsLacking, IsOfChoice}, Faults.{read_faults, write_faults, IsToldLast}};
 
 use crate::checking::check;
 use crate::demonstration::demo;
@@ -12,7 +12,7 @@ use crate::serving::serve;
 use board_fit::WarningLevel;
 use board_told::Fault;
 use command_line::Choice;
-use diagnostics::Style;
+use diagnostics::MessageLayout;
 use lines::RunStats;
 use session::{Question, ReportForm};
 use std::alloc::Global;
@@ -29,14 +29,15 @@ fn form_of(json: bool) -> ReportForm
     }
 }
 
-/// Returns the style of a check: only lines if `plain`, otherwise lines with excerpts.
-fn style_of(plain: bool) -> Style
-    ensures { result ≡ style_of plain }
+/// Returns the layout of a check's messages: single lines if `plain`, otherwise lines with
+/// excerpts.
+fn layout_of(plain: bool) -> MessageLayout
+    ensures { result ≡ layout_of plain }
 {
     if plain {
-        Style::Plain
+        MessageLayout::Plain
     } else {
-        Style::WithExcerpts
+        MessageLayout::WithExcerpts
     }
 }
 
@@ -118,7 +119,7 @@ pub fn perform<R: Reader, W: Writer>(
         Choice::List { json, .. } => list(alloc, board, form_of(*json), writer),
         Choice::Check { path, all, plain } => check(
             alloc,
-            style_of(*plain),
+            layout_of(*plain),
             warned_of(*all),
             path,
             board,

@@ -26,7 +26,7 @@ pub use checking::check;
 pub use choice::perform;
 pub use command_line::Choice;
 pub use demonstration::demo;
-pub use diagnostics::Style;
+pub use diagnostics::MessageLayout;
 pub use fault_lines::fault_line;
 pub use files::{board_bytes, board_or_hint};
 pub use hints::{check_hint, usage_hint};

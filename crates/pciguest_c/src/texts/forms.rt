@@ -5,7 +5,7 @@ ghost use Rattle.session.specs.{Faults.number_of, Files.{Refuses, Breaks, IsSetU
 ghost use Rattle.board_told.specs.Listing.{report_in};
 ghost use Rattle.pciguest_c.specs.{Checks.IsCheckOf, TextsTold.{form_of, question_of}};
 
-use board_told::{Style, WarningLevel, check_text, list_in};
+use board_told::{MessageLayout, WarningLevel, check_text, list_in};
 use session::{OpenFault, Question, ReportForm};
 use std::alloc::Global;
 
@@ -67,7 +67,13 @@ pub fn check_of(alloc: Global, board: &[u8]) -> Result<(String, u32), u32>
     ensures numbers { IfOk result (λ v. (v.1 < 299) × (v.1 ≢ 199)) }
     ensures memory { IfErr result (λ n. (n ≡ 199) ⊎ (n ≡ 299)) }
 {
-    match check_text(alloc, Style::Plain, WarningLevel::Likely, BOARD_NAME, board) {
+    match check_text(
+        alloc,
+        MessageLayout::Plain,
+        WarningLevel::Likely,
+        BOARD_NAME,
+        board,
+    ) {
         Ok(checked) => Ok((checked.text, number_or_zero(checked.fault))),
         Err(fault) => Err(u32::from(fault.number())),
     }

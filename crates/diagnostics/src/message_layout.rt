@@ -1,8 +1,8 @@
-//! The style of messages.
+//! The layout of messages.
 
 /// The layout of messages.
 #[derive(Clone, Copy, Debug, PartialEq, Eq)]
-pub enum Style {
+pub enum MessageLayout {
     /// A single line for each message.
     Plain,
     /// A line for each message, followed by the line of the file with marks below the value.
@@ -12,6 +12,6 @@ pub enum Style {
 /// The layout of messages, and the file name that they begin with.
 #[derive(Clone, Copy)]
 pub struct RenderOptions<'a> {
-    pub style: Style,
+    pub layout: MessageLayout,
     pub name: &'a str,
 }
