@@ -29,7 +29,7 @@ impl Model for BaseRegisters {
     ghost invariant = { λ s. AreExtents s.regions s.extents };
 }
 
-/// Returns the declared regions by index, with base 0.
+/// Returns the declared BARs at reset, each with base 0.
 fn regions_at_reset(decls: [Option<BarDecl>; 6]) -> [Option<BarWithBase>; 6]
     ensures { bases_from 0 result ≡ at_reset decls }
 {
@@ -105,7 +105,7 @@ fn extents_of(regions: &[Option<BarWithBase>; 6]) -> Extents
 }
 
 impl BaseRegisters {
-    /// Returns the declared regions by index, with base 0.
+    /// Creates the base registers of the declared BARs at reset, when each base is 0.
     pub fn new(decls: [Option<BarDecl>; 6]) -> BaseRegisters
         ensures { bases_from 0 result ≡ at_reset decls }
     {

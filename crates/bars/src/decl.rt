@@ -71,7 +71,7 @@ impl Kind {
         matches!(self, Kind::Mem64 { pref: _ })
     }
 
-    /// Returns a mask of all bits of the BAR, 32 or 64.
+    /// Returns a mask that covers the whole BAR: the low 32 bits, or all 64 bits for a 64-bit BAR.
     pub fn base_bits(self) -> u64
         ensures { result ≡ 2 ^ base_width (kind_of self) - 1 }
     {

@@ -55,7 +55,8 @@ fn block_at(alloc: Global, regions: &[Region], index: u8) -> Result<Cells, Alloc
     }
 }
 
-/// Creates the register blocks of the six BAR registers, by index.
+/// Creates the six register blocks of an endpoint, one for each BAR register. A block is empty if
+/// no region starts at its BAR register.
 pub(crate) fn block_files(alloc: Global, regions: &[Region]) -> Result<Vec<Cells>, AllocError>
     requires { Each (λ r. length r.cells ≤ 4096) regions.now }
     ensures blocks { IfOk result (λ v.

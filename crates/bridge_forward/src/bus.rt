@@ -123,8 +123,8 @@ fn declared(alloc: Global, nodes: &[Node]) -> Result<Vec<Decl>, AllocError>
 impl Bus {
     ghost use Rattle.bridge_forward.specs.{Cycled.{cycle_reply, after_cycle}, Lending.{LendsEndpoint, LendsEndpointNth, endpoint_at, endpoint_nth, with_endpoint_reset}, Locating.located_claim};
 
-    /// Builds the board with these functions at reset. Their paths must form a valid board. Fails
-    /// only if memory is exhausted. No access to the board allocates afterwards.
+    /// Builds a board of these functions, at reset. Their paths must form a valid board. Fails only
+    /// if memory is exhausted. Later accesses to the board allocate nothing.
     pub fn build(alloc: Global, decls: Vec<Decl>) -> Result<Bus, AllocError>
         requires { IsBoard (board_of decls.items) }
         ensures functions { IfOk result (λ bus.

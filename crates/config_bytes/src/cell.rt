@@ -108,7 +108,7 @@ impl Cell {
         Cell { value, rw, w1c }
     }
 
-    /// Returns the cell with its value replaced, ignoring and keeping both masks.
+    /// Returns the cell with its value replaced, even in read-only bits. Both masks stay the same.
     pub fn with_value(self, byte: u8) -> Cell
         ensures { result ≡ with_value byte self }
     {
@@ -119,7 +119,7 @@ impl Cell {
     }
 }
 
-/// Proves that the value and both masks of each cell are below 256.
+/// Proves that the value and both masks of each cell are below 256. A call has no other effect.
 pub fn are_cells(cells: &[Cell])
     ensures { Each IsCell cells.now }
 {

@@ -88,7 +88,7 @@ pub fn place_of(
     }
 }
 
-/// Pairs an entry with the place of its value at `key`.
+/// Returns the entry together with the place of its value at `key`, or `None` if there is no entry.
 pub fn with_place(
     alloc: Global,
     places: &Places<'_>,

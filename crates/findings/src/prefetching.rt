@@ -85,7 +85,8 @@ pub(crate) fn first_prefetched(row: &RoutingRow, region: &LiveBar) -> Option<u64
     lesser(base, lesser(first, end))
 }
 
-/// Appends an unmet requirement for each BAR that a bridge prefetches.
+/// Appends a readiness issue for each of these violations: the BAR, the bridge that may prefetch
+/// it, and the address.
 pub(crate) fn add_prefetched(
     told: &mut Vec<ReadinessIssue>,
     blames: &[BridgeViolation],

@@ -18,7 +18,8 @@ fn is_own(off: u8) -> bool
     matches!(off, 0x04 | 0x05 | 0x0e | 0x10..=0x27)
 }
 
-/// Returns the configuration word that contains a byte, with 0 in the word's other bytes.
+/// Reads one byte of configuration space as the guest does, by a cycle that enables only this byte.
+/// Returns the whole word, in which the other bytes are 0.
 fn word_of(endpoint: &EndpointFn, own: &VirtualFunction, off: u8) -> u32
     ensures { let ons = lanes (enables_of off 1) in
         result ≡ read (source endpoint.now own.now (config off)) (config (off / 4 * 4)) ons }

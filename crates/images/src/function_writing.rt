@@ -10,8 +10,8 @@ use crate::writing::write_declaration;
 use bridge_forward::EndpointFn;
 use guest_functions::VirtualFunction;
 
-/// Returns the size of a function in a saved state, in bytes. It doesn't depend on the guest's
-/// copies.
+/// Returns the size of a function in a saved state, in bytes. The values in the guest's copies
+/// don't affect the size.
 pub fn function_size(endpoint: &EndpointFn) -> usize
     requires { HasDeclaredPlaces endpoint.now }
     ensures size { (own : OwnCopies)

@@ -68,7 +68,7 @@ pub trait Answers<L> {
         ensures kept { OnErr result ((self.new ≡ self.old) × (text.new ≡ text.old)) }
         ensures memory { OnErr result TakesMemory };
 
-    /// Returns the names of the guests whose lines the server answers, or `None` if the lines are
-    /// firmware's.
+    /// Returns the names of the guests whose lines the server answers, or `None` if it answers
+    /// firmware's lines.
     fn guests(&self) -> Option<&Names>;
 }

@@ -172,7 +172,7 @@ fn host_line(text: &[u8]) -> FirmwareCommand
     of_host_words(first_words(text).as_slice())
 }
 
-/// Returns the meaning of a line, given its first word and the text after the word.
+/// Parses a firmware line, given its first word and the text after that word.
 fn named_line(first: &[u8], text: &[u8]) -> FirmwareCommand
     ensures means { firmware_meaning_of result ≡ meaning_of_words (first.now ∷ words text.now) }
     ensures asks { requested result ≡ request_in (first.now ∷ words text.now) }

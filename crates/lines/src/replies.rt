@@ -128,7 +128,7 @@ pub fn push_named(text: &mut LineText, name: &[u8], reply: Reply)
     text.push(b'\n');
 }
 
-/// Writes a reply as an output line, with its line feed, to `text`, which must be empty.
+/// Writes a reply to `text` as an output line with its line feed. `text` must be empty.
 #[inline(always)]
 pub fn push_line(text: &mut LineText, who: Who, names: &Names, reply: Reply)
     requires empty { text.old.items ≡ [] }

@@ -53,7 +53,7 @@ pub struct RunStats {
 }
 
 impl RunStats {
-    /// Returns the statistics before the first line.
+    /// Returns the statistics of a run that has read no lines yet.
     pub fn none() -> RunStats
         ensures { result ≡ none_seen }
     {

@@ -27,7 +27,7 @@ pub fn numbers_find_all()
 {}
 
 /// Proves that each reported problem is real, as its witness shows, and that a state has no
-/// problems if and only if it is consistent.
+/// problems if and only if it is consistent and each function is reached by its BDF.
 pub fn problems_decide()
     ensures real { ProblemsAreReal }
     ensures decide { ProblemsDecide }

@@ -70,8 +70,9 @@ pub fn rows_are_declared()
     ensures { RowsAreDeclared }
 {}
 
-/// Proves that a window without items, as set-up programs it, forwards no address in any decode
-/// mode of its bridge.
+/// Proves that a window forwards no address if it holds the values that set-up writes when nothing
+/// behind the bridge needs the window. This holds for every kind of decoding that a bridge can
+/// have.
 pub fn closed_windows()
     ensures { ClosedWindows }
 {}

@@ -99,7 +99,8 @@ fn push_bases(text: &mut String, writes: &RegisterValues) -> Result<(), AllocErr
     }
 }
 
-/// Appends the lines of a bridge's windows as set-up wrote them.
+/// Appends a line for each enabled window of a bridge, as set-up programmed it. Appends nothing for
+/// an endpoint.
 fn push_windows(text: &mut String, writes: &RegisterValues) -> Result<(), AllocError>
     ensures { OnOk result (Adds text.old text.new
         (text_of_lines (written_windows (writes_of writes.now)))) }
@@ -114,7 +115,7 @@ fn push_windows(text: &mut String, writes: &RegisterValues) -> Result<(), AllocE
     }
 }
 
-/// Appends the Primary, Secondary and Subordinate Bus Number.
+/// Appends the Primary, Secondary and Subordinate Bus Numbers of a bridge.
 fn push_buses(
     text: &mut String,
     primary: u8,

@@ -93,8 +93,8 @@ fn lent_and_reset_in_a_tree(rt: HostRuntime) -> Result<(), Fail> {
     Ok(())
 }
 
-/// Sets W1C bits of Status in the endpoint that claims a memory address, by its path. Returns
-/// whether any endpoint claims the address.
+/// Sets W1C bits in the upper byte of Status, as a device does, in the endpoint that claims a
+/// memory address. Returns whether any endpoint claims the address.
 fn raised(host: &mut Host, alloc: Global, addr: u64, mask: u8) -> Result<bool, AllocError> {
     // Establishes that no two functions have the same path.
     let _rows = host.routing(alloc)?;

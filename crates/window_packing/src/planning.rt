@@ -42,8 +42,8 @@ fn opens_io(row: &EnumeratedFunction) -> bool
     }
 }
 
-/// Returns whether I/O accesses can reach the function: all bridges above it have an I/O window. A
-/// function without I/O regions needs no such path.
+/// Returns whether I/O accesses can reach the function's I/O regions, because all bridges above it
+/// have an I/O window. Also returns `true` if it has no I/O regions.
 fn has_io_path(row: &EnumeratedFunction, above: &UpstreamWindows) -> bool
     ensures { result ≡ (not (opens_io row.now.decl) || above.now.io) }
 {

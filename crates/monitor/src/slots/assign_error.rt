@@ -9,7 +9,7 @@ pub enum AssignError {
     PastSlots,
     /// 303: there is no endpoint at the path.
     NoEndpoint,
-    /// 602: the function is assigned to a guest already.
+    /// 602: the function is already assigned to a guest.
     HasGuest,
     /// 602: the slot is occupied.
     SlotTaken,

@@ -16,8 +16,8 @@ pub fn put<T: Copy>(out: &mut [T], text: &[T])
     out[..text.len()].copy_from_slice(text);
 }
 
-/// Stores the length of a text or the number of rows, and copies them to the front of a buffer.
-/// Returns 902 if the buffer is too small.
+/// Stores the length of a text in `needed`, and copies the text to the front of `out`. The text may
+/// also be an array of rows, whose length is their number. Returns 902 if `out` is too small.
 pub fn tell<T: Copy>(text: &[T], out: &mut [T], needed: &mut usize) -> u32
     ensures text { IsTold text.now out.old out.new result }
     ensures needed { needed.new ≡ length text.now }
