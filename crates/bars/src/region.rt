@@ -5,7 +5,7 @@ ghost use Rattle.bars.specs.{Kinds.named_space, Slots.placed, Hits.offset_in};
 
 use crate::decl::{BarDecl, Space};
 
-/// A declared region with the base address in its registers.
+/// A declared region and the base address that its registers hold.
 #[derive(Clone, Copy, Debug)]
 pub struct BarWithBase {
     pub decl: BarDecl,

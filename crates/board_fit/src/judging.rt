@@ -152,8 +152,8 @@ fn judge_table(
     }
 }
 
-/// Returns the verdict on the board of a host at reset that the file declares. `warned` selects the
-/// possible mistakes to warn about. Fails only if memory is exhausted.
+/// Returns the verdict on the board that the file declares. `host` must have this board at reset.
+/// `warned` selects which possible mistakes to warn about. Fails only if memory is exhausted.
 pub fn judge(
     alloc: Global,
     warned: WarningLevel,

@@ -26,7 +26,8 @@ impl Model for Routes {
     ghost invariant = { λ r. AreKept r.time r.bridges.items };
 }
 
-/// Returns the cache entry for a bridge found in generation `time`, or an invalid entry for `None`.
+/// Returns the cache entry for a bridge that was found in generation `time`. For `None`, returns an
+/// entry that is valid in no generation.
 fn entry(time: u64, bridge: Option<usize>) -> (u64, usize)
     requires { 1 ≤ time }
     ensures known { known_entry time result ≡ bridge }

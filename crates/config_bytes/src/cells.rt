@@ -64,7 +64,7 @@ fn place(table: &mut [Cell], cells: &[(u16, Cell)])
     }
 }
 
-/// Stores each cell in the table at its offset, except for offsets `first` to `last`.
+/// Stores each cell in the table at its offset, and skips the cells at offsets `first` to `last`.
 fn place_outside(table: &mut [Cell], cells: &[(u16, Cell)], first: u16, last: u16)
     requires { Each (λ c. c.0 < length table.old) cells.now }
     ensures { table.new ≡ placed_outside first last cells.now table.old }

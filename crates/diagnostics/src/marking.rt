@@ -70,7 +70,7 @@ pub(crate) fn is_mark(start: usize, value: Option<&Value>) -> bool
     }
 }
 
-/// Returns the offset that a mark names, or `None` if the text isn't a mark.
+/// Returns the number after the `@` of a mark, or `None` if the text isn't `@` and a number.
 fn start_of(text: &str) -> Option<usize>
     ensures { (start : ℕ) → start < 2 ^ 64
         → text.now ≡ mark start → result ≡ Some start }
@@ -80,7 +80,7 @@ fn start_of(text: &str) -> Option<usize>
     Some(start as usize)
 }
 
-/// Returns the offset that a marked value names, or `None` if the value isn't a mark.
+/// Returns the number after the `@` of a mark, or `None` if the value isn't a string of this form.
 pub(crate) fn marked_start(value: &Value) -> Option<usize>
     ensures { (start : ℕ) → start < 2 ^ 64
         → is_mark start (Some (view value.now)) ≡ true → result ≡ Some start }

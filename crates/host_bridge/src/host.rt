@@ -210,7 +210,8 @@ impl Host {
         self.root.reached(&cycle)
     }
 
-    /// Reads 1, 2 or 4 bytes at a known claim. Skips the address lookup.
+    /// Reads 1, 2 or 4 bytes at a claim that is known already, so that no address has to be looked
+    /// up.
     #[inline(always)]
     pub fn region_read(&mut self, from: BarOffset, width: u64) -> u32
         requires landing { IsLanding self.old.state.functions from width }
@@ -231,7 +232,8 @@ impl Host {
         }
     }
 
-    /// Writes the low 1, 2 or 4 bytes of a value at a known claim. Skips the address lookup.
+    /// Writes the low 1, 2 or 4 bytes of a value at a claim that is known already, so that no
+    /// address has to be looked up.
     #[inline(always)]
     pub fn region_write(&mut self, to: BarOffset, width: u64, value: u32)
         requires landing { IsLanding self.old.state.functions to width }

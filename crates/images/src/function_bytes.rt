@@ -10,8 +10,8 @@ use config_bytes::{enables_of, lowered};
 use guest_functions::VirtualFunction;
 use headers::Place;
 
-/// Returns whether guests have their own copy of the byte: Command, Header Type and the base
-/// address registers.
+/// Returns whether guests have their own copy of this byte. They have copies of Command, Header
+/// Type and the base address registers.
 fn is_own(off: u8) -> bool
     ensures { result ≡ is_own (config off) }
 {

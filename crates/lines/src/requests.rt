@@ -18,7 +18,7 @@ pub enum HostRequest {
     Ready,
     /// The handover of the board to its guests.
     Guests,
-    /// An explanation of what an access reaches. In configuration space, the offset is 0.
+    /// An explanation of what an access reaches. For configuration space, the target's offset is 0.
     Why(HostAt),
 }
 

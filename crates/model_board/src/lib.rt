@@ -29,10 +29,10 @@ pub fn routing_decides()
     ensures change { RoutingOfChange }
 {}
 
-/// Proves that an access of 1, 2 or 4 bytes to configuration space accesses the enabled bytes of
-/// one word, and that a region receives an access in the byte lanes of its address. While
-/// CONFIG_ADDRESS doesn't enable CONFIG_DATA, every port except CONFIG_ADDRESS itself is an
-/// ordinary port.
+/// Proves that a configuration access of 1, 2 or 4 bytes accesses the enabled bytes of one word,
+/// and that an offset in a region selects the same byte lanes as the address that it was decoded
+/// from. While CONFIG_ADDRESS doesn't enable CONFIG_DATA, every port except CONFIG_ADDRESS itself
+/// is an ordinary port.
 pub fn port_accesses()
     ensures config_read { ConfigReadByLanes }
     ensures config_write { ConfigWriteByLanes }

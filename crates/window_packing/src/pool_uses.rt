@@ -17,8 +17,8 @@ use std::alloc::{AllocError, Global};
 /// How much of its aperture a pool needs, in bytes.
 #[derive(Clone, Copy, Debug, PartialEq, Eq)]
 pub struct PoolUse {
-    /// The start of bus 0 in the pool: the first address in the aperture that is a multiple of the
-    /// largest alignment.
+    /// The address at which the pool begins: the lowest one in the aperture that is a multiple of
+    /// the pool's largest alignment.
     pub first: u64,
     /// The distance from `first` to the end of the last region or window.
     pub extent: u64,
