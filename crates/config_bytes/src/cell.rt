@@ -81,7 +81,7 @@ impl Cell {
         Cell { value, rw: 0, w1c }
     }
 
-    /// Returns the value that a read returns.
+    /// Returns the value of the byte, as a read does.
     pub fn value(&self) -> u8
         ensures value { result ≡ self.now.value }
         ensures lawful { IsCell self.now }

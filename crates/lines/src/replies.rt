@@ -103,8 +103,8 @@ fn name_of<'a>(who: Who, names: &'a Names) -> &'a [u8]
     }
 }
 
-/// Writes a reply as an output line under `name`, with its line feed, to `text`, which must be
-/// empty.
+/// Writes a reply to `text` as an output line that begins with `name`, with its line feed. `text`
+/// must be empty.
 #[inline(always)]
 pub fn push_named(text: &mut LineText, name: &[u8], reply: Reply)
     requires empty { text.old.items ≡ [] }

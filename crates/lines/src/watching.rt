@@ -42,7 +42,7 @@ impl Default for BadLine {
 /// Statistics about the lines of a run. The counters wrap around after 2^64 - 1.
 #[derive(Drop)]
 pub struct RunStats {
-    /// Whether a line was refused.
+    /// Whether any line was refused.
     pub refused: bool,
     /// The number of lines.
     pub lines: u64,

@@ -25,8 +25,8 @@ pub fn numbers_explained()
     ensures { NumbersExplained }
 {}
 
-/// Proves that each I/O port access goes to the target that the explanation derives from
-/// CONFIG_ADDRESS.
+/// Proves that an access to an I/O port goes where the explanation of the port says, whatever the
+/// value of CONFIG_ADDRESS.
 pub fn ports_explained()
     ensures { PortsByLatch }
 {}
@@ -86,8 +86,9 @@ pub fn worked_requests()
     ensures { RequestExamples }
 {}
 
-/// Proves that a session without these requests behaves exactly like its firmware lines. After the
-/// handover its lines behave like a script.
+/// Proves that a session's lines behave exactly like firmware's lines if none of them requests an
+/// audit, readiness, an explanation or the handover. After the handover, they behave like the lines
+/// of a script.
 pub fn plain_sessions()
     ensures plain { PlainSessions }
     ensures firmware { DrivenIsFirmware }

@@ -52,8 +52,8 @@ pub(crate) fn hand_over(alloc: Global, stage: &mut Stage) -> Result<(), Handover
     }
 }
 
-/// Hands the board over to its guests, and writes a reply to the text. If the handover is refused,
-/// the report of the reason is returned in the answer.
+/// Hands the board over to its guests, and writes the reply to `text`. If the handover is refused,
+/// returns the reason and the reply in the answer instead.
 pub(crate) fn answer_handover(
     alloc: Global,
     stage: &mut Stage,

@@ -21,7 +21,8 @@ fn push_closed(text: &mut String, closed: &LiveBar) -> Result<(), AllocError>
     writeln!(text, "closed: {path} bar{index}")
 }
 
-/// Appends the line for the reason of the refusal. Fails if the reason is exhausted memory.
+/// Appends the line for the reason of the refusal. Fails if the reason is that memory was
+/// exhausted.
 fn push_cause(text: &mut String, fault: &HandoverFault) -> Result<(), AllocError>
     ensures line { OnOk result (IfSome (handoff_fault fault.now) (λ told.
         Adds text.old text.new (ended (cause_text told)))) }

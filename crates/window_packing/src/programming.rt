@@ -150,8 +150,8 @@ fn io_word(span: WindowSetting) -> u32
     base + limit * 0x100
 }
 
-/// Returns the word with bits 31 to 16 of an I/O window's base in its lower half, and those of its
-/// limit in its upper half.
+/// Returns the word with I/O Base Upper 16 Bits in its lower half and I/O Limit Upper 16 Bits in
+/// its upper half.
 fn io_upper_word(span: WindowSetting) -> u32
     ensures { result ≡ io_upper_word span }
 {
