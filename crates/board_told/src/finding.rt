@@ -28,7 +28,7 @@ pub enum Finding {
     NoSlot { at: Bdf },
 }
 
-/// The reason that no finding could be made.
+/// The reason why there is no finding.
 #[derive(Clone, Copy, Debug, PartialEq, Eq)]
 pub enum WhyFault {
     /// The access itself would be refused.
@@ -88,7 +88,7 @@ fn lost_at_port(
     }
 }
 
-/// Returns the finding for an access at which no function of the guest answers.
+/// Returns the finding for an access that no function of the guest answers.
 fn lost(alloc: Global, monitor: &Monitor, guest: usize, at: At) -> Result<Finding, AllocError>
     requires { guest < length monitor.now.world.guests }
     ensures { let g = lone_asked monitor.now.world guest in

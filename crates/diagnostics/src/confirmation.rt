@@ -22,7 +22,7 @@ struct Marked {
     lines: Vec<usize>,
 }
 
-/// The places of the scalars of a document in its text.
+/// The places of a document's scalars in the text from which it was parsed.
 #[derive(Drop)]
 pub struct Places<'a> {
     /// The TOML text.

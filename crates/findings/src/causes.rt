@@ -11,8 +11,8 @@ pub enum WindowName {
     Prefetchable,
 }
 
-/// A window that a bridge implements, with its addresses. `None` means that the window is closed:
-/// its base is above its limit.
+/// A window that a bridge implements, with its addresses. They are `None` if the window is
+/// disabled, because its base is above its limit.
 #[derive(Clone, Copy, Debug)]
 pub struct NamedWindow {
     pub name: WindowName,
