@@ -1,6 +1,6 @@
 -- The entries of a file that prevent its board from being set up.
 --     first_without_io_window bs p      of these bridges the first above the function at a path that has no I/O window
---     closed_regions      all regions of I/O behind such a bridge, in order
+--     blocked_regions      all regions of I/O behind such a bridge, in order
 --     bridge_too_many      the bridge after the 255 that have bus numbers
 --     reasons f fault      the one or the other, where the fault is that
 use Rattle.std.specs.{Prelude.{ℕ, nat_lt, Bool, true, false, ◌&&◌, List, [], ◌∷◌, filter, length, map, flat_map, Option, if◌then◌else◌}, List.{position, enumerate_from}, Option.option_map_or}
@@ -16,33 +16,33 @@ is_io io_kind = true
 is_io (mem32 pref) = false
 is_io (mem64 pref) = false
 
-abbrev pub is_closed : IoDecode → Bool
-is_closed no_io = true
-is_closed io16 = false
-is_closed io32 = false
+abbrev pub has_no_io_window : IoDecode → Bool
+has_no_io_window no_io = true
+has_no_io_window io16 = false
+has_no_io_window io32 = false
 
-abbrev pub closes : Path → Bridge → Bool
-closes p b = is_closed b.io && is_ancestor_of (path_at b.at) p
+abbrev pub blocks_io : Path → Bridge → Bool
+blocks_io p b = has_no_io_window b.io && is_ancestor_of (path_at b.at) p
 
 abbrev pub first_without_io_window : List Bridge → Path → Option ℕ
-first_without_io_window bs p = position (closes p) bs
+first_without_io_window bs p = position (blocks_io p) bs
 
 abbrev pub no_io_window : ℕ → ℕ → ℕ × Bar → Remark
 no_io_window i k (j, b) = remark.NoIoWindow i j k
 
 -- those of a list of regions
-abbrev pub closed_bars : ℕ → ℕ → List Bar → List Remark
-closed_bars i k bars = map (no_io_window i k) (filter (λ p. is_io p.1.kind) (enumerate_from 0 bars))
+abbrev pub blocked_bars : ℕ → ℕ → List Bar → List Remark
+blocked_bars i k bars = map (no_io_window i k) (filter (λ p. is_io p.1.kind) (enumerate_from 0 bars))
 
 -- if there is such a bridge
-abbrev pub closed_by : ℕ → Option ℕ → List Bar → List Remark
-closed_by i o bars = option_map_or (λ k. closed_bars i k bars) o []
+abbrev pub blocked_by : ℕ → Option ℕ → List Bar → List Remark
+blocked_by i o bars = option_map_or (λ k. blocked_bars i k bars) o []
 
-unfoldable pub closed_in : List Bridge → ℕ × Endpoint → List Remark
-closed_in bs (i, e) = closed_by i (first_without_io_window bs (path_at e.at)) e.bars
+unfoldable pub blocked_in : List Bridge → ℕ × Endpoint → List Remark
+blocked_in bs (i, e) = blocked_by i (first_without_io_window bs (path_at e.at)) e.bars
 
-abbrev pub closed_regions : File → List Remark
-closed_regions f = flat_map (closed_in f.bridges) (enumerate_from 0 f.endpoints)
+abbrev pub blocked_regions : File → List Remark
+blocked_regions f = flat_map (blocked_in f.bridges) (enumerate_from 0 f.endpoints)
 
 -- a bridge has one of the bus numbers from 1 to 255
 abbrev pub bridge_too_many : File → List Remark
@@ -50,5 +50,5 @@ bridge_too_many f = if nat_lt 255 (length f.bridges) then remark.BridgeTooMany 2
 
 abbrev pub reasons : File → Fault → List Remark
 reasons f Buses = bridge_too_many f
-reasons f NoIoWindow = closed_regions f
+reasons f NoIoWindow = blocked_regions f
 reasons f _ = []

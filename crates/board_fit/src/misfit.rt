@@ -2,7 +2,7 @@
 ghost use Rattle.std.specs.Prelude.{◌≡◌, IfOk};
 ghost use Rattle.bars.specs.Kinds.{kind_of};
 ghost use Rattle.headers.specs.Decodes.{io_decode_of};
-ghost use Rattle.board_fit.specs.Misfits.{is_io, is_closed, closes, first_without_io_window, closed_bars, closed_by, closed_in, closed_regions, bridge_too_many, reasons};
+ghost use Rattle.board_fit.specs.Misfits.{is_io, has_no_io_window, blocks_io, first_without_io_window, blocked_bars, blocked_by, blocked_in, blocked_regions, bridge_too_many, reasons};
 
 use crate::remark::Remark;
 use bars::Kind;
@@ -23,8 +23,8 @@ fn is_io(kind: Kind) -> bool
 }
 
 /// Returns whether a bridge has no I/O window.
-fn is_closed(io: IoDecode) -> bool
-    ensures { result ≡ is_closed (io_decode_of io) }
+fn has_no_io_window(io: IoDecode) -> bool
+    ensures { result ≡ has_no_io_window (io_decode_of io) }
 {
     match io {
         IoDecode::Unimplemented => true,
@@ -33,27 +33,27 @@ fn is_closed(io: IoDecode) -> bool
 }
 
 /// Returns whether a bridge is above the path and has no I/O window.
-fn closes(path: &Path, bridge: &BridgeEntry<'_>) -> bool
-    ensures { result ≡ closes path.now bridge.now }
+fn blocks_io(path: &Path, bridge: &BridgeEntry<'_>) -> bool
+    ensures { result ≡ blocks_io path.now bridge.now }
 {
-    is_closed(bridge.io) && bridge.at.path().is_ancestor_of(path)
+    has_no_io_window(bridge.io) && bridge.at.path().is_ancestor_of(path)
 }
 
 /// Returns the index of the first bridge above the path that has no I/O window.
 fn first_without_io_window(bridges: &[BridgeEntry<'_>], path: &Path) -> Option<usize>
     ensures { result ≡ first_without_io_window bridges.now path.now }
 {
-    bridges.iter().position(|bridge| closes(path, bridge))
+    bridges.iter().position(|bridge| blocks_io(path, bridge))
 }
 
 /// Returns a remark for each I/O BAR of an endpoint that is behind the given bridge.
-fn closed_bars(
+fn blocked_bars(
     alloc: Global,
     endpoint: usize,
     bridge: usize,
     bars: &[BarEntry<'_>],
 ) -> Result<Vec<Remark>, AllocError>
-    ensures { IfOk result (λ v. v.items ≡ closed_bars endpoint bridge bars.now) }
+    ensures { IfOk result (λ v. v.items ≡ blocked_bars endpoint bridge bars.now) }
 {
     bars.iter()
         .enumerate()
@@ -62,43 +62,43 @@ fn closed_bars(
         .collect(alloc)
 }
 
-/// Like `closed_bars`, but returns no remarks if there is no bridge.
-fn closed_by(
+/// Like `blocked_bars`, but returns no remarks if there is no bridge.
+fn blocked_by(
     alloc: Global,
     endpoint: usize,
     bridge: Option<usize>,
     bars: &[BarEntry<'_>],
 ) -> Result<Vec<Remark>, AllocError>
-    ensures { IfOk result (λ v. v.items ≡ closed_by endpoint bridge bars.now) }
+    ensures { IfOk result (λ v. v.items ≡ blocked_by endpoint bridge bars.now) }
 {
     match bridge {
-        Some(bridge) => closed_bars(alloc, endpoint, bridge, bars),
+        Some(bridge) => blocked_bars(alloc, endpoint, bridge, bars),
         None => Ok(Vec::new(alloc)),
     }
 }
 
 /// Returns a remark for each I/O BAR of an endpoint that is behind a bridge without an I/O window.
-#[tactic(auto, unfolding(crate::specs::Misfits::closed_in))]
-fn closed_in(
+#[tactic(auto, unfolding(crate::specs::Misfits::blocked_in))]
+fn blocked_in(
     alloc: Global,
     bridges: &[BridgeEntry<'_>],
     index: usize,
     endpoint: &EndpointEntry<'_>,
 ) -> Result<Vec<Remark>, AllocError>
-    ensures { IfOk result (λ v. v.items ≡ closed_in bridges.now (index, endpoint.now)) }
+    ensures { IfOk result (λ v. v.items ≡ blocked_in bridges.now (index, endpoint.now)) }
 {
     let bridge = first_without_io_window(bridges, &endpoint.at.path());
-    closed_by(alloc, index, bridge, &endpoint.bars)
+    blocked_by(alloc, index, bridge, &endpoint.bars)
 }
 
 /// Returns a remark for each I/O BAR of the file that is behind a bridge without an I/O window.
-fn closed_regions(alloc: Global, file: &FileEntries<'_>) -> Result<Vec<Remark>, AllocError>
-    ensures { IfOk result (λ v. v.items ≡ closed_regions file.now) }
+fn blocked_regions(alloc: Global, file: &FileEntries<'_>) -> Result<Vec<Remark>, AllocError>
+    ensures { IfOk result (λ v. v.items ≡ blocked_regions file.now) }
 {
     let mut remarks = Vec::new(alloc);
     'endpoints: for (index, endpoint) in file.endpoints.iter().enumerate() {
-        let closed = closed_in(alloc, &file.bridges, index, endpoint)?;
-        remarks.extend_from_slice(&closed)?;
+        let blocked = blocked_in(alloc, &file.bridges, index, endpoint)?;
+        remarks.extend_from_slice(&blocked)?;
     }
     Ok(remarks)
 }
@@ -126,7 +126,7 @@ pub(crate) fn reasons(
 {
     match fault {
         Fault::Buses => bridge_too_many(alloc, file),
-        Fault::NoIoWindow => closed_regions(alloc, file),
+        Fault::NoIoWindow => blocked_regions(alloc, file),
         _ => Ok(Vec::new(alloc)),
     }
 }
