@@ -10,8 +10,9 @@ use bars::Space;
 use bridge_forward::{Part, Path, RoutingRow, Window};
 use std::marker::Model;
 
-/// An enabled BAR with its index, or a bridge in one of the two address spaces, with the addresses
-/// that it claims. A bridge may have two windows for memory.
+/// A responder, which the definitions and the JSON output call an agent: an enabled BAR with its
+/// index, or a bridge in one of the two address spaces. It has the addresses that it claims. A
+/// bridge may have two windows for memory.
 #[derive(Debug, Drop)]
 pub struct Agent {
     pub path: Path,
