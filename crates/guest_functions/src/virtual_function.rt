@@ -76,8 +76,8 @@ impl VirtualFunction {
         (own, word.handed_on(off, enables))
     }
 
-    /// Writes the copied registers among the enabled bytes of a word, and returns the byte enables
-    /// to forward to the board.
+    /// Writes those enabled bytes of a word that the guest has copies of. Returns the byte enables
+    /// of the others, which the caller forwards to the board.
     pub fn config_write(&mut self, off: u16, enables: u8, value: u32) -> u8
         requires aligned { off % 4 ≡ 0 }
         requires in_range { off < 256 }

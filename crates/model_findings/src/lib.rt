@@ -47,8 +47,10 @@ pub fn set_up_passes()
     ensures later { RoutedAsSetUp }
 {}
 
-/// Proves that each reported readiness issue is real, as its witness shows, and that a state has no
-/// readiness issues if and only if nothing is missing.
+/// Proves that each reported readiness issue is real, as its witness shows. A state has no
+/// readiness issues if and only if every BAR is enabled and within the apertures, no bridge
+/// prefetches a BAR that isn't prefetchable, and every bridge has the right Primary Bus Number. The
+/// state is ready if it also has no problems.
 pub fn lacks_decide()
     ensures real { LacksAreReal }
     ensures decide { LacksDecide }

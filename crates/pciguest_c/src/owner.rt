@@ -30,7 +30,7 @@ impl Owner {
         Owner { at: null_mut() }
     }
 
-    /// Returns the owner of a session.
+    /// Returns an owner that takes this session over.
     pub fn of(session: Unboxed<Session>) -> Owner
         ensures { result.value ≡ Some session.value }
     {

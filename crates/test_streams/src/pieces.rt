@@ -96,7 +96,7 @@ host: refused 401 bad line
     (b"a cr 0 0", b"a: refused 401 bad line\n"),
 ];
 
-/// Checks the output of a script if a read gives at most `given` bytes.
+/// Checks the output of a script when each read returns at most `given` bytes.
 fn is_answered(rt: &(impl AllocGlobal + Abort), example: Example<'_>, given: usize) {
     let (end, writer) = run(rt, example, Streams::of(given, 128));
     assert_eq!(rt; end, Ok(()), "{given} bytes a read");

@@ -43,8 +43,8 @@ fn pref_reaches(aperture: &Aperture, above: &UpstreamWindows, wide: bool) -> boo
     }
 }
 
-/// Returns the pool of a prefetchable memory region, which falls back to memory if the prefetchable
-/// aperture can't be used.
+/// Returns the pool of a prefetchable memory region: the prefetchable pool, or the memory pool if
+/// the region can't use the prefetchable aperture.
 fn pref_or_mem(apertures: &Apertures, above: &UpstreamWindows, wide: bool) -> Pool
     ensures { (ds : List Bridge) → IsOver ds above.now →
         named_pool result ≡ pref_or_mem apertures.now.pref ds wide }

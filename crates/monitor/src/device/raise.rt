@@ -29,8 +29,8 @@ pub(crate) fn has_place(held: &AssignedFunction, place: Place, off: u64) -> bool
     }
 }
 
-/// Returns whether guests have their own copy of the byte: Command, Header Type and the base
-/// address registers.
+/// Returns whether guests have their own copy of this byte. They have copies of Command, Header
+/// Type and the base address registers.
 fn is_own(place: Place, off: u64) -> bool
     ensures { result ≡ is_own (place_of place off) }
 {
