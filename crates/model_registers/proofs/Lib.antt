@@ -13,3 +13,4 @@ pub mod Owned
 pub mod BareRegions
 pub mod DeviceBytes
 pub mod Capabilities
+pub mod ListedCapabilities

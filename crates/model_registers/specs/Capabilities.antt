@@ -9,7 +9,10 @@
 --     ShowsList file cs      Status says that there is a list, and the walk from 34h finds these structures
 --     Change, after_changes file cs      a write or a raise of registers; the file after all of them
 --     ListStays      the list is found in every state that accesses and raises can reach
-use Rattle.std.specs.Prelude.{◌≡◌, ℕ, ◌+◌, ◌<◌, Bool, true, List, [], ◌∷◌, ◌++◌, bit_and, bit_or}
+--     Listed      a structure of a list with its size, which includes the two bytes of its header
+--     listed d      the structures that an endpoint's Status, Capabilities Pointer and Next Capability bytes lead to at reset
+--     ListsDeclared      these are the structures that were declared
+use Rattle.std.specs.{Prelude.{◌≡◌, ℕ, ◌+◌, ◌<◌, ◌==◌, Bool, true, not, ◌&&◌, if◌then◌else◌, List, [], ◌∷◌, ◌++◌, length, map, slice_get, bit_and, bit_or}, Option.option_map_or}
 use Rattle.lists.specs.Elements.{Each}
 use Rattle.model_registers.specs.{Cell.{Cell, constant}, Registers.{Place, config, File, read, write, raise}, Declarations.{ConfigBlock, Region, Endpoint}, DeclarationRules.IsLawfulEndpoint, EndpointTable.endpoint_file}
 
@@ -73,3 +76,42 @@ ListStays = (d : Endpoint) (c : Capability) (cs : List Capability)
     → IsLawfulEndpoint (with_capabilities (c ∷ cs) d) → Each (λ e. e.id < 256) (c ∷ cs)
     → (multifunction : Bool) (command : ℕ) (bases : Region → ℕ) (changes : List Change)
     → ShowsList (after_changes (endpoint_file (with_capabilities (c ∷ cs) d) multifunction command bases) changes) (c ∷ cs)
+
+-- ---- what a declaration lists
+
+pub record Listed : Type 0 where
+  pub id : ℕ
+  pub offset : ℕ
+  pub size : ℕ
+
+-- the reset value of the byte at an index of a block
+abbrev pub value_at : ℕ → ConfigBlock → ℕ
+value_at n b = option_map_or (λ (c : Cell). c.value) (slice_get b.cells n) 0
+
+-- a pointer with the value `at` points to the block; 0 ends a list
+abbrev pub is_next : ℕ → ConfigBlock → Bool
+is_next at b = not (at == 0) && b.offset == at
+
+abbrev pub listed_block : ConfigBlock → Listed
+listed_block b = record { id = value_at 0 b; offset = b.offset; size = length b.cells }
+
+-- the structures among these blocks that a pointer with the value `at` leads to
+abbrev pub listed_from : ℕ → List ConfigBlock → List Listed
+listed_from at [] = []
+listed_from at (b ∷ bs) =
+    if is_next at b then listed_block b ∷ listed_from (value_at 1 b) bs else listed_from at bs
+
+-- the first block is the Capabilities Pointer
+abbrev pub listed_in : List ConfigBlock → List Listed
+listed_in [] = []
+listed_in (b ∷ bs) = if b.offset == 0x34 then listed_from (value_at 0 b) bs else []
+
+abbrev pub listed : Endpoint → List Listed
+listed d = if bit_and d.status 0x10 == 0 then [] else listed_in d.blocks
+
+abbrev pub as_listed : Capability → Listed
+as_listed c = record { id = c.id; offset = c.offset; size = 2 + length c.cells }
+
+abbrev pub ListsDeclared : Type 0
+ListsDeclared = (d : Endpoint) (c : Capability) (cs : List Capability) → Each (λ e. 0 < e.offset) (c ∷ cs)
+    → listed (with_capabilities (c ∷ cs) d) ≡ map as_listed (c ∷ cs)

@@ -5,7 +5,7 @@
 #![tactic(auto)]
 
 ghost use Rattle.std.specs.Prelude.{◌≡◌, ℕ};
-ghost use Rattle.model_registers.specs.{Cell.{no_cell, written}, AccessLaws.{AlignedLiesInWord, NumberByLanes, LanesFit, NumberFromWord, AllOnesByLanes, WriteByLanes, DisabledRead, DisabledStay, NumberFits, ReadsEnabled}, FileLaws.{JoinedCell, JoinedChange, JoinedWrite, ReadNone, WriteNone, ReadSecond, ReadFirst, PlacesStay, RegionCells, RegionCell, RegionRead, RegionChange, RegionWrite, RegionHasNoConfig, RegionHasNoOther, ConfigHasNoBlock, ConfigStays}, RegisterLaws.{ChangeAtPlace, FieldReads, FieldWrites, EnabledFieldReads, EnabledFieldWrites}, BaseLaws.{ReadsOfBases, WritesOfBases}, Sizing.SizesRead, DecodingLaws.{HitIsOfRegion, HitsByBases, HitsOfRegisters}, OwnCopies.{OwnReads, OwnWrites, OwnStay, OwnHits, ResetHoldsOwn}, Capabilities.ListStays};
+ghost use Rattle.model_registers.specs.{Cell.{no_cell, written}, AccessLaws.{AlignedLiesInWord, NumberByLanes, LanesFit, NumberFromWord, AllOnesByLanes, WriteByLanes, DisabledRead, DisabledStay, NumberFits, ReadsEnabled}, FileLaws.{JoinedCell, JoinedChange, JoinedWrite, ReadNone, WriteNone, ReadSecond, ReadFirst, PlacesStay, RegionCells, RegionCell, RegionRead, RegionChange, RegionWrite, RegionHasNoConfig, RegionHasNoOther, ConfigHasNoBlock, ConfigStays}, RegisterLaws.{ChangeAtPlace, FieldReads, FieldWrites, EnabledFieldReads, EnabledFieldWrites}, BaseLaws.{ReadsOfBases, WritesOfBases}, Sizing.SizesRead, DecodingLaws.{HitIsOfRegion, HitsByBases, HitsOfRegisters}, OwnCopies.{OwnReads, OwnWrites, OwnStay, OwnHits, ResetHoldsOwn}, Capabilities.{ListStays, ListsDeclared}};
 
 /// Proves that writes to an unimplemented byte are dropped.
 pub fn no_cell_drops_writes()
@@ -101,4 +101,10 @@ pub fn own_copies()
 /// and raises there were.
 pub fn capability_lists()
     ensures { ListStays }
+{}
+
+/// Proves that an endpoint with a capability list lists the declared structures, in order, with
+/// their sizes.
+pub fn listed_capabilities()
+    ensures { ListsDeclared }
 {}
