@@ -1,9 +1,9 @@
 //! Capability lists (PCI Local Bus 3.0, chapter 6.7).
 ghost use Rattle.std.specs.Prelude.{◌≡◌, ◌++◌, IfOk, OnOk};
-ghost use Rattle.model_registers.specs.Capabilities.{first_offset, structure, structures, pointer, with_capabilities};
+ghost use Rattle.model_registers.specs.Capabilities.{first_offset, structure, structures, pointer, with_capabilities, value_at, is_next, listed_block, listed_from, listed_in, listed};
 
 use crate::config_block::ConfigBlock;
-use crate::endpoint_decl::EndpointValues;
+use crate::endpoint_decl::{EndpointDecl, EndpointValues};
 use config_bytes::Cell;
 use std::alloc::{AllocError, Global};
 use std::marker::Model;
@@ -98,5 +98,99 @@ impl EndpointValues {
         values.config = blocks;
         values.status |= 0x10;
         Ok(values)
+    }
+}
+
+/// A structure of a declared capability list: its Capability ID, its offset, and its size, which
+/// includes the two bytes of its header.
+#[derive(Debug, Drop)]
+pub struct ListedCapability {
+    pub id: u8,
+    pub off: u16,
+    pub size: usize,
+}
+
+impl Model for ListedCapability {
+    ghost use Rattle.model_registers.specs.Capabilities.{Listed};
+
+    ghost Value = { Listed };
+
+    ghost view = { λ c. record { id = c.id; offset = c.off; size = c.size } };
+}
+
+/// Returns the reset value of the byte at an index of a block, or 0 if the block is shorter.
+fn value_at(block: &ConfigBlock, index: usize) -> u8
+    ensures { result ≡ value_at index block.now }
+{
+    block.block.get(index).map_or(0, |cell| cell.value())
+}
+
+/// Returns whether a pointer with the value `at` points to the block. The value 0 ends a list.
+fn is_next(at: u8, block: &ConfigBlock) -> bool
+    ensures { result ≡ is_next at block.now }
+{
+    at != 0 && block.off == u16::from(at)
+}
+
+/// Returns a block as a structure of a list.
+fn listed_block(block: &ConfigBlock) -> ListedCapability
+    ensures { result ≡ listed_block block.now }
+{
+    ListedCapability {
+        id: value_at(block, 0),
+        off: block.off,
+        size: block.block.len(),
+    }
+}
+
+/// Returns the structures among these blocks that a pointer with the value `first` leads to.
+fn listed_from(
+    alloc: Global,
+    first: u8,
+    blocks: &[ConfigBlock],
+) -> Result<Vec<ListedCapability>, AllocError>
+    ensures { IfOk result (λ v. v.items ≡ listed_from first blocks.now) }
+{
+    let mut found = Vec::new(alloc);
+    let mut at = first;
+    let mut left = blocks;
+    while let Some((block, rest)) = left.split_first() {
+        if is_next(at, block) {
+            found.push(listed_block(block))?;
+            at = value_at(block, 1);
+        }
+        left = rest;
+    }
+    Ok(found)
+}
+
+/// Returns the structures that the Capabilities Pointer leads to, if the first block is that
+/// register.
+fn listed_in(alloc: Global, blocks: &[ConfigBlock]) -> Result<Vec<ListedCapability>, AllocError>
+    ensures { IfOk result (λ v. v.items ≡ listed_in blocks.now) }
+{
+    match blocks.split_first() {
+        Some((first, rest)) => {
+            if first.off == 0x34 {
+                listed_from(alloc, value_at(first, 0), rest)
+            } else {
+                Ok(Vec::new(alloc))
+            }
+        }
+        None => Ok(Vec::new(alloc)),
+    }
+}
+
+impl EndpointDecl {
+    /// Returns the structures of the endpoint's capability list, in the order of the list. Returns
+    /// none if Status has no list. Fails if memory is exhausted.
+    pub fn capabilities(&self, alloc: Global) -> Result<Vec<ListedCapability>, AllocError>
+        ensures { IfOk result (λ v. v.items ≡ listed self.now) }
+    {
+        let values = self.values();
+        if values.status & 0x10 == 0 {
+            return Ok(Vec::new(alloc));
+        }
+        listed_in(alloc, &values.config)
     }
 }

@@ -26,7 +26,7 @@ mod windows;
 pub use apertures::{Aperture, ApertureFault, Apertures};
 pub use bridge::{Bridge, bridge_rows, io_rows, pref_rows};
 pub use bridge_decl::BridgeDecl;
-pub use capabilities::Capability;
+pub use capabilities::{Capability, ListedCapability};
 pub use config_block::ConfigBlock;
 pub use config_register::ConfigRegister;
 pub use decodes::{IoDecode, PrefDecode};
