@@ -1,7 +1,7 @@
 //! Lists the board that a board file declares, once it is set up.
 ghost use Rattle.std.specs.Prelude.{◌≡◌, IfOk, IfErr, string_bytes};
 ghost use Rattle.model_guests.specs.World.{World};
-ghost use Rattle.window_packing.specs.Readies.{IsReady};
+ghost use Rattle.window_packing.specs.Readies.{board_below, IsReady};
 ghost use Rattle.session.specs.{Faults.{OnFile, OnSetUp}, Files.{Refuses, Breaks, IsSetUp}};
 ghost use Rattle.model_handoff.specs.FoundReport.{IsSetUpOf};
 ghost use Rattle.board_told.specs.Listing.{report_in, IsReadyOf};
@@ -34,12 +34,12 @@ fn report_in(
 ) -> Result<String, AllocError>
     ensures text { IfOk result (λ t. (w : World) → IsSetUpOf
         (record { functions = ready.now.table; plan = ready.now.plan; guests = guests.now }) w
-        → string_bytes t ≡ report_in form w) }
+        → board_below ready.now.host ≡ w.board → string_bytes t ≡ report_in form w) }
     ensures ready { IsReady ready.now }
 {
     match form {
         ReportForm::Lines => report_text(alloc, ready.table(), ready.plan(), guests),
-        ReportForm::Json => report_json(alloc, ready.table(), ready.plan(), guests),
+        ReportForm::Json => report_json(alloc, ready.host(), ready.table(), ready.plan(), guests),
     }
 }
 

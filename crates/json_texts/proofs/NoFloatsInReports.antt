@@ -1,12 +1,13 @@
 -- The value has no float, so what is written of it is its compact text.
 use Rattle.std.{proofs.Common.{◌≡◌, ℕ, ◌+◌, List, [], ◌∷◌, Bool, true, false, ◌||◌, ◌==◌, map, Option, Some, None, refl, ap₂}, specs.{Prelude.{nat_lt, if◌then◌else◌}, Option.option_map_or}}
 use Rattle.serde_json.specs.{Data.{Data, null}, View.items_of, Written.{has_float, items_have_float}}
-use Rattle.model_registers.specs.BridgeTable.{Window}
-use Rattle.model_board.specs.{Paths.Path, Board.{Decl, endpoint, bridge}}
+use Rattle.model_registers.specs.{BridgeTable.{Window}, Decoding.{Function}, Capabilities.{listed}}
+use Rattle.model_board.specs.{Paths.Path, Board.{Decl, endpoint, bridge}, State.{BoardFunction}}
 use Rattle.model_set_up.specs.{FunctionTable.{BusRange, TableRow}, SetUpWrites.{RegisterValues, to_endpoint, to_bridge, FunctionProgram}}
 use Rattle.model_guests.specs.World.{Guest}
 use Rattle.model_handoff.specs.FoundReport.{SetUpBoard}
-use Rattle.json_texts.specs.{ReportValue.{region_value, slot_values, guest_value}, FoundValue.{known_interrupt, named_window, written_regions, written_windows, found_buses, decl_value, function_values, found_value}}
+use Rattle.bridge_forward.specs.Lending.{endpoint_nth}
+use Rattle.json_texts.specs.{ReportValue.{region_value, capability_value, slot_values, guest_value}, FoundValue.{known_interrupt, named_window, written_regions, written_windows, capabilities_nth, found_buses, decl_value, function_values, found_value}}
 
 -- ---- lists of values, and null where there is none
 
@@ -49,14 +50,18 @@ none_in_buses bus (Some behind) = refl
 
 -- ---- functions, guests, and the whole
 
-none_in_function : (bus : ℕ) (behind : Option BusRange) (p : Path) (d : Decl) (w : RegisterValues) → has_float (decl_value bus behind p d w) ≡ false
-none_in_function bus behind p (endpoint d) w = rw (none_in_interrupt p d.pin, none_in_regions w) refl
-none_in_function bus behind p (bridge d) w = rw (none_in_buses bus behind, none_in_windows w) refl
+none_declared : (o : Option Function) → items_have_float (items_of (option_map_or (λ (e : Function). map capability_value (listed e.decl)) o [])) ≡ false
+none_declared None = refl
+none_declared (Some e) = none_mapped capability_value (λ c. refl) (listed e.decl)
 
-none_in_functions : (rs : List TableRow) (ss : List FunctionProgram) → items_have_float (items_of (function_values rs ss)) ≡ false
-none_in_functions [] ss = refl
-none_in_functions (r ∷ rs) [] = refl
-none_in_functions (r ∷ rs) (s ∷ ss) = ap₂ (λ a b. a || b) (none_in_function r.bus r.behind r.path r.decl s.writes) (none_in_functions rs ss)
+none_in_function : (bus : ℕ) (behind : Option BusRange) (p : Path) (d : Decl) (fs : List BoardFunction) (n : ℕ) (w : RegisterValues) → has_float (decl_value bus behind p d (capabilities_nth fs n) w) ≡ false
+none_in_function bus behind p (endpoint d) fs n w = rw (none_declared (endpoint_nth fs n), none_in_interrupt p d.pin, none_in_regions w) refl
+none_in_function bus behind p (bridge d) fs n w = rw (none_in_buses bus behind, none_in_windows w) refl
+
+none_in_functions : (fs : List BoardFunction) (n : ℕ) (rs : List TableRow) (ss : List FunctionProgram) → items_have_float (items_of (function_values fs n rs ss)) ≡ false
+none_in_functions fs n [] ss = refl
+none_in_functions fs n (r ∷ rs) [] = refl
+none_in_functions fs n (r ∷ rs) (s ∷ ss) = ap₂ (λ a b. a || b) (none_in_function r.bus r.behind r.path r.decl fs n s.writes) (none_in_functions fs (n + 1) rs ss)
 
 none_in_guest : (g : Guest) → has_float (guest_value g) ≡ false
 none_in_guest g = rw (none_in_slots 0 g.slots) refl
@@ -64,5 +69,5 @@ none_in_guest g = rw (none_in_slots 0 g.slots) refl
 none_in_guests : (gs : List Guest) → items_have_float (items_of (map guest_value gs)) ≡ false
 none_in_guests gs = none_mapped guest_value none_in_guest gs
 
-pub none_in_report : (s : SetUpBoard) → has_float (found_value s) ≡ false
-none_in_report s = rw (none_in_functions s.functions s.plan.settings, none_in_guests s.guests) refl
+pub none_in_report : (fs : List BoardFunction) (s : SetUpBoard) → has_float (found_value fs s) ≡ false
+none_in_report fs s = rw (none_in_functions fs 0 s.functions s.plan.settings, none_in_guests s.guests) refl

@@ -1,17 +1,19 @@
--- The report's JSON value as the code builds it: from the table that set-up finds, and from the register values that it
--- writes. `report_json` says that this is the value of the board's report.
+-- The report's JSON value as the code builds it: from the table that set-up finds, from the register values that it writes,
+-- and from the declared capability lists. `report_json` says that this is the value of the board's report.
 --     known_interrupt      a pin from 1 to 4; null for any other
 --     named_window      a window, null where its base is above its limit
 --     written_regions, written_windows      what is written into a function
---     function_value, function_values      a function; those of a table, each with what is written into it
+--     capabilities_nth      the capability list of the function at an index, empty for a bridge
+--     function_value, function_values      a function; those of a table, each with its list and with what is written into it
 --     found_value      the whole value, of what is reported
-use Rattle.std.specs.Prelude.{List, [], ◌∷◌, ℕ, if◌then◌else◌, nat_lt, ◌==◌, ◌||◌, Option, Some, None, map, not, count_by}
+use Rattle.std.specs.{Prelude.{List, [], ◌∷◌, ℕ, ◌+◌, if◌then◌else◌, nat_lt, ◌==◌, ◌||◌, Option, Some, None, map, not, count_by}, Option.option_map_or}
 use Rattle.serde_json.specs.Data.{Data, null}
-use Rattle.model_registers.specs.BridgeTable.{Window}
-use Rattle.model_board.specs.{Paths.Path, Board.{Decl, endpoint, bridge, is_bridge}}
+use Rattle.model_registers.specs.{BridgeTable.{Window}, Decoding.{Function}, Capabilities.{listed}}
+use Rattle.model_board.specs.{Paths.Path, Board.{Decl, endpoint, bridge, is_bridge}, State.{BoardFunction}}
 use Rattle.model_set_up.specs.{FunctionTable.{BusRange, TableRow}, SetUpWrites.{RegisterValues, to_endpoint, to_bridge, FunctionProgram}}
 use Rattle.model_handoff.specs.FoundReport.{SetUpBoard}
-use Rattle.json_texts.specs.ReportValue.{region_value, pin_value, range_value, windows_value, buses_value, endpoint_value, bridge_value, board_value}
+use Rattle.bridge_forward.specs.Lending.{endpoint_nth}
+use Rattle.json_texts.specs.ReportValue.{region_value, capability_value, pin_value, range_value, windows_value, buses_value, endpoint_value, bridge_value, board_value}
 
 -- ---- parts of a function
 
@@ -30,27 +32,33 @@ abbrev pub written_windows : RegisterValues → Data
 written_windows (to_endpoint command bases) = null
 written_windows (to_bridge w) = windows_value (named_window w.io) (named_window w.mem) (named_window w.pref)
 
+abbrev pub capabilities_nth : List BoardFunction → ℕ → List Data
+capabilities_nth fs n =
+    option_map_or (λ (e : Function). map capability_value (listed e.decl)) (endpoint_nth fs n) []
+
 abbrev pub found_buses : ℕ → Option BusRange → Data
 found_buses bus None = null
 found_buses bus (Some behind) = buses_value bus behind.first behind.last
 
 -- ---- functions, and the whole
 
-abbrev pub decl_value : ℕ → Option BusRange → Path → Decl → RegisterValues → Data
-decl_value bus behind p (endpoint d) w =
-    endpoint_value bus p d.vendor d.device (known_interrupt p d.pin) (written_regions w)
-decl_value bus behind p (bridge d) w =
+abbrev pub decl_value : ℕ → Option BusRange → Path → Decl → List Data → RegisterValues → Data
+decl_value bus behind p (endpoint d) capabilities w =
+    endpoint_value bus p d.vendor d.device capabilities (known_interrupt p d.pin) (written_regions w)
+decl_value bus behind p (bridge d) capabilities w =
     bridge_value bus p d.vendor d.device (found_buses bus behind) (written_windows w)
 
-abbrev pub function_value : TableRow → RegisterValues → Data
-function_value r w = decl_value r.bus r.behind r.path r.decl w
+abbrev pub function_value : TableRow → List Data → RegisterValues → Data
+function_value r capabilities w = decl_value r.bus r.behind r.path r.decl capabilities w
 
-abbrev pub function_values : List TableRow → List FunctionProgram → List Data
-function_values [] ss = []
-function_values (r ∷ rs) [] = []
-function_values (r ∷ rs) (s ∷ ss) = function_value r s.writes ∷ function_values rs ss
+-- the first row is that of the function at index n
+abbrev pub function_values : List BoardFunction → ℕ → List TableRow → List FunctionProgram → List Data
+function_values fs n [] ss = []
+function_values fs n (r ∷ rs) [] = []
+function_values fs n (r ∷ rs) (s ∷ ss) =
+    function_value r (capabilities_nth fs n) s.writes ∷ function_values fs (n + 1) rs ss
 
-abbrev pub found_value : SetUpBoard → Data
-found_value s =
+abbrev pub found_value : List BoardFunction → SetUpBoard → Data
+found_value fs s =
     board_value (count_by (λ r. is_bridge r.decl) s.functions) (count_by (λ r. not (is_bridge r.decl)) s.functions)
-    (function_values s.functions s.plan.settings) s.guests
+    (function_values fs 0 s.functions s.plan.settings) s.guests

@@ -1,8 +1,9 @@
--- The report of a board that is set up, as a JSON value: functions in path order with their regions, interrupts and
--- windows, and guests. It is defined from the board itself, as the report in lines is. The members of an object are in the
--- order of their names.
+-- The report of a board that is set up, as a JSON value: functions in path order with their capability lists, regions,
+-- interrupts and windows, and guests. It is defined from the board itself, as the report in lines is. The members of an
+-- object are in the order of their names.
 --     natural, array_of      a number; values one after the other
 --     region_value      a region, from its base address register
+--     capability_value      a structure of a capability list
 --     pin_value, interrupt_value      a pin, with the device of bus 0 that it reaches and the pin there; null for pin 0
 --     pool_window, bridge_windows      the windows of a bridge, each null where nothing is placed behind it
 --     endpoint_value, bridge_value      a function, from its description
@@ -12,7 +13,7 @@
 --     report_json_text      its text and a line feed
 use Rattle.std.specs.Prelude.{List, [], ◌∷◌, ℕ, ◌+◌, ◌-◌, ◌++◌, if◌then◌else◌, ◌==◌, map, not, count_by, codes}
 use Rattle.serde_json.specs.{Data.{Data, null, number, unsigned, string, array, object, member, no_members}, View.items_of, Written.compact_text}
-use Rattle.model_registers.specs.{EndpointTable.BaseAddress, Apertures.Apertures}
+use Rattle.model_registers.specs.{EndpointTable.BaseAddress, Apertures.Apertures, Capabilities.{Listed, listed}}
 use Rattle.model_board.specs.{Paths.{Path, last_part}, Board.{endpoint, bridge, is_bridge, Row, Board}, BusNumbers.{bus_of, secondary, subordinate}, Interrupts.{root_device, root_pin}}
 use Rattle.model_set_up.specs.{Pools.{Pool, io_pool, mem_pool, pref_pool, unit_of}, Placement.{PlacementItem, need, items_on, bus_first}, SetUpWrites.placed_base}
 use Rattle.model_guests.specs.{Text.Text, World.{Guest, World}, PathTexts.path_text}
@@ -32,6 +33,12 @@ region_value r = object (
     member (codes "base") (natural r.base) (
     member (codes "kind") (string (kind_text r.kind)) (
     member (codes "size") (natural r.size) no_members))))
+
+abbrev pub capability_value : Listed → Data
+capability_value c = object (
+    member (codes "id") (natural c.id) (
+    member (codes "off") (natural c.offset) (
+    member (codes "size") (natural c.size) no_members)))
 
 -- a pin from 1 to 4
 abbrev pub pin_value : Path → ℕ → Data
@@ -76,9 +83,10 @@ buses_value primary secondary subordinate = object (
 -- ---- functions
 
 -- on a bus, at a path, with Vendor ID and Device ID
-abbrev pub endpoint_value : ℕ → Path → ℕ → ℕ → Data → List Data → Data
-endpoint_value bus p vendor device interrupt regions = object (
+abbrev pub endpoint_value : ℕ → Path → ℕ → ℕ → List Data → Data → List Data → Data
+endpoint_value bus p vendor device capabilities interrupt regions = object (
     member (codes "bus") (natural bus) (
+    member (codes "capabilities") (array_of capabilities) (
     member (codes "device") (natural (last_part p).device) (
     member (codes "device_id") (natural device) (
     member (codes "function") (natural (last_part p).function) (
@@ -86,7 +94,7 @@ endpoint_value bus p vendor device interrupt regions = object (
     member (codes "path") (string (path_text p)) (
     member (codes "regions") (array_of regions) (
     member (codes "type") (string (codes "endpoint")) (
-    member (codes "vendor") (natural vendor) no_members)))))))))
+    member (codes "vendor") (natural vendor) no_members))))))))))
 
 abbrev pub bridge_value : ℕ → Path → ℕ → ℕ → Data → Data → Data
 bridge_value bus p vendor device buses windows = object (
@@ -104,8 +112,8 @@ abbrev pub row_value : Board → Apertures → Row → Data
 row_value b a r =
     elim r.decl [
       | endpoint d ↦
-          endpoint_value (bus_of b r.path) r.path d.vendor d.device (interrupt_value r.path d.pin)
-          (map (λ q. region_value (placed_base b a r.path q)) d.regions)
+          endpoint_value (bus_of b r.path) r.path d.vendor d.device (map capability_value (listed d))
+          (interrupt_value r.path d.pin) (map (λ q. region_value (placed_base b a r.path q)) d.regions)
       | bridge d ↦
           bridge_value (bus_of b r.path) r.path d.vendor d.device
           (buses_value (bus_of b r.path) (secondary b r.path) (subordinate b r.path)) (bridge_windows b a r.path)

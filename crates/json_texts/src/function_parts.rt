@@ -1,13 +1,17 @@
-//! BARs, interrupts and windows as JSON.
+//! BARs, capability lists, interrupts and windows as JSON.
 ghost use Rattle.std.specs.Prelude.{◌≡◌, ◌≤◌, IfOk, map, option_map};
 ghost use Rattle.serde_json.specs.View.{view};
+ghost use Rattle.model_registers.specs.Capabilities.{Listed};
 ghost use Rattle.bars.specs.Slots.{placed, bases_from};
 ghost use Rattle.bridge_forward.specs.RoutingRows.{window_of};
 ghost use Rattle.window_packing.specs.Plans.{writes_of};
-ghost use Rattle.json_texts.specs.{ReportValue.{region_value, pin_value, range_value, windows_value}, WhyValue.window_range, FoundValue.{known_interrupt, named_window, written_regions, written_windows}};
+ghost use Rattle.json_texts.specs.{ReportValue.{region_value, capability_value, pin_value, range_value, windows_value}, WhyValue.window_range, FoundValue.{known_interrupt, named_window, written_regions, written_windows, capabilities_nth}};
 
+use crate::has_value::{HasValue, values};
 use bars::BarWithBase;
 use bridge_forward::Window;
+use headers::ListedCapability;
+use host_bridge::Host;
 use intx_swizzle::at_root;
 use paths::Path;
 use report::{kind_text, pin_text};
@@ -49,6 +53,34 @@ pub(crate) fn written_regions(
         RegisterValues::Endpoint { bases, .. } => region_values(alloc, bases),
         RegisterValues::Bridge { .. } => Ok(Vec::new(alloc)),
     }
+}
+
+impl HasValue for ListedCapability {
+    ghost Told = { Listed };
+
+    ghost told = { λ c. c };
+
+    ghost shown = { capability_value };
+
+    fn value(&self, alloc: Global) -> Result<Value, AllocError> {
+        json!(in alloc; {"id": self.id, "off": self.off, "size": self.size})
+    }
+}
+
+/// Returns, as JSON, the capability list of the function at an index. Returns none for a bridge.
+pub(crate) fn capabilities_nth(
+    alloc: Global,
+    host: &Host,
+    index: usize,
+) -> Result<Vec<Value>, AllocError>
+    ensures { let fs = host.now.state.functions in
+        IfOk result (λ v. map view v.items ≡ capabilities_nth fs index) }
+{
+    let Some(endpoint) = host.endpoint_ref_nth(index) else {
+        return Ok(Vec::new(alloc));
+    };
+    let listed = endpoint.decl().capabilities(alloc)?;
+    values(alloc, &listed)
 }
 
 /// Returns an interrupt pin as JSON, with the device and the pin on bus 0 that it reaches.

@@ -1,13 +1,14 @@
 //! Functions as JSON. The members of an object are added in small groups, because no proof was
-//! found for all nine at once.
+//! found for all at once.
 ghost use Rattle.std.specs.Prelude.{◌≡◌, IfOk, OnOk, map};
 ghost use Rattle.serde_json.specs.View.{view, members_view};
 ghost use Rattle.window_packing.specs.Plans.{writes_of};
 ghost use Rattle.json_texts.specs.{ReportValue.{buses_value, endpoint_value, bridge_value}, FoundValue.{known_interrupt, written_regions, written_windows, function_value, function_values}, FunctionMembers.{place_members, with_identity, vendor_of, device_id_of}};
 
-use crate::function_parts::{known_interrupt, written_regions, written_windows};
+use crate::function_parts::{capabilities_nth, known_interrupt, written_regions, written_windows};
 use crate::problem_parts::path_value;
 use bus_scan::{Enumerated, EnumeratedFunction};
+use host_bridge::Host;
 use serde_json::{Map, Value, json, put};
 use std::alloc::{AllocError, Global};
 use window_packing::{FunctionProgram, RegisterValues};
@@ -45,22 +46,24 @@ fn put_identity(
     put(members, alloc, "device_id", Value::from(row.device))
 }
 
-/// Returns an endpoint with this interrupt pin as JSON.
+/// Returns an endpoint with this capability list and interrupt pin as JSON.
 fn endpoint_value(
     alloc: Global,
     row: &EnumeratedFunction,
+    capabilities: Vec<Value>,
     pin: u8,
     writes: &RegisterValues,
 ) -> Result<Value, AllocError>
     ensures { IfOk result (λ v. view v
         ≡ endpoint_value row.now.bus row.now.path (vendor_of row.now.decl)
-        (device_id_of row.now.decl) (known_interrupt row.now.path pin)
-        (written_regions (writes_of writes.now))) }
+        (device_id_of row.now.decl) (map view capabilities.items)
+        (known_interrupt row.now.path pin) (written_regions (writes_of writes.now))) }
 {
     let regions = written_regions(alloc, writes)?;
     let interrupt = known_interrupt(alloc, &row.path, pin)?;
     let mut members = place_members(alloc, row)?;
     put_identity(&mut members, alloc, row, "endpoint")?;
+    put(&mut members, alloc, "capabilities", Value::from(capabilities))?;
     put(&mut members, alloc, "regions", Value::from(regions))?;
     put(&mut members, alloc, "interrupt", interrupt)?;
     Ok(Value::Object(members))
@@ -100,16 +103,19 @@ fn bridge_value(
     Ok(Value::Object(members))
 }
 
-/// Returns a function as JSON, with the register values that set-up wrote into it.
+/// Returns a function as JSON, with its capability list and with the register values that set-up
+/// wrote into it. A bridge has no list.
 fn function_value(
     alloc: Global,
     row: &EnumeratedFunction,
+    capabilities: Vec<Value>,
     writes: &RegisterValues,
 ) -> Result<Value, AllocError>
-    ensures { IfOk result (λ v. view v ≡ function_value row.now (writes_of writes.now)) }
+    ensures { IfOk result (λ v. view v
+        ≡ function_value row.now (map view capabilities.items) (writes_of writes.now)) }
 {
     match &row.found {
-        Enumerated::Endpoint { pin, .. } => endpoint_value(alloc, row, *pin, writes),
+        Enumerated::Endpoint { pin, .. } => endpoint_value(alloc, row, capabilities, *pin, writes),
         Enumerated::Bridge {
             secondary,
             subordinate,
@@ -118,17 +124,21 @@ fn function_value(
     }
 }
 
-/// Returns all functions as JSON, each with the register values that set-up wrote into it.
+/// Returns all functions as JSON, each with the capability list that the host's board declares for
+/// it and with the register values that set-up wrote into it.
 pub(crate) fn function_values(
     alloc: Global,
+    host: &Host,
     rows: &[EnumeratedFunction],
     settings: &[FunctionProgram],
 ) -> Result<Vec<Value>, AllocError>
-    ensures { IfOk result (λ v. map view v.items ≡ function_values rows.now settings.now) }
+    ensures { let fs = host.now.state.functions in
+        IfOk result (λ v. map view v.items ≡ function_values fs 0 rows.now settings.now) }
 {
     let mut values = Vec::new(alloc);
     for (row, setting) in rows.iter().zip(settings) {
-        values.push(function_value(alloc, row, &setting.writes)?)?;
+        let capabilities = capabilities_nth(alloc, host, values.len())?;
+        values.push(function_value(alloc, row, capabilities, &setting.writes)?)?;
     }
     Ok(values)
 }

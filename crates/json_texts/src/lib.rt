@@ -1,8 +1,8 @@
 //! Layer: program. Below: findings, report. Above: session.
 //!
-//! Reports about a board as JSON, each on one line: its functions with BARs, interrupts and
-//! windows, and its guests; the problems and unmet requirements in its current registers, each with
-//! the evidence for it; and explanations of an address, a port or a BDF.
+//! Reports about a board as JSON, each on one line: its functions with capability lists, BARs,
+//! interrupts and windows, and its guests; the problems and unmet requirements in its current
+//! registers, each with the evidence for it; and explanations of an address, a port or a BDF.
 #![tactic(auto)]
 
 mod function_parts;

@@ -11,6 +11,7 @@ pub returns-clause-declared : goal.returns-clause-declared
 returns-clause-declared c = record {
   world = world_in c.in_ok-host.host c.in_ok-host.guests.items;
   set_up = record { declared = declares c.in_ok-host.ensures.world; fits = c.in_ok-ready.ensures.kept };
+  board = c.in_ok-ready.ensures.board;
   of_world = of_world c.in_ok-host.host c.in_ok-ready.ready c.in_ok-host.guests.items
       c.in_ok-ready.ensures.board c.in_ok-ready.ensures.ready;
 }

@@ -5,5 +5,6 @@ use Rattle.json_texts.proofs.functions.function_values.Given as goal
 
 abbrev pub invariant-loop-row : goal.invariant-loop-row
 invariant-loop-row l =
-    map view l.values.items ++ function_values (drop (length l.yielded) l.rows) (drop (length l.yielded) l.settings)
-    ≡ function_values l.rows l.settings
+    (length l.values.items ≡ length l.yielded)
+    × (map view l.values.items ++ function_values l.host.state.functions (length l.yielded) (drop (length l.yielded) l.rows) (drop (length l.yielded) l.settings)
+    ≡ function_values l.host.state.functions 0 l.rows l.settings)
