@@ -1,10 +1,10 @@
 -- What holds of the entries of a file where no problem of a fault is found.
-use Rattle.std.{proofs.{Common.{◌≡◌, inl, inr, refl, ℕ, ◌+◌, Bool, true, ◌&&◌, ◌||◌, not, List, length, nat_le, arith}, Math.Bool.and_assoc, lemmas.List.{FromFn.length-map-range_with_len, Folds.list_all-map}}, specs.{Prelude.option_map, List.list_all, Str.bytes_eq}}
+use Rattle.std.{proofs.{Common.{◌≡◌, inl, inr, refl, ℕ, ◌+◌, Bool, true, ◌&&◌, ◌||◌, not, List, length, nat_le, arith}, Math.Bool.and_assoc, lemmas.List.Folds.list_all-map}, specs.{Prelude.option_map, List.list_all, Str.bytes_eq}}
 use Rattle.lists.{specs.Elements.{IsIn, all_pairs}, proofs.Members.all_in}
 use Rattle.model_registers.specs.Apertures.{is_io_aperture, is_mem_aperture, has_lawful_pref, are_lawful}
 use Rattle.model_board.specs.{Paths.{parent, function_zero}, Places.has_path}
 use Rattle.model_guests.specs.World.{is_name}
-use Rattle.board_file.{specs.{Entries.File, PathTexts.{is_path_text, path_at}, Functions.{standings, aperture, apertures}, Rules.{has_few_slashes, names_endpoint, is_natural, are_natural, masks_hold}, EntryRules.{are_same_place, is_behind_bridge}, PathEntries.{place_texts, slot_texts}, Problems.{none, problems_in}, Meaning.file_checks, Judged.{keeps, is_lawful_bridge, is_judged}, declared.{fault.BoardFault.BoardFault, entry.Entry.Entry}}, proofs.Tests.{all-both, with_earlier, pairs-map, nothing_listed}}
+use Rattle.board_file.{specs.{Entries.File, PathTexts.{is_path_text, path_at}, Functions.{standings, aperture, apertures}, Rules.{has_few_slashes, names_endpoint, is_natural, are_natural, masks_hold}, EntryRules.{are_same_place, is_behind_bridge}, PathEntries.{place_texts, slot_texts}, Problems.{none, problems_in}, Meaning.file_checks, Judged.{keeps, is_lawful_bridge, is_judged}, declared.{fault.BoardFault.BoardFault, entry.Entry.Entry}}, proofs.Tests.{all-both, with_earlier, pairs-append, pairs-map, any_order, nothing_listed}}
 use Rattle.board_file.specs.declared.fault.BoardFault.TheVariants as fault
 
 -- no problem is found under a check of a judged file
@@ -17,7 +17,7 @@ others s t = not (are_same_place s.1 t.1)
 
 module _ (f : File) where
   pub numbers : none (problems_in f fault.Number) ≡ (list_all (λ e. keeps fault.Number e) f.endpoints && list_all (λ b. is_lawful_bridge b) f.bridges)
-  numbers = simp nothing_listed
+  numbers = simp (nothing_listed, and_assoc)
 
   pub registers : none (problems_in f fault.Register) ≡ list_all (λ e. keeps fault.Register e) f.endpoints
   registers = simp nothing_listed
@@ -36,7 +36,7 @@ module _ (f : File) where
   names = simp (nothing_listed, all-both, with_earlier)
 
   pub masks : none (problems_in f fault.CellMasks) ≡ list_all masks_hold f.endpoints
-  masks = simp (nothing_listed, all-both, with_earlier, pairs-map, length-map-range_with_len, and_assoc)
+  masks = simp (nothing_listed, all-both, with_earlier, pairs-append, pairs-map, list_all-map, any_order)
 
   pub places : none (problems_in f fault.Place)
       ≡ (list_all (λ p. is_path_text p.1) (place_texts f)

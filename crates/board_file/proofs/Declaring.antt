@@ -1,9 +1,11 @@
--- A judged endpoint breaks no rule of declarations but that of blocks that overlap.
-use Rattle.std.{proofs.{Common.{◌≡◌, inl, inr, ℕ, ◌+◌, ◌<◌, ◌≤◌, ◌^◌, ◌==◌, ℤ, nat_abs, Bool, true, false, ◌&&◌, cond, List, map, length, nat_le, drop, bit_and, Option, Some, None, refl, ◌∙◌, sym, arith, leb-true, le-leb, lt-ltb}, lemmas.{Bool.and_parts, List.{FromFn.length-map-range_with_len, Folds.list_all-map}}}, specs.List.list_all}
+-- A judged endpoint breaks no rule of declarations but that of blocks that overlap, and it breaks that one where two blocks of its
+-- tables overlap.
+use Rattle.std.{proofs.{Common.{◌≡◌, inl, inr, ℕ, ◌+◌, ◌<◌, ◌≤◌, ◌^◌, ◌==◌, ℤ, pos, ◌+ℤ◌, nat_abs, Bool, true, false, ◌&&◌, ◌||◌, List, [], ◌∷◌, ◌++◌, map, length, nat_le, drop, bit_and, bit_or, None, refl, ◌∙◌, sym, ap, ap₂, arith, leb-true, le-leb, lt-ltb, append-nil}, lemmas.{Bool.{and_parts, eqb-true, eq-eqb}, Nat.and_assoc, List.{map-append, FromFn.length-map-range_with_len, Folds.{list_all-map, list_all-append}}}}, specs.{Prelude.{int_le, is_none}, List.list_all}}
 use Rattle.lists.{specs.Elements.all_pairs, proofs.Tests.{left_true, right_true, asked_true}}
-use Rattle.model_registers.specs.DeclarationRules.{first_broken, endpoint_rules, blocks_apart}
-use Rattle.board_file.{specs.{Entries.{Bar, Config, Endpoint, Patterns, File}, Blocks.block_cells, Functions.{region, config_block, endpoint_values}, Rules.{is_between, has_only_bits, is_size}, EntryRules.{endpoint_numbers, value_rules, bar_rules}, Judged.{kept, keeps, is_region, is_config_block, is_declarable, is_lawful_bridge, HasSmallNumbers, is_judged}, declared.rule.Rule.Rule}, proofs.{Asked.{unbroken, numbers, registers, sizes}, Tests.{first_three, imply_all, all-both}}}
+use Rattle.model_registers.{specs.{Cell.{Cell, constant}, Declarations.ConfigBlock, DeclarationRules.{first_broken, endpoint_rules, blocks_apart}, Capabilities.{first_offset, structure, structures, pointer, with_capabilities}}, proofs.Capabilities.status_with_list}
+use Rattle.board_file.{specs.{Entries.{Bar, Config, Capability, Endpoint, Patterns, File}, Blocks.block_cells, Functions.{region, config_block, capability, plain_values, endpoint_values}, Rules.{is_between, has_only_bits, is_size, config_extent, capability_extent, extents, are_apart}, EntryRules.{endpoint_numbers, value_rules, bar_rules}, Judged.{kept, keeps, is_region, is_config_block, is_capability, is_declarable, is_lawful_bridge, HasSmallNumbers, is_judged}, declared.{rule.Rule.Rule, blocks.Extent.Extent}}, proofs.{Asked.{unbroken, numbers, registers, sizes}, Tests.{first_three, imply_all, all-both, pairs-map, pairs-swap}}}
 use Rattle.model_registers.specs.DeclarationRules as rules
+use Rattle.model_registers.specs.Capabilities as listed
 use Rattle.board_file.specs.EntryRules as asked
 use Rattle.board_file.specs.declared.fault.BoardFault.TheVariants as fault
 
@@ -12,6 +14,9 @@ use Rattle.board_file.specs.declared.fault.BoardFault.TheVariants as fault
 -- the parts of a test of three
 three_parts : (a b c : Bool) → (a && b && c) ≡ true → (a ≡ true) × (b ≡ true) × (c ≡ true)
 three_parts a b c h = (search left_true, search (left_true, right_true), right_true (a && b) c h)
+
+four_parts : (a b c d : Bool) → (a && b && c && d) ≡ true → (a ≡ true) × (b ≡ true) × (c ≡ true) × (d ≡ true)
+four_parts a b c d h = grind (arith, and_parts)
 
 all_three : {A : Type 0} (p q r : A → Bool) (xs : List A) → list_all p xs ≡ true → list_all q xs ≡ true → list_all r xs ≡ true → list_all (λ x. p x && q x && r x) xs ≡ true
 all_three p q r xs h k l = simp (all-both, h, k, l)
@@ -35,8 +40,10 @@ module _ (e : Endpoint) (h : is_declarable e ≡ true) where
   abbrev keep_all : (Bar → List (Rule × Bool)) → Bool
   keep_all rules = list_all (λ b. kept (rules b)) e.bars
 
-  numbers_of : (kept (endpoint_numbers e) ≡ true) × (keep_all (bar_rules fault.Number) ≡ true) × (list_all is_config_block e.configs ≡ true)
-  numbers_of = three_parts (kept (endpoint_numbers e)) (keep_all (bar_rules fault.Number)) (list_all is_config_block e.configs) parts_of.0
+  numbers_of : (kept (endpoint_numbers e) ≡ true) × (keep_all (bar_rules fault.Number) ≡ true) × (list_all is_config_block e.configs ≡ true) × (list_all is_capability e.capabilities ≡ true)
+  numbers_of =
+      four_parts (kept (endpoint_numbers e)) (keep_all (bar_rules fault.Number)) (list_all is_config_block e.configs)
+      (list_all is_capability e.capabilities) parts_of.0
 
   identity_of : (is_between 0 0xfffe e.vendor ≡ true) × (is_between 0 0xffff e.device ≡ true) × (is_between 0 0xff e.revision ≡ true) × (kept (value_rules e) ≡ true)
   identity_of = first_three _ _ _ _ numbers_of.0
@@ -54,15 +61,18 @@ module _ (e : Endpoint) (h : is_declarable e ≡ true) where
   small = grind (arith, below, within_le, identity_of, described_of, needs_of, status_of)
 
   registers_of : (kept (asked.endpoint_rules fault.Register e) ≡ true) × (keep_all (bar_rules fault.Register) ≡ true)
-  registers_of = and_parts _ _ (left_true (kept (asked.endpoint_rules fault.Register e) && keep_all (bar_rules fault.Register)) _ parts_of.1)
+  registers_of = and_parts _ _ (left_true (kept (asked.endpoint_rules fault.Register e) && keep_all (bar_rules fault.Register)) _ (left_true _ _ parts_of.1))
 
   pub regions_of : list_all is_region e.bars ≡ true
   regions_of =
       all_three (λ b. kept (bar_rules fault.Number b)) (λ b. kept (bar_rules fault.Register b)) (λ b. kept (bar_rules fault.Size b)) e.bars
-      numbers_of.1 registers_of.1 (left_true _ _ parts_of.2)
+      numbers_of.1 registers_of.1 (left_true _ _ (left_true _ _ parts_of.2))
 
   pub configs_of : list_all is_config_block e.configs ≡ true
   configs_of = numbers_of.2
+
+  pub capabilities_of : list_all is_capability e.capabilities ≡ true
+  capabilities_of = numbers_of.3
 
   own_of : rules.has_own_registers (map region e.bars) ≡ true
   own_of = grind (arith, asked_true, imply_all, left_true, registers_of)
@@ -75,6 +85,17 @@ region_parts b h = grind (arith, three_parts, left_true, within_le)
 pub config_off : (c : Config) → is_config_block c ≡ true → nat_abs c.off < 2 ^ 16
 config_off c h = let off = within_le 0x40 0xff c.off (left_true (is_between 0x40 0xff c.off) _ h) in omega (arith, off)
 
+capability_parts : (c : Capability) → is_capability c ≡ true
+    → (is_between 1 0xff c.id ≡ true) × (is_between 0x40 0xfc c.config.off ≡ true) × (is_between 1 190 c.config.block ≡ true)
+    × (int_le (c.config.off +ℤ c.config.block) (pos 254) ≡ true)
+capability_parts c h = let (id, off, block, ends) = first_three _ _ _ _ h in (id, left_true _ _ off, block, left_true _ true ends)
+
+pub capability_fits : (c : Capability) → is_capability c ≡ true → (nat_abs c.id < 2 ^ 8) × (nat_abs c.config.off < 2 ^ 8)
+capability_fits c h =
+    let (id, off, block, ends) = capability_parts c h in
+    let id_le = within_le 1 0xff c.id id in let off_le = within_le 0x40 0xfc c.config.off off in
+    (omega (arith, id_le), omega (arith, off_le))
+
 length_cells : (n : ℕ) (p : Patterns) → length (block_cells n p) ≡ n
 length_cells n p = simp length-map-range_with_len
 
@@ -84,32 +105,184 @@ short b h = rw (length_cells (nat_abs b.block) b.patterns) (le-leb (nat_abs b.bl
 fits : (b : Bar) → is_region b ≡ true → nat_le (length (region b).cells) (region b).size ≡ true
 fits b h = grind (arith, length_cells, nat_abs, three_parts, left_true, right_true, and_parts)
 
+-- a block that is behind the header of configuration space and ends in it
+lawful_block : (off : ℕ) (cells : List Cell) (n : ℕ) → length cells ≡ n → 0x40 ≤ off → 0 < n → off + n ≤ 0x100
+    → rules.is_config_block (record { offset = off; cells = cells }) ≡ true
+lawful_block off cells n same begins some ends = rw (same, le-leb 0x40 off begins, lt-ltb 0 n some, le-leb (off + n) 0x100 ends) refl
+
+config_parts : (c : Config) → is_config_block c ≡ true
+    → (is_between 0x40 0xff c.off ≡ true) × (is_between 1 192 c.block ≡ true) × (int_le (c.off +ℤ c.block) (pos 256) ≡ true)
+config_parts c h = let (off, block, ends, none) = first_three _ _ _ _ h in (off, block, ends)
+
+-- the sum of two numbers that are not negative
+ends_by : (a b c d last : ℕ) (off len : ℤ) → is_between a b off ≡ true → is_between c d len ≡ true → int_le (off +ℤ len) (pos last) ≡ true
+    → nat_abs off + nat_abs len ≤ last
+ends_by a b c d last off len h k l = grind (arith, leb-true, and_parts, nat_abs)
+
 lawful_config : (c : Config) → is_config_block c ≡ true → rules.is_config_block (config_block c) ≡ true
-lawful_config c h = grind (arith, first_three, le-leb, nat_abs, within_ge, lt-ltb, length_cells, leb-true)
+lawful_config c h =
+    let (off, block, ends) = config_parts c h in
+    lawful_block (nat_abs c.off) (config_block c).cells (nat_abs c.block) (length_cells (nat_abs c.block) c.patterns)
+    (within_ge 0x40 0xff c.off off) (within_ge 1 192 c.block block) (ends_by 0x40 0xff 1 192 256 c.off c.block off block ends)
+
+-- ---- the structures of a capability list
+
+-- the header has two bytes
+structure_length : (c : Capability) (next : ℕ) → length (structure (capability c) next).cells ≡ 2 + nat_abs c.config.block
+structure_length c next = grind (arith, length_cells (nat_abs c.config.block) c.config.patterns)
+
+lawful_structure : (c : Capability) (next : ℕ) → is_capability c ≡ true → rules.is_config_block (structure (capability c) next) ≡ true
+lawful_structure c next h =
+    let (id, off, block, ends) = capability_parts c h in
+    let sum = ends_by 0x40 0xfc 1 190 254 c.config.off c.config.block off block ends in
+    lawful_block (nat_abs c.config.off) (structure (capability c) next).cells (2 + nat_abs c.config.block) (structure_length c next)
+    (within_ge 0x40 0xfc c.config.off off) (omega arith) (omega (arith, sum))
+
+lawful_structures : (cs : List Capability) → list_all is_capability cs ≡ true → list_all rules.is_config_block (structures (map capability cs)) ≡ true
+lawful_structures [] h = refl
+lawful_structures (c ∷ cs) h =
+    let (here, more) = and_parts (is_capability c) (list_all is_capability cs) h in
+    ap₂ (λ (a b : Bool). a && b) (lawful_structure c (first_offset (map capability cs)) here) (lawful_structures cs more)
+
+-- ---- where blocks are
+
+abbrev range : ℕ → ℕ → Extent
+range off len = record { off = off; len = len }
+
+abbrev extent_of : ConfigBlock → Extent
+extent_of b = range b.offset (length b.cells)
+
+config_extents : (cs : List Config) → map extent_of (map config_block cs) ≡ map config_extent cs
+config_extents [] = refl
+config_extents (c ∷ cs) =
+    ap₂ (λ (x : Extent) (xs : List Extent). x ∷ xs) (ap (range (nat_abs c.off)) (length_cells (nat_abs c.block) c.patterns)) (config_extents cs)
+
+structure_extents : (cs : List Capability) → map extent_of (structures (map capability cs)) ≡ map capability_extent cs
+structure_extents [] = refl
+structure_extents (c ∷ cs) =
+    ap₂ (λ (x : Extent) (xs : List Extent). x ∷ xs) (ap (range (nat_abs c.config.off)) (structure_length c (first_offset (map capability cs))))
+    (structure_extents cs)
+
+-- a range that is behind the Capabilities Pointer
+abbrev is_behind : Extent → Bool
+is_behind x = nat_le 0x40 x.off
+
+apart_from_pointer : (x : Extent) → is_behind x ≡ true → are_apart (range 0x34 1) x ≡ true
+apart_from_pointer x h =
+    let begins = leb-true 0x40 x.off h in
+    ap (λ (t : Bool). t || nat_le (x.off + x.len) 0x34) (le-leb 0x35 x.off (omega (arith, begins)))
+
+apart_turn : (x y : Extent) → are_apart x y ≡ are_apart y x
+apart_turn x y = or_turn (nat_le (x.off + x.len) y.off) (nat_le (y.off + y.len) x.off)
+  where
+    or_turn : (a b : Bool) → (a || b) ≡ (b || a)
+    or_turn a b = grind arith
+
+configs_behind : (c : Config) → is_config_block c ≡ true → is_behind (config_extent c) ≡ true
+configs_behind c h = let (off, block, ends) = config_parts c h in le-leb 0x40 (nat_abs c.off) (within_ge 0x40 0xff c.off off)
+
+capabilities_behind : (c : Capability) → is_capability c ≡ true → is_behind (capability_extent c) ≡ true
+capabilities_behind c h =
+    let (id, off, block, ends) = capability_parts c h in le-leb 0x40 (nat_abs c.config.off) (within_ge 0x40 0xfc c.config.off off)
+
+all_behind : (cs : List Config) (ds : List Capability) → list_all is_config_block cs ≡ true → list_all is_capability ds ≡ true
+    → list_all is_behind (map capability_extent ds ++ map config_extent cs) ≡ true
+all_behind cs ds h k =
+    list_all-append is_behind (map capability_extent ds) (map config_extent cs)
+    ∙ ap₂ (λ (a b : Bool). a && b)
+    (list_all-map is_behind capability_extent ds ∙ imply_all is_capability (λ d. is_behind (capability_extent d)) capabilities_behind ds k)
+    (list_all-map is_behind config_extent cs ∙ imply_all is_config_block (λ c. is_behind (config_extent c)) configs_behind cs h)
+
+abbrev blocks_with : List Config → List Capability → List ConfigBlock
+blocks_with cs ds = pointer (map capability ds) ∷ structures (map capability ds) ++ map config_block cs
+
+plain_apart : (cs : List Config) → all_pairs blocks_apart (map config_block cs) ≡ all_pairs are_apart (map config_extent cs ++ map capability_extent [])
+plain_apart cs =
+    sym (pairs-map are_apart extent_of (map config_block cs))
+    ∙ ap (all_pairs are_apart) (config_extents cs ∙ sym (append-nil (map config_extent cs)))
+
+listed_apart : (cs : List Config) (ds : List Capability) → list_all is_config_block cs ≡ true → list_all is_capability ds ≡ true
+    → all_pairs blocks_apart (blocks_with cs ds) ≡ all_pairs are_apart (map config_extent cs ++ map capability_extent ds)
+listed_apart cs ds h k =
+    let behind : List Extent = map capability_extent ds ++ map config_extent cs in
+    let more : List ConfigBlock = structures (map capability ds) ++ map config_block cs in
+    let at : map extent_of more ≡ behind =
+    map-append extent_of (structures (map capability ds)) (map config_block cs)
+    ∙ ap₂ (λ (xs ys : List Extent). xs ++ ys) (structure_extents ds) (config_extents cs) in
+    let apart : list_all (are_apart (range 0x34 1)) behind ≡ true =
+    imply_all is_behind (are_apart (range 0x34 1)) apart_from_pointer behind (all_behind cs ds h k) in
+    sym (pairs-map are_apart extent_of (blocks_with cs ds))
+    ∙ ap (λ (xs : List Extent). list_all (are_apart (range 0x34 1)) xs && all_pairs are_apart xs) at
+    ∙ ap (λ (t : Bool). t && all_pairs are_apart behind) apart
+    ∙ pairs-swap are_apart apart_turn (map capability_extent ds) (map config_extent cs)
 
 -- ---- the rules
 
-lawful_numbers : (e : Endpoint) → is_declarable e ≡ true → rules.has_lawful_numbers (endpoint_values e) ≡ true
-lawful_numbers e h =
-    let s = small e h in
-    let vendor = lt-ltb (nat_abs e.vendor) 0xffff s.vendor in
-    let class = lt-ltb (nat_abs e.class) (2 ^ 24) s.class in
-    let pin = le-leb (nat_abs e.pin) 4 s.pin in
+lawful_configs : (cs : List Config) → list_all is_config_block cs ≡ true → list_all rules.is_config_block (map config_block cs) ≡ true
+lawful_configs cs h =
+    list_all-map rules.is_config_block config_block cs
+    ∙ imply_all is_config_block (λ c. rules.is_config_block (config_block c)) lawful_config cs h
+
+lawful_blocks : (cs : List Config) (ds : List Capability) → list_all is_config_block cs ≡ true → list_all is_capability ds ≡ true
+    → list_all rules.is_config_block (blocks_with cs ds) ≡ true
+lawful_blocks cs ds h k =
+    list_all-append rules.is_config_block (structures (map capability ds)) (map config_block cs)
+    ∙ ap₂ (λ (a b : Bool). a && b) (lawful_structures ds k) (lawful_configs cs h)
+
+plain_status : (s : ℕ) → bit_and s 0xf900 ≡ s → bit_and s 0xf910 ≡ s
+plain_status s h = ap (λ n. bit_and n 0xf910) (sym h) ∙ and_assoc 0xf910 s 0xf900 ∙ h
+
+-- whatever Status and blocks it declares, as long as they are lawful
+lawful_numbers : (e : Endpoint) → is_declarable e ≡ true → (s : ℕ) (bs : List ConfigBlock)
+    → bit_and s 0xf910 ≡ s → list_all rules.is_config_block bs ≡ true
+    → rules.has_lawful_numbers (record (plain_values e) { status = s; blocks = bs }) ≡ true
+lawful_numbers e h s bs status blocks =
+    let own = small e h in
+    let vendor = lt-ltb (nat_abs e.vendor) 0xffff own.vendor in
+    let class = lt-ltb (nat_abs e.class) (2 ^ 24) own.class in
+    let pin = le-leb (nat_abs e.pin) 4 own.pin in
     let short_cells = list_all-map (λ r. nat_le (length r.cells) 4096) region e.bars ∙ imply_all is_region (λ b. nat_le (length (region b).cells) 4096) short e.bars (regions_of e h) in
-    let lawful_blocks = list_all-map rules.is_config_block config_block e.configs ∙ imply_all is_config_block (λ c. rules.is_config_block (config_block c)) lawful_config e.configs (configs_of e h) in
-    rw (vendor, class, pin, (status_of e h).1, short_cells, lawful_blocks) refl
+    rw (vendor, class, pin, eq-eqb (bit_and s 0xf910) s status, short_cells, blocks) refl
 
-pub decided : (e : Endpoint) → is_declarable e ≡ true
-    → first_broken (endpoint_rules (endpoint_values e)) ≡ cond (all_pairs blocks_apart (map config_block e.configs)) None (Some 112)
-decided e h =
-    let sizes = list_all-map (λ r. nat_le (length r.cells) r.size) region e.bars ∙ imply_all is_region (λ b. nat_le (length (region b).cells) (region b).size) fits e.bars (regions_of e h) in
-    rw (lawful_numbers e h, own_of e h, sizes) refl
+fitting : (e : Endpoint) → is_declarable e ≡ true → list_all (λ r. nat_le (length r.cells) r.size) (map region e.bars) ≡ true
+fitting e h =
+    list_all-map (λ r. nat_le (length r.cells) r.size) region e.bars
+    ∙ imply_all is_region (λ b. nat_le (length (region b).cells) (region b).size) fits e.bars (regions_of e h)
 
-pub none_broken : (t : Bool) → None ≡ cond {A = Option ℕ} t None (Some 112) → t ≡ true
-none_broken t h = grind arith
+-- the last of four tests, where the others hold
+by_last : (a b c d : Bool) → a ≡ true → b ≡ true → c ≡ true → is_none (first_broken ((104, a) ∷ (106, b) ∷ (107, c) ∷ (112, d) ∷ [])) ≡ d
+by_last a b c d h k l = grind arith
 
-pub one_broken : (t : Bool) (n : ℕ) → Some n ≡ cond {A = Option ℕ} t None (Some 112) → t ≡ false
-one_broken t n h = grind arith
+by_blocks : (e : Endpoint) → is_declarable e ≡ true → (s : ℕ) (bs : List ConfigBlock)
+    → bit_and s 0xf910 ≡ s → list_all rules.is_config_block bs ≡ true
+    → is_none (first_broken (endpoint_rules (record (plain_values e) { status = s; blocks = bs }))) ≡ all_pairs blocks_apart bs
+by_blocks e h s bs status blocks =
+    by_last (rules.has_lawful_numbers (record (plain_values e) { status = s; blocks = bs })) (rules.has_own_registers (map region e.bars))
+    (list_all (λ r. nat_le (length r.cells) r.size) (map region e.bars)) (all_pairs blocks_apart bs) (lawful_numbers e h s bs status blocks)
+    (own_of e h) (fitting e h)
+
+with_list : (e : Endpoint) → is_declarable e ≡ true → (ds : List Capability) → list_all is_capability ds ≡ true
+    → is_none (first_broken (endpoint_rules (with_capabilities (map capability ds) (plain_values e))))
+    ≡ all_pairs are_apart (map config_extent e.configs ++ map capability_extent ds)
+with_list e h [] k =
+    let status = plain_status (nat_abs e.status) (eqb-true _ _ (status_of e h).1) in
+    by_blocks e h (nat_abs e.status) (map config_block e.configs) status (lawful_configs e.configs (configs_of e h)) ∙ plain_apart e.configs
+with_list e h (d ∷ ds) k =
+    let status = status_with_list (nat_abs e.status) (eqb-true _ _ (status_of e h).1) in
+    let blocks = lawful_blocks e.configs (d ∷ ds) (configs_of e h) k in
+    by_blocks e h (bit_or (nat_abs e.status) 0x10) (blocks_with e.configs (d ∷ ds)) status blocks
+    ∙ listed_apart e.configs (d ∷ ds) (configs_of e h) k
+
+pub decided : (e : Endpoint) → is_declarable e ≡ true → is_none (first_broken (endpoint_rules (endpoint_values e))) ≡ all_pairs are_apart (extents e)
+decided e h = with_list e h e.capabilities (capabilities_of e h)
+
+-- a capability list changes no region
+pub declared_regions : (e : Endpoint) → (endpoint_values e).regions ≡ map region e.bars
+declared_regions e = same (map capability e.capabilities)
+  where
+    same : (cs : List listed.Capability) → (with_capabilities cs (plain_values e)).regions ≡ map region e.bars
+    same [] = refl
+    same (c ∷ cs) = refl
 
 -- ---- all functions
 

@@ -1,5 +1,5 @@
 -- Tests of all elements of a list, with their indices, and of all pairs; lists that have none.
-use Rattle.std.{proofs.{Common.{◌≡◌, ℕ, ◌+◌, arith, Bool, true, ◌&&◌, cond, List, [], ◌∷◌, ◌++◌, map, take, refl, sym, ap, ◌∙◌, add-one}, Math.Bool.{and-true, and_comm, and_assoc}, lemmas.{Bool.and_parts, List.Folds.list_all-map}}, specs.List.{list_all, flat_map, enumerate_from}}
+use Rattle.std.{proofs.{Common.{◌≡◌, ℕ, ◌+◌, arith, Bool, true, ◌&&◌, cond, List, [], ◌∷◌, ◌++◌, map, take, refl, sym, ap, ap₂, ◌∙◌, add-one}, Math.Bool.{and-true, and_comm, and_assoc}, lemmas.{Bool.and_parts, List.Folds.{list_all-map, list_all-append}}}, specs.List.{list_all, flat_map, enumerate_from}}
 use Rattle.lists.{specs.Elements.all_pairs, proofs.Members.{all_in, all_from}}
 use Rattle.board_file.specs.Problems.{none}
 
@@ -23,6 +23,10 @@ imply_all p q f xs h = all_from q xs (λ x m. f x (all_in p x xs h m))
 pub all-true : {A : Type 0} (xs : List A) → list_all (λ x. true) xs ≡ true
 all-true [] = refl
 all-true (x ∷ xs) = all-true xs
+
+pub same-all : {A : Type 0} (p q : A → Bool) (xs : List A) → ((x : A) → p x ≡ q x) → list_all p xs ≡ list_all q xs
+same-all p q [] h = refl
+same-all p q (x ∷ xs) h = ap₂ (λ (a b : Bool). a && b) (h x) (same-all p q xs h)
 
 pub all-both : {A : Type 0} (p q : A → Bool) (xs : List A) → list_all (λ x. p x && q x) xs ≡ (list_all p xs && list_all q xs)
 all-both p q [] = refl
@@ -58,6 +62,36 @@ pub pairs-map : {A B : Type 0} (r : B → B → Bool) (g : A → B) (xs : List A
     → all_pairs r (map g xs) ≡ all_pairs (λ x y. r (g x) (g y)) xs
 pairs-map r g [] = refl
 pairs-map r g (x ∷ xs) = rw (list_all-map (r (g x)) g xs, pairs-map r g xs) refl
+
+-- the pairs in one list, those of an element of each, and those in the other
+pub pairs-append : {A : Type 0} (r : A → A → Bool) (xs ys : List A)
+    → all_pairs r (xs ++ ys) ≡ (all_pairs r xs && (list_all (λ y. list_all (λ x. r x y) xs) ys && all_pairs r ys))
+pairs-append r [] ys = ap (λ (b : Bool). b && all_pairs r ys) (sym (all-true ys))
+pairs-append r (x ∷ xs) ys =
+    ap₂ (λ (a b : Bool). a && b) (list_all-append (r x) xs ys) (pairs-append r xs ys)
+    ∙ regroup (list_all (r x) xs) (list_all (r x) ys) (all_pairs r xs) (list_all (λ y. list_all (λ z. r z y) xs) ys) (all_pairs r ys)
+    ∙ ap (λ (b : Bool). (list_all (r x) xs && all_pairs r xs) && (b && all_pairs r ys)) (sym (all-both (r x) (λ y. list_all (λ z. r z y) xs) ys))
+  where
+    regroup : (a b c d e : Bool) → ((a && b) && (c && (d && e))) ≡ ((a && c) && ((b && d) && e))
+    regroup a b c d e = simp any_order
+
+-- whichever of two lists is gone through first
+either_first : {A : Type 0} (r : A → A → Bool) → ((x y : A) → r x y ≡ r y x) → (xs ys : List A)
+    → list_all (λ y. list_all (λ x. r x y) xs) ys ≡ list_all (λ x. list_all (λ y. r y x) ys) xs
+either_first r turn [] ys = all-true ys
+either_first r turn (x ∷ xs) ys =
+    all-both (r x) (λ y. list_all (λ z. r z y) xs) ys
+    ∙ ap₂ (λ (a b : Bool). a && b) (same-all (r x) (λ y. r y x) ys (turn x)) (either_first r turn xs ys)
+
+pub pairs-swap : {A : Type 0} (r : A → A → Bool) → ((x y : A) → r x y ≡ r y x) → (xs ys : List A) → all_pairs r (xs ++ ys) ≡ all_pairs r (ys ++ xs)
+pairs-swap r turn xs ys =
+    pairs-append r xs ys
+    ∙ ap (λ (b : Bool). all_pairs r xs && (b && all_pairs r ys)) (either_first r turn xs ys)
+    ∙ outer_two (all_pairs r xs) (list_all (λ x. list_all (λ y. r y x) ys) xs) (all_pairs r ys)
+    ∙ sym (pairs-append r ys xs)
+  where
+    outer_two : (a b c : Bool) → (a && (b && c)) ≡ (c && (b && a))
+    outer_two a b c = simp any_order
 
 -- ---- lists that have no element
 

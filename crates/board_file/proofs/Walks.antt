@@ -12,7 +12,7 @@ GoesOn of xs i first problems =
 pub range_more : {X : Type 0} (f : ℕ → X) (n : ℕ) → map f (range_with_len 0 (n + 1)) ≡ map f (range_with_len 0 n) ++ f n ∷ []
 range_more f n = map-range_with_len_more f 0 n n (zero-add n)
 
--- a list to which an item was appended, then one list, then another
-pub joined : {X : Type 0} (old with_item with_both : List X) (x : X) (ys zs : List X)
-    → with_item ≡ old ++ x ∷ [] → with_both ≡ with_item ++ ys → with_both ++ zs ≡ old ++ (x ∷ (ys ++ zs))
-joined old with_item with_both x ys zs first second = grind (arith, append_assoc)
+-- a list to which an item was appended, then one list, then another, then a third
+pub joined : {X : Type 0} (old with_item with_one with_two : List X) (x : X) (xs ys zs : List X)
+    → with_item ≡ old ++ x ∷ [] → with_one ≡ with_item ++ xs → with_two ≡ with_one ++ ys → with_two ++ zs ≡ old ++ (x ∷ (xs ++ ys ++ zs))
+joined old with_item with_one with_two x xs ys zs first second third = grind (arith, append_assoc)

@@ -1,6 +1,6 @@
 -- The entries of a board file, read from its table: texts and numbers that haven't been checked. If a key is absent or its
 -- value has the wrong type, it reads as 0, an empty text or no tables.
---     Bar, Config, Endpoint, Bridge, Guest      what the tables of these names say
+--     Bar, Config, Capability, Endpoint, Bridge, Guest      what the tables of these names say
 --     File, file      the whole file, and how it is read from the table of a document
 use Rattle.std.specs.{Prelude.{ℕ, ℤ, pos, codes, List, [], ◌∷◌, map, Option, unwrap_or, option_map, option_and_then}, List.filter_map}
 use Rattle.toml.specs.Data.{Data, no_items, Members, no_members, get_member, as_integer, as_str, as_table, as_array}
@@ -68,6 +68,14 @@ pub record Config : Type 0 where
 abbrev pub config : Members → Config
 config ms = record { off = number (codes "off") ms; block = number (codes "block") ms; patterns = patterns ms }
 
+-- a structure of a capability list; its block comes after the two bytes of its header
+pub record Capability : Type 0 where
+  pub id : ℤ
+  pub config : Config
+
+abbrev pub capability : Members → Capability
+capability ms = record { id = number (codes "id") ms; config = config ms }
+
 pub record Endpoint : Type 0 where
   pub at : List ℕ
   pub vendor : ℤ
@@ -82,6 +90,7 @@ pub record Endpoint : Type 0 where
   pub status : ℤ
   pub bars : List Bar
   pub configs : List Config
+  pub capabilities : List Capability
 
 abbrev pub endpoint : Members → Endpoint
 endpoint ms = record {
@@ -98,6 +107,7 @@ endpoint ms = record {
   status = number (codes "status") ms;
   bars = map bar (tables (codes "bar") ms);
   configs = map config (tables (codes "config") ms);
+  capabilities = map capability (tables (codes "capability") ms);
 }
 
 pub record Bridge : Type 0 where

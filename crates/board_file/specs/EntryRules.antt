@@ -1,11 +1,11 @@
 -- The rules for the entries of a board file, with the fault of a file that breaks each rule, and whether the entry keeps
 -- the rule.
---     file_rules, host_rules, path_rules, endpoint_rules, bar_rules, config_rules, bridge_rules, guest_rules
-use Rattle.std.specs.{Prelude.{ℕ, ℤ, ◌+◌, nat_abs, pos, int_le, ◌+ℤ◌, Bool, not, ◌&&◌, ◌||◌, length, nat_le, take, map, List, [], ◌∷◌, ◌++◌, option_map}, List.list_all, Str.bytes_eq}
+--     file_rules, host_rules, path_rules, endpoint_rules, bar_rules, config_rules, capability_rules, bridge_rules, guest_rules
+use Rattle.std.specs.{Prelude.{ℕ, ℤ, ◌+◌, ◌%◌, ◌==◌, nat_abs, pos, int_le, ◌+ℤ◌, Bool, not, ◌&&◌, ◌||◌, length, nat_le, take, map, List, [], ◌∷◌, ◌++◌, option_map}, List.list_all, Str.bytes_eq}
 use Rattle.model_registers.specs.{Apertures.{is_io_aperture, is_mem_aperture, has_lawful_pref}, DeclarationRules.has_own_registers}
 use Rattle.model_board.specs.{Paths.{Path, path_eq, parent, function_zero}, Places.{Standing, has_path, has_bridge}}
 use Rattle.model_guests.specs.World.{is_name}
-use Rattle.board_file.specs.{Entries.{Bar, Config, Endpoint, Bridge, Guest, File}, Blocks.is_block, PathTexts.{is_path_text, path_at}, Functions.{region, aperture}, Rules.{is_between, has_only_bits, has_few_slashes, is_root, is_size, is_natural, are_natural, names_endpoint}, declared.{rule.Rule.Rule, fault.BoardFault.BoardFault}}
+use Rattle.board_file.specs.{Entries.{Bar, Config, Capability, Endpoint, Bridge, Guest, File}, PathTexts.{is_path_text, path_at}, Functions.{region, aperture}, Rules.{is_between, has_only_bits, has_few_slashes, is_root, is_size, is_natural, are_natural, names_endpoint, config_extent, capability_extent, are_apart, bar_holds, config_holds, capability_holds}, declared.{rule.Rule.Rule, fault.BoardFault.BoardFault}}
 use Rattle.board_file.specs.declared.rule.Rule.TheVariants as rule
 use Rattle.board_file.specs.declared.fault.BoardFault.TheVariants as fault
 
@@ -81,13 +81,8 @@ abbrev pub bar_rules : BoardFault → Bar → List (Rule × Bool)
 bar_rules fault.Number b = (rule.BarBlock, is_between 0 4096 b.block) ∷ []
 bar_rules fault.Register b = (rule.Index, is_between 0 5 b.index) ∷ []
 bar_rules fault.Size b = (rule.Size, is_size b.kind b.size) ∷ (rule.BlockFits, int_le b.block b.size) ∷ []
-bar_rules fault.CellMasks b = (rule.BarMasks, is_block (nat_abs b.block) b.patterns) ∷ []
+bar_rules fault.CellMasks b = (rule.BarMasks, bar_holds b) ∷ []
 bar_rules _ b = []
-
--- one block ends before the other begins
-abbrev pub are_apart : Config → Config → Bool
-are_apart c d =
-    nat_le (nat_abs c.off + nat_abs c.block) (nat_abs d.off) || nat_le (nat_abs d.off + nat_abs d.block) (nat_abs c.off)
 
 -- of a block of own registers that comes after n others of a device
 abbrev pub config_rules : BoardFault → List Config → ℕ → Config → List (Rule × Bool)
@@ -96,9 +91,25 @@ config_rules fault.Number cs n c =
     ∷ (rule.ConfigBlock, is_between 1 192 c.block)
     ∷ (rule.ConfigEnd, int_le (c.off +ℤ c.block) (pos 256)) ∷ []
 config_rules fault.CellMasks cs n c =
-    (rule.ConfigMasks, is_block (nat_abs c.block) c.patterns)
-    ∷ (rule.OwnOffsets, list_all (λ d. are_apart d c) (take n cs)) ∷ []
+    (rule.ConfigMasks, config_holds c)
+    ∷ (rule.OwnOffsets, list_all (λ d. are_apart (config_extent d) (config_extent c)) (take n cs)) ∷ []
 config_rules _ cs n c = []
+
+-- of a structure that comes after all blocks of own registers and n others of a device; its header has two bytes
+abbrev pub capability_rules : BoardFault → List Config → List Capability → ℕ → Capability → List (Rule × Bool)
+capability_rules fault.Number cs ds n c =
+    (rule.CapabilityId, is_between 1 0xff c.id)
+    ∷ (rule.CapabilityOff, is_between 0x40 0xfc c.config.off && (nat_abs c.config.off % 4 == 0))
+    ∷ (rule.CapabilityBlock, is_between 1 190 c.config.block)
+    ∷ (rule.ConfigEnd, int_le (c.config.off +ℤ c.config.block) (pos 254)) ∷ []
+capability_rules fault.CellMasks cs ds n c =
+    (rule.ConfigMasks, capability_holds c)
+    ∷ (
+      rule.OwnOffsets,
+      list_all (λ d. are_apart (config_extent d) (capability_extent c)) cs
+          && list_all (λ d. are_apart (capability_extent d) (capability_extent c)) (take n ds),
+    ) ∷ []
+capability_rules _ cs ds n c = []
 
 abbrev pub bridge_rules : BoardFault → Bridge → List (Rule × Bool)
 bridge_rules fault.Number b = identity_rules b.vendor b.device b.revision

@@ -1,12 +1,12 @@
 -- What the checks establish about a file before its functions are declared.
 --     kept rules      all of these rules are kept
---     keeps fault e      an endpoint, its regions and its own registers keep the rules of a fault
---     is_region, is_config_block, is_declarable, is_lawful_bridge      all rules but those of patterns are kept
+--     keeps fault e      an endpoint, its regions, own registers and capability list keep the rules of a fault
+--     is_region, is_config_block, is_capability, is_declarable, is_lawful_bridge      all rules but those of patterns are kept
 --     HasSmallNumbers      an endpoint's values fit their registers
 --     IsShortGuest      a guest's name and slots fit what holds them
 --     is_judged      of the whole file: no problem is found under any check but that of cell masks
 use Rattle.std.specs.{Prelude.{◌<◌, ◌≤◌, ◌^◌, nat_abs, length, Bool, ◌&&◌, List, []}, List.list_all}
-use Rattle.board_file.specs.{Entries.{Bar, Config, Endpoint, Bridge, Guest, File}, EntryRules.{endpoint_rules, bar_rules, config_rules, bridge_rules}, Meaning.file_checks, Problems.{none, problems_in}, declared.{rule.Rule.Rule, fault.BoardFault.BoardFault}}
+use Rattle.board_file.specs.{Entries.{Bar, Config, Capability, Endpoint, Bridge, Guest, File}, EntryRules.{endpoint_rules, bar_rules, config_rules, capability_rules, bridge_rules}, Meaning.file_checks, Problems.{none, problems_in}, declared.{rule.Rule.Rule, fault.BoardFault.BoardFault}}
 use Rattle.board_file.specs.declared.fault.BoardFault.TheVariants as fault
 
 abbrev pub kept : List (Rule × Bool) → Bool
@@ -18,11 +18,15 @@ is_region b = kept (bar_rules fault.Number b) && kept (bar_rules fault.Register 
 abbrev pub is_config_block : Config → Bool
 is_config_block c = kept (config_rules fault.Number [] 0 c)
 
--- these rules of own registers don't look at others
+abbrev pub is_capability : Capability → Bool
+is_capability c = kept (capability_rules fault.Number [] [] 0 c)
+
+-- these rules of own registers and structures don't look at others
 abbrev pub keeps : BoardFault → Endpoint → Bool
 keeps fault e =
     kept (endpoint_rules fault e) && list_all (λ b. kept (bar_rules fault b)) e.bars
     && list_all (λ c. kept (config_rules fault [] 0 c)) e.configs
+    && list_all (λ c. kept (capability_rules fault [] [] 0 c)) e.capabilities
 
 abbrev pub is_declarable : Endpoint → Bool
 is_declarable e = keeps fault.Number e && keeps fault.Register e && keeps fault.Size e

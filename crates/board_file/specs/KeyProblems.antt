@@ -16,10 +16,13 @@ use Rattle.board_file.specs.declared.entry.Entry.TheVariants as entry
 abbrev pub indices : {A : Type 0} → List A → List ℕ
 indices xs = range_with_len 0 (length xs)
 
--- an endpoint, its regions and its own registers
+-- an endpoint, its regions, its own registers and its capability list
 abbrev pub with_endpoint : ℕ × Endpoint → List Entry
 with_endpoint (i, e) =
-    entry.Endpoint i ∷ (map (entry.Bar i) (indices e.bars) ++ map (entry.Config i) (indices e.configs))
+    entry.Endpoint i
+    ∷ (map (entry.Bar i) (indices e.bars)
+    ++ map (entry.Config i) (indices e.configs)
+    ++ map (entry.Capability i) (indices e.capabilities))
 
 abbrev pub tables_of : File → List Entry
 tables_of f =

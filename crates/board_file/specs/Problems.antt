@@ -6,7 +6,7 @@
 --     Adds these old new      the problems, and then these
 --     none ps      there are none
 use Rattle.std.specs.{Prelude.{◌≡◌, ℕ, Bool, true, false, List, [], ◌∷◌, ◌++◌, map, flat_map, if◌then◌else◌}, List.enumerate_from}
-use Rattle.board_file.specs.{Entries.{Bar, Config, Endpoint, Bridge, Guest, File}, Functions.standings, PathEntries.{PathEntry, path_texts, path_entries}, RuleFaults.key_of, EntryRules.{file_rules, host_rules, path_rules, endpoint_rules, bar_rules, config_rules, bridge_rules, guest_rules}, declared.{fault.BoardFault.BoardFault, entry.Entry.Entry, rule.Rule.Rule, finding.Violation.Violation}}
+use Rattle.board_file.specs.{Entries.{Bar, Config, Capability, Endpoint, Bridge, Guest, File}, Functions.standings, PathEntries.{PathEntry, path_texts, path_entries}, RuleFaults.key_of, EntryRules.{file_rules, host_rules, path_rules, endpoint_rules, bar_rules, config_rules, capability_rules, bridge_rules, guest_rules}, declared.{fault.BoardFault.BoardFault, entry.Entry.Entry, rule.Rule.Rule, finding.Violation.Violation}}
 use Rattle.model_board.specs.Places.{Standing}
 use Rattle.board_file.specs.declared.fault.BoardFault.TheVariants as fault
 use Rattle.board_file.specs.declared.entry.Entry.TheVariants as entry
@@ -42,11 +42,15 @@ of_bar f i (j, b) = broken (entry.Bar i j) (bar_rules f b)
 abbrev pub of_config : BoardFault → ℕ → List Config → ℕ × Config → List Found
 of_config f i cs (j, c) = broken (entry.Config i j) (config_rules f cs j c)
 
+abbrev pub of_capability : BoardFault → ℕ → List Config → List Capability → ℕ × Capability → List Found
+of_capability f i cs ds (j, c) = broken (entry.Capability i j) (capability_rules f cs ds j c)
+
 abbrev pub of_endpoint : BoardFault → ℕ × Endpoint → List Found
 of_endpoint fault (i, e) =
     broken (entry.Endpoint i) (endpoint_rules fault e)
     ++ flat_map (of_bar fault i) (enumerate_from 0 e.bars)
     ++ flat_map (of_config fault i e.configs) (enumerate_from 0 e.configs)
+    ++ flat_map (of_capability fault i e.configs e.capabilities) (enumerate_from 0 e.capabilities)
 
 abbrev pub of_bridge : BoardFault → ℕ × Bridge → List Found
 of_bridge fault (i, b) = broken (entry.Bridge i) (bridge_rules fault b)

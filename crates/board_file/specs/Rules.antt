@@ -4,12 +4,14 @@
 --     is_root, is_endpoint, names_endpoint      bus 0; there is an endpoint at a path; a text is the path of an endpoint
 --     is_size      a power of two within the limits of a region's kind
 --     is_natural, are_natural      both addresses of an aperture are 0 or more
---     masks_hold      each block of an endpoint has lawful patterns, and no two blocks of own registers overlap
-use Rattle.std.specs.{Prelude.{ℕ, ℤ, pos, nat_abs, int_le, Bool, true, false, not, ◌&&◌, List, [], ◌∷◌, map, ◌==◌, nat_le, Option, Some, None, bit_and, count_by}, List.list_all, Int.is_power_of_two}
+--     config_extent, capability_extent, extents      where a block of own registers is, a structure with its header, and all of them
+--     are_apart      two of these don't overlap
+--     masks_hold      each block and structure of an endpoint has lawful patterns, and no two of them overlap
+use Rattle.std.specs.{Prelude.{ℕ, ℤ, ◌+◌, pos, nat_abs, int_le, Bool, true, false, not, ◌&&◌, ◌||◌, List, [], ◌∷◌, ◌++◌, map, ◌==◌, nat_le, Option, Some, None, bit_and, count_by}, List.list_all, Int.is_power_of_two}
 use Rattle.lists.specs.Elements.{all_pairs}
-use Rattle.model_registers.specs.{Declarations.{Kind, least_size, greatest_size}, DeclarationRules.blocks_apart}
+use Rattle.model_registers.specs.Declarations.{Kind, least_size, greatest_size}
 use Rattle.model_board.specs.{Paths.Path, Places.{Standing, has_path, has_bridge}}
-use Rattle.board_file.specs.{Entries.{Bar, Config, Endpoint}, declared.entries.Bounds.Bounds, Blocks.is_block, PathTexts.{is_path_text, path_at}, Functions.config_block}
+use Rattle.board_file.specs.{Entries.{Bar, Config, Capability, Endpoint}, declared.{entries.Bounds.Bounds, blocks.Extent.Extent}, Blocks.is_block, PathTexts.{is_path_text, path_at}}
 
 -- ---- numbers
 
@@ -48,6 +50,22 @@ abbrev pub are_natural : Option Bounds → Bool
 are_natural None = true
 are_natural (Some b) = is_natural b
 
+-- ---- offsets
+
+abbrev pub config_extent : Config → Extent
+config_extent c = record { off = nat_abs c.off; len = nat_abs c.block }
+
+-- with the two bytes of the header
+abbrev pub capability_extent : Capability → Extent
+capability_extent c = record { off = nat_abs c.config.off; len = 2 + nat_abs c.config.block }
+
+abbrev pub extents : Endpoint → List Extent
+extents e = map config_extent e.configs ++ map capability_extent e.capabilities
+
+-- one ends before the other begins
+abbrev pub are_apart : Extent → Extent → Bool
+are_apart a b = nat_le (a.off + a.len) b.off || nat_le (b.off + b.len) a.off
+
 -- ---- cell masks
 
 abbrev pub bar_holds : Bar → Bool
@@ -56,7 +74,10 @@ bar_holds b = is_block (nat_abs b.block) b.patterns
 abbrev pub config_holds : Config → Bool
 config_holds c = is_block (nat_abs c.block) c.patterns
 
+abbrev pub capability_holds : Capability → Bool
+capability_holds c = config_holds c.config
+
 abbrev pub masks_hold : Endpoint → Bool
 masks_hold e =
-    list_all bar_holds e.bars && list_all config_holds e.configs
-    && all_pairs blocks_apart (map config_block e.configs)
+    list_all bar_holds e.bars && list_all config_holds e.configs && list_all capability_holds e.capabilities
+    && all_pairs are_apart (extents e)

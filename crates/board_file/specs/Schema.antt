@@ -43,7 +43,8 @@ fields level.Endpoint =
     ∷ optional (codes "max_lat") Integer
     ∷ optional (codes "status") Integer
     ∷ optional (codes "bar") (Tables level.Bar)
-    ∷ optional (codes "config") (Tables level.Config) ∷ []
+    ∷ optional (codes "config") (Tables level.Config)
+    ∷ optional (codes "capability") (Tables level.Capability) ∷ []
 fields level.Bar =
     needed (codes "index") Integer
     ∷ needed (codes "kind") (Word RegionKind)
@@ -54,6 +55,13 @@ fields level.Bar =
     ∷ optional (codes "w1c") Text ∷ []
 fields level.Config =
     needed (codes "off") Integer
+    ∷ needed (codes "block") Integer
+    ∷ optional (codes "reset") Text
+    ∷ optional (codes "rw") Text
+    ∷ optional (codes "w1c") Text ∷ []
+fields level.Capability =
+    needed (codes "id") Integer
+    ∷ needed (codes "off") Integer
     ∷ needed (codes "block") Integer
     ∷ optional (codes "reset") Text
     ∷ optional (codes "rw") Text

@@ -20,6 +20,7 @@ table_at ms entry.Host = option_and_then as_table (get_member (codes "host") ms)
 table_at ms (entry.Endpoint i) = table_in (codes "endpoint") i ms
 table_at ms (entry.Bar i j) = option_and_then (table_in (codes "bar") j) (table_in (codes "endpoint") i ms)
 table_at ms (entry.Config i j) = option_and_then (table_in (codes "config") j) (table_in (codes "endpoint") i ms)
+table_at ms (entry.Capability i j) = option_and_then (table_in (codes "capability") j) (table_in (codes "endpoint") i ms)
 table_at ms (entry.Bridge i) = table_in (codes "bridge") i ms
 table_at ms (entry.Guest i) = table_in (codes "guest") i ms
 table_at ms (entry.Slot i j) = None
@@ -32,6 +33,7 @@ value_at ms e k = option_and_then (get_member k) (table_at ms e)
 abbrev pub owner_of : Entry → Entry
 owner_of (entry.Bar i j) = entry.Endpoint i
 owner_of (entry.Config i j) = entry.Endpoint i
+owner_of (entry.Capability i j) = entry.Endpoint i
 owner_of (entry.Slot i j) = entry.Guest i
 owner_of e = e
 
@@ -48,6 +50,7 @@ level_of entry.Host = Some level.Host
 level_of (entry.Endpoint i) = Some level.Endpoint
 level_of (entry.Bar i j) = Some level.Bar
 level_of (entry.Config i j) = Some level.Config
+level_of (entry.Capability i j) = Some level.Capability
 level_of (entry.Bridge i) = Some level.Bridge
 level_of (entry.Guest i) = Some level.Guest
 level_of (entry.Slot i j) = None

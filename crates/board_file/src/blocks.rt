@@ -1,9 +1,9 @@
-//! Register blocks: the registers at the start of a BAR, or device-specific configuration
-//! registers.
+//! Register blocks: the registers at the start of a BAR, device-specific configuration registers, or
+//! the structures of a capability list.
 ghost use Rattle.std.specs.{Prelude.{◌≡◌, ◌+◌, ◌<◌, IfOk, length, nat_abs, nat_le, option_map, take}, List.list_all};
-ghost use Rattle.board_file.specs.{Blocks.{pattern, is_pattern, pattern_bytes, byte_at, are_apart as share_no_bit, cells, is_block, block_cells, Gives}, EntryRules.are_apart};
+ghost use Rattle.board_file.specs.{Blocks.{pattern, is_pattern, pattern_bytes, byte_at, are_apart as share_no_bit, cells, is_block, block_cells, Gives}, Rules.{config_extent, capability_extent, are_apart}};
 
-use crate::entries::{ConfigEntry, PatternTexts};
+use crate::entries::{CapabilityEntry, ConfigEntry, PatternTexts};
 use config_bytes::Cell;
 use hex::FromHexError;
 use std::alloc::{AllocError, Global};
@@ -120,19 +120,43 @@ pub(crate) fn is_block(
     }
 }
 
-/// Returns whether `first` ends at or before the offset where `second` begins.
-fn ends_before(first: &ConfigEntry<'_>, second: &ConfigEntry<'_>) -> bool
-    ensures { result
-        ≡ nat_le (nat_abs first.now.off + nat_abs first.now.block) (nat_abs second.now.off) }
-{
-    let begin = second.off.unsigned_abs();
-    let off = first.off.unsigned_abs();
-    off <= begin && first.block.unsigned_abs() <= begin - off
+/// A range of offsets in configuration space.
+#[derive(Clone, Copy)]
+pub struct Extent {
+    pub off: u64,
+    pub len: u64,
 }
 
-/// Returns whether two configuration blocks don't overlap.
-pub fn are_apart(one: &ConfigEntry<'_>, other: &ConfigEntry<'_>) -> bool
-    ensures { result ≡ are_apart one.now other.now }
+/// Returns the range of a configuration block.
+pub fn config_extent(config: &ConfigEntry<'_>) -> Extent
+    ensures { result ≡ config_extent config.now }
+{
+    Extent {
+        off: config.off.unsigned_abs(),
+        len: config.block.unsigned_abs(),
+    }
+}
+
+/// Returns the range of a structure of a capability list, with its header of two bytes.
+pub fn capability_extent(capability: &CapabilityEntry<'_>) -> Extent
+    ensures { result ≡ capability_extent capability.now }
+{
+    Extent {
+        off: capability.config.off.unsigned_abs(),
+        len: 2 + capability.config.block.unsigned_abs(),
+    }
+}
+
+/// Returns whether `first` ends at or before the offset where `second` begins.
+fn ends_before(first: Extent, second: Extent) -> bool
+    ensures { result ≡ nat_le (first.off + first.len) second.off }
+{
+    first.off <= second.off && first.len <= second.off - first.off
+}
+
+/// Returns whether two ranges don't overlap.
+pub fn are_apart(one: Extent, other: Extent) -> bool
+    ensures { result ≡ are_apart one other }
 {
     ends_before(one, other) || ends_before(other, one)
 }
@@ -143,10 +167,45 @@ pub(crate) fn has_own_offsets(
     count: usize,
     config: &ConfigEntry<'_>,
 ) -> bool
-    ensures { result ≡ list_all (λ c. are_apart c config.now) (take count configs.now) }
+    ensures { result
+        ≡ list_all (λ c. are_apart (config_extent c) (config_extent config.now))
+        (take count configs.now) }
 {
+    let extent = config_extent(config);
     configs
         .iter()
         .take(count)
-        .all(|other| are_apart(other, config))
+        .all(|other| are_apart(config_extent(other), extent))
+}
+
+/// Returns whether a structure overlaps no configuration block.
+pub(crate) fn is_beside_configs(
+    configs: &[ConfigEntry<'_>],
+    capability: &CapabilityEntry<'_>,
+) -> bool
+    ensures { result
+        ≡ list_all (λ c. are_apart (config_extent c) (capability_extent capability.now))
+        configs.now }
+{
+    let extent = capability_extent(capability);
+    configs
+        .iter()
+        .all(|config| are_apart(config_extent(config), extent))
+}
+
+/// Returns whether `capability` overlaps none of the first `count` structures.
+pub(crate) fn is_beside_capabilities(
+    capabilities: &[CapabilityEntry<'_>],
+    count: usize,
+    capability: &CapabilityEntry<'_>,
+) -> bool
+    ensures { result
+        ≡ list_all (λ c. are_apart (capability_extent c) (capability_extent capability.now))
+        (take count capabilities.now) }
+{
+    let extent = capability_extent(capability);
+    capabilities
+        .iter()
+        .take(count)
+        .all(|other| are_apart(capability_extent(other), extent))
 }

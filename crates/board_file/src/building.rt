@@ -1,18 +1,19 @@
 //! Conversion of checked entries to declarations of functions and guests.
-ghost use Rattle.std.specs.{Prelude.{◌≡◌, ◌<◌, ◌≤◌, ◌^◌, nat_abs, if◌then◌else◌, IsTrue, IfOk, map, length}, List.list_all};
-ghost use Rattle.model_registers.specs.DeclarationRules.{first_broken, endpoint_rules, blocks_apart, with_ordered_regions, IsLawfulEndpoint, IsLawfulBridge};
-ghost use Rattle.lists.specs.Elements.{all_pairs};
+ghost use Rattle.std.specs.{Prelude.{◌≡◌, ◌<◌, ◌≤◌, ◌^◌, nat_abs, is_none, IsTrue, IfOk, map, length}, List.list_all};
+ghost use Rattle.model_registers.specs.DeclarationRules.{first_broken, endpoint_rules, with_ordered_regions, IsLawfulEndpoint, IsLawfulBridge};
 ghost use Rattle.bars.specs.Kinds.{kind_of};
-ghost use Rattle.board_file.specs.{Blocks.Gives, PathTexts.path_at, Judged.{is_region, is_config_block, is_declarable, HasSmallNumbers}, Rules.{is_size, bar_holds, config_holds, masks_hold}};
+ghost use Rattle.board_file.specs.{Blocks.Gives, PathTexts.path_at, Judged.{is_region, is_config_block, is_capability, is_declarable, HasSmallNumbers}, Rules.{is_size, bar_holds, config_holds, capability_holds, masks_hold}};
 ghost use Rattle.board_file.specs.Functions as said;
 
 use crate::blocks::block;
-use crate::entries::{BarEntry, BridgeEntry, ConfigEntry, EndpointEntry, GuestEntry};
+use crate::entries::{
+    BarEntry, BridgeEntry, CapabilityEntry, ConfigEntry, EndpointEntry, GuestEntry,
+};
 use crate::path_text::PathText;
 use accesses::GuestDecl;
 use arrayvec::{ArrayString, ArrayVec};
 use bars::{BarDecl, Kind};
-use headers::{BridgeDecl, ConfigBlock, EndpointDecl, EndpointValues, Region};
+use headers::{BridgeDecl, Capability, ConfigBlock, EndpointDecl, EndpointValues, Region};
 use paths::Path;
 use std::alloc::{AllocError, Global};
 
@@ -113,11 +114,49 @@ fn config_blocks(
     Ok(Some(blocks))
 }
 
-/// Returns the values of an endpoint, with the given BARs and configuration blocks.
+/// Declares a structure of a capability list. Returns `None` if the patterns aren't valid.
+fn capability(alloc: Global, entry: &CapabilityEntry<'_>) -> Result<Option<Capability>, AllocError>
+    requires id { nat_abs entry.now.id < 2 ^ 8 }
+    requires off { nat_abs entry.now.config.off < 2 ^ 8 }
+    ensures { IfOk result (λ found.
+        Gives (capability_holds entry.now) found (λ c. c ≡ said.capability entry.now)) }
+{
+    let config = &entry.config;
+    match block(alloc, natural(config.block) as usize, &config.patterns)? {
+        Some(block) => Ok(Some(Capability {
+            id: byte(entry.id),
+            off: byte(config.off),
+            block,
+        })),
+        None => Ok(None),
+    }
+}
+
+fn capabilities(
+    alloc: Global,
+    entries: &[CapabilityEntry<'_>],
+) -> Result<Option<Vec<Capability>>, AllocError>
+    requires { IsTrue (list_all is_capability entries.now) }
+    ensures { IfOk result (λ found.
+        Gives (list_all capability_holds entries.now) found (λ v. v.items
+        ≡ map said.capability entries.now)) }
+{
+    let mut list = Vec::new(alloc);
+    'entries: for entry in entries {
+        match capability(alloc, entry)? {
+            Some(capability) => list.push(capability)?,
+            None => return Ok(None),
+        }
+    }
+    Ok(Some(list))
+}
+
+/// Returns the values of an endpoint, with the given BARs and configuration blocks, and without a
+/// capability list.
 fn values(entry: &EndpointEntry<'_>, bar: Vec<Region>, config: Vec<ConfigBlock>) -> EndpointValues
     requires { HasSmallNumbers entry.now }
     ensures { result
-        ≡ record (said.endpoint_values entry.now) { regions = bar.items; blocks = config.items } }
+        ≡ record (said.plain_values entry.now) { regions = bar.items; blocks = config.items } }
 {
     EndpointValues {
         vendor: half_word(entry.vendor),
@@ -135,11 +174,9 @@ fn values(entry: &EndpointEntry<'_>, bar: Vec<Region>, config: Vec<ConfigBlock>)
     }
 }
 
-/// Declares an endpoint. Returns `None` if its configuration blocks overlap.
+/// Declares an endpoint. Returns `None` if the values break a rule.
 fn declared(values: EndpointValues) -> Option<EndpointDecl>
-    requires { first_broken (endpoint_rules values)
-        ≡ (if all_pairs blocks_apart values.blocks then None else Some 112) }
-    ensures { Gives (all_pairs blocks_apart values.blocks) result (λ d.
+    ensures { Gives (is_none (first_broken (endpoint_rules values))) result (λ d.
         (d ≡ with_ordered_regions values) × IsLawfulEndpoint d) }
 {
     match EndpointDecl::new(values) {
@@ -148,8 +185,8 @@ fn declared(values: EndpointValues) -> Option<EndpointDecl>
     }
 }
 
-/// Declares the endpoint of a table. Returns `None` if a pattern isn't valid or configuration
-/// blocks overlap.
+/// Declares the endpoint of a table. Returns `None` if a pattern isn't valid, or if configuration
+/// blocks or structures overlap.
 pub(crate) fn endpoint(
     alloc: Global,
     entry: &EndpointEntry<'_>,
@@ -167,7 +204,12 @@ pub(crate) fn endpoint(
         Some(blocks) => blocks,
         None => return Ok(None),
     };
-    Ok(declared(values(entry, regions, blocks)))
+    let capabilities = match capabilities(alloc, &entry.capabilities)? {
+        Some(capabilities) => capabilities,
+        None => return Ok(None),
+    };
+    let values = values(entry, regions, blocks).with_capabilities(alloc, &capabilities)?;
+    Ok(declared(values))
 }
 
 /// Declares the bridge of a table.

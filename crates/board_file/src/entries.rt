@@ -70,6 +70,20 @@ impl<'a> Model for ConfigEntry<'a> {
     ghost view = { λ c. record { off = c.off; block = c.block; patterns = c.patterns } };
 }
 
+/// A `capability` table: a structure of a capability list. Its offset is that of its header, and its
+/// block follows the two bytes of the header.
+#[derive(Drop)]
+pub struct CapabilityEntry<'a> {
+    pub id: i64,
+    pub config: ConfigEntry<'a>,
+}
+
+impl<'a> Model for CapabilityEntry<'a> {
+    ghost Value = { said.Capability };
+
+    ghost view = { λ c. record { id = c.id; config = c.config } };
+}
+
 /// An `endpoint` table.
 #[derive(Drop)]
 pub struct EndpointEntry<'a> {
@@ -86,6 +100,7 @@ pub struct EndpointEntry<'a> {
     pub status: i64,
     pub bars: Vec<BarEntry<'a>>,
     pub configs: Vec<ConfigEntry<'a>>,
+    pub capabilities: Vec<CapabilityEntry<'a>>,
 }
 
 impl<'a> Model for EndpointEntry<'a> {
@@ -105,6 +120,7 @@ impl<'a> Model for EndpointEntry<'a> {
       status = e.status;
       bars = e.bars.items;
       configs = e.configs.items;
+      capabilities = e.capabilities.items;
     } };
 }
 

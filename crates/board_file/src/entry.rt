@@ -13,6 +13,8 @@ pub enum Entry {
     Bar(usize, usize),
     /// A `config` table, by the index of its endpoint and its index there.
     Config(usize, usize),
+    /// A `capability` table, by the index of its endpoint and its index there.
+    Capability(usize, usize),
     /// The `bridge` table with this index.
     Bridge(usize),
     /// The `guest` table with this index.

@@ -1,13 +1,15 @@
 //! Checks of endpoints and bridges.
 ghost use Rattle.std.specs.{Prelude.{◌≡◌, OnOk, flat_map}, List.enumerate_from};
-ghost use Rattle.board_file.specs.{EntryRules.{endpoint_numbers, endpoint_rules}, Problems.{Adds, broken, of_bar, of_config, of_endpoint, of_bridge}};
+ghost use Rattle.board_file.specs.{EntryRules.{endpoint_numbers, endpoint_rules}, Problems.{Adds, broken, of_bar, of_config, of_capability, of_endpoint, of_bridge}};
 
-use crate::blocks::{has_own_offsets, is_block};
-use crate::entries::{BarEntry, BridgeEntry, ConfigEntry, EndpointEntry, FileEntries};
+use crate::blocks::{has_own_offsets, is_beside_capabilities, is_beside_configs, is_block};
+use crate::entries::{
+    BarEntry, BridgeEntry, CapabilityEntry, ConfigEntry, EndpointEntry, FileEntries,
+};
 use crate::entry::Entry;
 use crate::fault::BoardFault;
 use crate::finding::{Violation, push_broken};
-use crate::numbers::{config_ends, has_few_slashes, has_only_bits, is_between};
+use crate::numbers::{ends_by, has_few_slashes, has_only_bits, is_between, is_capability_offset};
 use crate::regions::{has_own_registers, is_index, is_size};
 use crate::rule::Rule;
 use std::alloc::{AllocError, Global};
@@ -68,7 +70,7 @@ fn push_config(
             &[
                 (Rule::ConfigOff, is_between(0x40, 0xff, config.off)),
                 (Rule::ConfigBlock, is_between(1, 192, config.block)),
-                (Rule::ConfigEnd, config_ends(config)),
+                (Rule::ConfigEnd, ends_by(256, config.off, config.block)),
             ],
         ),
         BoardFault::CellMasks => {
@@ -80,6 +82,47 @@ fn push_config(
                     (Rule::ConfigMasks, masks),
                     (Rule::OwnOffsets, has_own_offsets(configs, index, config)),
                 ],
+            )
+        }
+        _ => Ok(()),
+    }
+}
+
+/// Appends the problems of a structure of a capability list.
+fn push_capability(
+    alloc: Global,
+    problems: &mut Vec<Violation<'_>>,
+    fault: BoardFault,
+    number: usize,
+    endpoint: &EndpointEntry<'_>,
+    index: usize,
+    capability: &CapabilityEntry<'_>,
+) -> Result<(), AllocError>
+    ensures { OnOk result
+        (Adds (of_capability fault number endpoint.now.configs endpoint.now.capabilities
+        (index, capability.now)) problems.old.items problems.new.items) }
+{
+    let entry = Entry::Capability(number, index);
+    let config = &capability.config;
+    match fault {
+        BoardFault::Number => push_broken(
+            problems,
+            entry,
+            &[
+                (Rule::CapabilityId, is_between(1, 0xff, capability.id)),
+                (Rule::CapabilityOff, is_capability_offset(config.off)),
+                (Rule::CapabilityBlock, is_between(1, 190, config.block)),
+                (Rule::ConfigEnd, ends_by(254, config.off, config.block)),
+            ],
+        ),
+        BoardFault::CellMasks => {
+            let masks = is_block(alloc, config.block, &config.patterns)?;
+            let own = is_beside_configs(&endpoint.configs, capability)
+                && is_beside_capabilities(&endpoint.capabilities, index, capability);
+            push_broken(
+                problems,
+                entry,
+                &[(Rule::ConfigMasks, masks), (Rule::OwnOffsets, own)],
             )
         }
         _ => Ok(()),
@@ -113,7 +156,7 @@ fn push_numbers(
     )
 }
 
-/// Appends the problems of an endpoint, except those of its BARs and configuration blocks.
+/// Appends the problems of an endpoint, except those of the tables inside it.
 fn push_endpoint(
     problems: &mut Vec<Violation<'_>>,
     fault: BoardFault,
@@ -173,8 +216,26 @@ fn push_configs(
     Ok(())
 }
 
-/// Appends the problems of all endpoints. Those of an endpoint come before those of its BARs and
-/// configuration blocks.
+/// Appends the problems of the structures of an endpoint's capability list.
+fn push_capabilities(
+    alloc: Global,
+    problems: &mut Vec<Violation<'_>>,
+    fault: BoardFault,
+    number: usize,
+    endpoint: &EndpointEntry<'_>,
+) -> Result<(), AllocError>
+    ensures { OnOk result
+        (Adds (flat_map (of_capability fault number endpoint.now.configs endpoint.now.capabilities)
+        (enumerate_from 0 endpoint.now.capabilities)) problems.old.items problems.new.items) }
+{
+    'capabilities: for (index, capability) in endpoint.capabilities.iter().enumerate() {
+        push_capability(alloc, problems, fault, number, endpoint, index, capability)?;
+    }
+    Ok(())
+}
+
+/// Appends the problems of all endpoints. Those of an endpoint come before those of the tables
+/// inside it.
 pub(crate) fn push_endpoints(
     alloc: Global,
     problems: &mut Vec<Violation<'_>>,
@@ -189,6 +250,7 @@ pub(crate) fn push_endpoints(
         push_endpoint(problems, fault, index, endpoint)?;
         push_bars(alloc, problems, fault, index, &endpoint.bars)?;
         push_configs(alloc, problems, fault, index, &endpoint.configs)?;
+        push_capabilities(alloc, problems, fault, index, endpoint)?;
     }
     Ok(())
 }

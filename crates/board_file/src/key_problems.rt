@@ -17,7 +17,7 @@ use std::alloc::{AllocError, Global};
 use toml::Table;
 use toml::value::Value;
 
-/// Appends an endpoint and its `bar` and `config` tables.
+/// Appends an endpoint and its `bar`, `config` and `capability` tables.
 fn push_tables(
     tables: &mut Vec<Entry>,
     index: usize,
@@ -33,10 +33,13 @@ fn push_tables(
     'configs: for config in 0..endpoint.configs.len() {
         tables.push(Entry::Config(index, config))?;
     }
+    'capabilities: for capability in 0..endpoint.capabilities.len() {
+        tables.push(Entry::Capability(index, capability))?;
+    }
     Ok(())
 }
 
-/// Returns all tables of a file. Each endpoint is followed by its `bar` and `config` tables.
+/// Returns all tables of a file. Each endpoint is followed by the tables inside it.
 fn tables(alloc: Global, file: &FileEntries<'_>) -> Result<Vec<Entry>, AllocError>
     ensures { IfOk result (λ v. v.items ≡ tables_of file.now) }
 {

@@ -39,7 +39,7 @@ const HOST: [Field; 3] = [
     optional!("pref", ValueType::Pair),
 ];
 
-const ENDPOINT: [Field; 13] = [
+const ENDPOINT: [Field; 14] = [
     needed!("at", ValueType::Text),
     needed!("vendor", ValueType::Integer),
     needed!("device", ValueType::Integer),
@@ -53,6 +53,7 @@ const ENDPOINT: [Field; 13] = [
     optional!("status", ValueType::Integer),
     optional!("bar", ValueType::Tables(TableKind::Bar)),
     optional!("config", ValueType::Tables(TableKind::Config)),
+    optional!("capability", ValueType::Tables(TableKind::Capability)),
 ];
 
 const BAR: [Field; 7] = [
@@ -66,6 +67,15 @@ const BAR: [Field; 7] = [
 ];
 
 const CONFIG: [Field; 5] = [
+    needed!("off", ValueType::Integer),
+    needed!("block", ValueType::Integer),
+    optional!("reset", ValueType::Text),
+    optional!("rw", ValueType::Text),
+    optional!("w1c", ValueType::Text),
+];
+
+const CAPABILITY: [Field; 6] = [
+    needed!("id", ValueType::Integer),
     needed!("off", ValueType::Integer),
     needed!("block", ValueType::Integer),
     optional!("reset", ValueType::Text),
@@ -97,6 +107,7 @@ pub fn fields(level: TableKind) -> &'static [Field]
         TableKind::Endpoint => &ENDPOINT,
         TableKind::Bar => &BAR,
         TableKind::Config => &CONFIG,
+        TableKind::Capability => &CAPABILITY,
         TableKind::Bridge => &BRIDGE,
         TableKind::Guest => &GUEST,
     }

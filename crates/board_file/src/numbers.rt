@@ -1,8 +1,8 @@
 //! Ranges of integers, and limits on the number of entries.
-ghost use Rattle.std.specs.Prelude.{◌≡◌, ◌+◌, ◌+ℤ◌, int_le, nat_le, pos, length};
+ghost use Rattle.std.specs.Prelude.{◌≡◌, ◌+◌, ◌%◌, ◌==◌, ◌&&◌, ◌+ℤ◌, int_le, nat_abs, nat_le, pos, length};
 ghost use Rattle.board_file.specs.Rules.{is_between, has_only_bits, has_few_slashes};
 
-use crate::entries::{ConfigEntry, FileEntries};
+use crate::entries::FileEntries;
 use crate::path_text::PathText;
 
 /// Returns whether the number is between `first` and `last`, both inclusive.
@@ -22,13 +22,20 @@ pub(crate) fn has_only_bits(mask: u16, number: i64) -> bool
     }
 }
 
-/// Returns whether a configuration block ends at or below offset FFh.
-pub(crate) fn config_ends(config: &ConfigEntry<'_>) -> bool
-    ensures { result ≡ int_le (config.now.off +ℤ config.now.block) (pos 256) }
+/// Returns whether a structure of a capability list may begin at this offset.
+pub(crate) fn is_capability_offset(off: i64) -> bool
+    ensures { result ≡ (is_between 0x40 0xfc off && (nat_abs off % 4 == 0)) }
 {
-    match config.off.checked_add(config.block) {
-        Some(end) => end <= 256,
-        None => config.off < 0,
+    is_between(0x40, 0xfc, off) && off.unsigned_abs() % 4 == 0
+}
+
+/// Returns whether `block` bytes from offset `off` on end at or below offset `end`.
+pub(crate) fn ends_by(end: u16, off: i64, block: i64) -> bool
+    ensures { result ≡ int_le (off +ℤ block) (pos end) }
+{
+    match off.checked_add(block) {
+        Some(sum) => sum <= i64::from(end),
+        None => off < 0,
     }
 }
 

@@ -1,11 +1,11 @@
 //! Conversion of a TOML document to entries.
 ghost use Rattle.std.specs.{Prelude.{◌≡◌, map, unwrap_or, option_and_then, option_map, IfOk, codes}, List.filter_map};
 ghost use Rattle.toml.specs.{Data.{Members, get_member, as_str, as_table, as_array}, View.{view, array_view, table_view}};
-ghost use Rattle.board_file.specs.{Schema.list_of, Entries.{number, text_at, text, values, tables, table_at, patterns, bar, config, endpoint, bridge, guest, integer_of, range_of, range, file}};
+ghost use Rattle.board_file.specs.{Schema.list_of, Entries.{number, text_at, text, values, tables, table_at, patterns, bar, config, capability, endpoint, bridge, guest, integer_of, range_of, range, file}};
 
 use crate::entries::{
-    BarEntry, Bounds, BridgeEntry, ConfigEntry, EndpointEntry, FileEntries, GuestEntry,
-    PatternTexts,
+    BarEntry, Bounds, BridgeEntry, CapabilityEntry, ConfigEntry, EndpointEntry, FileEntries,
+    GuestEntry, PatternTexts,
 };
 use crate::path_text::PathText;
 use crate::texts::{io_decode, pref_decode, region_kind};
@@ -113,6 +113,16 @@ fn patterns(table: &Table) -> PatternTexts<'_>
     }
 }
 
+fn config(table: &Table) -> ConfigEntry<'_>
+    ensures { result ≡ config (table_view table.now) }
+{
+    ConfigEntry {
+        off: number(table, "off"),
+        block: number(table, "block"),
+        patterns: patterns(table),
+    }
+}
+
 impl<'a> FromTable<'a> for BarEntry<'a> {
     ghost said = { bar };
 
@@ -131,10 +141,17 @@ impl<'a> FromTable<'a> for ConfigEntry<'a> {
     ghost said = { config };
 
     fn from_table(_alloc: Global, table: &'a Table) -> Result<Self, AllocError> {
-        Ok(ConfigEntry {
-            off: number(table, "off"),
-            block: number(table, "block"),
-            patterns: patterns(table),
+        Ok(config(table))
+    }
+}
+
+impl<'a> FromTable<'a> for CapabilityEntry<'a> {
+    ghost said = { capability };
+
+    fn from_table(_alloc: Global, table: &'a Table) -> Result<Self, AllocError> {
+        Ok(CapabilityEntry {
+            id: number(table, "id"),
+            config: config(table),
         })
     }
 }
@@ -157,6 +174,7 @@ impl<'a> FromTable<'a> for EndpointEntry<'a> {
             status: number(table, "status"),
             bars: entries(alloc, table, "bar")?,
             configs: entries(alloc, table, "config")?,
+            capabilities: entries(alloc, table, "capability")?,
         })
     }
 }

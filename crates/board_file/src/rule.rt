@@ -39,8 +39,14 @@ pub enum Rule {
     ConfigOff,
     /// A configuration block has 1 to 192 bytes.
     ConfigBlock,
-    /// A configuration block ends at or below offset FFh.
+    /// A configuration block or a structure of a capability list ends at or below offset FFh.
     ConfigEnd,
+    /// A Capability ID is 1 to FFh.
+    CapabilityId,
+    /// A structure begins at a multiple of 4, from 40h to FCh.
+    CapabilityOff,
+    /// A structure has 1 to 190 bytes after its header.
+    CapabilityBlock,
     /// A path has at most 15 slashes.
     Slashes,
     /// The file has at most 1024 endpoints and bridges.
@@ -59,7 +65,7 @@ pub enum Rule {
     Name,
     /// The patterns of a BAR's register block are valid.
     BarMasks,
-    /// The patterns of a configuration block are valid.
+    /// The patterns of a configuration block or a structure are valid.
     ConfigMasks,
     /// The `at` of a function is a valid path.
     Path,
@@ -83,7 +89,8 @@ pub enum Rule {
     MemAperture,
     /// The prefetchable aperture is valid and doesn't overlap the memory aperture.
     PrefAperture,
-    /// A configuration block doesn't overlap an earlier one.
+    /// A configuration block doesn't overlap an earlier one, and a structure overlaps neither a
+    /// configuration block nor an earlier structure.
     OwnOffsets,
 }
 
@@ -112,6 +119,9 @@ impl Rule {
             Rule::ConfigOff => (BoardFault::Number, "off"),
             Rule::ConfigBlock => (BoardFault::Number, "block"),
             Rule::ConfigEnd => (BoardFault::Number, "block"),
+            Rule::CapabilityId => (BoardFault::Number, "id"),
+            Rule::CapabilityOff => (BoardFault::Number, "off"),
+            Rule::CapabilityBlock => (BoardFault::Number, "block"),
             Rule::Slashes => (BoardFault::TooMany, "at"),
             Rule::Functions => (BoardFault::TooMany, "endpoint"),
             Rule::Guests => (BoardFault::TooMany, "guest"),

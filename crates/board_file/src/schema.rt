@@ -15,6 +15,7 @@ pub enum TableKind {
     Endpoint,
     Bar,
     Config,
+    Capability,
     Bridge,
     Guest,
 }

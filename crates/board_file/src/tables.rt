@@ -57,6 +57,7 @@ pub fn table_at(table: &Table, entry: Entry) -> Option<&Table>
         Entry::Endpoint(i) => table_in(table, "endpoint", i),
         Entry::Bar(i, j) => table_in_endpoint(table, i, "bar", j),
         Entry::Config(i, j) => table_in_endpoint(table, i, "config", j),
+        Entry::Capability(i, j) => table_in_endpoint(table, i, "capability", j),
         Entry::Bridge(i) => table_in(table, "bridge", i),
         Entry::Guest(i) => table_in(table, "guest", i),
         Entry::Slot(_, _) => None,
@@ -87,7 +88,7 @@ pub fn owner_of(entry: Entry) -> Entry
     ensures { result ≡ owner_of entry }
 {
     match entry {
-        Entry::Bar(i, _) | Entry::Config(i, _) => Entry::Endpoint(i),
+        Entry::Bar(i, _) | Entry::Config(i, _) | Entry::Capability(i, _) => Entry::Endpoint(i),
         Entry::Slot(i, _) => Entry::Guest(i),
         _ => entry,
     }
@@ -126,6 +127,7 @@ pub fn level_of(entry: Entry) -> Option<TableKind>
         Entry::Endpoint(_) => Some(TableKind::Endpoint),
         Entry::Bar(_, _) => Some(TableKind::Bar),
         Entry::Config(_, _) => Some(TableKind::Config),
+        Entry::Capability(_, _) => Some(TableKind::Capability),
         Entry::Bridge(_) => Some(TableKind::Bridge),
         Entry::Guest(_) => Some(TableKind::Guest),
         Entry::Slot(_, _) => None,

@@ -5,7 +5,7 @@ use Rattle.lists.{specs.Elements.Each, proofs.{EachLemmas.each_append, Members.{
 use Rattle.model_registers.specs.Declarations.{IoDecode}
 use Rattle.model_board.{specs.{Paths.Path, Board.{Row, Board, is_bridge}, BusNumbers.{bridge_count, numbers_suffice}, Places.{row_inserted, board_of}}, proofs.PlacesLaw.each_to_board}
 use Rattle.model_set_up.specs.Pools.{opens_io, has_io, bridges_above, has_io_paths}
-use Rattle.board_file.{specs.{Entries.{Bar, Bridge, Endpoint, File}, Functions.{endpoint_row, bridge_row, rows}, PathTexts.path_at}, proofs.{FirstBroken.{alone, broken_at}, Searches.{position_none, not_empty, both_empty}}}
+use Rattle.board_file.{specs.{Entries.{Bar, Bridge, Endpoint, File}, Functions.{endpoint_row, bridge_row, rows}, PathTexts.path_at}, proofs.{Declaring.declared_regions, FirstBroken.{alone, broken_at}, Searches.{position_none, not_empty, both_empty}}}
 use Rattle.board_fit.{specs.{ReasonLaws.ReasonsAreTold, Misfits.{is_io, has_no_io_window, first_without_io_window, no_io_window, blocked_bars, blocked_in, blocked_regions, bridge_too_many}}, proofs.BridgesAbove.{all_above, by_file}}
 use Rattle.model_registers.specs.Declarations as declared
 
@@ -44,7 +44,7 @@ no_io_bars i k n [] h = refl
 no_io_bars i k n (b ∷ bars) h = grind (arith, no_io_bars i k (n + 1) bars)
 
 opens_none : (e : Endpoint) → list_any (λ (b : Bar). is_io b.kind) e.bars ≡ false → opens_io (endpoint_row e).decl ≡ false
-opens_none e h = grind (arith, common_steps, false_from_ne_true, from_any, from_flat_map, from_map, from_filter, both_ways, any_in)
+opens_none e h = grind (arith, common_steps, declared_regions e, false_from_ne_true, from_any, from_flat_map, from_map, from_filter, both_ways, any_in)
 
 -- what is named behind the first bridge that is closed
 blocked_behind : (bs : List Bridge) (i : ℕ) (e : Endpoint) → blocked_in bs (i, e) ≡ [] → option_map_or (λ k. blocked_bars i k e.bars) (first_without_io_window bs (path_at e.at)) [] ≡ []

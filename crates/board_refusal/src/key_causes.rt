@@ -50,6 +50,7 @@ fn tables_words(inner: TableKind) -> &'static str {
         TableKind::Endpoint => " an array of tables: write [[endpoint]]",
         TableKind::Bar => " an array of tables: write [[endpoint.bar]]",
         TableKind::Config => " an array of tables: write [[endpoint.config]]",
+        TableKind::Capability => " an array of tables: write [[endpoint.capability]]",
         TableKind::Bridge => " an array of tables: write [[bridge]]",
         TableKind::Guest => " an array of tables: write [[guest]]",
     }

@@ -1,8 +1,8 @@
 //! The entries that a problem involves.
 
-use crate::value_causes::pattern_key;
+use crate::value_causes::{extent_of, pattern_key};
 use bars::Kind;
-use board_file::blocks::are_apart;
+use board_file::blocks::{Extent, are_apart, capability_extent, config_extent};
 use board_file::entries::{BarEntry, FileEntries};
 use board_file::path_text::{PathText, are_same_place};
 use board_file::{Entry, Rule};
@@ -92,6 +92,26 @@ fn slot_with(file: &FileEntries<'_>, at: &PathText<'_>) -> Option<Entry> {
     None
 }
 
+/// Returns the first block of configuration registers of an endpoint that overlaps a range.
+/// Structures of the capability list come after configuration blocks.
+fn overlapped(file: &FileEntries<'_>, endpoint: usize, extent: Extent) -> Option<Entry> {
+    let entry = file.endpoints.get(endpoint)?;
+    let config = entry
+        .configs
+        .iter()
+        .position(|other| !are_apart(config_extent(other), extent));
+    match config {
+        Some(j) => Some(Entry::Config(endpoint, j)),
+        None => {
+            let j = entry
+                .capabilities
+                .iter()
+                .position(|other| !are_apart(capability_extent(other), extent))?;
+            Some(Entry::Capability(endpoint, j))
+        }
+    }
+}
+
 /// Returns the first entry that conflicts with this one over a path, a name, an offset or a
 /// register. Returns `None` for rules that no other entry is involved in.
 pub(crate) fn other_of(file: &FileEntries<'_>, entry: Entry, rule: Rule) -> Option<Entry> {
@@ -103,11 +123,8 @@ pub(crate) fn other_of(file: &FileEntries<'_>, entry: Entry, rule: Rule) -> Opti
             let other = file.guests.iter().position(|guest| guest.name == name)?;
             Some(Entry::Guest(other))
         }
-        (Rule::OwnOffsets, Entry::Config(i, j)) => {
-            let configs = &file.endpoints.get(i)?.configs;
-            let config = configs.get(j)?;
-            let other = configs.iter().position(|other| !are_apart(other, config))?;
-            Some(Entry::Config(i, other))
+        (Rule::OwnOffsets, Entry::Config(i, _) | Entry::Capability(i, _)) => {
+            overlapped(file, i, extent_of(file, entry)?)
         }
         (Rule::OwnRegisters, Entry::Endpoint(i)) => {
             let (_, met) = taker(&file.endpoints.get(i)?.bars)?;

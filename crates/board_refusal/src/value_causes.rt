@@ -2,6 +2,7 @@
 
 use bars::Kind;
 use board_file::Entry;
+use board_file::blocks::{Extent, capability_extent, config_extent};
 use board_file::entries::{BarEntry, Bounds, ConfigEntry, FileEntries, PatternTexts};
 use diagnostics::Other;
 use std::alloc::AllocError;
@@ -137,13 +138,13 @@ fn patterns_of<'f, 'a>(
     entry: Entry,
 ) -> Option<(i64, &'f PatternTexts<'a>)> {
     match entry {
-        Entry::Config(_, _) => {
-            let config = config_of(file, entry)?;
-            Some((config.block, &config.patterns))
-        }
-        _ => {
+        Entry::Bar(_, _) => {
             let bar = bar_of(file, entry)?;
             Some((bar.block, &bar.patterns))
+        }
+        _ => {
+            let config = config_of(file, entry)?;
+            Some((config.block, &config.patterns))
         }
     }
 }
@@ -201,6 +202,19 @@ pub(crate) fn push_pattern(
 fn config_of<'f, 'a>(file: &'f FileEntries<'a>, entry: Entry) -> Option<&'f ConfigEntry<'a>> {
     match entry {
         Entry::Config(i, j) => file.endpoints.get(i)?.configs.get(j),
+        Entry::Capability(i, j) => Some(&file.endpoints.get(i)?.capabilities.get(j)?.config),
+        _ => None,
+    }
+}
+
+/// Returns the offsets of the configuration registers of an entry, if it has any.
+pub(crate) fn extent_of(file: &FileEntries<'_>, entry: Entry) -> Option<Extent> {
+    match entry {
+        Entry::Config(i, j) => Some(config_extent(file.endpoints.get(i)?.configs.get(j)?)),
+        Entry::Capability(i, j) => {
+            let capability = file.endpoints.get(i)?.capabilities.get(j)?;
+            Some(capability_extent(capability))
+        }
         _ => None,
     }
 }
@@ -215,11 +229,11 @@ pub(crate) fn push_overlap(
     let Some(config) = config_of(file, entry) else {
         return Ok(());
     };
-    let Some(met) = config_of(file, other.entry) else {
+    let Some(met) = extent_of(file, other.entry) else {
         return Ok(());
     };
-    let first = met.off.unsigned_abs();
-    let end = first.saturating_add(met.block.unsigned_abs());
+    let first = met.off;
+    let end = first.saturating_add(met.len);
     write!(
         text,
         " {} overlaps {other}, which is at 0x{first:x} to 0x{:x}",

@@ -28,6 +28,7 @@ way_of entry.Host = at_key (codes "host") ∷ []
 way_of (entry.Endpoint i) = way_in (codes "endpoint") i []
 way_of (entry.Bar i j) = way_in (codes "endpoint") i (way_in (codes "bar") j [])
 way_of (entry.Config i j) = way_in (codes "endpoint") i (way_in (codes "config") j [])
+way_of (entry.Capability i j) = way_in (codes "endpoint") i (way_in (codes "capability") j [])
 way_of (entry.Bridge i) = way_in (codes "bridge") i []
 way_of (entry.Guest i) = way_in (codes "guest") i []
 way_of (entry.Slot i j) = way_in (codes "guest") i (way_in (codes "slots") j [])

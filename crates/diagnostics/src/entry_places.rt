@@ -37,6 +37,7 @@ fn way_of<'k>(alloc: Global, entry: Entry) -> Result<Vec<Step<'k>>, AllocError>
     let endpoint = Step::Key("endpoint");
     let bar = Step::Key("bar");
     let config = Step::Key("config");
+    let capability = Step::Key("capability");
     let guest = Step::Key("guest");
     let slots = Step::Key("slots");
     match entry {
@@ -48,6 +49,12 @@ fn way_of<'k>(alloc: Global, entry: Entry) -> Result<Vec<Step<'k>>, AllocError>
             endpoint,
             Step::Index(i),
             config,
+            Step::Index(j),
+        ]?),
+        Entry::Capability(i, j) => Ok(vec![in alloc;
+            endpoint,
+            Step::Index(i),
+            capability,
             Step::Index(j),
         ]?),
         Entry::Bridge(i) => Ok(vec![in alloc; Step::Key("bridge"), Step::Index(i)]?),

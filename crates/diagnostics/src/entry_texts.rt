@@ -15,6 +15,7 @@ impl fmt::Display for EntryText {
             Entry::Endpoint(i) => write!(f, "endpoint[{i}]"),
             Entry::Bar(i, j) => write!(f, "endpoint[{i}].bar[{j}]"),
             Entry::Config(i, j) => write!(f, "endpoint[{i}].config[{j}]"),
+            Entry::Capability(i, j) => write!(f, "endpoint[{i}].capability[{j}]"),
             Entry::Bridge(i) => write!(f, "bridge[{i}]"),
             Entry::Guest(i) => write!(f, "guest[{i}]"),
             Entry::Slot(i, j) => write!(f, "guest[{i}].slots[{j}]"),

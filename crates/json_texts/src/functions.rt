@@ -63,7 +63,12 @@ fn endpoint_value(
     let interrupt = known_interrupt(alloc, &row.path, pin)?;
     let mut members = place_members(alloc, row)?;
     put_identity(&mut members, alloc, row, "endpoint")?;
-    put(&mut members, alloc, "capabilities", Value::from(capabilities))?;
+    put(
+        &mut members,
+        alloc,
+        "capabilities",
+        Value::from(capabilities),
+    )?;
     put(&mut members, alloc, "regions", Value::from(regions))?;
     put(&mut members, alloc, "interrupt", interrupt)?;
     Ok(Value::Object(members))

@@ -7,3 +7,6 @@ invariant-bars l = l.tables.items ≡ l.initial.tables.items ++ map (entry.Bar l
 
 abbrev pub invariant-configs : goal.invariant-configs
 invariant-configs l = l.tables.items ≡ l.initial.tables.items ++ map (entry.Config l.index) (range_with_len 0 l.config)
+
+abbrev pub invariant-capabilities : goal.invariant-capabilities
+invariant-capabilities l = l.tables.items ≡ l.initial.tables.items ++ map (entry.Capability l.index) (range_with_len 0 l.capability)
