@@ -112,6 +112,7 @@ fn push_capability(
                 (Rule::CapabilityId, is_between(1, 0xff, capability.id)),
                 (Rule::CapabilityOff, is_capability_offset(config.off)),
                 (Rule::CapabilityBlock, is_between(1, 190, config.block)),
+                // (the header has two bytes)
                 (Rule::ConfigEnd, ends_by(254, config.off, config.block)),
             ],
         ),

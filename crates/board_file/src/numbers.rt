@@ -29,7 +29,7 @@ pub(crate) fn is_capability_offset(off: i64) -> bool
     is_between(0x40, 0xfc, off) && off.unsigned_abs() % 4 == 0
 }
 
-/// Returns whether `block` bytes from offset `off` on end at or below offset `end`.
+/// Returns whether the sum of `off` and `block` is at most `end`.
 pub(crate) fn ends_by(end: u16, off: i64, block: i64) -> bool
     ensures { result ≡ int_le (off +ℤ block) (pos end) }
 {
