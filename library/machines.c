@@ -47,7 +47,8 @@ static void put_number(struct stream *to, uint64_t number, uint32_t width, uint3
 }
 
 /* Four bytes of a function's header as the host reads them, without the bytes that no set-up decides: Status and Secondary Status
- * and, of an endpoint, Cache Line Size, Latency Timer and Interrupt Line, which a guest's driver writes. */
+ * and, of an endpoint, the Capabilities Pointer, which its device can write, and Cache Line Size, Latency Timer and Interrupt
+ * Line, which a guest's driver writes. */
 static uint32_t header_at(struct pciguest *machine, const struct pciguest_function *row, uint8_t offset)
 {
     uint32_t value = 0, kept = offset == 0x04 ? 0xffff : 0xffffffff;
@@ -56,7 +57,7 @@ static uint32_t header_at(struct pciguest *machine, const struct pciguest_functi
         kept = 0xffff;
     if (!row->is_bridge && offset == 0x0c)
         kept = 0xffff0000;
-    if (!row->is_bridge && offset == 0x3c)
+    if (!row->is_bridge && (offset == 0x34 || offset == 0x3c))
         kept = 0xffffff00;
     pciguest_raw_host_read(machine, PCIGUEST_CONFIG, (uint8_t)row->bus, (uint8_t)row->device, (uint8_t)row->function, offset, 4,
                            &value);
