@@ -216,7 +216,7 @@ enum pciguest_status {
     PCIGUEST_BAD_GUEST_NAME = 109,    /* guest name is invalid or already used */
     PCIGUEST_BAD_SLOT = 110,          /* slot names no endpoint, or one already in a slot */
     PCIGUEST_BAD_APERTURE = 111,      /* aperture is invalid or overlaps another */
-    PCIGUEST_BAD_CELL_MASKS = 112,    /* rw or w1c pattern is invalid, or config blocks overlap */
+    PCIGUEST_BAD_CELL_MASKS = 112,    /* rw or w1c pattern is invalid, or blocks overlap */
     PCIGUEST_FILE_MEMORY = 199,       /* out of memory while reading the board file */
     PCIGUEST_TOO_MANY_BUSES = 201,    /* board has more than 255 bridges */
     PCIGUEST_NO_IO_WINDOW = 202,      /* I/O BAR is behind a bridge without an I/O window */
@@ -496,9 +496,10 @@ uint32_t pciguest_take(struct pciguest *machine, size_t guest, uint64_t slot);
 
 /* Reads 1 to 8 bytes of the function in a guest's slot, from the device's side, at any offset
  * within one part. The part is a region or configuration space; in configuration space, a device
- * can read only the two bytes of Status (06h, 07h) and its own registers (40h to FFh). A byte
- * without a register reads as 0. The byte at the lowest offset is the lowest byte of the value. If
- * any byte is refused, the whole read is refused. A read changes nothing.
+ * can read only the two bytes of Status (06h, 07h), the Capabilities Pointer (34h) and its own
+ * registers (40h to FFh). A byte without a register reads as 0. The byte at the lowest offset is
+ * the lowest byte of the value. If any byte is refused, the whole read is refused. A read changes
+ * nothing.
  * Returns 0 on success; 302 if the width isn't 1 to 8; 303 if the slot is above 31, or if a byte is
  * past the end of the part or isn't one that a device can access; 601 if the slot is empty; 902 if
  * there is no such guest, or the part is above 6. Since 0.4.0. */
@@ -507,15 +508,50 @@ uint32_t pciguest_device_read_wide(struct pciguest *machine, size_t guest, uint6
 
 /* Writes the low `width` bytes (1 to 8) of a value to the function in a guest's slot, from the
  * device's side, at any offset within one part. The part is a region or configuration space; in
- * configuration space, a device can write only the two bytes of Status (06h, 07h) and its own
- * registers (40h to FFh). The device can change all bits of these bytes, even bits that the guest
- * can't change. The byte at the lowest offset is the lowest byte of the value. If any byte is
- * refused, none is written.
+ * configuration space, a device can write only the two bytes of Status (06h, 07h), the Capabilities
+ * Pointer (34h) and its own registers (40h to FFh). The device can change all bits of these bytes,
+ * even bits that the guest can't change. A write to a byte without a register is dropped. The byte
+ * at the lowest offset is the lowest byte of the value. If any byte is refused, none is written.
  * Returns 0 on success; 302 if the width isn't 1 to 8; 303 if the slot is above 31, or if a byte is
  * past the end of the part or isn't one that a device can access; 601 if the slot is empty; 902 if
  * there is no such guest, or the part is above 6. Since 0.4.0. */
 uint32_t pciguest_device_write_wide(struct pciguest *machine, size_t guest, uint64_t slot,
                                     uint32_t part, uint64_t offset, uint32_t width, uint64_t value);
+
+/* Finds a structure in the capability list of the function in a guest's slot (PCI Local Bus 3.0,
+ * 6.7): the first one with this Capability ID after the structure at offset `after`, or in the
+ * whole list if `after` is 0. Stores the structure's offset, which you can pass as `after` to find
+ * the next one, or 0 if there is none. Reads the registers as the device does. If bit 4 of Status
+ * is 0, the function has no list. The two low bits of a pointer are ignored, and a pointer below
+ * 40h ends the list. Because a device can change the pointers, even to a loop, a search ends after
+ * 48 structures; no list without a loop has more. Changes nothing.
+ * Returns 0 on success; 303 if the slot is above 31, or if there is a list and the device can't
+ * access offset `after` + 1; 601 if the slot is empty; 902 if there is no such guest. Since
+ * 0.4.0. */
+static inline uint32_t pciguest_find_capability(struct pciguest *machine, size_t guest,
+                                                uint64_t slot, uint64_t after, uint8_t id,
+                                                uint64_t *offset)
+{
+    const uint32_t part = PCIGUEST_PART_CONFIG;
+    uint64_t status = 0, next = 0, header = 0, found = 0;
+    uint32_t left = 48, number;
+
+    if (!offset)
+        return PCIGUEST_ARGUMENT;
+    number = pciguest_device_read_wide(machine, guest, slot, part, 0x06, 1, &status);
+    if (!number && (status & 0x10))
+        number = pciguest_device_read_wide(machine, guest, slot, part, after ? after + 1 : 0x34, 1,
+                                           &next);
+    while (!number && !found && next >= 0x40 && left--) {
+        next &= 0xfc;
+        number = pciguest_device_read_wide(machine, guest, slot, part, next, 2, &header);
+        found = (header & 0xff) == id ? next : 0;
+        next = header >> 8;
+    }
+    if (!number)
+        *offset = found;
+    return number;
+}
 
 /* Stores where a region of the function in a guest's slot is now, as the guest sees it. The region
  * is the one that begins at base address register `bar`, 0 to 5. The result stays valid until the

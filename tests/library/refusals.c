@@ -327,8 +327,8 @@ static void gifts(struct pciguest *machine)
     IS((uint64_t)blocks, (uint64_t)before);
 }
 
-/* A device reaches Status, the Capabilities Pointer (34h), 40h to FFh and its regions, and no other byte: not the guest's copies, nor identity. What it
- * writes its driver reads, whatever the driver's own writes may change; it takes no memory. */
+/* A device reaches Status, the Capabilities Pointer, 40h to FFh and its regions, and no other byte: not the guest's copies, nor
+ * identity. What it writes its driver reads, whatever the driver's own writes may change; it takes no memory. */
 static void devices(struct pciguest *machine)
 {
     uint64_t wide = 0;
@@ -359,6 +359,83 @@ static void devices(struct pciguest *machine)
     IS(pciguest_reset(machine, 0, 0), 0);
     calls_left = -1;
     IS((uint64_t)blocks, (uint64_t)before);
+}
+
+/* The function in slot 0 has a capability list that isn't in the order of offsets, and the one in slot 1 has none. */
+static const char two_functions[] =
+    "host = { io = [0x1000, 0xffff], mem = [0xc0000000, 0xdfffffff] }\n"
+    "guest = [ { name = \"a\", slots = [\"1.0\", \"2.0\"] } ]\n"
+    "endpoint = [ { at = \"1.0\", vendor = 0x1234, device = 1, class = 0xff0000, capability = [\n"
+    "{ id = 9, off = 0x80, block = 2 }, { id = 0x11, off = 0x40, block = 10 }, { id = 9, off = 0x60, block = 2 } ] },\n"
+    "{ at = \"2.0\", vendor = 0x1234, device = 2, class = 0xff0000 } ]\n";
+
+static uint64_t found(struct pciguest *machine, uint64_t slot, uint64_t after, uint8_t id)
+{
+    uint64_t offset = 7;
+
+    IS(pciguest_find_capability(machine, 0, slot, after, id, &offset), 0);
+    return offset;
+}
+
+/* Sets a byte of configuration space as the device does. */
+static void set(struct pciguest *machine, uint64_t slot, uint64_t offset, uint8_t value)
+{
+    IS(pciguest_device_write_wide(machine, 0, slot, PCIGUEST_PART_CONFIG, offset, 1, value), 0);
+}
+
+static void lists_as_declared(struct pciguest *machine)
+{
+    uint64_t offset = 7;
+
+    IS(found(machine, 0, 0, 9), 0x80);
+    IS(found(machine, 0, 0x80, 9), 0x60);
+    IS(found(machine, 0, 0x60, 9), 0);
+    IS(found(machine, 0, 0, 0x11), 0x40);
+    IS(found(machine, 0, 0x40, 0x11), 0);
+    IS(found(machine, 0, 0, 5), 0);
+    IS(found(machine, 1, 0, 9), 0);
+    IS(pciguest_find_capability(NULL, 0, 0, 0, 9, &offset), 902);
+    IS(pciguest_find_capability(machine, 0, 0, 0, 9, NULL), 902);
+    IS(pciguest_find_capability(machine, 1, 0, 0, 9, &offset), 902);
+    IS(pciguest_find_capability(machine, 0, 32, 0, 9, &offset), 303);
+    IS(pciguest_find_capability(machine, 0, 0, 0xff, 9, &offset), 303);
+    IS(pciguest_find_capability(machine, 0, 0, UINT64_MAX, 9, &offset), 303);
+    IS(pciguest_find_capability(machine, 0, 31, 0, 9, &offset), 601);
+    IS(offset, 7);
+}
+
+/* Lists that devices changed: each search ends, and the image of the machine stays one of its board. */
+static void changed_lists(struct pciguest *machine)
+{
+    static struct image saved;
+
+    set(machine, 0, 0x61, 0x80); /* a loop */
+    IS(found(machine, 0, 0, 5), 0);
+    IS(found(machine, 0, 0x60, 0x11), 0x40);
+    set(machine, 0, 0x34, 0x43); /* the low two bits are ignored */
+    IS(found(machine, 0, 0, 9), 0x60);
+    save(machine, ALL, &saved);
+    IS(pciguest_reset(machine, 0, 0), 0);
+    IS(found(machine, 0, 0, 9), 0x80);
+    IS(pciguest_load_all(machine, saved.bytes, saved.size), 0);
+    IS(found(machine, 0, 0, 9), 0x60);
+    set(machine, 0, 0x34, 0x3f); /* in the header */
+    IS(found(machine, 0, 0, 9), 0);
+    set(machine, 0, 0x34, 0x80);
+    set(machine, 0, 0x06, 0);
+    IS(found(machine, 0, 0, 9), 0);
+    set(machine, 1, 0x06, 0x10); /* without a Capabilities Pointer */
+    IS(found(machine, 1, 0, 9), 0);
+}
+
+static void capability_lists(void)
+{
+    struct pciguest machine = PCIGUEST_INIT;
+
+    IS(pciguest_new(&machine, two_functions, sizeof two_functions - 1), 0);
+    lists_as_declared(&machine);
+    changed_lists(&machine);
+    pciguest_free(&machine);
 }
 
 static void reply_is(int line, struct pciguest *machine, const char *text, const char *wanted)
@@ -477,7 +554,7 @@ static void all_messages(void)
     static const uint32_t without[] = {0, 1, 100, 200, 300, 400, 900, 0xffffffff, 0x10065};
 
     message(101, "board file is not valid TOML");
-    message(112, "rw or w1c pattern is invalid, or config blocks overlap");
+    message(112, "rw or w1c pattern is invalid, or blocks overlap");
     message(199, "out of memory while reading the board file");
     message(205, "prefetchable memory aperture is too small");
     message(301, "address is not a multiple of the width");
@@ -556,6 +633,7 @@ int main(int argc, char **argv)
     line_feeds(&machine);
     pciguest_free(&machine);
     pciguest_free(&machine);
+    capability_lists();
     reports();
     checks();
     all_messages();

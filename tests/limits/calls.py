@@ -216,6 +216,6 @@ def freed(library, text):
 
 def all_calls(library):
     """Expects that each call of the header was made."""
-    header = re.findall(r"^[A-Za-z][\w *]*pciguest_(\w+)\(", (TOP / "library/pciguest.h").read_text(), re.M)
-    left = {*header} - library.called - {"piece", "ends_within"}
+    header = re.findall(r"^(?!static)[A-Za-z][\w *]*pciguest_(\w+)\(", (TOP / "library/pciguest.h").read_text(), re.M)
+    left = {*header} - library.called
     library.tally.expect("each call of the header was made", not left, left)
