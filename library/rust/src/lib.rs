@@ -94,7 +94,7 @@ pub use error::{Error, Refusal};
 pub use function::{Bar, BoardFunction, Function, Functions, Interrupt, Ranges, Window};
 pub use image_fault::ImageFault;
 pub use limits::{limits, Limits};
-pub use machine::Machine;
+pub use machine::{Capability, Machine};
 pub use moved::{Moved, Places};
 pub use place::{At, Guest, Hit, HostAt, Part, Region, Space};
 pub use text::{check, report, report_json, strerror, version, Check};

@@ -15,6 +15,15 @@ use core::ptr::null_mut;
 type WhyCall =
     unsafe extern "C" fn(*mut Handle, usize, u32, u64, u64, *mut u8, usize, *mut usize) -> u32;
 
+/// A structure of a function's capability list, which [`Machine::capabilities`] returns.
+#[derive(Clone, Copy, Debug, PartialEq, Eq)]
+pub struct Capability {
+    /// Its Capability ID.
+    pub id: u8,
+    /// Its offset in configuration space, where its header begins: the Capability ID, then the Next Capability.
+    pub offset: u64,
+}
+
 /// A board that is set up, with its guests. What it holds is freed when it is dropped.
 ///
 /// Each call takes the machine mutably, also a read, since the library makes one call at a time on one machine. So a
@@ -369,8 +378,8 @@ impl Machine {
     }
 
     /// Reads one byte of the function in a guest's slot, as its device does: of a region, or of configuration space
-    /// the two bytes of Status (06h, 07h) and the device's own registers (40h to FFh). A byte that has no register
-    /// reads 0. It changes nothing.
+    /// the two bytes of Status (06h, 07h), the Capabilities Pointer (34h) and the device's own registers (40h to FFh).
+    /// A byte that has no register reads 0. It changes nothing.
     ///
     /// # Errors
     ///
@@ -496,6 +505,42 @@ impl Machine {
                 value,
             )
         })
+    }
+
+    /// Returns the capability list of the function in a guest's slot (PCI Local Bus 3.0, 6.7), in the order of the list.
+    /// Reads the registers as the device does. Bits 0 and 1 of a pointer are ignored, and a pointer below 40h ends the
+    /// list. If the device has changed the pointers to a loop, the list ends where it would repeat. Changes nothing.
+    ///
+    /// # Errors
+    ///
+    /// 303: the slot is above 31. 601: the slot is empty. 902: there is no such guest.
+    ///
+    /// ```
+    /// # const BOARD: &str = include_str!("board.toml");
+    /// use pciguest::{Machine, Part};
+    ///
+    /// let msix = "[[endpoint.capability]]\nid = 0x11\noff = 0x40\nblock = 10\nreset = \"030000080000000c0000\"\n";
+    /// let mut machine = Machine::new([BOARD, msix].concat())?;
+    /// let a = machine.guest("a")?;
+    /// for capability in machine.capabilities(a, 0)? {
+    ///     if capability.id == 0x11 {
+    ///         let table = machine.device_read_wide(a, 0, Part::Config, capability.offset + 4, 4)?;
+    ///         assert_eq!((table & 7, table & !7), (0, 0x800)); // the MSI-X table is in BAR 0, at offset 800h
+    ///     }
+    /// }
+    /// # assert_eq!(machine.capabilities(a, 0)?.len(), 1);
+    /// # Ok::<(), pciguest::Error>(())
+    /// ```
+    pub fn capabilities(&mut self, guest: Guest, slot: u64) -> Result<Vec<Capability>, Error> {
+        let mut read = |at, width| self.device_read_wide(guest, slot, Part::Config, at, width);
+        let mut list: Vec<Capability> = Vec::new();
+        let mut offset = if read(0x06, 1)? & 0x10 == 0 { 0 } else { read(0x34, 1)? & 0xfc };
+        while offset >= 0x40 && list.iter().all(|before| before.offset != offset) {
+            let header = read(offset, 2)?;
+            list.push(Capability { id: header as u8, offset });
+            offset = header >> 8 & 0xfc;
+        }
+        Ok(list)
     }
 
     /// Where the region that begins at a base address register, 0 to 5, stands now, in the guest's own view. The answer

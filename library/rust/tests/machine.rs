@@ -1,7 +1,8 @@
 //! Each call on `boards/main.toml`. `refusal_rows.rs` has most of what is refused.
 
 use pciguest::{
-    At, Bar, Error, Guest, Hit, HostAt, Interrupt, Machine, Part, Places, Ranges, Space, Window,
+    At, Bar, Capability, Error, Guest, Hit, HostAt, Interrupt, Machine, Part, Places, Ranges,
+    Space, Window,
 };
 
 const BOARD: &str = include_str!("../../../boards/main.toml");
@@ -191,6 +192,40 @@ fn a_device_reads_and_writes_its_own() -> Result<(), Error> {
     assert_eq!(machine.device_read(a, 0, Part::Config, 7)?, 0xa5);
     assert_eq!(machine.read(a, config(0, 7), 1)?, 0xa5);
     assert_eq!(number(machine.device_read(a, 0, Part::Region(6), 0)), 902);
+    Ok(())
+}
+
+#[test]
+fn a_capability_list_is_read() -> Result<(), Error> {
+    let mut machine = Machine::new(
+        r#"host = { io = [0x1000, 0xffff], mem = [0xc0000000, 0xdfffffff] }
+        endpoint = [
+          { at = "1.0", vendor = 0x1234, device = 1, class = 0xff0000, capability = [
+            { id = 9, off = 0x80, block = 2 },
+            { id = 0x11, off = 0x40, block = 10 },
+            { id = 9, off = 0x60, block = 2 },
+          ] },
+          { at = "2.0", vendor = 0x1234, device = 2, class = 0xff0000 },
+        ]
+        guest = [ { name = "a", slots = ["1.0", "2.0"] } ]"#,
+    )?;
+    let a = machine.guest("a")?;
+    let [first, second, third] =
+        [(9, 0x80), (0x11, 0x40), (9, 0x60)].map(|(id, offset)| Capability { id, offset });
+    assert_eq!(machine.capabilities(a, 0)?, [first, second, third]);
+    assert_eq!(machine.capabilities(a, 1)?, []);
+    machine.device_write(a, 0, Part::Config, 0x61, 0x80)?; // a loop
+    assert_eq!(machine.capabilities(a, 0)?, [first, second, third]);
+    machine.device_write(a, 0, Part::Config, 0x34, 0x43)?; // the low two bits are ignored
+    assert_eq!(machine.capabilities(a, 0)?, [second, third, first]);
+    machine.device_write(a, 0, Part::Config, 0x34, 0x3f)?; // in the header
+    assert_eq!(machine.capabilities(a, 0)?, []);
+    machine.reset(a, 0)?;
+    machine.device_write(a, 0, Part::Config, 0x06, 0)?;
+    assert_eq!(machine.capabilities(a, 0)?, []);
+    machine.device_write(a, 1, Part::Config, 0x06, 0x10)?; // without a Capabilities Pointer
+    assert_eq!(machine.capabilities(a, 1)?, []);
+    assert_eq!(number(machine.capabilities(a, 2)), 601);
     Ok(())
 }
 
