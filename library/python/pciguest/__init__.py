@@ -55,15 +55,15 @@ from ._functions import Bar, BoardFunction, Function, Interrupt, Window, Windows
 from ._image_fault import ImageFault
 from ._library import version
 from ._limits import Limits, limits
-from ._machine import Guest, Host, Machine
+from ._machine import Capability, Guest, Host, Machine
 from ._refusal import BoardRefusal, Problem, Refusal, strerror
 from ._regions import Hit, Moved, Region
 from ._spaces import Functions, ReadableSpace, ReadableWide, Space, Wide
 from ._texts import Check, check, report, report_json
 
 __all__ = [
-    "Audit", "Bar", "Board", "BoardFunction", "BoardRefusal", "Check", "DeclaredOtherwise", "Device", "Function",
-    "Functions", "Guest", "Hit", "Host", "ImageFault", "Interrupt", "Limits", "Machine", "Moved", "Problem",
+    "Audit", "Bar", "Board", "BoardFunction", "BoardRefusal", "Capability", "Check", "DeclaredOtherwise", "Device",
+    "Function", "Functions", "Guest", "Hit", "Host", "ImageFault", "Interrupt", "Limits", "Machine", "Moved", "Problem",
     "ReadableSpace", "ReadableWide", "Readiness", "Refusal", "Region", "Register", "Space", "Wide", "Window",
     "Windows", "check", "limits", "report", "report_json", "strerror", "version",
 ]

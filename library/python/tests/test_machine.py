@@ -11,6 +11,18 @@ from pciguest._library import CALLS
 from why_lines import why_lines
 
 
+# the function in slot 0 has a capability list that isn't in the order of offsets, and the one in slot 1 has none
+LISTS = """
+host = { io = [0x1000, 0xffff], mem = [0xc0000000, 0xdfffffff] }
+endpoint = [
+  { at = "1.0", vendor = 0x1234, device = 1, class = 0xff0000, capability = [
+    { id = 9, off = 0x80, block = 2 }, { id = 0x11, off = 0x40, block = 10 }, { id = 9, off = 0x60, block = 2 } ] },
+  { at = "2.0", vendor = 0x1234, device = 2, class = 0xff0000 },
+]
+guest = [ { name = "a", slots = ["1.0", "2.0"] } ]
+"""
+
+
 class Guests(MachineCase):
     def test_a_guest_uses_its_function(self):
         a, b = self.a, self.b
@@ -137,6 +149,24 @@ class Guests(MachineCase):
         self.assertEqual(a.device_read(0, 7), 0x5A)
         for value, width in ((1 << 16, 2), (-1, 4), (0, -1), (1 << 64, 8)):
             self.assertRaises(ValueError, a.device_write, 0, 6, value, width=width)
+
+    def test_a_capability_list_is_read(self):
+        with Machine(LISTS) as machine:
+            a, declared = machine.guest("a"), [(9, 0x80), (0x11, 0x40), (9, 0x60)]
+            self.assertEqual((a.capabilities(0), a.capabilities(1)), (declared, []))
+            found = [a.find_capability(0, 9), a.find_capability(0, 0x11), a.find_capability(0, 5), a.find_capability(1, 9)]
+            self.assertEqual(found, [0x80, 0x40, None, None])
+            a.device_write(0, 0x61, 0x80)  # a loop
+            self.assertEqual((a.capabilities(0), a.find_capability(0, 5)), (declared, None))
+            a.device_write(0, 0x34, 0x43)  # the low two bits are ignored
+            self.assertEqual(a.capabilities(0), declared[1:] + declared[:1])
+            a.device_write(0, 0x34, 0x3F)  # in the header
+            self.assertEqual(a.capabilities(0), [])
+            a.reset(0)
+            a.device_write(0, 0x06, 0)
+            a.device_write(1, 0x06, 0x10)  # without a Capabilities Pointer
+            self.assertEqual((a.capabilities(0), a.capabilities(1)), ([], []))
+            self.refused(601, a.capabilities, 2)
 
     def test_a_region_is_reached_wherever_it_stands(self):
         a = self.a
