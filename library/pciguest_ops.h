@@ -1,8 +1,8 @@
-/* Accesses and questions for firmware under test. The firmware sends each access or question as one line on standard output
- * and gets the reply on standard input: one line for an access, one or more for a question. `pciguest firmware BOARD` answers
+/* Accesses and queries for firmware under test. The firmware sends each access or query as one line on standard output
+ * and gets the reply on standard input: one line for an access, one or more for a query. `pciguest firmware BOARD` answers
  * these lines, and `python3 -m pciguest.firmware_test -- ./my_firmware` tests the firmware on many boards. Firmware needs only
  * this header, and no library. It must write nothing else to standard output; its own messages go to standard error. If an
- * access or a question is refused or gets no reply, the firmware ends with status 3.
+ * access or a query is refused or gets no reply, the firmware ends with status 3.
  *
  * A width is 1, 2 or 4 bytes. An offset, port or address must be a multiple of the width. */
 #ifndef PCIGUEST_OPS_H
@@ -87,7 +87,7 @@ static inline void pg_store(uint64_t address, int width, uint32_t value)
     (void)pg_ask(line);
 }
 
-/* ---- questions */
+/* ---- queries */
 
 /* Returns whether a line is the last line of a reply, and stores how many lines it says come before it. Such a line has `ok` or
  * counts after a word: `audit: ok`, `ready: 1 problem, 2 left to do` or `why: 3 lines`, for example. */
