@@ -108,7 +108,7 @@ static inline int pg_is_count(const char *line, unsigned long *count)
     return strcmp(rest, "\n") == 0;
 }
 
-/* Sends a question such as `host ready` or `host why mem 0xc0000000`, and copies the lines of the reply to a stream such as
+/* Sends a query such as `host ready` or `host why mem 0xc0000000`, and copies the lines of the reply to a stream such as
  * stderr; if the stream is NULL, the lines are discarded. Returns the number of problems and readiness issues, or for
  * `host why ..` the number of lines in the answer. */
 static inline unsigned long pg_question(const char *question, FILE *out)
