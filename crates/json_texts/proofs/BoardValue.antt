@@ -45,7 +45,7 @@ of_decl : (f : BoardFunction) (d : Decl) → lists_of (as_endpoint (record f { d
 of_decl f (endpoint d) = refl
 of_decl f (bridge d) = refl
 
-rest_at : {A : Type 0} (n : ℕ) (xs : List A) (y : A) (ys : List A) → drop n xs ≡ y ∷ ys → (slice_get xs n ≡ Some y) × (drop (n + 1) xs ≡ ys)
+rest_at : {A : Type 0} (n : ℕ) (xs : List A) (y : A) (ys : List A) → drop n xs ≡ y ∷ ys → (slice_get xs n ≡ Some y) × (drop (suc n) xs ≡ ys)
 rest_at zero [] y ys e = grind arith
 rest_at zero (x ∷ xs) y ys e = grind arith
 rest_at (suc n) [] y ys e = grind arith
@@ -76,9 +76,10 @@ functions_are : (whole : Board) (a : Apertures) → HasLawfulDecls whole → (fs
 functions_are whole a lawful fs n [] e each = refl
 functions_are whole a lawful fs n (f ∷ gs) e each =
     let there = rest_at n fs f gs e in
+    let next : n + 1 ≡ suc n = omega arith in
     ap₂ (λ (v : Data) (vs : List Data). v ∷ vs)
     (function_is whole a lawful f.path f.decl (capabilities_nth fs n) (declared_nth fs n f there.0) each.0)
-    (functions_are whole a lawful fs (n + 1) gs there.1 each.1)
+    (functions_are whole a lawful fs (n + 1) gs (ap (λ k. drop k fs) next ∙ there.1) each.1)
 
 bridges_are : (whole b : Board) → count_by (λ r. is_bridge r.decl) (map (table_row whole found_decl) b) ≡ count_by (λ r. is_bridge r.decl) b
 bridges_are whole [] = refl

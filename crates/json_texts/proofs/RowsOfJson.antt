@@ -1,5 +1,5 @@
 -- Reports of boards as JSON.
-use Rattle.std.{proofs.Common.{◌≡◌, [], ◌++◌, codes, refl}, specs.Fmt.digits}
+use Rattle.std.{proofs.Common.{◌≡◌, [], ◌∷◌, ◌++◌, codes, refl}, specs.Fmt.digits}
 use Rattle.serde_json.proofs.OnLiterals.{serde_json_on_literals}
 use Rattle.model_registers.specs.{Cell.constant, Capabilities.with_capabilities}
 use Rattle.model_board.specs.{Board.endpoint, Examples.{part, function_at, plain}}
