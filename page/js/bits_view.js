@@ -56,6 +56,7 @@ const meaning_of = {
   window: (_, { unit }) => 'The bits that can be written are the upper ones of the address. Those below are 0 in Base and 1 in Limit, '
     + `so a window is made of units of ${size_in_words(unit)}.`,
   command: () => 'A bit that is hardwired to 0 is a switch that this function doesn\'t have.',
+  structure: () => 'The hardwired bits describe the function. Software sets the others.',
 };
 
 export class Bits {
@@ -72,15 +73,15 @@ export class Bits {
   // Values that one types, register by register; those that are drawn already stay.
   show(values) {
     if (this.shown === null) return;
-    const { form, registers } = this.shown, names = new Map(form.names ?? []), drawn = [form.title, form.names, ...registers.flatMap(Object.values), ...values].join();
+    const { form, registers } = this.shown, drawn = [form.title, ...registers.flatMap(Object.values), ...values].join();
     if (drawn === this.drawn) return;
     this.drawn = drawn;
-    this.into.replaceChildren(make('h3', '', `Bits of ${form.title}`), ...registers.map((register, nth) => this.row_of(register, values[nth], names)),
+    this.into.replaceChildren(make('h3', '', `Bits of ${form.title}`), ...registers.map((register, nth) => this.row_of(register, values[nth])),
       this.key(), make('p', 'hint', this.in_words(form, registers)));
   }
 
-  row_of(register, value, names) {
-    const bits = bits_of_register(register, value), told = `${register.name}, ${hex(register.offset)}: ${digits(value_of(bits), register.width)}`;
+  row_of(register, value) {
+    const bits = bits_of_register(register, value), names = new Map(register.names), told = `${register.name}, ${hex(register.offset)}: ${digits(value_of(bits), register.width)}`;
     const row = make('div', 'of_bits', make('span', 'unit', told), boxes_of(bits, names));
     row.setAttribute('role', 'img');
     row.setAttribute('aria-label', `${told}, in bits ${bits.map(one => (one.on ? 1 : 0)).join('')}`);

@@ -3,6 +3,7 @@
 
 import { hex, size_in_words } from './report.js';
 import { register_named } from './register_names.js';
+import { capability_list } from './capabilities.js';
 
 const COMMAND_BITS = [['I/O space', 0], ['Memory space', 1], ['Bus master', 2], ['Parity error response', 6], ['SERR# enable', 8], ['Interrupt disable', 10]];
 const STATUS_BITS = [['Master data parity error', 8], ['Signaled target abort', 11], ['Received target abort', 12], ['Received master abort', 13],
@@ -21,16 +22,37 @@ function byte(name, of, { kind, values }) {
   return { name, places: [place], title: at_offset([register]), most: 0xffn, now: number_in(values, register), writes: value => [[...place, value]] };
 }
 
+const word_in_hex = word => `0x${word.toString(16).padStart(4, '0')}`;
+const names_by_bit = names => names.map(([name, bit]) => [bit, name]);
+
 // Bits of a register of two bytes as switches. Of those that writing a one clears, only one that is set can be written.
-function bits_of(of, names, { kind, values }, clears) {
-  const register = register_named(kind, of), { title } = register, place = place_in(register), now = Number(number_in(values, register));
-  const told = `0x${now.toString(16).padStart(4, '0')}${clears ? ', writing a one clears' : ''}`;
-  const switches = names.map(([name, bit]) => {
+function switches_of(register, names, now, clears = false) {
+  const place = place_in(register);
+  return names.map(([name, bit]) => {
     const on = (now >> bit & 1) !== 0;
     return { name, on, title: `bit ${bit} of ${at_offset([register])}`, places: [place], shut: clears && !on, writes: () => [[...place, clears ? 1 << bit : now ^ 1 << bit]] };
   });
-  const form = clears ? null : { is: 'command', title, names: names.map(([name, bit]) => [bit, name]), registers: [{ ...register, name: title, low: 0 }] };
-  return { title, told, fields: [], switches, form };
+}
+
+function bits_of(of, names, { kind, values }, clears) {
+  const register = register_named(kind, of), { title } = register, now = Number(number_in(values, register));
+  const form = clears ? null : { is: 'command', title, registers: [{ ...register, name: title, low: 0, names: names_by_bit(names) }] };
+  return { title, told: `${word_in_hex(now)}${clears ? ', writing a one clears' : ''}`, fields: [], switches: switches_of(register, names, now, clears), form };
+}
+
+// Some bits of a register as a number.
+function number_field(register, [name, mask, shift], now) {
+  const place = place_in(register), bits = mask.toString(2), lowest = bits.length - 1 - bits.lastIndexOf('1');
+  return { name, places: [place], title: `bits ${bits.length - 1} to ${lowest} of ${at_offset([register])}`, most: mask >> shift, now: (now & mask) >> shift,
+    writes: value => [[...place, now & ~mask | value << shift]] };
+}
+
+// A structure of the capability list whose registers are known; the first of them is Message Control.
+function structure_of({ name, offset, told, registers }, values) {
+  const title = `${name} at ${hex(offset)}`, held = register => number_in(values, register);
+  return { title, told: `${word_in_hex(held(registers[0]))}, ${told}`, switches: registers.flatMap(one => switches_of(one, one.switches, Number(held(one)))),
+    fields: registers.flatMap(one => one.numbers.map(bits => number_field(one, bits, held(one)))),
+    form: { is: 'structure', title, registers: registers.map(one => ({ ...one, low: 0, names: names_by_bit(one.switches) })) } };
 }
 
 // How registers hold an address: from a shift on the lower one has the bits of a mask, of which the lowest tell the kind, and the upper one, if
@@ -74,7 +96,8 @@ export function groups_of(one) {
   const bridge = one.kind === 'bridge', own = (title, ...those) => ({ title, told: '', switches: [], fields: those.map(([name, of]) => byte(name, of, one)), bytes: true });
   const shared = [bits_of('command', bridge ? COMMAND_BITS.slice(0, 5) : COMMAND_BITS, one, false), bits_of('status', STATUS_BITS, one, true)];
   const others = [['Line', 'line'], ['Cache', 'cacheline'], ['Latency', 'latency']];
-  if (!bridge) return [...shared, ...(one.all_regions ?? one.regions).map(region => base_of(region, one)), own('Other bytes', ...others)];
+  const structures = capability_list(one.values).structures.filter(({ registers }) => registers.length > 0).map(each => structure_of(each, one.values));
+  if (!bridge) return [...shared, ...(one.all_regions ?? one.regions).map(region => base_of(region, one)), ...structures, own('Other bytes', ...others)];
   return [shared[0], own('Buses', ['Primary', 'primary'], ['Secondary', 'secondary'], ['Subordinate', 'subordinate']),
     ...['io', 'mem', 'pref'].filter(space => one.decodes[space]).map(space => window_of(space, one)), shared[1],
     bits_of('secondary_status', SECONDARY_STATUS_BITS, one, true), own('Other bytes', ...others, ['2nd latency', 'secondary_latency'])];
@@ -86,8 +109,9 @@ export function identity_of(one) {
   const word = name => number(name).toString(16).padStart(2 * register_named(one.kind, name).width, '0');
   const more = (number('header') & 0x80n) !== 0n ? ', one of several functions' : '';
   const subsystem = one.kind === 'bridge' ? '' : `, subsystem ${word('subvendor')}:${word('subsystem')}`;
+  const list = capability_list(one.values).told;
   return `${word('vendor')}:${word('device')}${subsystem}, revision ${word('revision')}, class ${word('class')} ${word('subclass')} ${word('interface')} (${one.words}), `
-    + `header type ${word('header')}${more}, ${pin === 0 ? 'no interrupt pin' : `pin INT${'?ABCD'[pin]}#`}`;
+    + `header type ${word('header')}${more}, ${pin === 0 ? 'no interrupt pin' : `pin INT${'?ABCD'[pin]}#`}${list && `. ${list}`}`;
 }
 
 export const hex_line = (who, where, [offset, width, value]) => `${who} cw ${where} ${hex(offset)} ${width} ${hex(value)}`;

@@ -7,6 +7,7 @@ import { joined, same } from './compare_bytes.js';
 import { images_hold } from './compare_images.js';
 import { ways_astray } from './compare_ways.js';
 import { words_in } from '../js/forms.js';
+import { capability_list } from '../js/capabilities.js';
 import { question_at, question_of, read_why, read_why_of_guest, SPACE_READ } from '../js/why.js';
 
 const to_bytes = text => new TextEncoder().encode(text);
@@ -107,9 +108,13 @@ const AFTER = { audit: made => [to_bytes(made.audit() ?? NO_PROBLEM)], ready: ma
   run: () => [], firmware: () => [] };
 const WRITTEN = { list: (engine, board) => engine.report(board), 'list --json': (engine, board) => engine.report_json(board), check: (engine, board) => engine.check(board) };
 
+// The 256 bytes of a function in words of 4 bytes, by their offsets.
+const words_by_offset = bytes => new Map(Array.from({ length: 64 }, (_, nth) => [4 * nth, new DataView(bytes.buffer).getUint32(4 * nth, true)]));
+
 // A case has what is asked, a board and its script, the number that refuses it or 0, and the output.
 function holds(engine, one) {
   const { work, board, script, number, output } = one;
+  if (work === 'walk') return capability_list(words_by_offset(script)).told === to_text(output);
   if (work === 'image') return images_hold(engine, one);
   if (WRITTEN[work] !== undefined) {
     const written = WRITTEN[work](engine, board);
