@@ -14,7 +14,7 @@ import browse_sight
 import browse_state
 import browse_why
 from reader import FIELD
-from tried import LOOKS, PAGE, WINDOW, answers, at_each_size, begins, contains, ends, equals, holds, is_painted_well, nothing_is_cut
+from tried import BITS, LOOKS, PAGE, WINDOW, answers, at_each_size, begins, contains, ends, equals, holds, is_painted_well, nothing_is_cut
 
 TASKS = tomllib.loads((PAGE / 'tasks.toml').read_text())['task']
 
@@ -41,6 +41,7 @@ SOLUTIONS = {
              'host cw 01:00.0 0x1c 4 4', 'host cw 00:02.0 0x24 4 0x00f00000', 'host cw 00:02.0 0x28 4 4', 'host cw 00:02.0 0x2c 4 4', 'host cw 00:02.0 4 2 2', 'host cw 01:00.0 4 2 2'],
     'twins': ['host cr 01:00.0 0 4', 'host cw 00:03.0 0x18 4 0x00020200', 'host cr 02:00.0 0 4'],
     'live': ['web cr 0 0x10 4', 'web cr 0 4 2', 'web mr 0x80000010 4', 'host mr 0xc0000010 4', 'host move web 0 store 2', 'store cr 2 0x10 4'],
+    'capabilities': ['host cr 01:00.0 6 2', 'host cr 01:00.0 0x34 1', 'host cr 01:00.0 0xc8 2', 'host cr 01:00.0 0xd0 2', 'host cr 01:00.0 0xa0 2', 'host cr 01:00.0 0xa4 4', 'host mr 0xc002000c 4'],
     'move': ['host move web 0 store 2', 'store cr 2 0x10 4', 'store cr 2 4 2', 'store cw 2 0x10 4 0x90000000', 'store cw 2 4 2 2', 'store mr 0x90000010 4',
              'host mr 0xc0000010 4'],
 }
@@ -75,9 +76,10 @@ def lessons_are_done(browser, page):
             if name in CLOSED:
                 browser.type_line(CLOSED[name][0][:-1] + '2')
             holds(f'{name} is done', browser.text_of('task_state') == 'Done.', browser.text_of('goals') + browser.text_of('lacks'))
-    equals('all lessons are done', browser.text_of('progress'), '11 of 11 done')
+    all_done = f'{len(TASKS)} of {len(TASKS)} done'
+    equals('all lessons are done', browser.text_of('progress'), all_done)
     browser.open(page)
-    equals('the browser keeps what is done', browser.text_of('progress'), '11 of 11 done')
+    equals('the browser keeps what is done', browser.text_of('progress'), all_done)
     browser.run(FORGET)
 
 
@@ -243,6 +245,30 @@ def registers_have_words(browser, page):
     answers(browser, 'the bytes are read without a trace', 'host ir 0xcfc 4', 'host: 0x00011234')
 
 
+NAME_OF_BYTE = "document.querySelector('#bytes td[title^=\"0x%02x\"]').title.slice(6)"
+
+
+def a_capability_list_is_a_chain(browser, page):
+    browser.open(f'{page}#lesson=capabilities')
+    browser.select('2.0/0.0')
+    ends('the list is a chain', browser.text_of('identity'), '. Capability list: 0x34 → [0xc8 Power Management] → [0xd0 MSI] → [0xa0 MSI-X] → end')
+    names = ['Capabilities Pointer', 'Capability ID (Power Management)', 'Next Capability (MSI)', 'Message Control (MSI-X)', 'PBA Offset/BIR (MSI-X)']
+    equals('its bytes have names', [browser.run(NAME_OF_BYTE % at) for at in [0x34, 0xc8, 0xd1, 0xa3, 0xa8]], names)
+    fields = ['Table Size', 'Table BIR', 'Table Offset', 'PBA BIR', 'PBA Offset']
+    equals('so do the parts of a register', [browser.run(f"{FIELD % ('MSI-X', name)}.value") for name in fields], ['0x4', '0x3', '0x0', '0x3', '0x2000'])
+    browser.write_field('MSI at', 'Message Address', '0xfee00000')
+    equals('a register of MSI is written by its field', browser.said_last(), 'web cw 0 0xd4 4 0xfee00000')
+    browser.switch('MSI-X', 'MSI-X Enable')
+    equals('a bit of Message Control by its switch', browser.said_last(), 'web cw 0 0xa2 2 0x8004')
+    browser.fill('host cr 01:00.0 0xa2 2')
+    begins('the bits are boxes', browser.labels_of(BITS)[0], f'Message Control, 0xa2: 0x8004, in bits {0x8004:016b}')
+    browser.write_field('MSI-X', 'Table Offset', '0x1000')
+    equals('what is read-only stays', browser.run(f"{FIELD % ('MSI-X', 'Table Offset')}.value"), '0x0')
+    browser.click('#leave')
+    browser.open(f'{page}#board=main')
+    holds('a function without a list has no chain', 'Capability' not in browser.text_of('identity'), browser.text_of('identity'))
+
+
 def functions_can_be_told_apart(browser, page):
     browser.open(f'{page}#lesson=wrong&part=5')
     chips = browser.texts_of('#tree .chip')
@@ -285,7 +311,8 @@ def everything_has_a_name(browser, page):
         equals(f'all controls of {link} have names', browser.run(UNNAMED), [])
 
 
-ALL = [lessons_are_done, a_reply_counts_in_its_place, a_lesson_leads_on, a_teacher_hands_out, lines_are_explained, what_fits_is_offered, registers_have_words, functions_can_be_told_apart, everything_has_a_name]
+ALL = [lessons_are_done, a_reply_counts_in_its_place, a_lesson_leads_on, a_teacher_hands_out, lines_are_explained, what_fits_is_offered, registers_have_words, a_capability_list_is_a_chain,
+       functions_can_be_told_apart, everything_has_a_name]
 
 
 def in_browser(browser, page, folder, shot=''):

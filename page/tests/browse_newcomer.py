@@ -121,8 +121,19 @@ def a_guest_moves_live(browser, words, hint):
     browser.type_lines([hint[1], hint[2], hint[3], 'host mr 0xc0000010 4', words[-1], hint[-1]])
 
 
+def walk_a_capability_list(browser, words, hint):
+    browser.type_line(hint[0])
+    offset, found = reads(browser, hint[1]), {}
+    while offset != 0:
+        header = reads(browser, words[1].replace('OFFSET', hex(offset)))
+        found[header & 0xff], offset = offset, header >> 8
+    table = reads(browser, f'host cr {words[0]} {found[0x11] + 4:#x} 4')
+    base = reads(browser, f'host cr {words[0]} {0x10 + 4 * (table & 7):#x} 4')
+    browser.type_line(words[2].replace('ADDRESS', hex(base + (table & ~7) + 0x0c)))
+
+
 LESSONS = [read_a_board, number_a_bridge, size_a_region, open_a_window, find_what_is_wrong, make_the_board_ready, write_to_a_neighbour, move_a_function,
-           an_address_above_4_gb, two_bridges_one_number, a_guest_moves_live]
+           an_address_above_4_gb, two_bridges_one_number, a_guest_moves_live, walk_a_capability_list]
 
 
 def all_lessons_are_done(browser, page):
@@ -136,7 +147,7 @@ def all_lessons_are_done(browser, page):
             where = f'lesson {nth + 1} in the {scheme} theme at {width} pixels'
             holds(f'{where} is done by what the page says', browser.text_of('task_state') == 'Done.', browser.text_of('goals') + browser.text_of('lacks'))
             holds(f'{where} fits', browser.run(FITS))
-        begins('all are done', browser.text_of('progress'), '11 of 11 done')
+        begins('all are done', browser.text_of('progress'), f'{len(LESSONS)} of {len(LESSONS)} done')
         browser.run('localStorage.clear()')
 
 
