@@ -5,9 +5,9 @@ of the folders boards and examples, and over random boards with mistakes.
     tests/schema.py PROGRAM [--files N] [--seed S]
 
 What the program accepts the schema accepts. What the program refuses by 102, 103 or 104 the schema refuses, but for a block
-of configuration cells that ends after offset FFh, which no schema can say. Of 105 to 112 it may tell some. The subset of
-JSON Schema that it uses is judged by the class below, and by the module jsonschema too where that is there. The last line
-is 'N passed, M failed'."""
+of configuration cells or a structure that ends after offset FFh, which no schema can say. Of 105 to 112 it may tell some.
+The subset of JSON Schema that it uses is judged by the class below, and by the module jsonschema too where that is there.
+The last line is 'N passed, M failed'."""
 import json
 import random
 import re
@@ -171,8 +171,9 @@ def keys_in_document():
 
 
 def ends_late(document):
-    blocks = (block for endpoint in document["endpoint"] for block in endpoint.get("config", []))
-    return any(block["off"] + block["block"] > 0x100 for block in blocks)
+    """Whether a block of configuration cells ends after offset FFh, or a structure, which has a header of two bytes."""
+    return any(block["off"] + header + block["block"] > 0x100 for endpoint in document["endpoint"]
+               for key, header in (("config", 0), ("capability", 2)) for block in endpoint.get(key, []))
 
 
 def main():
