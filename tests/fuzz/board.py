@@ -22,10 +22,14 @@ class Bar:
 
 
 class Endpoint:
-    """A declared endpoint. `config` has blocks of cells as (offset, count, patterns)."""
+    """A declared endpoint. `table` has its numbers and its capability list, and `own` its blocks of cells as (offset, count,
+    patterns), as in the file. `values` and `config` have the registers of the list too."""
 
-    def __init__(self, path, values, bars, config):
-        self.path, self.values, self.bars, self.config = path, values, bars, config
+    def __init__(self, path, table, bars, own):
+        self.path, self.table, self.bars, self.own = path, table, bars, own
+        structures = list_blocks(table.get("capability", []))
+        status = {"status": table.get("status", 0) | 0x10} if structures else {}
+        self.values, self.config = {**table, **status}, structures + own
 
 
 class Bridge:
@@ -54,6 +58,23 @@ class Board:
 def masks(given, n):
     """A byte of a block with these patterns: at reset, the bits that a write sets, and those that a one clears."""
     return [given[key][n % len(given[key])] if key in given else 0 for key in ["reset", "rw", "w1c"]]
+
+
+def spread(text, count):
+    """The bytes of a pattern over a block."""
+    given = bytes.fromhex(text)
+    return bytes(given[n % len(given)] for n in range(count))
+
+
+def list_blocks(capabilities):
+    """The Capabilities Pointer and the structures of a list, with their headers, which are read-only; none of an empty one."""
+    found, following = [], 0
+    for one in reversed(capabilities):
+        header = {"reset": bytes([one["id"], following]), "rw": bytes(2), "w1c": bytes(2)}
+        cells = {key: front + spread(one.get(key, "00"), one["block"]) for key, front in header.items()}
+        found.append((one["off"], 2 + one["block"], cells))
+        following = one["off"]
+    return [(0x34, 1, {"reset": bytes([following])}), *found[::-1]] if found else []
 
 
 def bridges_above(path):
@@ -109,6 +130,20 @@ def random_config(rng):
     return blocks
 
 
+def random_capabilities(rng, config):
+    """The structures of a capability list, in any order, apart from these blocks and from each other."""
+    found, free = [], set(range(0x40, 0x100)).difference(*(range(off, off + count) for off, count, _ in config))
+    for _ in range(rng.choice([0, 0, 0, 1, 2, 3, 4])):
+        off = 4 * rng.randrange(0x10, 0x40)
+        room = next(end for end in range(off, 0x101) if end not in free) - off - 2
+        if room > 0:
+            block = rng.randint(1, min(room, rng.choice([1, 6, 10, 190])))
+            own = {key: value.hex() for key, value in patterns(rng, block).items()}
+            found.append({"id": rng.choice([1, 5, 9, 0x11, 0xFF]), "off": off, "block": block, **own})
+            free -= set(range(off, off + 2 + block))
+    return found
+
+
 def identity(rng):
     """Values that any function may have, some of them left out."""
     values = {"vendor": rng.choice([0, 0x1234, 0xFFFE]), "device": rng.choice([0, 1, 0xFFFF, rng.randrange(0x10000)])}
@@ -125,7 +160,8 @@ def random_endpoint(rng, path):
             values[key] = rng.randint(0, greatest)
     if rng.random() < 0.5:
         values["status"] = rng.randrange(0x10000) & 0xF900
-    return Endpoint(path, values, random_bars(rng), random_config(rng))
+    bars, config = random_bars(rng), random_config(rng)
+    return Endpoint(path, {**values, "capability": random_capabilities(rng, config)}, bars, config)
 
 
 def random_bus(rng, above, depth, functions, windows):
@@ -189,23 +225,34 @@ def block_text(pattern):
     return "".join(f', {key} = "{value.hex()}"' for key, value in pattern.items())
 
 
+def structure_text(one):
+    texts = "".join(f', {key} = "{one[key]}"' for key in ["reset", "rw", "w1c"] if key in one)
+    return f'{{ id = {one["id"]}, off = {one["off"]}, block = {one["block"]}{texts} }}'
+
+
+def endpoint_keys(endpoint):
+    """The lines of an endpoint below its path."""
+    bars = [f'{{ index = {bar.index}, kind = "{bar.kind}", size = {bar.size}, block = {bar.block}'
+            + block_text(bar.patterns) + " }" for bar in endpoint.bars]
+    config = [f"{{ off = {off}, block = {count}" + block_text(pattern) + " }" for off, count, pattern in endpoint.own]
+    structures = [*map(structure_text, endpoint.table.get("capability", []))]
+    yield from (f"{key} = {value:#x}" for key, value in endpoint.table.items() if key != "capability")
+    yield from (f"{key} = [{', '.join(texts)}]" for key, texts in
+                [("bar", bars), ("config", config), ("capability", structures)] if texts)
+
+
+def bridge_keys(bridge):
+    yield from (f"{key} = {value:#x}" for key, value in bridge.values.items())
+    yield from (f'io = "{bridge.io}"', f'pref = "{bridge.pref}"')
+
+
 def board_file(board):
     """The text of a board file."""
     lines = ["[host]"]
     lines += [f"{key} = [{first:#x}, {last:#x}]" for key, (first, last) in board.apertures.items()]
     for function in board.functions:
-        kind = "endpoint" if isinstance(function, Endpoint) else "bridge"
-        lines += [f"[[{kind}]]", f'at = "{path_text(function.path)}"']
-        lines += [f"{key} = {value:#x}" for key, value in function.values.items()]
-        if kind == "bridge":
-            lines += [f'io = "{function.io}"', f'pref = "{function.pref}"']
-            continue
-        bars = [f'{{ index = {bar.index}, kind = "{bar.kind}", size = {bar.size}, block = {bar.block}'
-                + block_text(bar.patterns) + " }" for bar in function.bars]
-        config = [f"{{ off = {off}, block = {count}" + block_text(pattern) + " }"
-                  for off, count, pattern in function.config]
-        lines += [f"bar = [{', '.join(bars)}]"] if bars else []
-        lines += [f"config = [{', '.join(config)}]"] if config else []
+        kind, below = ("endpoint", endpoint_keys) if isinstance(function, Endpoint) else ("bridge", bridge_keys)
+        lines += [f"[[{kind}]]", f'at = "{path_text(function.path)}"', *below(function)]
     for name, slots in board.guests:
         texts = ", ".join(f'"{path_text(path)}"' for path in slots)
         lines += ["[[guest]]", f'name = "{name}"', f"slots = [{texts}]"]

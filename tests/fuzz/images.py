@@ -11,6 +11,7 @@ import random
 import re
 import sys
 from collections import Counter, namedtuple
+from copy import copy
 from pathlib import Path
 
 import image as second_hand
@@ -36,10 +37,9 @@ def elsewhere(board):
         return Bridge(path, {"vendor": 0x1234, "device": 0x0B0B}, "32", "64")
 
     def moved(function):
-        path = BEHIND + function.path
-        if isinstance(function, Endpoint):
-            return Endpoint(path, function.values, function.bars, function.config)
-        return Bridge(path, function.values, function.io, function.pref)
+        there = copy(function)
+        there.path = BEHIND + function.path
+        return there
 
     beside = [Endpoint(path, {"vendor": 0x1234, "device": 0x0E0E, "class": 0}, [], []) for path in (((0, 0),), ((6, 1),))]
     functions = [beside[0], bridge(BEHIND[:1]), bridge(BEHIND), *map(moved, board.functions), beside[1]]

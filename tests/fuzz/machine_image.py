@@ -8,8 +8,8 @@ from image import IMAGE, OTHERS, OTHER_VERSION, Part, le
 
 MAGIC, VERSION, BOARDS = 0x4D494350, 1, 907
 # bytes of a header that say nothing of how a function is set up: Status, and Secondary Status of a bridge; and of an endpoint
-# what its guest's driver writes
-OF_NO_SET_UP = {True: (0x06, 0x07, 0x0C, 0x0D, 0x3C), False: (0x06, 0x07, 0x1E, 0x1F)}
+# the Capabilities Pointer, which its device can write, and what its guest's driver writes
+OF_NO_SET_UP = {True: (0x06, 0x07, 0x0C, 0x0D, 0x34, 0x3C), False: (0x06, 0x07, 0x1E, 0x1F)}
 
 
 class Fault(Exception):

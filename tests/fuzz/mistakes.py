@@ -72,6 +72,16 @@ def inner_value(rng, lines):
         lines[place] = text.replace("{ , ", "{ ").replace(", , ", ", ").replace(",  }", " }")
 
 
+def other_offset(rng, lines):
+    """A block of configuration space that begins where another one does, or near it."""
+    found = [(place, match) for place, line in enumerate(lines) for match in re.finditer(r"\boff = (\d+)\b", line)]
+    if found:
+        place, match = rng.choice(found)
+        beside = rng.choice([int(other[1]) for at, other in found if abs(at - place) < 2])
+        put = f"off = {beside + rng.choice([0, 1, 4, 4, 8, -4, -4])}"
+        lines[place] = lines[place][:match.start()] + put + lines[place][match.end():]
+
+
 def other_slot(rng, lines):
     places = [place for place in keys_in(lines) if lines[place].startswith("slots") and '"' in lines[place]]
     if places:
@@ -96,7 +106,7 @@ def table_again(rng, lines):
         lines += lines[heads[at]:heads[at + 1]]
 
 
-MISTAKES = [other_value, other_value, other_value, inner_value, inner_value, other_slot, left_out, unknown_key,
+MISTAKES = [other_value, other_value, other_value, inner_value, inner_value, other_offset, other_slot, left_out, unknown_key,
             table_again]
 
 

@@ -7,11 +7,16 @@ from dataclasses import dataclass
 from keys import CHOICES, KEYS, NEEDED, OPTIONAL, RANGES
 
 TEXTS = {"at", "name", "reset", "rw", "w1c"}
+LISTS = KEYS.keys() - {"", "host"}
 SIZES = {"io": (4, 256), "mem32": (16, 1 << 31), "mem32p": (16, 1 << 31), "mem64": (16, 1 << 40),
          "mem64p": (16, 1 << 40)}
 # ranges of blocks of cells: table and key, the least and the greatest, and how they are told
 BLOCK_RANGES = [("bar", "block", 0, 4096, "0 to 4096"), ("config", "off", 0x40, 0xFF, "0x40 to 0xff"),
-                ("config", "block", 1, 192, "1 to 192")]
+                ("config", "block", 1, 192, "1 to 192"), ("capability", "id", 1, 0xFF, "1 to 0xff"),
+                ("capability", "off", 0x40, 0xFC, "0x40 to 0xfc, a multiple of 4"), ("capability", "block", 1, 190, "1 to 190")]
+# blocks of configuration space: the bytes of the header before each, and the help where one has no room
+HEADERS = {"config": 0, "capability": 2}
+ROOM = {"config": "", "capability": "the header of a structure takes the two bytes at off, and its block follows them"}
 
 
 @dataclass
@@ -52,7 +57,7 @@ def has_form(kind, key, value):
         return isinstance(value, list) and len(value) == 2 and all(map(is_integer, value))
     if key == "host":
         return isinstance(value, dict)
-    if key in {"endpoint", "bridge", "guest", "bar", "config"}:
+    if key in LISTS:
         return are_tables(value)
     if key == "slots":
         return isinstance(value, list) and all(isinstance(one, str) for one in value)
@@ -76,7 +81,7 @@ def entries(document):
     for index, endpoint in enumerate(tables(document, "endpoint")):
         table, owner = ("endpoint", index), text_of(endpoint.get("at"))
         yield Entry("endpoint", f"endpoint[{index}]", endpoint, table, None, owner)
-        for kind in ["bar", "config"]:
+        for kind in ["bar", *HEADERS]:
             for inner, values in enumerate(tables(endpoint, kind)):
                 yield Entry(kind, f"endpoint[{index}].{kind}[{inner}]", values, table, kind, owner)
     for index, bridge in enumerate(tables(document, "bridge")):
@@ -119,7 +124,7 @@ def asked(kind, key):
         return FORMS[kind, key]
     if kind == "host":
         return "an array of two integers such as [0x1000, 0xffff]"
-    if key in {"endpoint", "bridge", "guest", "bar", "config"}:
+    if key in LISTS:
         return f"an array of tables: write [[{'endpoint.' if kind == 'endpoint' else ''}{key}]]"
     if key in {"reset", "rw", "w1c"}:
         return 'hexadecimal digits in quotes, such as "ff"'
@@ -162,6 +167,12 @@ def unknown_keys(every):
             yield problem(entry, key, f"unknown key '{key}'", 103, has_subject=False, remedy=meant(entry.kind, key))
 
 
+def extent(entry):
+    """The offsets of a block of configuration space, with its header."""
+    begin = entry.values["off"]
+    return range(begin, begin + HEADERS[entry.kind] + entry.values["block"])
+
+
 def number_problems(every):
     for entry in of(every, "endpoint", "bridge"):
         for key, greatest in RANGES.items():
@@ -172,11 +183,12 @@ def number_problems(every):
             yield problem(entry, "status", "has bits outside 0xf900", 104)
     for kind, key, least, greatest, words in BLOCK_RANGES:
         for entry in of(every, kind):
-            if not least <= entry.values.get(key, least) <= greatest:
+            value = entry.values.get(key, least)
+            if not least <= value <= greatest or (kind, key) == ("capability", "off") and value % 4:
                 yield problem(entry, key, f"is out of range ({words})", 104)
-    for entry in of(every, "config"):
-        if entry.values["off"] + entry.values["block"] > 256:
-            yield problem(entry, "block", "extends past offset 0xff", 104)
+    for entry in of(every, *HEADERS):
+        if extent(entry).stop > 256:
+            yield problem(entry, "block", "extends past offset 0xff", 104, remedy=ROOM[entry.kind])
 
 
 def count_problems(every):
@@ -375,20 +387,18 @@ def mask_cause(values):
 
 
 def mask_problems(every):
-    earlier = {}
-    for entry in of(every, "bar", "config"):
+    for entry in of(every, "bar", *HEADERS):
         why = mask_cause(entry.values)
         if why:
             yield problem(entry, *why, 112)
-    for entry in of(every, "config"):
-        begin, blocks = entry.values["off"], earlier.setdefault(entry.table, [])
-        end = begin + entry.values["block"]
-        met = [other for other in blocks if begin < other.values["off"] + other.values["block"]
-               and other.values["off"] < end]
+    earlier = {}
+    for entry in [entry for kind in HEADERS for entry in of(every, kind)]:
+        blocks = earlier.setdefault(entry.table, [])
+        met = [other for other in blocks if set(extent(entry)) & set(extent(other))]
         if met:
-            first, size = (met[0].values[key] for key in ["off", "block"])
-            words = f"with block = {entry.values['block']} overlaps {{}}, which is at {first:#x} to {first + size - 1:#x}"
-            yield problem(entry, "off", words, 112, met[0])
+            there = extent(met[0])
+            words = f"with block = {entry.values['block']} overlaps {{}}, which is at {there.start:#x} to {there[-1]:#x}"
+            yield problem(entry, "off", words, 112, met[0], remedy=ROOM[entry.kind])
         blocks.append(entry)
 
 
