@@ -21,12 +21,13 @@ class Rule(NamedTuple):
 ENDPOINT, BRIDGE = (0,), (1,)
 BOTH = ENDPOINT + BRIDGE
 RULES = [
-    Rule("Status: capabilities, 66 MHz, fast back-to-back", BOTH, range(0x06, 0x07), 0xB0),
+    Rule("Status: 66 MHz, fast back-to-back", ENDPOINT, range(0x06, 0x07), 0xA0),
+    Rule("Status: capabilities of a bridge, 66 MHz, fast back-to-back", BRIDGE, range(0x06, 0x07), 0xB0),
     Rule("Status: DEVSEL timing", BOTH, range(0x07, 0x08), 0x06),
     Rule("Latency Timer: read-only in QEMU", BOTH, range(0x0D, 0x0E), 0xFF, free="board"),
     Rule("Header Type: bit 7 in functions 1 to 7", BOTH, range(0x0E, 0x0F), 0x80, ours=0x80),
     Rule("Secondary Status: 66 MHz, fast back-to-back", BRIDGE, range(0x1E, 0x1F), 0xA0),
-    Rule("Capabilities Pointer", BOTH, range(0x34, 0x35), 0xFF),
+    Rule("Capabilities Pointer of a bridge, or without a list", BOTH, range(0x34, 0x35), 0xFF),
     Rule("Bridge Control: SERR# enable", BRIDGE, range(0x3E, 0x3F), 0x02, free="QEMU"),
     Rule("capabilities of a bridge", BRIDGE, range(0x40, 0x100), 0xFF),
 ]

@@ -1,7 +1,7 @@
 """Random trees of QEMU's devices, and board files with the same functions.
 
 A board file is written from what QEMU's functions answer at reset: identities, decodes of windows, regions by sizing,
-and in endpoints each byte from 40h on with the bits that can be written there."""
+and in endpoints the capability list and each byte from 40h on, with the bits that can be written there."""
 import random
 
 from board import DATA, LATCH, configuration, functions_of, number
@@ -81,15 +81,38 @@ def regions(board, at):
     return "".join(found)
 
 
+def structures(word, reset):
+    """The capability list of an endpoint, by the words of its header and its bytes from 40h on: the Capability ID at the offset
+    of each structure."""
+    found, at = {}, word[13] & 0xFC if word[1] >> 16 & 0x10 else 0
+    while at >= 0x40 and reset[at - 0x40] and at not in found:
+        found[at] = reset[at - 0x40]
+        at = reset[at - 0x3F] & 0xFC
+    return found
+
+
+def own_text(word, reset, rw):
+    """The bytes from 40h on: a block up to the first structure, and structures, each of which goes on to the next."""
+    def block(begin, end):
+        texts = (f'{key} = "{cells[begin - 0x40:end - 0x40].hex()}"' for key, cells in (("reset", reset), ("rw", rw)))
+        return f"block = {end - begin}, {', '.join(texts)}"
+
+    found = structures(word, reset)
+    ends = sorted([*found, 0x100])
+    text = f"config = [ {{ off = 0x40, {block(0x40, ends[0])} }} ]\n" if ends[0] > 0x40 else ""
+    tables = (f"  {{ id = {found[off]:#x}, off = {off:#x}, {block(off + 2, ends[ends.index(off) + 1])} }},\n" for off in found)
+    return text + f"capability = [\n{''.join(tables)}]\n" * bool(found)
+
+
 def endpoint_text(board, at, path):
     word = [configuration(board, *at, offset) for offset in range(0, 0x40, 4)]
     own = [writable(board, at, offset) for offset in range(0x40, 0x100, 4)]
-    reset, rw = (b"".join(pair[side].to_bytes(4, "little") for pair in own).hex() for side in (0, 1))
+    reset, rw = (b"".join(pair[side].to_bytes(4, "little") for pair in own) for side in (0, 1))
     return (f'\n[[endpoint]]\nat = "{path}"\nvendor = {word[0] & 0xFFFF:#x}\ndevice = {word[0] >> 16:#x}\n'
             f"revision = {word[2] & 0xFF:#x}\nclass = {word[2] >> 8:#x}\nstatus = {word[1] >> 16 & 0xF900:#x}\n"
             f"subvendor = {word[11] & 0xFFFF:#x}\nsubsystem = {word[11] >> 16:#x}\npin = {word[15] >> 8 & 0xFF}\n"
             f"min_gnt = {word[15] >> 16 & 0xFF}\nmax_lat = {word[15] >> 24}\nbar = [\n{regions(board, at)}]\n"
-            f'config = [ {{ off = 0x40, block = 192, reset = "{reset}", rw = "{rw}" }} ]\n')
+            + own_text(word, reset, rw))
 
 
 def bridge_text(board, at, path):
