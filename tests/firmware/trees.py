@@ -3,9 +3,14 @@
 A board file is written from what QEMU's functions answer at reset: identities, decodes of windows, regions by sizing,
 and in endpoints the capability list and each byte from 40h on, with the bits that can be written there."""
 import random
+import sys
+from pathlib import Path
 
 from board import DATA, LATCH, configuration, functions_of, number
 from pciguest._drawing import PLAIN
+
+sys.path.append(str(Path(__file__).resolve().parents[2] / "tools"))
+import from_lspci  # the tool stands there
 
 # QEMU's devices without a driver in either firmware, whose regions a board file can have
 ENDPOINTS = ["edu", "pci-testdev", "pci-testdev,membar={size}M", "pci-serial,chardev=null{n}", "ES1370,audiodev=none",
@@ -71,57 +76,31 @@ def regions(board, at):
     found, index = [], 0
     while index < 6:
         value, bits = writable(board, at, 0x10 + 4 * index)
-        is_64 = value & 7 == 4
+        kind, is_64 = from_lspci.kind_of(value)
         if is_64:
             bits |= writable(board, at, 0x14 + 4 * index)[1] << 32
         if bits:
-            kind = "io" if value & 1 else ("mem64" if is_64 else "mem32") + ("p" if value & 8 else "")
             found.append(f'  {{ index = {index}, kind = "{kind}", size = {bits & -bits:#x}, block = 4, rw = "ff" }},\n')
         index += 2 if is_64 else 1
     return "".join(found)
 
 
-def structures(word, reset):
-    """The capability list of an endpoint, by the words of its header and its bytes from 40h on: the Capability ID at the offset
-    of each structure."""
-    found, at = {}, word[13] & 0xFC if word[1] >> 16 & 0x10 else 0
-    while at >= 0x40 and reset[at - 0x40] and at not in found:
-        found[at] = reset[at - 0x40]
-        at = reset[at - 0x3F] & 0xFC
-    return found
-
-
-def own_text(word, reset, rw):
-    """The bytes from 40h on: a block up to the first structure, and structures, each of which goes on to the next."""
-    def block(begin, end):
-        texts = (f'{key} = "{cells[begin - 0x40:end - 0x40].hex()}"' for key, cells in (("reset", reset), ("rw", rw)))
-        return f"block = {end - begin}, {', '.join(texts)}"
-
-    found = structures(word, reset)
-    ends = sorted([*found, 0x100])
-    text = f"config = [ {{ off = 0x40, {block(0x40, ends[0])} }} ]\n" if ends[0] > 0x40 else ""
-    tables = (f"  {{ id = {found[off]:#x}, off = {off:#x}, {block(off + 2, ends[ends.index(off) + 1])} }},\n" for off in found)
-    return text + f"capability = [\n{''.join(tables)}]\n" * bool(found)
+def header(board, at):
+    return b"".join(configuration(board, *at, offset).to_bytes(4, "little") for offset in range(0, 0x40, 4))
 
 
 def endpoint_text(board, at, path):
-    word = [configuration(board, *at, offset) for offset in range(0, 0x40, 4)]
-    own = [writable(board, at, offset) for offset in range(0x40, 0x100, 4)]
+    front, own = header(board, at), [writable(board, at, offset) for offset in range(0x40, 0x100, 4)]
     reset, rw = (b"".join(pair[side].to_bytes(4, "little") for pair in own) for side in (0, 1))
-    return (f'\n[[endpoint]]\nat = "{path}"\nvendor = {word[0] & 0xFFFF:#x}\ndevice = {word[0] >> 16:#x}\n'
-            f"revision = {word[2] & 0xFF:#x}\nclass = {word[2] >> 8:#x}\nstatus = {word[1] >> 16 & 0xF900:#x}\n"
-            f"subvendor = {word[11] & 0xFFFF:#x}\nsubsystem = {word[11] >> 16:#x}\npin = {word[15] >> 8 & 0xFF}\n"
-            f"min_gnt = {word[15] >> 16 & 0xFF}\nmax_lat = {word[15] >> 24}\nbar = [\n{regions(board, at)}]\n"
-            + own_text(word, reset, rw))
+    return from_lspci.endpoint_text(path, front + reset, regions(board, at), bytes(0x40) + rw)
 
 
 def bridge_text(board, at, path):
-    word = [configuration(board, *at, offset) for offset in (0, 8, 0x1C, 0x24)]
+    cells = header(board, at)
     io, pref = (writable(board, at, offset)[1] for offset in (0x1C, 0x24))
-    decodes = (("32" if word[2] & 0xF else "16") if io & 0xF0F0 else "none",
-               ("64" if word[3] & 0xF else "32") if pref else "none")
-    return (f'\n[[bridge]]\nat = "{path}"\nvendor = {word[0] & 0xFFFF:#x}\ndevice = {word[0] >> 16:#x}\n'
-            f'revision = {word[1] & 0xFF:#x}\nio = "{decodes[0]}"\npref = "{decodes[1]}"\n')
+    decodes = (("32" if cells[0x1C] & 0xF else "16") if io & 0xF0F0 else "none",
+               ("64" if cells[0x24] & 0xF else "32") if pref else "none")
+    return from_lspci.bridge_text(path, cells, *decodes)
 
 
 class Reading:

@@ -1,5 +1,6 @@
-"""Board files as documents, random boards, smaller ones, and what is told of firmware."""
+"""Board files as documents and from dumps, random boards, smaller ones, and what is told of firmware."""
 
+import sys
 import tomllib
 import unittest
 
@@ -14,7 +15,10 @@ from pciguest._special import SPECIAL
 from pciguest._tight import TOO_SMALL, cut, halved, tight, too_small
 from pciguest._watch import Watch
 from pciguest._writers import story_of, why_unfound, writers
-from second_hand import SecondHand, SecondHandBoard
+from second_hand import SecondHand, SecondHandBoard, audited, board, board_of, placement
+
+sys.path.append(str(places.TOP / "tools"))
+import from_lspci  # noqa: E402  (the tool stands there)
 
 (registers,) = places.modules("firmware", "registers")
 BOARDS = places.TOP / "boards"
@@ -53,11 +57,62 @@ def seen(*lines, document=AUDITED):
 
 class Documents(unittest.TestCase):
     def test_examples_stay_the_same(self):
-        for name in ("main", "server", "kinds", "chain", "largest"):
+        for name in ("main", "server", "modern", "kinds", "chain", "largest"):
             document = tomllib.loads((BOARDS / f"{name}.toml").read_text())
             again = tomllib.loads(text_of(document))
             for key in document:
                 self.assertCountEqual(again[key], document[key], (name, key))
+
+
+def dumped(document):
+    """A board that is set up, as the lines of `lspci -vvxxx`."""
+    made = board_of(document)
+    layout = placement.Layout(made)
+    for function in made.functions:
+        is_bridge = isinstance(function, board.Bridge)
+        cells = (audited.bridge_cells if is_bridge else audited.endpoint_cells)(function)
+        shown = bytearray(cells[at].value if at in cells else 0 for at in range(256))
+        shown[0x0E] = made.header_type(function)
+        if is_bridge:
+            shown[0x18:0x1B] = bytes([layout.numbers[function.path[:-1]], layout.numbers[function.path], layout.behind(function.path)])
+        yield "{:02x}:{:02x}.{} A function: of this board".format(*layout.number(function.path))
+        for bar in () if is_bridge else function.bars:
+            yield f"\tRegion {bar.index}: somewhere [size={bar.size >> 10}K]"
+        yield from (f"{at:02x}: {shown[at:at + 16].hex(' ')}" for at in range(0, 256, 16))
+        yield ""
+
+
+class Dumps(unittest.TestCase):
+    LINES = [*dumped(tomllib.loads((BOARDS / "modern.toml").read_text()))]
+
+    def endpoints(self, lines):
+        text = from_lspci.board_text(lines)
+        self.assertIsNone(SecondHand().refusal(text))
+        return {one["at"]: one for one in tomllib.loads(text)["endpoint"]}
+
+    def test_a_board_comes_back(self):
+        """All but what no dump tells, and the ends of structures."""
+        found = self.endpoints(self.LINES)
+        for one in tomllib.loads((BOARDS / "modern.toml").read_text())["endpoint"]:
+            other = found.pop(one["at"])
+            for key in ("vendor", "device", "class", "pin"):
+                self.assertEqual(other[key], one[key], key)
+            for key, parts in (("bar", ("index", "kind", "size")), ("capability", ("id", "off"))):
+                self.assertEqual(*([[each[part] for part in parts] for each in of[key]] for of in (one, other)))
+            for mine, theirs in zip(one["capability"], other["capability"]):
+                self.assertTrue(theirs["reset"].startswith(mine["reset"]), mine)
+        self.assertEqual(found, {})
+
+    def test_what_can_be_written(self):
+        power, msi = self.endpoints(self.LINES)["2.0/2.0"]["capability"]
+        self.assertEqual((power["rw"][:12], power["w1c"][:12]), ("000003010000", "000000800000"))
+        self.assertEqual((msi["rw"][:24], "w1c" in msi), ("7100fcffffffffffffffffff", False))
+        self.assertEqual(self.endpoints(self.LINES)["1.0/1.0"]["capability"][0]["rw"][:8], "00c00000")
+
+    def test_places(self):
+        """A device above 15 moves, and other domains aren't of the board."""
+        lines = [line.replace("02:02.0", "02:1f.0") for line in self.LINES]
+        self.assertIn("2.0/0.0", self.endpoints([*lines, "10000:00:00.0 Another domain", *self.LINES[1:18]]))
 
 
 class Drawing(unittest.TestCase):
