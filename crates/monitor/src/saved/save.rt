@@ -35,7 +35,7 @@ pub(crate) fn slot_shown<'a>(
 fn slot_size(host: &Host, slot: &Option<AssignedFunction>) -> usize
     requires { HasPlaces (slot_shown host.now.state.functions slot.now) }
     ensures size { result ≡ length (slot_image host.now.state.functions slot.now) }
-    ensures bound { result ≤ 246307 }
+    ensures bound { result ≤ 265339 }
 {
     match slot_shown(host, slot) {
         Some((endpoint, _)) => 1 + function_size(endpoint),
@@ -47,7 +47,7 @@ fn slots_size(host: &Host, slots: &[Option<AssignedFunction>]) -> usize
     requires places { HavePlaces host.now.state.functions slots.now }
     requires few { length slots.now ≤ 32 }
     ensures size { result ≡ length (slots_image host.now.state.functions slots.now) }
-    ensures bound { result ≤ 7881824 }
+    ensures bound { result ≤ 8490848 }
 {
     let mut left = slots;
     let mut size = 0;
@@ -165,7 +165,7 @@ impl<R: Route> Engine<R> {
         requires { guest < length self.now.world.guests }
         ensures size { let image = image_of_guest (name_nth self.now.world guest) self.now.world in
             result ≡ length (image_bytes image) }
-        ensures bound { result ≤ 7881836 }
+        ensures bound { result ≤ 8490860 }
     {
         let _ = &self.names;
         12 + slots_size(&self.host, &self.guests[guest].slots)

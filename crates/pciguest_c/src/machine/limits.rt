@@ -23,7 +23,7 @@ pub extern "C" fn pciguest_raw_limits(told: &mut LimitsRow) -> u32
     ensures done { result ≡ 0 }
 {
     *told = LimitsRow {
-        guest_image: 7_881_836,
+        guest_image: 8_490_860,
         functions: 1024,
         guests: 32,
         slots: 32,
