@@ -3,7 +3,7 @@
 use Rattle.std.{proofs.{Common.{◌≡◌, inl, inr, ℕ, ◌+◌, ◌<◌, ◌≤◌, ◌^◌, ◌==◌, ℤ, pos, ◌+ℤ◌, nat_abs, Bool, true, false, ◌&&◌, ◌||◌, List, [], ◌∷◌, ◌++◌, map, length, nat_le, drop, bit_and, bit_or, None, refl, ◌∙◌, sym, ap, ap₂, arith, leb-true, le-leb, lt-ltb, append-nil}, lemmas.{Bool.{and_parts, eqb-true, eq-eqb}, Nat.and_assoc, List.{map-append, FromFn.length-map-range_with_len, Folds.{list_all-map, list_all-append}}}}, specs.{Prelude.{int_le, is_none}, List.list_all}}
 use Rattle.lists.{specs.Elements.all_pairs, proofs.Tests.{left_true, right_true, asked_true}}
 use Rattle.model_registers.{specs.{Cell.{Cell, constant}, Declarations.ConfigBlock, DeclarationRules.{first_broken, endpoint_rules, blocks_apart}, Capabilities.{first_offset, structure, structures, pointer, with_capabilities}}, proofs.Capabilities.status_with_list}
-use Rattle.board_file.{specs.{Entries.{Bar, Config, Capability, Endpoint, Patterns, File}, Blocks.block_cells, Functions.{region, config_block, capability, plain_values, endpoint_values}, Rules.{is_between, has_only_bits, is_size, config_extent, capability_extent, extents, are_apart}, EntryRules.{endpoint_numbers, value_rules, bar_rules}, Judged.{kept, keeps, is_region, is_config_block, is_capability, is_declarable, is_lawful_bridge, HasSmallNumbers, is_judged}, declared.{rule.Rule.Rule, blocks.Extent.Extent}}, proofs.{Asked.{unbroken, numbers, registers, sizes}, Tests.{first_three, imply_all, all-both, pairs-map, pairs-swap}}}
+use Rattle.board_file.{specs.{Entries.{Bar, Config, Capability, Endpoint, Patterns, File}, Blocks.block_cells, Functions.{region, config_block, capability, plain_values, endpoint_values}, Rules.{is_between, has_only_bits, is_size, config_extent, capability_extent, extents, are_apart}, EntryRules.{endpoint_numbers, value_rules, bar_rules}, Judged.{kept, keeps, is_region, is_config_block, is_capability, is_declarable, is_lawful_bridge, HasSmallNumbers, is_judged}, declared.{rule.Rule.Rule, blocks.ByteRange.ByteRange}}, proofs.{Asked.{unbroken, numbers, registers, sizes}, Tests.{first_three, imply_all, all-both, pairs-map, pairs-swap}}}
 use Rattle.model_registers.specs.DeclarationRules as rules
 use Rattle.model_registers.specs.Capabilities as listed
 use Rattle.board_file.specs.EntryRules as asked
@@ -146,33 +146,33 @@ lawful_structures (c ∷ cs) h =
 
 -- ---- where blocks are
 
-abbrev range : ℕ → ℕ → Extent
+abbrev range : ℕ → ℕ → ByteRange
 range off len = record { off = off; len = len }
 
-abbrev extent_of : ConfigBlock → Extent
+abbrev extent_of : ConfigBlock → ByteRange
 extent_of b = range b.offset (length b.cells)
 
 config_extents : (cs : List Config) → map extent_of (map config_block cs) ≡ map config_extent cs
 config_extents [] = refl
 config_extents (c ∷ cs) =
-    ap₂ (λ (x : Extent) (xs : List Extent). x ∷ xs) (ap (range (nat_abs c.off)) (length_cells (nat_abs c.block) c.patterns)) (config_extents cs)
+    ap₂ (λ (x : ByteRange) (xs : List ByteRange). x ∷ xs) (ap (range (nat_abs c.off)) (length_cells (nat_abs c.block) c.patterns)) (config_extents cs)
 
 structure_extents : (cs : List Capability) → map extent_of (structures (map capability cs)) ≡ map capability_extent cs
 structure_extents [] = refl
 structure_extents (c ∷ cs) =
-    ap₂ (λ (x : Extent) (xs : List Extent). x ∷ xs) (ap (range (nat_abs c.config.off)) (structure_length c (first_offset (map capability cs))))
+    ap₂ (λ (x : ByteRange) (xs : List ByteRange). x ∷ xs) (ap (range (nat_abs c.config.off)) (structure_length c (first_offset (map capability cs))))
     (structure_extents cs)
 
 -- a range that is behind the Capabilities Pointer
-abbrev is_behind : Extent → Bool
+abbrev is_behind : ByteRange → Bool
 is_behind x = nat_le 0x40 x.off
 
-apart_from_pointer : (x : Extent) → is_behind x ≡ true → are_apart (range 0x34 1) x ≡ true
+apart_from_pointer : (x : ByteRange) → is_behind x ≡ true → are_apart (range 0x34 1) x ≡ true
 apart_from_pointer x h =
     let begins = leb-true 0x40 x.off h in
     ap (λ (t : Bool). t || nat_le (x.off + x.len) 0x34) (le-leb 0x35 x.off (omega (arith, begins)))
 
-apart_turn : (x y : Extent) → are_apart x y ≡ are_apart y x
+apart_turn : (x y : ByteRange) → are_apart x y ≡ are_apart y x
 apart_turn x y = or_turn (nat_le (x.off + x.len) y.off) (nat_le (y.off + y.len) x.off)
   where
     or_turn : (a b : Bool) → (a || b) ≡ (b || a)
@@ -204,15 +204,15 @@ plain_apart cs =
 listed_apart : (cs : List Config) (ds : List Capability) → list_all is_config_block cs ≡ true → list_all is_capability ds ≡ true
     → all_pairs blocks_apart (blocks_with cs ds) ≡ all_pairs are_apart (map config_extent cs ++ map capability_extent ds)
 listed_apart cs ds h k =
-    let behind : List Extent = map capability_extent ds ++ map config_extent cs in
+    let behind : List ByteRange = map capability_extent ds ++ map config_extent cs in
     let more : List ConfigBlock = structures (map capability ds) ++ map config_block cs in
     let at : map extent_of more ≡ behind =
     map-append extent_of (structures (map capability ds)) (map config_block cs)
-    ∙ ap₂ (λ (xs ys : List Extent). xs ++ ys) (structure_extents ds) (config_extents cs) in
+    ∙ ap₂ (λ (xs ys : List ByteRange). xs ++ ys) (structure_extents ds) (config_extents cs) in
     let apart : list_all (are_apart (range 0x34 1)) behind ≡ true =
     imply_all is_behind (are_apart (range 0x34 1)) apart_from_pointer behind (all_behind cs ds h k) in
     sym (pairs-map are_apart extent_of (blocks_with cs ds))
-    ∙ ap (λ (xs : List Extent). list_all (are_apart (range 0x34 1)) xs && all_pairs are_apart xs) at
+    ∙ ap (λ (xs : List ByteRange). list_all (are_apart (range 0x34 1)) xs && all_pairs are_apart xs) at
     ∙ ap (λ (t : Bool). t && all_pairs are_apart behind) apart
     ∙ pairs-swap are_apart apart_turn (map capability_extent ds) (map config_extent cs)
 

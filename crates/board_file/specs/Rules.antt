@@ -11,7 +11,7 @@ use Rattle.std.specs.{Prelude.{ℕ, ℤ, ◌+◌, pos, nat_abs, int_le, Bool, tr
 use Rattle.lists.specs.Elements.{all_pairs}
 use Rattle.model_registers.specs.Declarations.{Kind, least_size, greatest_size}
 use Rattle.model_board.specs.{Paths.Path, Places.{Standing, has_path, has_bridge}}
-use Rattle.board_file.specs.{Entries.{Bar, Config, Capability, Endpoint}, declared.{entries.Bounds.Bounds, blocks.Extent.Extent}, Blocks.is_block, PathTexts.{is_path_text, path_at}}
+use Rattle.board_file.specs.{Entries.{Bar, Config, Capability, Endpoint}, declared.{entries.Bounds.Bounds, blocks.ByteRange.ByteRange}, Blocks.is_block, PathTexts.{is_path_text, path_at}}
 
 -- ---- numbers
 
@@ -52,18 +52,18 @@ are_natural (Some b) = is_natural b
 
 -- ---- offsets
 
-abbrev pub config_extent : Config → Extent
+abbrev pub config_extent : Config → ByteRange
 config_extent c = record { off = nat_abs c.off; len = nat_abs c.block }
 
 -- with the two bytes of the header
-abbrev pub capability_extent : Capability → Extent
+abbrev pub capability_extent : Capability → ByteRange
 capability_extent c = record { off = nat_abs c.config.off; len = 2 + nat_abs c.config.block }
 
-abbrev pub extents : Endpoint → List Extent
+abbrev pub extents : Endpoint → List ByteRange
 extents e = map config_extent e.configs ++ map capability_extent e.capabilities
 
 -- one ends before the other begins
-abbrev pub are_apart : Extent → Extent → Bool
+abbrev pub are_apart : ByteRange → ByteRange → Bool
 are_apart a b = nat_le (a.off + a.len) b.off || nat_le (b.off + b.len) a.off
 
 -- ---- cell masks

@@ -122,40 +122,40 @@ pub(crate) fn is_block(
 
 /// A range of offsets in configuration space.
 #[derive(Clone, Copy)]
-pub struct Extent {
+pub struct ByteRange {
     pub off: u64,
     pub len: u64,
 }
 
 /// Returns the range of a configuration block.
-pub fn config_extent(config: &ConfigEntry<'_>) -> Extent
+pub fn config_extent(config: &ConfigEntry<'_>) -> ByteRange
     ensures { result ≡ config_extent config.now }
 {
-    Extent {
+    ByteRange {
         off: config.off.unsigned_abs(),
         len: config.block.unsigned_abs(),
     }
 }
 
 /// Returns the range of a structure of a capability list, with its header of two bytes.
-pub fn capability_extent(capability: &CapabilityEntry<'_>) -> Extent
+pub fn capability_extent(capability: &CapabilityEntry<'_>) -> ByteRange
     ensures { result ≡ capability_extent capability.now }
 {
-    Extent {
+    ByteRange {
         off: capability.config.off.unsigned_abs(),
         len: 2 + capability.config.block.unsigned_abs(),
     }
 }
 
 /// Returns whether `first` ends at or before the offset where `second` begins.
-fn ends_before(first: Extent, second: Extent) -> bool
+fn ends_before(first: ByteRange, second: ByteRange) -> bool
     ensures { result ≡ nat_le (first.off + first.len) second.off }
 {
     first.off <= second.off && first.len <= second.off - first.off
 }
 
 /// Returns whether two ranges don't overlap.
-pub fn are_apart(one: Extent, other: Extent) -> bool
+pub fn are_apart(one: ByteRange, other: ByteRange) -> bool
     ensures { result ≡ are_apart one other }
 {
     ends_before(one, other) || ends_before(other, one)

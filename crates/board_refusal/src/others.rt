@@ -2,7 +2,7 @@
 
 use crate::value_causes::{extent_of, pattern_key};
 use bars::Kind;
-use board_file::blocks::{Extent, are_apart, capability_extent, config_extent};
+use board_file::blocks::{ByteRange, are_apart, capability_extent, config_extent};
 use board_file::entries::{BarEntry, FileEntries};
 use board_file::path_text::{PathText, are_same_place};
 use board_file::{Entry, Rule};
@@ -94,7 +94,7 @@ fn slot_with(file: &FileEntries<'_>, at: &PathText<'_>) -> Option<Entry> {
 
 /// Returns the first block of configuration registers of an endpoint that overlaps a range.
 /// Structures of the capability list come after configuration blocks.
-fn overlapped(file: &FileEntries<'_>, endpoint: usize, extent: Extent) -> Option<Entry> {
+fn overlapped(file: &FileEntries<'_>, endpoint: usize, extent: ByteRange) -> Option<Entry> {
     let entry = file.endpoints.get(endpoint)?;
     let config = entry
         .configs

@@ -2,7 +2,7 @@
 
 use bars::Kind;
 use board_file::Entry;
-use board_file::blocks::{Extent, capability_extent, config_extent};
+use board_file::blocks::{ByteRange, capability_extent, config_extent};
 use board_file::entries::{BarEntry, Bounds, ConfigEntry, FileEntries, PatternTexts};
 use diagnostics::Other;
 use std::alloc::AllocError;
@@ -208,7 +208,7 @@ fn config_of<'f, 'a>(file: &'f FileEntries<'a>, entry: Entry) -> Option<&'f Conf
 }
 
 /// Returns the offsets of the configuration registers of an entry, if it has any.
-pub(crate) fn extent_of(file: &FileEntries<'_>, entry: Entry) -> Option<Extent> {
+pub(crate) fn extent_of(file: &FileEntries<'_>, entry: Entry) -> Option<ByteRange> {
     match entry {
         Entry::Config(i, j) => Some(config_extent(file.endpoints.get(i)?.configs.get(j)?)),
         Entry::Capability(i, j) => {
