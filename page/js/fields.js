@@ -111,7 +111,7 @@ export function identity_of(one) {
   const subsystem = one.kind === 'bridge' ? '' : `, subsystem ${word('subvendor')}:${word('subsystem')}`;
   const list = capability_list(one.values).told;
   return `${word('vendor')}:${word('device')}${subsystem}, revision ${word('revision')}, class ${word('class')} ${word('subclass')} ${word('interface')} (${one.words}), `
-    + `header type ${word('header')}${more}, ${pin === 0 ? 'no interrupt pin' : `pin INT${'?ABCD'[pin]}#`}${list && `. ${list}`}`;
+    + `header type ${word('header')}${more}, ${pin === 0 ? 'no interrupt pin' : `pin INT${'?ABCD'[pin]}#`}${list && `\n${list}`}`;
 }
 
 export const hex_line = (who, where, [offset, width, value]) => `${who} cw ${where} ${hex(offset)} ${width} ${hex(value)}`;

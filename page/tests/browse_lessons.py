@@ -251,7 +251,7 @@ NAME_OF_BYTE = "document.querySelector('#bytes td[title^=\"0x%02x\"]').title.sli
 def a_capability_list_is_a_chain(browser, page):
     browser.open(f'{page}#lesson=capabilities')
     browser.select('2.0/0.0')
-    ends('the list is a chain', browser.text_of('identity'), '. Capability list: 0x34 → [0xc8 Power Management] → [0xd0 MSI] → [0xa0 MSI-X] → end')
+    ends('the list is a chain', browser.text_of('identity'), '\nCapability list: 0x34 → [0xc8 Power Management] → [0xd0 MSI] → [0xa0 MSI-X] → end')
     names = ['Capabilities Pointer', 'Capability ID (Power Management)', 'Next Capability (MSI)', 'Message Control (MSI-X)', 'PBA Offset/BIR (MSI-X)']
     equals('its bytes have names', [browser.run(NAME_OF_BYTE % at) for at in [0x34, 0xc8, 0xd1, 0xa3, 0xa8]], names)
     fields = ['Table Size', 'Table BIR', 'Table Offset', 'PBA BIR', 'PBA Offset']

@@ -8,6 +8,7 @@ import { images_hold } from './compare_images.js';
 import { ways_astray } from './compare_ways.js';
 import { words_in } from '../js/forms.js';
 import { capability_list } from '../js/capabilities.js';
+import { number_at, read_json } from '../js/report.js';
 import { question_at, question_of, read_why, read_why_of_guest, SPACE_READ } from '../js/why.js';
 
 const to_bytes = text => new TextEncoder().encode(text);
@@ -111,6 +112,17 @@ const WRITTEN = { list: (engine, board) => engine.report(board), 'list --json': 
 // The 256 bytes of a function in words of 4 bytes, by their offsets.
 const words_by_offset = bytes => new Map(Array.from({ length: 64 }, (_, nth) => [4 * nth, new DataView(bytes.buffer).getUint32(4 * nth, true)]));
 
+// Whether the page finds in the registers of functions the capability lists that the JSON of their board has.
+function lists_hold(engine, board, { functions }) {
+  const machine = engine.open(board).made, bytes = new Uint8Array(256), view = new DataView(bytes.buffer);
+  const good = functions.every(({ capabilities = [], ...place }) => {
+    for (let at = 0; at < 256; at += 4) view.setUint32(at, Number(machine.number(`host cr ${number_at(place)} ${hexadecimal(at)} 4`)), true);
+    return capability_list(words_by_offset(bytes)).structures.map(one => one.offset).join() === capabilities.map(({ off }) => off).join();
+  });
+  machine.close();
+  return good;
+}
+
 // A case has what is asked, a board and its script, the number that refuses it or 0, and the output.
 function holds(engine, one) {
   const { work, board, script, number, output } = one;
@@ -118,7 +130,8 @@ function holds(engine, one) {
   if (work === 'image') return images_hold(engine, one);
   if (WRITTEN[work] !== undefined) {
     const written = WRITTEN[work](engine, board);
-    return written.number === number && same(written.text, output);
+    const is_same = written.number === number && same(written.text, output);
+    return is_same && (work !== 'list --json' || number !== 0 || lists_hold(engine, board, read_json(to_text(output))));
   }
   const { number: refusal, made } = work === 'run' ? engine.open(board) : engine.open_at_reset(board);
   if (made === null) return refusal === number;
