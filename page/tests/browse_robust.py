@@ -5,6 +5,7 @@ import json
 from tried import SIZES, TOP, begins, contains, equals, holds
 
 TOLD = "document.getElementById('kept_told').textContent"
+LESSONS = len([*(TOP / "docs/lessons").glob("[0-9]*.md")])
 COMMENTS = "'# a comment of some forty characters ....\\n'.repeat(%d)"
 
 
@@ -67,7 +68,7 @@ def there_is_a_way_in(browser, page, size):
     browser.run('localStorage.clear()')
     browser.open(f'{page}#board=main', *size)
     holds('a button begins', browser.seen('#begin') and browser.text_of('begin') == 'Begin lesson 1', browser.text_of('begin'))
-    equals('all titles can be read', browser.run("[...document.querySelectorAll('#steps .title')].map(one => one.checkVisibility())"), [True] * 11)
+    equals('all titles can be read', browser.run("[...document.querySelectorAll('#steps .title')].map(one => one.checkVisibility())"), [True] * LESSONS)
     for name in ['open', 'paste', 'link', 'state_link', 'state_file']:
         equals(f'{name} is behind one menu', browser.is_shown(name), False)
     browser.run("document.getElementById('legend').open = true")
