@@ -1,8 +1,8 @@
 -- A judged endpoint breaks no rule of declarations but that of blocks that overlap, and it breaks that one where two blocks of its
 -- tables overlap.
-use Rattle.std.{proofs.{Common.{◌≡◌, inl, inr, ℕ, ◌+◌, ◌<◌, ◌≤◌, ◌^◌, ◌==◌, ℤ, pos, ◌+ℤ◌, nat_abs, Bool, true, false, ◌&&◌, ◌||◌, List, [], ◌∷◌, ◌++◌, map, length, nat_le, drop, bit_and, bit_or, None, refl, ◌∙◌, sym, ap, ap₂, arith, leb-true, le-leb, lt-ltb, append-nil}, lemmas.{Bool.{and_parts, eqb-true, eq-eqb}, Nat.and_assoc, List.{map-append, FromFn.length-map-range_with_len, Folds.{list_all-map, list_all-append}}}}, specs.{Prelude.{int_le, is_none}, List.list_all}}
+use Rattle.std.{proofs.{Common.{◌≡◌, inl, inr, ℕ, ◌+◌, ◌<◌, ◌≤◌, ◌^◌, ◌==◌, ℤ, pos, ◌+ℤ◌, nat_abs, Bool, true, false, cond, ◌&&◌, ◌||◌, List, [], ◌∷◌, ◌++◌, map, length, nat_le, drop, bit_and, bit_or, None, refl, ◌∙◌, sym, ap, ap₂, arith, leb-true, le-leb, lt-ltb, append-nil}, lemmas.{Bool.{and_parts, eqb-true, eq-eqb, ne_eqb}, List.{map-append, FromFn.length-map-range_with_len, Folds.{list_all-map, list_all-append}}}}, specs.{Prelude.{int_le, is_none}, Int.Bits.or_zero_r, List.{list_all, list_any}}}
 use Rattle.lists.{specs.Elements.all_pairs, proofs.Tests.{left_true, right_true, asked_true}}
-use Rattle.model_registers.{specs.{Cell.{Cell, constant}, Declarations.ConfigBlock, DeclarationRules.{first_broken, endpoint_rules, blocks_apart}, Capabilities.{first_offset, structure, structures, pointer, with_capabilities}}, proofs.Capabilities.status_with_list}
+use Rattle.model_registers.{specs.{Cell.{Cell, constant}, Declarations.ConfigBlock, DeclarationRules.{first_broken, endpoint_rules, blocks_apart, is_read_only, is_pointer, status_with}, Capabilities.{first_offset, structure, structures, pointer, with_capabilities}}, proofs.Capabilities.status_with_list}
 use Rattle.board_file.{specs.{Entries.{Bar, Config, Capability, Endpoint, Patterns, File}, Blocks.block_cells, Functions.{region, config_block, capability, plain_values, endpoint_values}, Rules.{is_between, has_only_bits, is_size, config_extent, capability_extent, extents, are_apart}, EntryRules.{endpoint_numbers, value_rules, bar_rules}, Judged.{kept, keeps, is_region, is_config_block, is_capability, is_declarable, is_lawful_bridge, HasSmallNumbers, is_judged}, declared.{rule.Rule.Rule, blocks.ByteRange.ByteRange}}, proofs.{Asked.{unbroken, numbers, registers, sizes}, Tests.{first_three, imply_all, all-both, pairs-map, pairs-swap}}}
 use Rattle.model_registers.specs.DeclarationRules as rules
 use Rattle.model_registers.specs.Capabilities as listed
@@ -229,12 +229,25 @@ lawful_blocks cs ds h k =
     list_all-append rules.is_config_block (structures (map capability ds)) (map config_block cs)
     ∙ ap₂ (λ (a b : Bool). a && b) (lawful_structures ds k) (lawful_configs cs h)
 
-plain_status : (s : ℕ) → bit_and s 0xf900 ≡ s → bit_and s 0xf910 ≡ s
-plain_status s h = ap (λ n. bit_and n 0xf910) (sym h) ∙ and_assoc 0xf910 s 0xf900 ∙ h
+-- a block at 40h or above isn't the pointer
+no_pointer : (c : Config) → is_config_block c ≡ true → is_pointer (config_block c) ≡ false
+no_pointer c h =
+    let (off, block, ends) = config_parts c h in
+    let begins = within_ge 0x40 0xff c.off off in
+    ap (λ t. t && length (config_block c).cells == 1 && list_all is_read_only (config_block c).cells) (ne_eqb (nat_abs c.off) 0x34 (λ at. omega (arith, begins, at)))
+
+no_list : (cs : List Config) → list_all is_config_block cs ≡ true → list_any is_pointer (map config_block cs) ≡ false
+no_list [] h = refl
+no_list (c ∷ cs) h =
+    let (here, more) = and_parts (is_config_block c) (list_all is_config_block cs) h in
+    ap₂ (λ (a b : Bool). a || b) (no_pointer c here) (no_list cs more)
+
+plain_status : (s : ℕ) (cs : List Config) → bit_and s 0xf900 ≡ s → list_all is_config_block cs ≡ true → status_with (map config_block cs) s ≡ s
+plain_status s cs h k = ap (λ (t : Bool). bit_or (bit_and s 0xf900) (cond t 0x10 0)) (no_list cs k) ∙ or_zero_r (bit_and s 0xf900) ∙ h
 
 -- whatever Status and blocks it declares, as long as they are lawful
 lawful_numbers : (e : Endpoint) → is_declarable e ≡ true → (s : ℕ) (bs : List ConfigBlock)
-    → bit_and s 0xf910 ≡ s → list_all rules.is_config_block bs ≡ true
+    → status_with bs s ≡ s → list_all rules.is_config_block bs ≡ true
     → rules.has_lawful_numbers (record (plain_values e) { status = s; blocks = bs }) ≡ true
 lawful_numbers e h s bs status blocks =
     let own = small e h in
@@ -242,7 +255,7 @@ lawful_numbers e h s bs status blocks =
     let class = lt-ltb (nat_abs e.class) (2 ^ 24) own.class in
     let pin = le-leb (nat_abs e.pin) 4 own.pin in
     let short_cells = list_all-map (λ r. nat_le (length r.cells) 4096) region e.bars ∙ imply_all is_region (λ b. nat_le (length (region b).cells) 4096) short e.bars (regions_of e h) in
-    rw (vendor, class, pin, eq-eqb (bit_and s 0xf910) s status, short_cells, blocks) refl
+    rw (vendor, class, pin, eq-eqb (status_with bs s) s status, short_cells, blocks) refl
 
 fitting : (e : Endpoint) → is_declarable e ≡ true → list_all (λ r. nat_le (length r.cells) r.size) (map region e.bars) ≡ true
 fitting e h =
@@ -254,7 +267,7 @@ by_last : (a b c d : Bool) → a ≡ true → b ≡ true → c ≡ true → is_n
 by_last a b c d h k l = grind arith
 
 by_blocks : (e : Endpoint) → is_declarable e ≡ true → (s : ℕ) (bs : List ConfigBlock)
-    → bit_and s 0xf910 ≡ s → list_all rules.is_config_block bs ≡ true
+    → status_with bs s ≡ s → list_all rules.is_config_block bs ≡ true
     → is_none (first_broken (endpoint_rules (record (plain_values e) { status = s; blocks = bs }))) ≡ all_pairs blocks_apart bs
 by_blocks e h s bs status blocks =
     by_last (rules.has_lawful_numbers (record (plain_values e) { status = s; blocks = bs })) (rules.has_own_registers (map region e.bars))
@@ -265,10 +278,10 @@ with_list : (e : Endpoint) → is_declarable e ≡ true → (ds : List Capabilit
     → is_none (first_broken (endpoint_rules (with_capabilities (map capability ds) (plain_values e))))
     ≡ all_pairs are_apart (map config_extent e.configs ++ map capability_extent ds)
 with_list e h [] k =
-    let status = plain_status (nat_abs e.status) (eqb-true _ _ (status_of e h).1) in
+    let status = plain_status (nat_abs e.status) e.configs (eqb-true _ _ (status_of e h).1) (configs_of e h) in
     by_blocks e h (nat_abs e.status) (map config_block e.configs) status (lawful_configs e.configs (configs_of e h)) ∙ plain_apart e.configs
 with_list e h (d ∷ ds) k =
-    let status = status_with_list (nat_abs e.status) (eqb-true _ _ (status_of e h).1) in
+    let status = ap (λ n. bit_or n 0x10) (status_with_list (nat_abs e.status) (eqb-true _ _ (status_of e h).1)) in
     let blocks = lawful_blocks e.configs (d ∷ ds) (configs_of e h) k in
     by_blocks e h (bit_or (nat_abs e.status) 0x10) (blocks_with e.configs (d ∷ ds)) status blocks
     ∙ listed_apart e.configs (d ∷ ds) (configs_of e h) k

@@ -1,17 +1,11 @@
 -- What an endpoint knows of its cells at reset: at the beginning, and after each change.
-use Rattle.std.{proofs.{Common.{◌≡◌, ℕ, ◌+◌, ◌/◌, ◌<◌, ◌≤◌, inl, inr, Bool, true, false, Some, List, [], ◌∷◌, ◌++◌, length, refl, ap, sym, ◌∙◌, subst, arith, get_or, rules, ltb}, lemmas.{Bool.{ne_eqb, ltb-true, ltb-false, Decides.nat_tests}, List.length-set, Option.slice_get_past}}, specs.{Prelude.flat_map, Int.Bits.{and_zero_l, and_zero_r, or_zero_r}, List.{slice_get, slice_set}, Option.option_map_or}}
+use Rattle.std.{proofs.{Common.{◌≡◌, ℕ, ◌+◌, ◌/◌, ◌<◌, ◌≤◌, inl, inr, Bool, true, false, Some, List, [], ◌∷◌, ◌++◌, length, refl, ap, sym, ◌∙◌, subst, arith, get_or, rules, ltb}, lemmas.{Bool.{ne_eqb, ltb-true, ltb-false, Decides.nat_tests}, List.length-set, Option.slice_get_past}}, specs.{Prelude.flat_map, List.{slice_get, slice_set}, Option.option_map_or}}
 use Rattle.lists.{specs.Elements.Each, proofs.{Indices.read_at, EachLemmas.each_append}}
-use Rattle.model_registers.{specs.{Cell.{Cell, written, raised}, Registers.{Place, config, after, File, cell_at, changed, write, field, number}, FileLaws.{has_place, IsConfigFile}, Declarations.{ConfigBlock, Endpoint}, DeclarationRules.{IsConfigBlock, IsLawfulEndpoint}, EndpointTable.{block_cells, header_type, config_reset, BaseAddress}, OwnCopies.is_own, Decoding.Function}, proofs.Files.{changed_config, change_keeps_places}}
+use Rattle.model_registers.{specs.{Cell.{Cell, IsConstant}, Registers.{Place, config, after, File, cell_at, changed, write, field, number}, FileLaws.{has_place, IsConfigFile}, Declarations.{ConfigBlock, Endpoint}, DeclarationRules.{IsConfigBlock, IsLawfulEndpoint}, EndpointTable.{block_cells, header_type, config_reset, BaseAddress}, OwnCopies.is_own, Decoding.Function}, proofs.{Files.{changed_config, change_keeps_places}, ConstantCells.constant_written}}
 use Rattle.config_bytes.specs.CellFile.{CellFile, places_of}
-use Rattle.bridge_forward.{specs.EndpointParts.{block_at, declared_block, IsConstant, IsHeaderKept, KnowReset, as_made, region_parts, IsShort, IsEndpointFn}, proofs.{EndpointAccess.{get_set, get_other, block_there, block_set, other_blocks, IsBlockChange, no_block, block_short, config_kept, table_changed, table_kept, nothing_there}, EndpointReset.{none_field, none_cells}}}
+use Rattle.bridge_forward.{specs.EndpointParts.{block_at, declared_block, IsHeaderKept, KnowReset, as_made, region_parts, IsShort, IsEndpointFn}, proofs.{EndpointAccess.{get_set, get_other, block_there, block_set, other_blocks, IsBlockChange, no_block, block_short, config_kept, table_changed, table_kept, nothing_there}, EndpointReset.{none_field, none_cells}}}
 
 -- ---- the header type stays
-
-constant_written : (b : ℕ) (c : Cell) → IsConstant c → written b c ≡ c
-constant_written b c h = grind (arith, and_zero_l, and_zero_r, or_zero_r)
-
-pub constant_raised : (m : ℕ) (c : Cell) → IsConstant c → raised m c ≡ c
-constant_raised m c h = grind (arith, and_zero_r, or_zero_r)
 
 pub header_changed : (f : Cell → Cell) → ((c : Cell) → IsConstant c → f c ≡ c) → (initial : File) (p : Place) (xs : File) → Each (IsHeaderKept initial) xs → Each (IsHeaderKept initial) (changed f p xs)
 header_changed f stays initial p [] h = tt

@@ -9,9 +9,9 @@
 --     blocks_after blocks      the blocks after each was reset
 --     KnowReset      the reset cells stored in an endpoint's parts are those of its declaration
 --     IsEndpointFn      all invariants of an endpoint's parts
-use Rattle.std.specs.{Prelude.{List, [], ◌≡◌, ◌≢◌, ◌⊎◌, ℕ, ◌≤◌, ◌<◌, ◌++◌, ◌==◌, true, false, Option, option_map, map, flat_map, find, length, slice_get, bit_and}, Option.option_map_or}
+use Rattle.std.specs.{Prelude.{List, [], ◌≡◌, ◌≢◌, ◌⊎◌, ℕ, ◌≤◌, ◌<◌, ◌++◌, ◌==◌, true, false, Option, option_map, map, flat_map, find, length, slice_get}, Option.option_map_or}
 use Rattle.lists.specs.Elements.{Each}
-use Rattle.model_registers.specs.{Cell.Cell, Registers.{Place, config, place_eq, PlacedCell, File, cell_at, number, cells_from, in_region}, FileLaws.{has_place, IsConfigFile}, Declarations.{Bar, Region, HasLawfulRegions, Endpoint}, DeclarationRules.IsLawfulEndpoint, EndpointTable.{BaseAddress, register_cells, opened, config_reset}, OwnCopies.{bare, is_own}}
+use Rattle.model_registers.specs.{Cell.IsConstant, Registers.{Place, config, place_eq, PlacedCell, File, cell_at, number, cells_from, in_region}, FileLaws.{has_place, IsConfigFile}, Declarations.{Bar, Region, HasLawfulRegions, Endpoint}, DeclarationRules.IsLawfulEndpoint, EndpointTable.{BaseAddress, register_cells, opened, config_reset}, OwnCopies.{bare, is_own}}
 use Rattle.config_bytes.specs.CellFile.{CellFile, places_of}
 
 abbrev pub block_at : List CellFile → ℕ → File
@@ -56,10 +56,6 @@ block_at_reset blocks n = option_map_or (λ (f : CellFile). f.initial) (slice_ge
 
 abbrev pub blocks_after : List CellFile → List CellFile
 blocks_after blocks = map (λ (f : CellFile). record f { now = f.initial }) blocks
-
--- no bit is writable or write-1-to-clear
-abbrev pub IsConstant : Cell → Type 0
-IsConstant c = (bit_and c.value 255 ≡ c.value) × (c.writable ≡ 0) × (c.clearable ≡ 0)
 
 -- the header type keeps its reset value
 abbrev pub IsHeaderKept : File → PlacedCell → Type 0

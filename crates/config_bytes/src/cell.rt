@@ -1,7 +1,7 @@
 //! A byte of configuration space or of a region, with its write behavior.
 ghost use Rattle.std.specs.Prelude.{◌≡◌, ◌↔◌, IsOk, IfOk, bit_and};
 ghost use Rattle.lists.specs.Elements.{Each};
-ghost use Rattle.model_registers.specs.{Cell.{IsCell, constant, written, raised}, DeviceBytes.with_value};
+ghost use Rattle.model_registers.specs.{Cell.{IsCell, constant, written, raised}, DeclarationRules.is_read_only, DeviceBytes.with_value};
 
 use std::marker::Model;
 use thiserror::Error;
@@ -79,6 +79,13 @@ impl Cell {
         ensures { result ≡ record { value = value; writable = 0; clearable = w1c } }
     {
         Cell { value, rw: 0, w1c }
+    }
+
+    /// Returns whether neither mask has a bit.
+    pub fn is_read_only(&self) -> bool
+        ensures { result ≡ is_read_only self.now }
+    {
+        self.rw == 0 && self.w1c == 0
     }
 
     /// Returns the value of the byte, as a read does.

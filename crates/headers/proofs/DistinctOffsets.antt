@@ -1,6 +1,7 @@
 -- No two cells of a header and of blocks that lie apart have one offset.
-use Rattle.std.{proofs.{Common.{◌≡◌, ◌≢◌, ℕ, ◌+◌, ◌<◌, ◌≤◌, inl, inr, Bool, true, ◌&&◌, ltb, List, [], ◌∷◌, ◌++◌, length, eqb, refl, sym, subst, arith}, lemmas.Bool.{Decides.nat_tests}}, specs.Prelude.{IsTrue, ◌⊎◌, flat_map, not}}
+use Rattle.std.{proofs.{Common.{◌≡◌, ◌≢◌, ℕ, ◌+◌, ◌<◌, ◌≤◌, Bool, true, ◌&&◌, ltb, List, [], ◌∷◌, ◌++◌, length, eqb, refl, sym, subst, arith}, lemmas.Bool.{Decides.nat_tests}}, specs.Prelude.{IsTrue, ◌⊎◌, flat_map, not}}
 use Rattle.lists.{specs.Elements.{Each, EachPair, all_pairs}, proofs.EachLemmas.{each_map, each_test, pairs_test, each_append, pairs_map}}
+use Rattle.model_registers.proofs.LawfulDeclarations.{byte_in_place}
 use Rattle.model_registers.specs.{Cell.Cell, Registers.{config, offset_of, PlacedCell, File, cells_from}, Declarations.{ConfigBlock, Endpoint, Bridge}, BridgeTable.bridge_reset, DeclarationRules.{blocks_apart, IsConfigBlock, IsLawfulEndpoint}, EndpointTable.{block_cells, header_cells, config_reset}}
 use Rattle.config_bytes.specs.CellFile.{HasDistinctOffsets, file_of}
 
@@ -44,15 +45,11 @@ blocks_distinct (b ∷ bs) h = grind (arith, blocks_distinct bs, pairs_append, b
 abbrev IsOwn : PlacedCell → Type 0
 IsOwn e = (0x40 ≤ at e) ⊎ (at e ≡ 0x34)
 
-within_block : (o n a : ℕ) → (0x40 ≤ o) ⊎ ((o ≡ 0x34) × (n ≡ 1)) → o ≤ a → a < o + n → (0x40 ≤ a) ⊎ (a ≡ 0x34)
-within_block o n a (inl low) from to = inl (omega arith)
-within_block o n a (inr is) from to = inr (omega (arith, is.0, is.1))
-
 blocks_own : (bs : List ConfigBlock) → Each IsConfigBlock bs → Each IsOwn (flat_map block_cells bs)
 blocks_own [] h = tt
 blocks_own (b ∷ bs) h =
     each_append IsOwn (block_cells b) (flat_map block_cells bs)
-    (each_map (Within b.offset (b.offset + length b.cells)) IsOwn (block_cells b) (λ e w. within_block b.offset (length b.cells) (at e) h.0.in_place w.0 w.1) (block_within b.offset b.cells))
+    (each_map (Within b.offset (b.offset + length b.cells)) IsOwn (block_cells b) (λ e w. byte_in_place b.offset (length b.cells) (at e) h.0.in_place w.0 w.1) (block_within b.offset b.cells))
     (blocks_own bs h.1)
 
 -- ---- the header

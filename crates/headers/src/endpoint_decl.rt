@@ -73,7 +73,7 @@ impl EndpointValues {
         self.vendor < 0xffff
             && self.class < 1 << 24
             && self.pin <= 4
-            && self.status & 0xf910 == self.status
+            && self.status & 0xf900 | config_block::list_bit(&self.config) == self.status
             && region::blocks_are_short(&self.bar)
             && config_block::are_lawful(&self.config)
     }

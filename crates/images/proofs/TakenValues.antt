@@ -1,7 +1,7 @@
 -- Values that are taken one after the other.
 use Rattle.std.{proofs.{Common.{◌≡◌, ℕ, suc, ◌+◌, ◌-◌, ◌/◌, ◌%◌, ◌<◌, ◌≤◌, ◌⊎◌, inl, inr, true, false, List, [], ◌∷◌, ◌++◌, length, drop, Ok, Err, refl, ap, ◌∙◌, subst, arith}, lemmas.Bool.Decides.nat_tests}, specs.Prelude.flat_map}
 use Rattle.lists.specs.Elements.{Each}
-use Rattle.model_registers.specs.{Cell.Cell, Registers.{Place, config, block, after, PlacedCell, File, field, cells_from}, Declarations.{Region, ConfigBlock, Endpoint}, DeclarationRules.IsConfigBlock, EndpointTable.{base_cells, block_cells, header_cells, endpoint_reset}, DeviceBytes.is_device_byte}
+use Rattle.model_registers.specs.{Cell.Cell, Registers.{Place, config, block, after, PlacedCell, File, field, cells_from}, Declarations.{Region, ConfigBlock, Endpoint}, DeclarationRules.{IsInPlace, IsConfigBlock}, EndpointTable.{base_cells, block_cells, header_cells, endpoint_reset}, DeviceBytes.is_device_byte}
 use Rattle.model_images.specs.{Images.can_hold, LoadedBytes.{then_read, after_values}}
 use Rattle.model_registers.specs.EndpointTable as table
 
@@ -68,20 +68,16 @@ own_cells : (a : ℕ) (cs : List Cell) → 0x40 ≤ a → AreDevice (cells_from 
 own_cells a [] h = tt
 own_cells a (c ∷ cs) h = (grind (arith, nat_tests), own_cells (a + 1) cs (omega arith))
 
--- where a block may be
-abbrev pub InPlace : ℕ → List Cell → Type 0
-InPlace a cs = (0x40 ≤ a) ⊎ ((a ≡ 0x34) × (length cs ≡ 1))
-
 pointer_cells : (a : ℕ) (cs : List Cell) → a ≡ 0x34 → length cs ≡ 1 → AreDevice (cells_from (config a) cs)
 pointer_cells a [] is one = tt
 pointer_cells a (c ∷ []) is one = (grind (arith, nat_tests), tt)
 pointer_cells a (c ∷ e ∷ cs) is one = absurd (omega (arith, one))
 
-block_cells_are : (a : ℕ) (cs : List Cell) → InPlace a cs → AreDevice (cells_from (config a) cs)
+block_cells_are : (a : ℕ) (cs : List Cell) → IsInPlace a (length cs) → AreDevice (cells_from (config a) cs)
 block_cells_are a cs (inl low) = own_cells a cs low
 block_cells_are a cs (inr is) = pointer_cells a cs is.0 is.1
 
-pub first_in_place : (b : ConfigBlock) (left rest : List ConfigBlock) → Each IsConfigBlock left → left ≡ b ∷ rest → InPlace b.offset b.cells
+pub first_in_place : (b : ConfigBlock) (left rest : List ConfigBlock) → Each IsConfigBlock left → left ≡ b ∷ rest → IsInPlace b.offset (length b.cells)
 first_in_place b left rest all first = (subst (Each IsConfigBlock) first all).0.in_place
 
 region_cells : (n a : ℕ) (cs : List Cell) → AreDevice (cells_from (block n a) cs)
@@ -92,10 +88,10 @@ pub many_cells : (p : Place) (cs : List Cell) → length (cells_from p cs) ≡ l
 many_cells p [] = refl
 many_cells p (c ∷ cs) = ap suc (many_cells (after p) cs)
 
-pub block_taken : (a : ℕ) (cs : List Cell) (bytes rest : List ℕ) → InPlace a cs → length cs ≤ length bytes → rest ≡ drop (length cs) bytes → after_values (cells_from (config a) cs) bytes ≡ Ok rest
+pub block_taken : (a : ℕ) (cs : List Cell) (bytes rest : List ℕ) → IsInPlace a (length cs) → length cs ≤ length bytes → rest ≡ drop (length cs) bytes → after_values (cells_from (config a) cs) bytes ≡ Ok rest
 block_taken a cs bytes rest low room left = grind (arith, many_cells, any_taken, block_cells_are)
 
-pub block_missing : (a : ℕ) (cs : List Cell) (bytes : List ℕ) → InPlace a cs → length bytes < length cs → after_values (cells_from (config a) cs) bytes ≡ Err 905
+pub block_missing : (a : ℕ) (cs : List Cell) (bytes : List ℕ) → IsInPlace a (length cs) → length bytes < length cs → after_values (cells_from (config a) cs) bytes ≡ Err 905
 block_missing a cs bytes low room = let many = many_cells (config a) cs in any_missing (cells_from (config a) cs) bytes (block_cells_are a cs low) (omega arith)
 
 pub region_taken : (n : ℕ) (cs : List Cell) (bytes rest : List ℕ) → length cs ≤ length bytes → rest ≡ drop (length cs) bytes → after_values (cells_from (block n 0) cs) bytes ≡ Ok rest

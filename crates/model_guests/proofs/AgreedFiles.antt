@@ -1,7 +1,7 @@
 -- The file that agrees with a guest's file: what it holds, that it is the only one, and how it changes.
 use Rattle.std.{proofs.{Common.{◌≡◌, ◌/◌, Bool, true, false, cond, List, [], ◌∷◌, refl, arith}, lemmas.Bool.Decides.nat_tests}, specs.{Prelude.IsFalse, List.list_any}}
 use Rattle.lists.{specs.Elements.Each, proofs.Members.each_from}
-use Rattle.model_registers.{specs.{Cell.{Cell, no_cell}, Registers.{Place, place_eq, after, PlacedCell, File, cell_at, changed}, OwnCopies.is_own, CopiedFiles.{agreed_file, places_of}}, proofs.{RegisterFiles.{change_at_place, place_same, place_turned}, Owned.{raised_none, no_cell_stays}}}
+use Rattle.model_registers.{specs.{Cell.{Cell, no_cell}, Registers.{Place, place_eq, after, PlacedCell, File, cell_at, changed}, OwnCopies.is_own, CopiedFiles.{agreed_file, places_of}}, proofs.{RegisterFiles.{change_at_place, place_same, place_turned}, ConstantCells.{raised_none, no_cell_stays}}}
 use Rattle.model_guests.{proofs.DistinctPlaces.HasDistinctPlaces, specs.{AgreedLaws.{HoldsFile, ShowsFile}, ChangeLaws.{WritesAlike, RaisesAlike}}}
 
 -- ---- places

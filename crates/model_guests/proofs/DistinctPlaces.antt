@@ -1,6 +1,6 @@
 -- No place of an endpoint's file stands twice: registers and blocks are runs of places, and no two runs meet.
 use Rattle.std.{proofs.{Common.{◌≡◌, ℕ, zero, suc, ◌+◌, ◌*◌, ◌≤◌, ◌<◌, ◌⊎◌, inl, inr, Bool, false, List, [], ◌∷◌, ◌++◌, length, refl, sym, ap, ap₂, ◌∙◌, subst, arith}, lemmas.Bool.{leb-true, Decides.nat_tests}}, specs.Prelude.{flat_map, IsFalse}}
-use Rattle.model_registers.{specs.{Cell.Cell, Registers.{Place, config, block, place_eq, after, File, cells_from}, Declarations.{registers_of, Region, ConfigBlock, Endpoint, IsLawfulRegion, HasLawfulRegions}, DeclarationRules.{IsConfigBlock, IsLawfulEndpoint}, EndpointTable.{base_register, region_cells, block_cells, endpoint_file}, CopiedFiles.places_of}, proofs.Bases.registers_positive}
+use Rattle.model_registers.{specs.{Cell.Cell, Registers.{Place, config, block, place_eq, after, File, cells_from}, Declarations.{registers_of, Region, ConfigBlock, Endpoint, IsLawfulRegion, HasLawfulRegions}, DeclarationRules.{IsInPlace, IsConfigBlock, IsLawfulEndpoint}, EndpointTable.{base_register, region_cells, block_cells, endpoint_file}, CopiedFiles.places_of}, proofs.Bases.registers_positive}
 use Rattle.lists.{specs.Elements.{Each, EachPair}, proofs.EachLemmas.{each_map, pairs_map, each_append}}
 
 -- ---- what a lawful declaration says of places
@@ -8,9 +8,8 @@ use Rattle.lists.{specs.Elements.{Each, EachPair}, proofs.EachLemmas.{each_map, 
 abbrev BlocksApart : ConfigBlock → ConfigBlock → Type 0
 BlocksApart b c = (b.offset + length b.cells ≤ c.offset) ⊎ (c.offset + length c.cells ≤ b.offset)
 
--- at 40h or above, or the Capabilities Pointer
 abbrev InPlace : ConfigBlock → Type 0
-InPlace b = (0x40 ≤ b.offset) ⊎ ((b.offset ≡ 0x34) × (length b.cells ≡ 1))
+InPlace b = IsInPlace b.offset (length b.cells)
 
 record HasLawfulPlaces (d : Endpoint) : Type 0 where
   regions : HasLawfulRegions d.regions

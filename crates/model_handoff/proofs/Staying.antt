@@ -1,7 +1,7 @@
 -- Where a region stands changes by nothing else than writes of its registers, moves and resets of its function.
 use Rattle.std.{proofs.{Common.{◌≡◌, ◌≤◌, ℕ, zero, suc, ◌+◌, ◌*◌, ◌/◌, ◌%◌, Bool, true, false, ◌&&◌, ◌||◌, cond, eqb, List, [], ◌∷◌, length, Some, None, Option, Err, Result, refl, ap, ◌∙◌, arith}, lemmas.Bool.{or_parts, eqb-true, Decides.nat_tests}}, specs.{Prelude.{nat_le, slice_set, IsSome}, Option.option_map_or, Str.bytes_eq}}
 use Rattle.lists.{specs.Elements.Each, proofs.{Indices.{found_at, each_at}, Tests.second_false}}
-use Rattle.model_registers.{specs.{Cell.written, Registers.{Place, config, place_eq, after, File, cell_at, changed, read, write, raise, all_bytes}, Declarations.{Kind, Endpoint, registers_of, IsLawfulRegion}, Decoding.{Function, base}, OwnCopies.is_own, DeviceBytes.{is_device_byte, with_value, set_value}}, proofs.{RegisterFiles.{place_same, change_at_place}, Owned.{no_cell_stays, raised_none}, DeviceBytes.{device_not_own, change_beside}}}
+use Rattle.model_registers.{specs.{Cell.written, Registers.{Place, config, place_eq, after, File, cell_at, changed, read, write, raise, all_bytes}, Declarations.{Kind, Endpoint, registers_of, IsLawfulRegion}, Decoding.{Function, base}, OwnCopies.is_own, DeviceBytes.{is_device_byte, with_value, set_value}}, proofs.{RegisterFiles.{place_same, change_at_place}, ConstantCells.{no_cell_stays, raised_none}, DeviceBytes.{device_not_own, change_beside}}}
 use Rattle.model_board.specs.{Paths.Path, Board.Board, Lawful.HasLawfulDecls}
 use Rattle.model_guests.{specs.{Accesses.{Event, access, raises, Access, Raise, Op, writes}, Slots.{Slots, slot_at, with_file, Landing, effect, raise_landing, affected}, Text.Text, Lone.{LoneGuest, own_latch, destination, after_access_at, after_event, filled, emptied}, Guests.{GuestNow, GuestsNow, guest_named, lone_of, with_guest, guest_after, Move, handed_over, with_slot_emptied, with_slot_filled}, Lines.{nothing, guest_event, host_read, host_move, bad}, Seated.AreSeated, DeviceEvents.{resets, device_reads, device_writes, DeviceByte, byte_landing, with_byte, after_device_event, device_after}, Calls.{asks, at_device}}, proofs.{GuestFiles.slot_set, GuestsByName.Keeps, SeatedMoves.seat_in, CopiesNeverRise.declared_lawful, KeptCopies.copies_never_rise, DeviceBytes.{reached, read_leaves}, OneGuest.{lone_by, still}}}
 use Rattle.model_handoff.{specs.{GuestRegions.{LiveBar, region_of, region_answer}, StayLaws.{tells_regions, any_tells, rewrites, RegionsStay}}, proofs.Landings.{same_destination, byte_goes, changed_there}}

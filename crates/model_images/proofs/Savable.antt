@@ -1,7 +1,7 @@
 -- The image of a guest of lawful functions, which hold what they can, has bytes.
-use Rattle.std.{proofs.{Common.{◌≡◌, ℕ, ◌+◌, ◌-◌, ◌^◌, ◌<◌, ◌≤◌, Bool, true, false, ◌&&◌, eqb, List, [], ◌∷◌, length, map, Some, None, refl, ap, ◌∙◌, subst, arith}, lemmas.{Bool.{and_from, lt-ltb, eq-eqb, ne_eqb, eqb-true}, List.length-map, Nat.and_le_r, Map.Steps.length-le_from_distinct_below}}, specs.{Prelude.{option_map, bit_and, IsTrue}, List.{list_any, AllByRecursion, IsDistinct}}}
+use Rattle.std.{proofs.{Common.{◌≡◌, ℕ, ◌+◌, ◌-◌, ◌^◌, ◌<◌, ◌≤◌, Bool, true, false, cond, ◌&&◌, eqb, List, [], ◌∷◌, length, map, Some, None, refl, ap, ◌∙◌, subst, arith}, lemmas.{Bool.{and_from, lt-ltb, eq-eqb, ne_eqb, eqb-true}, List.length-map, Nat.{and_le_r, or_of_16}, Map.Steps.length-le_from_distinct_below}}, specs.{Prelude.{option_map, bit_and, IsTrue}, List.{list_any, AllByRecursion, IsDistinct}}}
 use Rattle.lists.{specs.Elements.{Each, EachPair}, proofs.EachLemmas.each_map}
-use Rattle.model_registers.{specs.{Cell.{Cell, IsCell}, Registers.File, AccessLaws.HoldsBytes, ConfigAddress.latched, CopiedFiles.shape_of, Declarations.{Kind, registers_of, greatest_size, Region, IsLawfulRegion, ConfigBlock, Endpoint}, DeclarationRules.{IsConfigBlock, blocks_apart, IsLawfulEndpoint}, EndpointTable.endpoint_reset, Decoding.Function}, proofs.Bases.registers_positive}
+use Rattle.model_registers.{specs.{Cell.{Cell, IsCell}, Registers.File, AccessLaws.HoldsBytes, ConfigAddress.latched, CopiedFiles.shape_of, Declarations.{Kind, registers_of, greatest_size, Region, IsLawfulRegion, ConfigBlock, Endpoint}, DeclarationRules.{is_pointer, list_bit, IsConfigBlock, blocks_apart, IsLawfulEndpoint}, EndpointTable.endpoint_reset, Decoding.Function}, proofs.Bases.registers_positive}
 use Rattle.model_guests.specs.Slots.{Slots}
 use Rattle.model_images.specs.{Images.{values_of, saved, fit_cells}, Layouts.{Layout, number, fit_times, counted, optional}, ImageBytes.{cell_layout, kind_layout, region_layout, block_layout, endpoint_layout, function_layout, latch_layout}, ByteLaws.{IsDeclared, IsSavable, HoldsSavable, GuestsHaveBytes}}
 
@@ -81,6 +81,15 @@ block_count d h = few_blocks d.blocks h.config_blocks h.blocks_apart
 masked : (n m : ℕ) → bit_and n m ≡ n → n < m + 1
 masked n m h = let a = and_le_r n m in let low : n ≤ m = subst (λ x. x ≤ m) h a in omega arith
 
+-- Status has 16 bits
+status_small : (d : Endpoint) → IsLawfulEndpoint d → d.status < 2 ^ 16
+status_small d h =
+    let masked = and_le_r d.status 0xf900 in
+    subst (λ n. n < 2 ^ 16) h.status (or_of_16 (bit_and d.status 0xf900) (list_bit d.blocks) (omega (arith, masked)) (bit_small (list_any is_pointer d.blocks)))
+  where
+    bit_small : (t : Bool) → cond t 0x10 0 < 2 ^ 16
+    bit_small t = grind arith
+
 pub endpoint_fits : (d : Endpoint) → IsDeclared d → endpoint_layout.fits d ≡ true
 endpoint_fits d h = grind (arith, region_count d h.lawful, block_count d h.lawful, counted_fit 1 region_layout, regions_fit, counted_fit 1 block_layout, blocks_fit, numbers)
   where
@@ -93,7 +102,7 @@ endpoint_fits d h = grind (arith, region_count d h.lawful, block_count d h.lawfu
     blocks_fit (x ∷ xs) a b = (block_fits x a.0 b.0, blocks_fit xs a.1 b.1)
 
     numbers : (counted 1 region_layout).fits d.regions ≡ true → (counted 1 block_layout).fits d.blocks ≡ true → endpoint_layout.fits d ≡ true
-    numbers r b = grind (arith, lt-ltb, masked)
+    numbers r b = grind (arith, lt-ltb, status_small)
 
 -- ---- guests
 

@@ -1,41 +1,29 @@
 -- A capability list is found as it was declared.
-use Rattle.std.{proofs.{Common.{◌≡◌, ℕ, ◌+◌, ◌-◌, ◌*◌, ◌/◌, ◌%◌, ◌^◌, ◌<◌, ◌≤◌, ◌⊎◌, inl, inr, Bool, true, false, ◌&&◌, cond, List, [], ◌∷◌, ◌++◌, length, refl, sym, ap, ◌∙◌, subst, arith, eqb, ltb, append_assoc}, lemmas.{Bool.{Decides.nat_tests, and_parts, ltb-true}, Nat.{and_mask, and_mod, and_shr, and_block, or_block, and_or_self}}, Math.Nat.{mod-eq_of_lt}}, specs.{Prelude.{⊤, IsTrue, bit_and, bit_or, flat_map}, Int.Bits.{or_zero_r, and_zero_r}}}
+use Rattle.std.{proofs.{Common.{◌≡◌, ℕ, ◌+◌, ◌*◌, ◌/◌, ◌%◌, ◌<◌, ◌≤◌, ◌⊎◌, Bool, true, false, ◌&&◌, List, [], ◌∷◌, ◌++◌, length, refl, sym, ap, ◌∙◌, subst, arith, ltb, append_assoc}, lemmas.{Bool.{Decides.nat_tests, and_parts, ltb-true}, Nat.{and_mask, and_mod, and_shr, and_block, or_block, and_or_self}}, Math.Nat.{mod-eq_of_lt}}, specs.{Prelude.{⊤, IsTrue, bit_and, bit_or, flat_map}, Int.Bits.{or_zero_r, and_zero_r}}}
 use Rattle.lists.specs.Elements.{Each, EachPair}
-use Rattle.model_registers.{specs.{Cell.{Cell, constant, no_cell, written, raised}, Registers.{Place, config, block, place_eq, after, File, cell_at, changed, write, raise, cells_from}, Declarations.{ConfigBlock, Region, Endpoint}, DeclarationRules.{blocks_apart, IsConfigBlock, IsLawfulEndpoint}, EndpointTable.{block_cells, header_cells, region_cells, endpoint_file}, Capabilities.{Capability, first_offset, structure, structures, pointer, with_capabilities, byte, Finds, ShowsList, Change, write_of, raise_of, after_change, after_changes, ListStays}}, proofs.{RegisterFiles.{change_at_place, self, above, below}, Owned.{no_cell_stays, raised_none}}}
+use Rattle.model_registers.{specs.{Cell.{Cell, constant, IsConstant, no_cell, written, raised}, Registers.{Place, config, block, place_eq, after, File, cell_at, changed, write, cells_from}, Declarations.{ConfigBlock, Region, Endpoint}, DeclarationRules.{blocks_apart, IsConfigBlock, IsLawfulEndpoint}, EndpointTable.{block_cells, header_cells, region_cells, endpoint_file}, Capabilities.{Capability, first_offset, structure, structures, pointer, with_capabilities, byte, Finds, Change, write_of, raise_of, after_change, after_changes, ListStays}}, proofs.{RegisterFiles.{change_at_place, self, above, below}, ConstantCells.{constant_written, constant_raised, no_cell_stays, raised_none}, Owned.same_cell}}
 
 -- ---- a byte that always reads the same
 
 abbrev Holds : File → Place → ℕ → Type 0
 Holds file p v = cell_at file p ≡ constant v
 
-same_byte : (v : ℕ) → v < 256 → bit_and v 255 ≡ v
-same_byte v h = and_mask v 8 ∙ mod-eq_of_lt h
-
-written_still : (b v : ℕ) → v < 256 → written b (constant v) ≡ constant v
-written_still b v h =
-    let kept : bit_and (bit_and v 255) 255 ≡ v = ap (λ n. bit_and n 255) (same_byte v h) ∙ same_byte v h in
-    let none : bit_and (bit_and v 0) (255 - b) ≡ 0 = ap (λ n. bit_and n (255 - b)) (and_zero_r v) in
-    grind (arith, kept, none, and_zero_r, or_zero_r)
-
-raised_still : (m v : ℕ) → raised m (constant v) ≡ constant v
-raised_still m v = ap (λ n. record { value = n; writable = 0; clearable = 0 }) (ap (bit_or v) (and_zero_r m) ∙ or_zero_r v)
-
-either_way : (t : Bool) (c d e : Cell) → c ≡ e → d ≡ e → cond t c d ≡ e
-either_way t c d e h k = grind arith
+byte_constant : (v : ℕ) → v < 256 → IsConstant (constant v)
+byte_constant v h = (and_mask v 8 ∙ mod-eq_of_lt h, refl, refl)
 
 changed_still : (f : Cell → Cell) → f no_cell ≡ no_cell → (v : ℕ) → f (constant v) ≡ constant v → (file : File) (p q : Place) → Holds file q v → Holds (changed f p file) q v
-changed_still f none v still file p q h = change_at_place f none file p q ∙ either_way (place_eq p q) (f (cell_at file q)) (cell_at file q) (constant v) (ap f h ∙ still) h
+changed_still f none v still file p q h = change_at_place f none file p q ∙ same_cell (place_eq p q) (f (cell_at file q)) (cell_at file q) (λ here. ap f h ∙ still ∙ sym h) ∙ h
 
 write_still : (ons : List Bool) (x v : ℕ) → v < 256 → (p q : Place) (file : File) → Holds file q v → Holds (write ons x p file) q v
 write_still [] x v fits p q file h = h
 write_still (true ∷ ons) x v fits p q file h =
     write_still ons (x / 256) v fits (after p) q (changed (written (x % 256)) p file)
-    (changed_still (written (x % 256)) (no_cell_stays (x % 256)) v (written_still (x % 256) v fits) file p q h)
+    (changed_still (written (x % 256)) (no_cell_stays (x % 256)) v (constant_written (x % 256) (constant v) (byte_constant v fits)) file p q h)
 write_still (false ∷ ons) x v fits p q file h = write_still ons (x / 256) v fits (after p) q file h
 
 change_still : (c : Change) (v : ℕ) → v < 256 → (q : Place) (file : File) → Holds file q v → Holds (after_change file c) q v
 change_still (write_of ons x p) v fits q file h = write_still ons x v fits p q file h
-change_still (raise_of m p) v fits q file h = changed_still (raised m) (raised_none m) v (raised_still m v) file p q h
+change_still (raise_of m p) v fits q file h = changed_still (raised m) (raised_none m) v (constant_raised m (constant v) (byte_constant v fits)) file p q h
 
 pub changes_still : (cs : List Change) (v : ℕ) → v < 256 → (q : Place) (file : File) → Holds file q v → Holds (after_changes file cs) q v
 changes_still [] v fits q file h = h
@@ -196,10 +184,10 @@ list_stays d c cs lawful ids multifunction command bases changes =
 
 -- ---- Status of a lawful declaration
 
-pub status_with_list : (s : ℕ) → bit_and s 0xf900 ≡ s → bit_and (bit_or s 0x10) 0xf910 ≡ bit_or s 0x10
+pub status_with_list : (s : ℕ) → bit_and s 0xf900 ≡ s → bit_and (bit_or s 0x10) 0xf900 ≡ s
 status_with_list s h =
     let low : s % 256 ≡ 0 = ap (λ n. n % 256) (sym h) ∙ and_mod s 0xf900 8 ∙ and_zero_r (s % 256) in
     let high : bit_and (s / 256) 0xf9 ≡ s / 256 = sym (and_shr s 0xf900 8) ∙ ap (λ n. n / 256) h in
     let split : s ≡ s / 256 * 256 + 0 = omega (arith, low) in
     let joined : bit_or s 0x10 ≡ s / 256 * 256 + 0x10 = ap (λ n. bit_or n 0x10) split ∙ or_block 8 (s / 256) 0 0 0x10 (omega arith) (omega arith) ∙ ap (λ n. n * 256 + 0x10) (or_zero_r (s / 256)) in
-    ap (λ n. bit_and n 0xf910) joined ∙ and_block 8 (s / 256) 0xf9 0x10 0x10 (omega arith) (omega arith) ∙ ap (λ n. n * 256 + 0x10) high ∙ sym joined
+    ap (λ n. bit_and n 0xf900) joined ∙ and_block 8 (s / 256) 0xf9 0x10 0 (omega arith) (omega arith) ∙ ap (λ n. n * 256 + 0) high ∙ sym split

@@ -1,5 +1,5 @@
 -- Joined files, and the cells of a block as those of a region.
-use Rattle.std.proofs.{Common.{◌≡◌, ◌≢◌, ℕ, ◌+◌, ◌*◌, ◌/◌, ◌%◌, Bool, true, false, cond, eqb, List, [], ◌∷◌, refl, sym, ap, ap₂, ◌∙◌, subst, arith}, lemmas.Bool.{ne_eqb, eq-eqb, or_parts}}
+use Rattle.std.proofs.{Common.{◌≡◌, ◌≢◌, ℕ, ◌+◌, ◌*◌, ◌/◌, ◌%◌, Bool, true, false, cond, List, [], ◌∷◌, refl, sym, ap, ap₂, ◌∙◌, subst, arith}, lemmas.Bool.{ne_eqb, eq-eqb, or_parts}}
 use Rattle.model_registers.specs.{Cell.{Cell, no_cell, written}, Registers.{Place, config, block, place_eq, after, PlacedCell, File, cell_at, changed, write, in_region}, FileLaws.{has_place, IsConfig, IsConfigFile, JoinedCell, JoinedChange, JoinedWrite, ReadNone, WriteNone, ReadSecond, ReadFirst, PlacesStay, RegionCells, RegionCell, RegionRead, RegionChange, RegionWrite, RegionHasNoConfig, RegionHasNoOther, ConfigHasNoBlock, ConfigStays}, CopiedFiles.places_of}
 
 -- ---- joined files

@@ -1,7 +1,7 @@
 -- A declaration that breaks no rule is lawful, and a lawful one breaks none.
-use Rattle.std.{proofs.{Common.{◌≡◌, ◌+◌, ◌<◌, ◌≤◌, ◌^◌, Bool, true, ◌&&◌, List, [], ◌∷◌, length, eqb, leb, ltb, None, arith}, lemmas.Bool.{leb-true, ltb-true, eqb-true, le-leb, lt-ltb, eq-eqb, and_from}}, specs.{Prelude.{IsTrue, bit_and}, List.{list_all, Sorted.{IsPermutation, IsNonDecreasingBy}}}}
+use Rattle.std.{proofs.{Common.{◌≡◌, ℕ, ◌+◌, ◌<◌, ◌≤◌, ◌^◌, ◌⊎◌, inl, inr, Bool, true, ◌&&◌, ◌||◌, List, [], ◌∷◌, length, eqb, leb, ltb, None, ap, arith}, lemmas.Bool.{leb-true, ltb-true, eqb-true, le-leb, lt-ltb, eq-eqb, and_from, or_cases, or_right}}, specs.{Prelude.IsTrue, List.{list_all, Sorted.{IsPermutation, IsNonDecreasingBy}}}}
 use Rattle.lists.{specs.Elements.{Each, all_pairs}, proofs.{Tests.{left_true, right_true}, EachLemmas.{each_map, each_both, each_test, each_permutation, pairs_test, test_each, test_pairs}}}
-use Rattle.model_registers.{specs.{Declarations.{Region, registers_of, IsLawfulSize, IsLawfulRegion, ConfigBlock, Endpoint}, DeclarationRules.{first_broken, is_config_block, has_own_registers, has_lawful_numbers, blocks_apart, endpoint_rules, IsConfigBlock, FitsRegisters, IsLawfulEndpoint}}, proofs.RegisterOrder.{in_header, sorted_are_lawful, lawful_have_own_registers}}
+use Rattle.model_registers.{specs.{Declarations.{Region, registers_of, IsLawfulSize, IsLawfulRegion, ConfigBlock, Endpoint}, DeclarationRules.{first_broken, is_read_only, is_pointer, is_config_block, status_with, has_own_registers, has_lawful_numbers, blocks_apart, endpoint_rules, IsInPlace, IsConfigBlock, FitsRegisters, IsLawfulEndpoint}}, proofs.RegisterOrder.{in_header, sorted_are_lawful, lawful_have_own_registers}}
 
 -- the four tests of an endpoint
 record Passes (d : Endpoint) : Type 0 where
@@ -25,19 +25,45 @@ record Numbers (d : Endpoint) : Type 0 where
   vendor : d.vendor < 0xffff
   class : d.class < 2 ^ 24
   pin : d.pin ≤ 4
-  status : bit_and d.status 0xf910 ≡ d.status
+  status : status_with d.blocks d.status ≡ d.status
   short : Each (λ r. length r.cells ≤ 4096) d.regions
   blocks : Each IsConfigBlock d.blocks
 
+where_placed : (b : ConfigBlock) → (leb 0x40 b.offset || is_pointer b) ≡ true → IsInPlace b.offset (length b.cells)
+where_placed b h = grind (arith, or_cases, leb-true, left_true, right_true, eqb-true)
+
+pointer_kept : (b : ConfigBlock) → (leb 0x40 b.offset || is_pointer b) ≡ true → b.offset ≡ 0x34 → list_all is_read_only b.cells ≡ true
+pointer_kept b h at = grind (arith, or_cases, leb-true, right_true)
+
+-- a byte of a block
+pub byte_in_place : (o n a : ℕ) → IsInPlace o n → o ≤ a → a < o + n → (0x40 ≤ a) ⊎ (a ≡ 0x34)
+byte_in_place o n a (inl low) from to = inl (omega arith)
+byte_in_place o n a (inr is) from to = inr (omega (arith, is.0, is.1))
+
+begins_behind : (o n : ℕ) → IsInPlace o n → 0x34 ≤ o
+begins_behind o n (inl low) = omega arith
+begins_behind o n (inr is) = omega (arith, is.0)
+
 config_block : (b : ConfigBlock) → is_config_block b ≡ true → IsConfigBlock b
-config_block b h = grind (arith, left_true, leb-true, ltb-true, right_true)
+config_block b h =
+    let placed = leb 0x40 b.offset || is_pointer b in
+    let some = ltb 0 (length b.cells) in
+    let both = left_true (placed && some) (leb (b.offset + length b.cells) 0x100) h in
+    let at = where_placed b (left_true placed some both) in
+    record {
+      begins = begins_behind b.offset (length b.cells) at;
+      in_place = at;
+      read_only = pointer_kept b (left_true placed some both);
+      not_empty = ltb-true _ _ (right_true placed some both);
+      ends = leb-true _ _ (right_true (placed && some) (leb (b.offset + length b.cells) 0x100) h);
+    }
 
 numbers : (d : Endpoint) → has_lawful_numbers d ≡ true → Numbers d
 numbers d h =
     let a = ltb d.vendor 0xffff in
     let b = ltb d.class (2 ^ 24) in
     let c = leb d.pin 4 in
-    let e = eqb (bit_and d.status 0xf910) d.status in
+    let e = eqb (status_with d.blocks d.status) d.status in
     let f = list_all (λ r. leb (length r.cells) 4096) d.regions in
     let g = list_all is_config_block d.blocks in
     let abcef = left_true (a && b && c && e && f) g h in
@@ -83,8 +109,15 @@ sorted_is_lawful d ys fits sizes none perm sorted =
 
 -- ---- a lawful declaration breaks no rule
 
+placed_test : (b : ConfigBlock) → IsInPlace b.offset (length b.cells) → (b.offset ≡ 0x34 → IsTrue (list_all is_read_only b.cells)) → (leb 0x40 b.offset || is_pointer b) ≡ true
+placed_test b (inl low) kept = ap (λ t. t || is_pointer b) (le-leb 0x40 b.offset low)
+placed_test b (inr is) kept = or_right (leb 0x40 b.offset) (is_pointer b) (and_from _ _ (and_from _ _ (eq-eqb b.offset 0x34 is.0) (eq-eqb (length b.cells) 1 is.1)) (kept is.0))
+
+block_test : (b : ConfigBlock) → IsConfigBlock b → is_config_block b ≡ true
+block_test b h = and_from _ _ (and_from _ _ (placed_test b h.in_place h.read_only) (lt-ltb 0 (length b.cells) h.not_empty)) (le-leb (b.offset + length b.cells) 0x100 h.ends)
+
 numbers_test : (d : Endpoint) → IsLawfulEndpoint d → has_lawful_numbers d ≡ true
-numbers_test d h = grind (arith, and_from, lt-ltb, le-leb, eq-eqb, test_each, each_map)
+numbers_test d h = grind (arith, and_from, lt-ltb, le-leb, eq-eqb, block_test, test_each, each_map)
 
 sizes_test : (rs : List Region) → Each IsLawfulRegion rs → list_all (λ r. leb (length r.cells) r.size) rs ≡ true
 sizes_test rs h = grind (arith, test_each, each_map, le-leb)

@@ -13,4 +13,5 @@ pub mod Owned
 pub mod BareRegions
 pub mod DeviceBytes
 pub mod Capabilities
+pub mod ConstantCells
 pub mod ListedCapabilities

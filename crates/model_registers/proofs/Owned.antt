@@ -1,7 +1,7 @@
 -- A function's file, parted into a guest's own copies and all other cells.
 use Rattle.std.{proofs.{Common.{◌≡◌, ℕ, zero, suc, ◌+◌, ◌*◌, ◌/◌, ◌%◌, ◌<◌, ◌≤◌, ◌⊎◌, Bool, true, false, ◌&&◌, ◌||◌, cond, List, [], ◌∷◌, ◌++◌, length, map, refl, sym, ap, ◌∙◌, subst, arith, eqb, leb, ltb, append_assoc, ◌-◌, ◌^◌}, lemmas.Bool.{cases_lt, cases_Bool, or_parts, and_cases, eqb-false, leb-false, ltb-false, or_right, and_from, le-leb, lt-ltb, or_cases, and_parts, eqb-true, leb-true, ltb-true, ne_eqb, and_right}}, specs.{Prelude.{bit_and, bit_or, flat_map}, Int.Bits.{or_zero_r, and_zero_r}}}
 use Rattle.lists.specs.Elements.{Each}
-use Rattle.model_registers.{specs.{Cell.{Cell, no_cell, written, raised}, Registers.{Place, config, block, place_eq, after, File, cell_at, read, write, all_bytes, field, cells_from}, Declarations.{ConfigBlock, Kind, Region, registers_of, IsLawfulRegion}, EndpointTable.{BaseAddress, base_width, type_bits, base_file, command_cells, opened, closed, region_cells, block_cells, command_mask}, Decoding.{base, base_address}, OwnCopies.{is_own, OwnCopies, own_file, HoldsOwn, handed_on, IsLawfulOwn, OwnReads, OwnWrites, OwnStay, bare, OwnHits, ResetHoldsOwn}, CopiedFiles.with_copies}, proofs.{RegisterFiles.{place_same, change_at_place, above}, Hits.hits_by_bases, Parts.{IsOutside, cell_outside}}}
+use Rattle.model_registers.{specs.{Cell.{Cell, no_cell, written, raised}, Registers.{Place, config, block, place_eq, after, File, cell_at, read, write, all_bytes, field, cells_from}, Declarations.{ConfigBlock, Kind, Region, registers_of, IsLawfulRegion}, EndpointTable.{BaseAddress, base_width, type_bits, base_file, command_cells, opened, closed, region_cells, block_cells, command_mask}, Decoding.{base, base_address}, OwnCopies.{is_own, OwnCopies, own_file, HoldsOwn, handed_on, IsLawfulOwn, OwnReads, OwnWrites, OwnStay, bare, OwnHits, ResetHoldsOwn}, CopiedFiles.with_copies}, proofs.{ConstantCells.{no_cell_stays, raised_none}, RegisterFiles.{place_same, change_at_place, above}, Hits.hits_by_bases, Parts.{IsOutside, cell_outside}}}
 
 -- ---- the guest's copies put in
 
@@ -10,9 +10,6 @@ other_cell copies [] p h = refl
 other_cell copies (e ∷ es) p h = grind (arith, other_cell copies es p h, place_same)
 
 -- ---- writes
-
-pub no_cell_stays : (b : ℕ) → written b no_cell ≡ no_cell
-no_cell_stays b = ap (λ n. record { value = n; writable = 0; clearable = 0 }) (ap (λ n. bit_or n 0) (and_zero_r b) ∙ or_zero_r 0)
 
 -- a cell after a write, by its place
 after_write : List Bool → ℕ → Place → Place → Cell → Cell
@@ -81,10 +78,7 @@ still_bases (b ∷ bs) p = still_field (4 * registers_of b.kind) (0x10 + 4 * b.i
 still_own : (own : OwnCopies) (p : Place) → IsStill (cell_at (own_file own) p)
 still_own own p = still_field 2 4 own.command command_mask (base_file own.bases) p (still_bases own.bases p)
 
-pub raised_none : (m : ℕ) → raised m no_cell ≡ no_cell
-raised_none m = ap (λ n. record { value = n; writable = 0; clearable = 0 }) (ap (bit_or 0) (and_zero_r m) ∙ or_zero_r 0)
-
-same_cell : (t : Bool) (c d : Cell) → (t ≡ true → c ≡ d) → cond t c d ≡ d
+pub same_cell : (t : Bool) (c d : Cell) → (t ≡ true → c ≡ d) → cond t c d ≡ d
 same_cell t c d h = grind arith
 
 pub own_stay : OwnStay

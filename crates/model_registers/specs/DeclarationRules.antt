@@ -1,27 +1,43 @@
 -- The rules for declarations, and the first rule that a declaration breaks. The numbers are the error numbers of board
 -- files.
 --     first_broken      the number of the first rule whose test fails
+--     is_pointer b      whether a block is the Capabilities Pointer
+--     list_bit bs      bit 4 of Status, which is set if there is a Capabilities Pointer
+--     status_with bs s      the bits of Status that a declaration may set, and bit 4
 --     endpoint_rules, bridge_rules      the rules for a declaration, in the order in which they are checked
 --     in_register_order      regions in the order of their registers
 --     IsLawfulEndpoint, IsLawfulBridge      the properties of a declaration that follows the rules
-use Rattle.std.specs.{Prelude.{List, [], ◌∷◌, ◌≡◌, ℕ, ◌+◌, ◌^◌, ◌<◌, ◌≤◌, ◌==◌, Bool, ◌&&◌, ◌||◌, ◌⊎◌, nat_lt, nat_le, IsTrue, if◌then◌else◌, Option, Some, None, length, filter, flat_map, count_by, bit_and}, List.list_all}
+use Rattle.std.specs.{Prelude.{List, [], ◌∷◌, ◌≡◌, ℕ, ◌+◌, ◌^◌, ◌<◌, ◌≤◌, ◌==◌, Bool, ◌&&◌, ◌||◌, ◌⊎◌, nat_lt, nat_le, IsTrue, if◌then◌else◌, Option, Some, None, length, filter, flat_map, count_by, bit_and, bit_or}, List.{list_all, list_any}}
 use Rattle.lists.specs.Elements.{Each, EachPair, all_pairs}
-use Rattle.model_registers.specs.Declarations.{registers_of, Region, HasLawfulRegions, ConfigBlock, Endpoint, Bridge}
+use Rattle.model_registers.specs.{Cell.Cell, Declarations.{registers_of, Region, HasLawfulRegions, ConfigBlock, Endpoint, Bridge}}
 
 abbrev pub first_broken : List (ℕ × Bool) → Option ℕ
 first_broken [] = None
 first_broken (rule ∷ rules) = if rule.1 then first_broken rules else Some rule.0
 
--- device-specific registers are at 40h to FFh, and the Capabilities Pointer is the byte at 34h
+abbrev pub is_read_only : Cell → Bool
+is_read_only c = c.writable == 0 && c.clearable == 0
+
+-- the Capabilities Pointer is the read-only byte at 34h
+abbrev pub is_pointer : ConfigBlock → Bool
+is_pointer b = b.offset == 0x34 && length b.cells == 1 && list_all is_read_only b.cells
+
+-- device-specific registers are at 40h to FFh
 abbrev pub is_config_block : ConfigBlock → Bool
 is_config_block b =
-    (nat_le 0x40 b.offset || (b.offset == 0x34 && length b.cells == 1))
-    && nat_lt 0 (length b.cells) && nat_le (b.offset + length b.cells) 0x100
+    (nat_le 0x40 b.offset || is_pointer b) && nat_lt 0 (length b.cells) && nat_le (b.offset + length b.cells) 0x100
+
+abbrev pub list_bit : List ConfigBlock → ℕ
+list_bit bs = if list_any is_pointer bs then 0x10 else 0
+
+-- bits 8 and 11 to 15, and bit 4
+abbrev pub status_with : List ConfigBlock → ℕ → ℕ
+status_with bs s = bit_or (bit_and s 0xf900) (list_bit bs)
 
 -- Vendor ID FFFFh means that no function is present
 abbrev pub has_lawful_numbers : Endpoint → Bool
 has_lawful_numbers d =
-    nat_lt d.vendor 0xffff && nat_lt d.class (2 ^ 24) && nat_le d.pin 4 && (bit_and d.status 0xf910 == d.status)
+    nat_lt d.vendor 0xffff && nat_lt d.class (2 ^ 24) && nat_le d.pin 4 && (status_with d.blocks d.status == d.status)
     && list_all (λ r. nat_le (length r.cells) 4096) d.regions && list_all is_config_block d.blocks
 
 -- a 64-bit region uses two registers
@@ -52,9 +68,14 @@ in_register_order rs = flat_map (λ n. filter (λ r. r.index == n) rs) (0 ∷ 1 
 abbrev pub with_ordered_regions : Endpoint → Endpoint
 with_ordered_regions d = record d { regions = in_register_order d.regions }
 
+-- at 40h or above, or the byte at 34h
+abbrev pub IsInPlace : ℕ → ℕ → Type 0
+IsInPlace offset size = (0x40 ≤ offset) ⊎ ((offset ≡ 0x34) × (size ≡ 1))
+
 pub record IsConfigBlock (b : ConfigBlock) : Type 0 where
   pub begins : 0x34 ≤ b.offset
-  pub in_place : (0x40 ≤ b.offset) ⊎ ((b.offset ≡ 0x34) × (length b.cells ≡ 1))
+  pub in_place : IsInPlace b.offset (length b.cells)
+  pub read_only : b.offset ≡ 0x34 → IsTrue (list_all is_read_only b.cells)
   pub not_empty : 0 < length b.cells
   pub ends : b.offset + length b.cells ≤ 0x100
 
@@ -72,7 +93,7 @@ pub record IsLawfulEndpoint (d : Endpoint) : Type 0 where
   pub vendor : d.vendor < 0xffff
   pub class : d.class < 2 ^ 24
   pub pin : d.pin ≤ 4
-  pub status : bit_and d.status 0xf910 ≡ d.status
+  pub status : status_with d.blocks d.status ≡ d.status
   pub regions : HasLawfulRegions d.regions
   pub region_blocks : Each (λ r. length r.cells ≤ 4096) d.regions
   pub config_blocks : Each IsConfigBlock d.blocks

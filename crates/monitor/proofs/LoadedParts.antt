@@ -16,6 +16,7 @@
 --     all_parts      the header, the blocks and the regions
 use Rattle.std.{proofs.{Common.{◌≡◌, ◌⊎◌, inl, inr, ◌≤◌, ◌<◌, ◌+◌, ◌*◌, ◌^◌, ◌==◌, ◌&&◌, ℕ, zero, suc, Bool, true, false, List, [], ◌∷◌, length, Some, slice_get, drop, take, refl, sym, ap, ◌∙◌, subst, arith, length-append}, lemmas.{Bool.{lt-ltb, Decides.nat_tests}, List.{drop_all, drop-drop, length-drop}}}, specs.{Prelude.{flat_map, nat_lt}, List.list_any}}
 use Rattle.lists.proofs.{Indices.{at_below, each_at}, Tests.right_true}
+use Rattle.model_registers.proofs.LawfulDeclarations.{byte_in_place}
 use Rattle.model_registers.specs.{Registers.{config, block, File}, Declarations.{ConfigBlock, Endpoint, IsLawfulRegion, Region, registers_of}, DeclarationRules.IsConfigBlock, DeviceBytes.is_device_byte, EndpointTable.{block_cells, endpoint_reset, region_cells}, Decoding.Function}
 use Rattle.model_images.specs.{Images.{can_hold, fit_cells}, StepLaws.{base_size, blocks_size, blocks_steps, header_steps, put_run, region_steps, regions_steps, steps, written_run}}
 use Rattle.images.proofs.{Lengths.{cells_count, few_registers, region_cell_count}, TakenValues.many_cells}
@@ -76,13 +77,8 @@ own_byte : (off : ℕ) → (0x40 ≤ off) ⊎ (off ≡ 0x34) → is_device_byte 
 own_byte off (inl low) = grind (arith, nat_tests)
 own_byte off (inr is) = subst (λ (n : ℕ). is_device_byte (config n) ≡ true) (sym is) refl
 
--- a byte of a block of n bytes
-own_place : (off n m : ℕ) → (0x40 ≤ off) ⊎ ((off ≡ 0x34) × (n ≡ 1)) → m < n → (0x40 ≤ off + m) ⊎ (off + m ≡ 0x34)
-own_place off n m (inl low) below = inl (omega arith)
-own_place off n m (inr is) below = let at = is.0 in let one = is.1 in inr (omega (arith, at, one))
-
 pub block_reached : (f : Function) (b : ConfigBlock) → IsConfigBlock b → (m : ℕ) → m < length b.cells → ReachesByte f Cfg (b.offset + m)
-block_reached f b is m low = let ends = is.ends in config_reached f (b.offset + m) (omega (arith, ends)) (own_byte (b.offset + m) (own_place b.offset (length b.cells) m is.in_place low))
+block_reached f b is m low = let ends = is.ends in config_reached f (b.offset + m) (omega (arith, ends)) (own_byte (b.offset + m) (byte_in_place b.offset (length b.cells) (b.offset + m) is.in_place (omega arith) (omega (arith, low))))
 
 pub region_reached : (f : Function) (j : ℕ) (r : Region) → slice_get f.decl.regions j ≡ Some r → IsLawfulRegion r → (m : ℕ) → m < length r.cells → ReachesByte f (Bar r.index) (0 + m)
 region_reached f j r at is m low =

@@ -1,7 +1,7 @@
 use Rattle.std.proofs.Common.{ap, sym, ◌∙◌, arith}
-use Rattle.model_registers.specs.{Cell.raised, Registers.{Place, block, raise}}
+use Rattle.model_registers.{proofs.ConstantCells.constant_raised, specs.{Cell.raised, Registers.{Place, block, raise}}}
 use Rattle.headers.specs.Places.{place_of}
-use Rattle.bridge_forward.proofs.{EndpointAccess.{change_in_block, raise_config}, ResetKept.{header_changed, constant_raised, cell_invariant, short_there, block_invariant, block_shown, nothing_shown}}
+use Rattle.bridge_forward.proofs.{EndpointAccess.{change_in_block, raise_config}, ResetKept.{header_changed, cell_invariant, short_there, block_invariant, block_shown, nothing_shown}}
 use Rattle.bridge_forward.proofs.endpoint.EndpointFn.raise.Goals as goal
 
 pub invariant_of-self : goal.invariant_of-self

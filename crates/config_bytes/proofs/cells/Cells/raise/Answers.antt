@@ -1,5 +1,5 @@
 use Rattle.std.proofs.{Common.{◌∙◌, arith}, Math.ListN.set, lemmas.List.length-set}
-use Rattle.model_registers.{proofs.Owned.raised_none, specs.Cell.raised}
+use Rattle.model_registers.{proofs.ConstantCells.raised_none, specs.Cell.raised}
 use Rattle.config_bytes.proofs.Tables.{ChangesAt, put_changes, IsTable-changed, IsConfigFile-from, KeepsPlaces-from, IsConfigFile-view, KeepsPlaces-view, view_changes, view_past}
 use Rattle.config_bytes.proofs.cells.Cells.raise.Goals as goal
 

@@ -1,5 +1,5 @@
 use Rattle.std.proofs.{Common.{◌≡◌, false, ◌∙◌, refl, arith}, Math.ListN.set, lemmas.List.length-set}
-use Rattle.model_registers.{proofs.Owned.no_cell_stays, specs.Cell.written}
+use Rattle.model_registers.{proofs.ConstantCells.no_cell_stays, specs.Cell.written}
 use Rattle.config_bytes.proofs.{Tables.{ChangesAt, put_changes, IsTable-changed, IsConfigFile-from, KeepsPlaces-from, IsConfigFile-view, KeepsPlaces-view, view_changes, view_past, view_past_if}, cells.Cells.write_byte.Goals.{else-at-len-via-then-at-len+else-enabled, else-at-len-via-else-at-len}}
 use Rattle.config_bytes.proofs.cells.Cells.write_byte.Goals as goal
 
