@@ -2,7 +2,7 @@
 use Rattle.std.{proofs.Common.{◌≡◌, ℕ, zero, suc, ◌+◌, ◌-◌, ◌≤◌, ◌==◌, Bool, true, false, ◌&&◌, cond, List, [], ◌∷◌, length, Option, Some, None, option_map, unwrap_or, arith, leb-true}, specs.Prelude.option_and_then}
 use Rattle.lists.{specs.Elements.Each, proofs.Tests.{left_true, right_true}}
 use Rattle.model_board.specs.Paths.{Part, Path, IsPart, IsPath}
-use Rattle.board_file.specs.PathTexts.{is_byte_between, short_part, part_at_front, parts_after, path_at}
+use Rattle.board_file.specs.PathTexts.{is_byte_between, one_digit_part, part_at_front, parts_after, path_at}
 
 ruleset byte_tests = (left_true, right_true, leb-true)
 
@@ -18,7 +18,7 @@ Within n (Some ps) = (length ps ≤ n) × Each IsPart ps
 front_of : (t : Bool) (p : Part) (rest : List ℕ) → (t ≡ true → IsPart p) → Front (cond t (Some (p, rest)) None)
 front_of t p rest h = grind arith
 
-short_front : (text : List ℕ) → Front (short_part text)
+short_front : (text : List ℕ) → Front (one_digit_part text)
 short_front (d ∷ dot ∷ f ∷ rest) = grind (arith, front_of, byte_tests)
 short_front _ = tt
 

@@ -5,7 +5,7 @@ use Rattle.std.{proofs.{Common.{◌≡◌, ℕ, ◌+◌, ◌<◌, Bool, not, ◌
 use Rattle.lists.proofs.Tests.{or_false}
 use Rattle.model_board.specs.Paths.{Path, path_eq}
 use Rattle.paths.specs.PathOrders.{path_cmp}
-use Rattle.board_file.{specs.{PathTexts.{is_path_text, path_at}, PathEntries.{PathEntry, has_path, is_free, path_entry, path_entries}, declared.entry.Entry.Entry}, proofs.NextEntry.next_is}
+use Rattle.board_file.{specs.{PathTexts.{is_path_text, path_at}, MarkedPaths.{MarkedPath, has_path, is_free, marked_path, mark_duplicates}, declared.entry.Entry.Entry}, proofs.NextEntry.next_is}
 
 abbrev pub AreTaken : BTreeSet Path → List (Entry × List ℕ) → Type 0
 AreTaken set texts = (p : Path) → contains path_cmp set p ≡ list_any (λ s. has_path p s.1) texts
@@ -25,26 +25,26 @@ module _ (texts : List (Entry × List ℕ)) (i : ℕ) (x : Entry × List ℕ) (h
       ∙ sym (ap (list_any (λ s. has_path p s.1)) (take_more texts i x h ∙ ap (λ y. take i texts ++ y ∷ []) (sym at))
       ∙ list_any-append (λ s. has_path p s.1) (take i texts) (x ∷ []) ∙ ap (λ t. list_any (λ s. has_path p s.1) (take i texts) || t) (or_false (has_path p x.1)))
 
-  pub entry_more : (entries all : List PathEntry) → entries ++ map (path_entry texts) (enumerate_from i (drop i texts)) ≡ all
-      → (entries ++ path_entry texts (i, x) ∷ []) ++ map (path_entry texts) (enumerate_from (i + 1) (drop (i + 1) texts)) ≡ all
-  entry_more entries all k = append_assoc entries (path_entry texts (i, x) ∷ []) _ ∙ rw (next_is texts i x h at) at k
+  pub entry_more : (entries all : List MarkedPath) → entries ++ map (marked_path texts) (enumerate_from i (drop i texts)) ≡ all
+      → (entries ++ marked_path texts (i, x) ∷ []) ++ map (marked_path texts) (enumerate_from (i + 1) (drop (i + 1) texts)) ≡ all
+  entry_more entries all k = append_assoc entries (marked_path texts (i, x) ∷ []) _ ∙ rw (next_is texts i x h at) at k
 
 -- the same of texts in whatever form they are held
 pub both_more : {P : Type 0} (all held : List P) → held ≡ all → (g : P → Entry × List ℕ) (i : ℕ) (y : P) → i < length held → y ≡ get_or held i y
-    → (set new : BTreeSet Path) (entries after : List PathEntry) (own : Bool) → AreTaken set (take i (map g all))
-    → entries ++ map (path_entry (map g all)) (enumerate_from i (drop i (map g all))) ≡ path_entries (map g all)
+    → (set new : BTreeSet Path) (entries after : List MarkedPath) (own : Bool) → AreTaken set (take i (map g all))
+    → entries ++ map (marked_path (map g all)) (enumerate_from i (drop i (map g all))) ≡ mark_duplicates (map g all)
     → own ≡ (not (is_path_text (g y).1) || not (contains path_cmp set (path_at (g y).1)))
     → ((p : Path) → contains path_cmp new p ≡ (contains path_cmp set p || has_path p (g y).1))
-    → after ≡ entries ++ record { entry = (g y).0; text = (g y).1; is_own = own } ∷ []
-    → AreTaken new (take (i + 1) (map g all)) × (after ++ map (path_entry (map g all)) (enumerate_from (i + 1) (drop (i + 1) (map g all))) ≡ path_entries (map g all))
+    → after ≡ entries ++ record { entry = (g y).0; text = (g y).1; is_first = own } ∷ []
+    → AreTaken new (take (i + 1) (map g all)) × (after ++ map (marked_path (map g all)) (enumerate_from (i + 1) (drop (i + 1) (map g all))) ≡ mark_duplicates (map g all))
 both_more all held same g i y h at set new entries after own taken made free_then added pushed =
     let inside : i < length (map g all) = rw (length-map all g, ← same) h in
     let there : g y ≡ get_or (map g all) i (g y) = sym (get_or-map g all i y (g y) (rw (← same) h) ∙ ap g (sym (at ∙ ap (λ (xs : List _). get_or xs i y) same))) in
-    let is_own : own ≡ is_free (take i (map g all)) (g y).1 =
+    let is_first : own ≡ is_free (take i (map g all)) (g y).1 =
     free_then ∙ ap (λ (t : Bool). not (is_path_text (g y).1) || not t) (taken (path_at (g y).1)) ∙ sym (free (take i (map g all)) (g y).1) in
-    let pushed' : after ≡ entries ++ path_entry (map g all) (i, g y) ∷ [] =
-    pushed ∙ ap (λ (b : Bool). entries ++ record { entry = (g y).0; text = (g y).1; is_own = b } ∷ []) is_own in (
+    let pushed' : after ≡ entries ++ marked_path (map g all) (i, g y) ∷ [] =
+    pushed ∙ ap (λ (b : Bool). entries ++ record { entry = (g y).0; text = (g y).1; is_first = b } ∷ []) is_first in (
       one_more (map g all) i (g y) inside there set new taken added,
-      ap (λ (xs : List PathEntry). xs ++ map (path_entry (map g all)) (enumerate_from (i + 1) (drop (i + 1) (map g all)))) pushed'
-          ∙ entry_more (map g all) i (g y) inside there entries (path_entries (map g all)) made,
+      ap (λ (xs : List MarkedPath). xs ++ map (marked_path (map g all)) (enumerate_from (i + 1) (drop (i + 1) (map g all)))) pushed'
+          ∙ entry_more (map g all) i (g y) inside there entries (mark_duplicates (map g all)) made,
     )

@@ -1,5 +1,5 @@
 -- The bytes of a region's block or of a device's own registers, computed from the patterns in a board file.
---     pattern n text      the bytes of hexadecimal text of 1 to n bytes
+--     decode_hex n text      the bytes of hexadecimal text of 1 to n bytes
 --     is_block n p, block_cells n p      the patterns give n cells, and these cells
 --     Gives t found P      a value of which P holds where the test t does, and none where it does not
 use Rattle.std.specs.{Prelude.{ℕ, ◌%◌, ◌==◌, nat_le, Bool, true, false, ◌≡◌, MatchOption, ◌&&◌, List, [], ◌∷◌, length, map, slice_index, Option, Some, None, is_some, unwrap_or, Result, Ok, Err, if◌then◌else◌, bit_and}, List.{list_all, range_with_len}}
@@ -14,17 +14,17 @@ abbrev pub of_size : ℕ → Result (List ℕ) FromHexError → Option (List ℕ
 of_size n (Ok bytes) = if nat_le 1 (length bytes) && nat_le (length bytes) n then Some bytes else None
 of_size n (Err e) = None
 
-abbrev pub pattern : ℕ → List ℕ → Option (List ℕ)
-pattern n text = of_size n (decode_of text)
+abbrev pub decode_hex : ℕ → List ℕ → Option (List ℕ)
+decode_hex n text = of_size n (decode_of text)
 
 -- an absent pattern is a zero byte
 abbrev pub is_pattern : ℕ → Option (List ℕ) → Bool
 is_pattern n None = true
-is_pattern n (Some text) = is_some (pattern n text)
+is_pattern n (Some text) = is_some (decode_hex n text)
 
-abbrev pub pattern_bytes : ℕ → Option (List ℕ) → List ℕ
-pattern_bytes n None = 0 ∷ []
-pattern_bytes n (Some text) = unwrap_or (pattern n text) (0 ∷ [])
+abbrev pub decode_pattern : ℕ → Option (List ℕ) → List ℕ
+decode_pattern n None = 0 ∷ []
+decode_pattern n (Some text) = unwrap_or (decode_hex n text) (0 ∷ [])
 
 -- a pattern is repeated
 abbrev pub byte_at : List ℕ → ℕ → ℕ
@@ -50,7 +50,7 @@ cells n reset writable clearable = map (cell reset writable clearable) (range_wi
 abbrev pub is_block : ℕ → Patterns → Bool
 is_block n p =
     is_pattern n p.reset && is_pattern n p.writable && is_pattern n p.clearable
-    && are_apart n (pattern_bytes n p.writable) (pattern_bytes n p.clearable)
+    && are_apart n (decode_pattern n p.writable) (decode_pattern n p.clearable)
 
 abbrev pub block_cells : ℕ → Patterns → List Cell
-block_cells n p = cells n (pattern_bytes n p.reset) (pattern_bytes n p.writable) (pattern_bytes n p.clearable)
+block_cells n p = cells n (decode_pattern n p.reset) (decode_pattern n p.writable) (decode_pattern n p.clearable)

@@ -38,13 +38,13 @@ is_behind_bridge ss bus = is_root bus || has_bridge ss bus
 
 -- of a function or a slot, by the functions that stand so, and whether it has its own path
 abbrev pub path_rules : BoardFault → List Standing → List ℕ → Bool → List (Rule × Bool)
-path_rules fault.Place ss at is_own =
+path_rules fault.Place ss at is_first =
     (rule.Path, is_path_text at)
-    ∷ (rule.OwnPlace, is_own)
+    ∷ (rule.OwnPlace, is_first)
     ∷ (rule.BehindBridge, is_behind_bridge ss (parent (path_at at)))
     ∷ (rule.FunctionZero, has_path ss (function_zero (path_at at))) ∷ []
-path_rules fault.Slot ss at is_own = (rule.NamesEndpoint, names_endpoint ss at) ∷ (rule.OwnSlot, is_own) ∷ []
-path_rules _ ss at is_own = []
+path_rules fault.Slot ss at is_first = (rule.NamesEndpoint, names_endpoint ss at) ∷ (rule.OwnSlot, is_first) ∷ []
+path_rules _ ss at is_first = []
 
 -- ---- functions
 

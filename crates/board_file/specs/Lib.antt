@@ -6,7 +6,7 @@ pub mod Blocks
 pub mod Functions
 pub mod Rules
 pub mod EntryRules
-pub mod PathEntries
+pub mod MarkedPaths
 pub mod RuleFaults
 pub mod Problems
 pub mod Tables

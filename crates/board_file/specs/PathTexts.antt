@@ -11,23 +11,23 @@ abbrev pub is_byte_between : ℕ → ℕ → ℕ → Bool
 is_byte_between low high b = nat_le low b && nat_le b high
 
 -- a device of one digit: 48 is '0', 46 is a dot
-abbrev pub short_part : List ℕ → Option (Part × List ℕ)
-short_part (d ∷ dot ∷ f ∷ rest) =
+abbrev pub one_digit_part : List ℕ → Option (Part × List ℕ)
+one_digit_part (d ∷ dot ∷ f ∷ rest) =
     if is_byte_between 48 57 d && (dot == 46) && is_byte_between 48 55 f
     then Some (record { device = d - 48; function = f - 48 }, rest)
     else None
-short_part _ = None
+one_digit_part _ = None
 
 -- a device from 10 to 15: 49 is '1'
-abbrev pub long_part : List ℕ → Option (Part × List ℕ)
-long_part (one ∷ d ∷ dot ∷ f ∷ rest) =
+abbrev pub two_digit_part : List ℕ → Option (Part × List ℕ)
+two_digit_part (one ∷ d ∷ dot ∷ f ∷ rest) =
     if (one == 49) && is_byte_between 48 53 d && (dot == 46) && is_byte_between 48 55 f
     then Some (record { device = 10 + (d - 48); function = f - 48 }, rest)
     else None
-long_part _ = None
+two_digit_part _ = None
 
 abbrev pub part_at_front : List ℕ → Option (Part × List ℕ)
-part_at_front text = first_of_two (short_part text) (long_part text)
+part_at_front text = first_of_two (one_digit_part text) (two_digit_part text)
 
 -- at most so many parts, each after a slash, which is 47
 abbrev pub parts_after : ℕ → List ℕ → Option Path

@@ -1,20 +1,20 @@
 //! Register blocks: the registers at the start of a BAR, device-specific configuration registers, or
 //! the structures of a capability list.
 ghost use Rattle.std.specs.{Prelude.{◌≡◌, ◌+◌, ◌<◌, IfOk, length, nat_abs, nat_le, option_map, take}, List.list_all};
-ghost use Rattle.board_file.specs.{Blocks.{pattern, is_pattern, pattern_bytes, byte_at, are_apart as share_no_bit, cells, is_block, block_cells, Gives}, Rules.{config_extent, capability_extent, are_apart}};
+ghost use Rattle.board_file.specs.{Blocks.{decode_hex, is_pattern, decode_pattern, byte_at, are_apart as share_no_bit, cells, is_block, block_cells, Gives}, Rules.{config_extent, capability_extent, are_apart}};
 
 use crate::entries::{CapabilityEntry, ConfigEntry, PatternTexts};
 use config_bytes::Cell;
 use hex::FromHexError;
 use std::alloc::{AllocError, Global};
 
-/// Decodes hexadecimal text of 1 to `len` bytes. Returns `None` for any other text.
-pub fn pattern(alloc: Global, text: &str, len: usize) -> Result<Option<Vec<u8>>, AllocError>
-    ensures { IfOk result (λ found. option_map (λ v. v.items) found ≡ pattern len text.now) }
+/// Decodes hexadecimal text of 1 to `max_len` bytes. Returns `None` for any other text.
+pub fn decode_hex(alloc: Global, text: &str, max_len: usize) -> Result<Option<Vec<u8>>, AllocError>
+    ensures { IfOk result (λ found. option_map (λ v. v.items) found ≡ decode_hex max_len text.now) }
 {
     match hex::decode(alloc, text.as_bytes()) {
         Ok(bytes) => {
-            if 1 <= bytes.len() && bytes.len() <= len {
+            if 1 <= bytes.len() && bytes.len() <= max_len {
                 Ok(Some(bytes))
             } else {
                 Ok(None)
@@ -26,17 +26,17 @@ pub fn pattern(alloc: Global, text: &str, len: usize) -> Result<Option<Vec<u8>>,
 }
 
 /// Decodes an optional pattern. A missing pattern is one zero byte.
-pub fn pattern_bytes(
+pub fn decode_pattern(
     alloc: Global,
     text: Option<&str>,
-    len: usize,
+    max_len: usize,
 ) -> Result<Option<Vec<u8>>, AllocError>
     ensures { let given = option_map (λ s. s.now) text.entry in
-        IfOk result (λ found. Gives (is_pattern len given) found (λ v.
-        (v.items ≡ pattern_bytes len given) × (0 < length v.items))) }
+        IfOk result (λ found. Gives (is_pattern max_len given) found (λ v.
+        (v.items ≡ decode_pattern max_len given) × (0 < length v.items))) }
 {
     match text {
-        Some(text) => pattern(alloc, text, len),
+        Some(text) => decode_hex(alloc, text, max_len),
         None => {
             let mut zero = Vec::new(alloc);
             zero.push(0)?;
@@ -94,13 +94,13 @@ pub(crate) fn block(
     ensures { IfOk result (λ found.
         Gives (is_block len patterns.now) found (λ v. v.items ≡ block_cells len patterns.now)) }
 {
-    let Some(reset) = pattern_bytes(alloc, patterns.reset, len)? else {
+    let Some(reset) = decode_pattern(alloc, patterns.reset, len)? else {
         return Ok(None);
     };
-    let Some(rw) = pattern_bytes(alloc, patterns.rw, len)? else {
+    let Some(rw) = decode_pattern(alloc, patterns.rw, len)? else {
         return Ok(None);
     };
-    let Some(w1c) = pattern_bytes(alloc, patterns.w1c, len)? else {
+    let Some(w1c) = decode_pattern(alloc, patterns.w1c, len)? else {
         return Ok(None);
     };
     cells(alloc, len, &reset, &rw, &w1c)

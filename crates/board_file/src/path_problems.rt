@@ -5,7 +5,7 @@ ghost use Rattle.board_file.specs.{Functions.standings, Problems.{Adds, of_path,
 use crate::entries::FileEntries;
 use crate::fault::BoardFault;
 use crate::finding::{Violation, push_broken};
-use crate::path_entries::{PathEntry, asked_entries};
+use crate::marked_paths::{MarkedPath, marked_paths};
 use crate::path_sets::PathSets;
 use crate::places::FunctionPath;
 use crate::rule::Rule;
@@ -16,7 +16,7 @@ fn push_path(
     problems: &mut Vec<Violation<'_>>,
     functions: &PathSets<'_>,
     fault: BoardFault,
-    at: &PathEntry<'_, '_>,
+    at: &MarkedPath<'_, '_>,
 ) -> Result<(), AllocError>
     ensures { OnOk result
         (Adds (of_path fault functions.now at.now) problems.old.items problems.new.items) }
@@ -31,7 +31,7 @@ fn push_path(
                 at.entry,
                 &[
                     (Rule::Path, at.text.is_path()),
-                    (Rule::OwnPlace, at.is_own),
+                    (Rule::OwnPlace, at.is_first),
                     (Rule::BehindBridge, is_behind),
                     (Rule::FunctionZero, has_zero),
                 ],
@@ -42,7 +42,7 @@ fn push_path(
             at.entry,
             &[
                 (Rule::NamesEndpoint, functions.names_endpoint(at.text)),
-                (Rule::OwnSlot, at.is_own),
+                (Rule::OwnSlot, at.is_first),
             ],
         ),
         _ => Ok(()),
@@ -62,7 +62,7 @@ pub(crate) fn push_paths(
         (Adds (of_paths fault file.now) problems.old.items problems.new.items) }
 {
     let functions = PathSets::new(alloc, functions)?;
-    let entries = asked_entries(alloc, file, fault)?;
+    let entries = marked_paths(alloc, file, fault)?;
     'entries: for at in &entries {
         push_path(problems, &functions, fault, at)?;
     }

@@ -1,14 +1,14 @@
 //! Parsing of paths.
 ghost use Rattle.std.specs.Prelude.{◌≡◌, ◌+◌, ◌≤◌, ◌++◌, length, option_map, is_some, IfSome};
-ghost use Rattle.board_file.specs.{EntryRules.are_same_place, PathTexts.{short_part, long_part, part_at_front, parts_after, path_of, is_path_text, path_at}};
+ghost use Rattle.board_file.specs.{EntryRules.are_same_place, PathTexts.{one_digit_part, two_digit_part, part_at_front, parts_after, path_of, is_path_text, path_at}};
 
 use paths::{Part, Path};
 use std::marker::Model;
 
 /// Parses a part with a one-digit device at the start of a text. Returns the part and the rest of
 /// the text.
-fn short_part(text: &[u8]) -> Option<(Part, &[u8])>
-    ensures { option_map (λ p. (p.0, p.1.now)) result ≡ short_part text.now }
+fn one_digit_part(text: &[u8]) -> Option<(Part, &[u8])>
+    ensures { option_map (λ p. (p.0, p.1.now)) result ≡ one_digit_part text.now }
 {
     match text {
         [
@@ -23,8 +23,8 @@ fn short_part(text: &[u8]) -> Option<(Part, &[u8])>
 
 /// Parses a part with device 10 to 15 at the start of a text. Returns the part and the rest of the
 /// text.
-fn long_part(text: &[u8]) -> Option<(Part, &[u8])>
-    ensures { option_map (λ p. (p.0, p.1.now)) result ≡ long_part text.now }
+fn two_digit_part(text: &[u8]) -> Option<(Part, &[u8])>
+    ensures { option_map (λ p. (p.0, p.1.now)) result ≡ two_digit_part text.now }
 {
     match text {
         [
@@ -42,9 +42,9 @@ fn long_part(text: &[u8]) -> Option<(Part, &[u8])>
 fn part_at_front(text: &[u8]) -> Option<(Part, &[u8])>
     ensures { option_map (λ p. (p.0, p.1.now)) result ≡ part_at_front text.now }
 {
-    match short_part(text) {
+    match one_digit_part(text) {
         Some(found) => Some(found),
-        None => long_part(text),
+        None => two_digit_part(text),
     }
 }
 

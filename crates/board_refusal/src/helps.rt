@@ -1,6 +1,6 @@
 //! What to write instead of a wrong value.
 
-use crate::key_causes::push_known;
+use crate::key_causes::push_key_suggestion;
 use crate::others::path_of;
 use crate::path_causes::push_meant;
 use board_file::entries::FileEntries;
@@ -18,7 +18,7 @@ pub(crate) fn push_remedy(
 ) -> Result<(), AllocError> {
     let at = path_of(file, problem.entry);
     match (problem.rule, level_of(problem.entry), at) {
-        (Rule::Known, Some(level), _) => push_known(alloc, text, level, problem.key),
+        (Rule::Known, Some(level), _) => push_key_suggestion(alloc, text, level, problem.key),
         (Rule::Path | Rule::NamesEndpoint, _, Some(at)) => push_meant(text, at.text().as_bytes()),
         (Rule::Name, _, _) => text.push_str(
             "a name is 1 to 16 lowercase letters and digits, and begins with a letter; \"host\" is reserved",

@@ -24,7 +24,7 @@ fn nearest(
 
 /// Appends the key that is spelled most like an unknown one. If none is similar, appends a list of
 /// the keys that the table may have.
-pub(crate) fn push_known(
+pub(crate) fn push_key_suggestion(
     alloc: Global,
     text: &mut String,
     level: TableKind,

@@ -209,7 +209,7 @@ impl EndpointFn {
         requires { off % 4 ≡ 0 }
         ensures { result ≡ read self.now.file (config off) (lanes enables) }
     {
-        match base_register(off) {
+        match bar_index(off) {
             Some(reg) => self.bars.read(reg, enables),
             None => self.config.read(u16::from(off), enables),
         }
@@ -224,7 +224,7 @@ impl EndpointFn {
                   (config off) self.old.file;
             } }
     {
-        match base_register(off) {
+        match bar_index(off) {
             Some(reg) => self.bars.write(reg, enables, data),
             None => {
                 self.config.write(u16::from(off), enables, data);
@@ -245,7 +245,7 @@ impl EndpointFn {
 
 /// Returns the index of the BAR register at `off`, a multiple of 4, or `None` if `off` isn't the
 /// offset of a BAR.
-fn base_register(off: u8) -> Option<u8>
+fn bar_index(off: u8) -> Option<u8>
     requires { off % 4 ≡ 0 }
     ensures there { IfSome result (λ reg. (reg < 6) × (off ≡ 0x10 + 4 * reg)) }
     ensures elsewhere { IfNone result ((off < 0x10) ⊎ (0x28 ≤ off)) }

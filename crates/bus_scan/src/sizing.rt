@@ -143,7 +143,7 @@ fn size_pref_window(host: &mut Host, at: Bdf) -> PrefDecode
 }
 
 /// Fills in the regions or windows of one row.
-fn size_row(host: &mut Host, row: &mut EnumeratedFunction)
+fn size_function(host: &mut Host, row: &mut EnumeratedFunction)
     requires registers { IsNumbered host.old.state }
     requires scanned { IsScannedRow (board_at host.old.state.functions) row.old }
     ensures sized { SizesRow (board_at host.old.state.functions) row.old row.new }
@@ -177,6 +177,6 @@ pub fn size_all(host: &mut Host, table: &mut FunctionTable)
     ensures host { host.new ≡ host.old }
 {
     for row in table.rows.iter_mut() {
-        size_row(host, row);
+        size_function(host, row);
     }
 }

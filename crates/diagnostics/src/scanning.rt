@@ -29,7 +29,7 @@ struct Quotes {
 
 /// The state of a scan.
 #[derive(Drop)]
-struct Scanner {
+struct ScalarScanner {
     mode: Mode,
     /// The open brackets, innermost last.
     brackets: Vec<u8>,
@@ -109,9 +109,9 @@ fn bare_end(text: &[u8], from: usize) -> usize {
     end
 }
 
-impl Scanner {
-    fn new(alloc: Global) -> Scanner {
-        Scanner {
+impl ScalarScanner {
+    fn new(alloc: Global) -> ScalarScanner {
+        ScalarScanner {
             mode: Mode::Key,
             brackets: Vec::new(alloc),
             next: 0,
@@ -173,7 +173,7 @@ impl Scanner {
     }
 
     /// Handles the end of a line.
-    fn end_line(&mut self) {
+    fn expect_key_unless_nested(&mut self) {
         if self.brackets.is_empty() {
             self.mode = Mode::Key;
         }
@@ -197,7 +197,7 @@ impl Scanner {
     {
         match (text[at], self.mode) {
             (b' ' | b'\t' | b'\r', _) => {}
-            (b'\n', _) => self.end_line(),
+            (b'\n', _) => self.expect_key_unless_nested(),
             (b'#', _) => self.next = comment_end(text, at),
             (byte @ (b',' | b'}'), _) => self.end_item(byte),
             (_, Mode::Key) => self.in_key(text, at),
@@ -211,7 +211,7 @@ impl Scanner {
 
 /// Returns the scalars of a TOML document in the order of the text.
 pub(crate) fn scalars(alloc: Global, text: &[u8]) -> Result<Vec<Extent>, AllocError> {
-    let mut scanner = Scanner::new(alloc);
+    let mut scanner = ScalarScanner::new(alloc);
     'bytes: for at in 0..text.len() {
         if at >= scanner.next {
             scanner.take_byte(text, at)?;

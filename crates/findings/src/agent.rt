@@ -86,7 +86,7 @@ impl Agent {
     }
 
     /// Returns whether both responders are on the same bus.
-    pub(crate) fn is_beside(&self, other: &Agent) -> bool
+    pub(crate) fn is_on_same_bus(&self, other: &Agent) -> bool
         ensures { result ≡ on_one_bus self.now other.now }
     {
         is_same(self.path.parent(), other.path.parent())

@@ -44,7 +44,7 @@ fn shared(one: &Agent, other: &Agent) -> Option<u64>
 fn contention(one: &Agent, other: &Agent) -> Option<Problem>
     ensures { option_to_list (option_map problem_of result) ≡ contention one.now other.now }
 {
-    if !one.is_beside(other) {
+    if !one.is_on_same_bus(other) {
         return None;
     }
     let address = shared(one, other)?;

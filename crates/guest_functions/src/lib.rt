@@ -14,7 +14,7 @@ pub use virtual_function::VirtualFunction;
 
 /// Proves how a guest's copies combine with the board's register file: a read returns the copied
 /// bytes together with the forwarded bytes, and a write or a raise changes each side separately.
-pub fn copied_files()
+pub fn copies_split_accesses()
     ensures other_cell { OtherCell }
     ensures handed_read { HandedRead }
     ensures block_read { BlockRead }
@@ -29,7 +29,7 @@ pub fn copied_files()
 /// Proves that the combined register file keeps the guest's copies through writes and raises. The
 /// copies belong to lawful registers, and the value of a word is the sum of its copied and its
 /// forwarded bytes.
-pub fn held_copies()
+pub fn copies_are_kept()
     ensures stay { CopiesStay }
     ensures raised { RaisedHeld }
     ensures written { WrittenHeld }

@@ -123,7 +123,7 @@ fn eight_digits(text: &[u8]) -> Option<(u64, &[u8])>
 /// Parses the digits before the first blank as a number below 2^64. Returns the number and the text
 /// after the blank.
 #[inline(always)]
-fn digits_before_blank(base: u8, text: &[u8]) -> Option<(u64, &[u8])>
+fn digits_through_blank(base: u8, text: &[u8]) -> Option<(u64, &[u8])>
     requires { 1 ≤ base }
     ensures { MatchOption result (below (2 ^ 64) (digits_in base (before_blank text.now)) ≡ None)
         (λ p. (below (2 ^ 64) (digits_in base (before_blank text.now)) ≡ Some p.0)
@@ -160,9 +160,9 @@ pub(crate) fn first_number(text: &[u8]) -> Option<(u64, &[u8])>
 {
     let word = from_word(text);
     if is_hexadecimal(word) {
-        digits_before_blank(16, &word[2..])
+        digits_through_blank(16, &word[2..])
     } else {
-        digits_before_blank(10, word)
+        digits_through_blank(10, word)
     }
 }
 

@@ -158,7 +158,7 @@ pub fn seats_hold()
 {}
 
 /// Proves the reports on some functions of an example board, after set-up and one move.
-pub fn told_functions()
+pub fn worked_function_examples()
     ensures { ToldFunctions }
 {}
 

@@ -27,7 +27,7 @@ impl From<Fault> for Failure {
 }
 
 /// Returns the name and the arguments of the program. An argument that isn't text is invalid.
-fn words_given(rt: &(impl Env + AllocGlobal)) -> Result<Vec<String>, Fault> {
+fn arguments(rt: &(impl Env + AllocGlobal)) -> Result<Vec<String>, Fault> {
     match env::args(rt) {
         Ok(words) => words.collect(rt.alloc()).map_err(|_| Fault::WordMemory),
         Err(error) if error.kind() == io::ErrorKind::OutOfMemory => Err(Fault::WordMemory),
@@ -87,7 +87,7 @@ fn run(
     is_terminal: bool,
     seen: &mut RunStats,
 ) -> Result<(), Failure> {
-    let words = words_given(rt)?;
+    let words = arguments(rt)?;
     let mut texts = Vec::new(rt.alloc());
     for word in &words {
         if texts.push(word.as_str()).is_err() {

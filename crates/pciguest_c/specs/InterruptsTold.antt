@@ -3,7 +3,7 @@
 --     no_interrupt      where firmware drives the board
 --     pin_route p n      a pin, and the device and pin on bus 0 that it is routed to; all 0 if the pin isn't 1 to 4
 --     own_command w s      the guest's copy of Command for the function in a slot
---     command_now w f      Command of a function: its guest's copy if it is assigned, else the board's register
+--     own_or_board_command w f      Command of a function: its guest's copy if it is assigned, else the board's register
 --     interrupt_of w f      the interrupt's description
 use Rattle.std.specs.{Prelude.{ℕ, ◌/◌, ◌%◌, ◌||◌, if◌then◌else◌, length, nat_lt, nat_le}, Option.option_map_or}
 use Rattle.model_registers.specs.{Registers.{config, number}, Decoding.{Function, command_word}}
@@ -25,11 +25,11 @@ own_command w s =
     if nat_le (length w.guests) s.guest then 0
     else option_map_or (λ (f : Function). command_word f.file) (slot_at (lone_of w.guests (name_nth w s.guest)).slots s.slot) 0
 
-abbrev pub command_now : WorldNow → LiveFunction → ℕ
-command_now w f = option_map_or (own_command w) f.seat (number (file_at (board_state w).functions f.path) (config 4) 2)
+abbrev pub own_or_board_command : WorldNow → LiveFunction → ℕ
+own_or_board_command w f = option_map_or (own_command w) f.seat (number (file_at (board_state w).functions f.path) (config 4) 2)
 
 -- Interrupt Disable is bit 10 of Command
 unfoldable pub interrupt_of : WorldNow → LiveFunction → Interrupt
 interrupt_of w f =
     let route = pin_route f.path (number (file_at (board_state w).functions f.path) (config 0x3d) 1) in
-    record { pin = route.0; root_device = route.1; root_pin = route.2; is_disabled = command_now w f / 1024 % 2 }
+    record { pin = route.0; root_device = route.1; root_pin = route.2; is_disabled = own_or_board_command w f / 1024 % 2 }

@@ -2,7 +2,7 @@
 use Rattle.std.{proofs.{Common.{◌≡◌, ℕ, ◌+◌, ◌-◌, ◌*◌, ◌/◌, ◌%◌, ◌^◌, ◌<◌, Bool, [], ◌∷◌, ◌++◌, refl, sym, ap, ap₂, ◌∙◌, zero-add, arith}, lemmas.Nat.{and_mask, and_block, or_block}, Math.Nat.{mod-eq_of_lt, add-zero}}, specs.{Prelude.{bit_and, bit_or}, Int.Bits.{or_zero_l, or_zero_r, and_zero_l, and_zero_r}}}
 use Rattle.model_registers.specs.{Cell.{Cell, written}, Registers.{config, PlacedCell, File}, Declarations.{IoDecode, no_io, io16, io32, PrefDecode, no_pref, pref32, pref64, Bridge}, BridgeTable.{Window, no_window, BridgeValues, address_bits, io_cells, mem_cells, pref_cells, bridge_header, bridge_file}}
 use Rattle.model_set_up.specs.{Scanning.{BusNumbers, with_numbers}, SetUpWrites.Windows}
-use Rattle.window_packing.{specs.WordWrites.{bridge_words, window_word, io_word, io_upper_word}, proofs.FileWrites.{file_after, joined_after}}
+use Rattle.window_packing.{specs.WordWrites.{bridge_words, memory_base_and_limit, io_base_and_limit, io_base_and_limit_upper}, proofs.FileWrites.{file_after, joined_after}}
 
 -- ---- one byte
 
@@ -36,11 +36,11 @@ abbrev at : ℕ → Cell → PlacedCell
 at a c = record { place = config a; cell = c }
 
 -- the two registers of a memory window
-window_part : (n d : ℕ) → d < 16 → (s : Window) → (let x : ℕ = window_word s in at n (written (x % 256) (settable d 240)) ∷ at (n + 1) (written (x / 256 % 256) (settable 0 255)) ∷ at (n + 2) (written (x / 256 / 256 % 256) (settable d 240))
+window_part : (n d : ℕ) → d < 16 → (s : Window) → (let x : ℕ = memory_base_and_limit s in at n (written (x % 256) (settable d 240)) ∷ at (n + 1) (written (x / 256 % 256) (settable 0 255)) ∷ at (n + 2) (written (x / 256 / 256 % 256) (settable d 240))
     ∷ at (n + 3) (written (x / 256 / 256 / 256 % 256) (settable 0 255)) ∷ [])
     ≡ (let a : ℕ = address_bits (2 ^ 20) s.first d in let b : ℕ = address_bits (2 ^ 20) s.last d in at n (settable (a % 256) 240) ∷ at (n + 1) (settable (a / 256 % 256) 255) ∷ at (n + 2) (settable (b % 256) 240) ∷ at (n + 3) (settable (b / 256 % 256) 255) ∷ [])
 window_part n d l s =
-    let x = window_word s in
+    let x = memory_base_and_limit s in
     let a = address_bits (2 ^ 20) s.first d in
     let b = address_bits (2 ^ 20) s.last d in
     λ i.
@@ -60,7 +60,7 @@ module _ (w : Windows) where
   io_part no_io = refl
   io_part io16 =
       let s = w.io in
-      let x = io_word s in
+      let x = io_base_and_limit s in
       let a = address_bits (2 ^ 12) s.first 0 in
       let b = address_bits (2 ^ 12) s.last 0 in
       λ i.
@@ -69,10 +69,10 @@ module _ (w : Windows) where
       ∷ []
   io_part io32 =
       let s = w.io in
-      let x = io_word s in
+      let x = io_base_and_limit s in
       let a = address_bits (2 ^ 12) s.first 1 in
       let b = address_bits (2 ^ 12) s.last 1 in
-      let y = io_upper_word s in
+      let y = io_base_and_limit_upper s in
       let c = s.first / 2 ^ 16 in
       let d = s.last / 2 ^ 16 in
       λ i.

@@ -38,21 +38,21 @@ abbrev pub endpoint_words : ℕ → List BaseAddress → List WordWrite
 endpoint_words command bases = flat_map base_words bases ++ word 0x04 3 command ∷ []
 
 -- a base and a limit of two bytes each; and of one byte each
-abbrev pub window_word : Window → ℕ
-window_word s = address_bits (2 ^ 20) s.first 0 + address_bits (2 ^ 20) s.last 0 * 2 ^ 16
+abbrev pub memory_base_and_limit : Window → ℕ
+memory_base_and_limit s = address_bits (2 ^ 20) s.first 0 + address_bits (2 ^ 20) s.last 0 * 2 ^ 16
 
-abbrev pub io_word : Window → ℕ
-io_word s = address_bits (2 ^ 12) s.first 0 % 2 ^ 8 + address_bits (2 ^ 12) s.last 0 % 2 ^ 8 * 2 ^ 8
+abbrev pub io_base_and_limit : Window → ℕ
+io_base_and_limit s = address_bits (2 ^ 12) s.first 0 % 2 ^ 8 + address_bits (2 ^ 12) s.last 0 % 2 ^ 8 * 2 ^ 8
 
-abbrev pub io_upper_word : Window → ℕ
-io_upper_word s = s.first / 2 ^ 16 % 2 ^ 16 + s.last / 2 ^ 16 % 2 ^ 16 * 2 ^ 16
+abbrev pub io_base_and_limit_upper : Window → ℕ
+io_base_and_limit_upper s = s.first / 2 ^ 16 % 2 ^ 16 + s.last / 2 ^ 16 % 2 ^ 16 * 2 ^ 16
 
 -- Secondary Status, above the I/O base and limit, stays; registers that the bridge doesn't implement drop what is
 -- written
 abbrev pub bridge_words : Windows → List WordWrite
 bridge_words w =
-    word 0x1c 3 (io_word w.io) ∷ word 0x20 0xf (window_word w.mem) ∷ word 0x24 0xf (window_word w.pref)
-    ∷ word 0x28 0xf (w.pref.first / 2 ^ 32) ∷ word 0x2c 0xf (w.pref.last / 2 ^ 32) ∷ word 0x30 0xf (io_upper_word w.io)
+    word 0x1c 3 (io_base_and_limit w.io) ∷ word 0x20 0xf (memory_base_and_limit w.mem) ∷ word 0x24 0xf (memory_base_and_limit w.pref)
+    ∷ word 0x28 0xf (w.pref.first / 2 ^ 32) ∷ word 0x2c 0xf (w.pref.last / 2 ^ 32) ∷ word 0x30 0xf (io_base_and_limit_upper w.io)
     ∷ word 0x04 3 3 ∷ []
 
 -- ---- settings

@@ -17,7 +17,7 @@ use headers::Apertures;
 use std::alloc::AllocError;
 
 /// Appends the region that starts at a BAR register, if there is one and it belongs to the pool.
-fn push_region(
+fn push_region_if_in_pool(
     into: &mut Vec<PlacementItem>,
     part: Part,
     index: u8,
@@ -59,7 +59,7 @@ fn push_regions(
         ++ pool_items apertures.now ds (named_pool pool) part (regions_from 0 bars.now)) }
 {
     'registers: for index in 0..6u8 {
-        push_region(
+        push_region_if_in_pool(
             into,
             part,
             index,

@@ -4,7 +4,7 @@ ghost use Rattle.model_set_up.specs.{SetUp.set_up_state, Scanning.IsNumbered, Se
 ghost use Rattle.model_board.specs.AtReset.{board_at};
 ghost use Rattle.bars.specs.Slots.{placed, bases_from};
 ghost use Rattle.paths.specs.BusAddresses.{bus_address_of};
-ghost use Rattle.window_packing.specs.WordWrites.{word, after_word, after_words, base_words, endpoint_words, bridge_words, window_word, io_word, io_upper_word, words_of, host_after};
+ghost use Rattle.window_packing.specs.WordWrites.{word, after_word, after_words, base_words, endpoint_words, bridge_words, memory_base_and_limit, io_base_and_limit, io_base_and_limit_upper, words_of, host_after};
 
 use crate::board_plan::Plan;
 use crate::function_program::{FunctionProgram, RegisterValues, WindowSetting};
@@ -109,12 +109,12 @@ fn write_bridge(
         host.new ≡ host_after
         (after_words (bus_address_of at) words host.old.state.functions) host.old }
 {
-    write_word(host, at, IO_BASE, LOW_HALF, io_word(io));
-    write_word(host, at, MEMORY_BASE, WORD, window_word(mem));
-    write_word(host, at, PREF_BASE, WORD, window_word(pref));
+    write_word(host, at, IO_BASE, LOW_HALF, io_base_and_limit(io));
+    write_word(host, at, MEMORY_BASE, WORD, memory_base_and_limit(mem));
+    write_word(host, at, PREF_BASE, WORD, memory_base_and_limit(pref));
     write_word(host, at, PREF_BASE_UPPER, WORD, upper_half(pref.first));
     write_word(host, at, PREF_LIMIT_UPPER, WORD, upper_half(pref.last));
-    write_word(host, at, IO_UPPER, WORD, io_upper_word(io));
+    write_word(host, at, IO_UPPER, WORD, io_base_and_limit_upper(io));
     // Enables forwarding of I/O and memory accesses.
     let command = headers::Command::both_spaces().0;
     write_word(host, at, COMMAND, LOW_HALF, u32::from(command));
@@ -132,8 +132,8 @@ fn write_word(host: &mut Host, at: Bdf, off: u8, enables: u8, value: u32)
 
 /// Returns the word with a memory window's base in its lower half and its limit in its upper half.
 /// Bits 15 to 4 of each contain bits 31 to 20 of the address.
-fn window_word(span: WindowSetting) -> u32
-    ensures { result ≡ window_word span }
+fn memory_base_and_limit(span: WindowSetting) -> u32
+    ensures { result ≡ memory_base_and_limit span }
 {
     let base = (span.first >> 20 & 0xfff) as u32 * 16;
     let limit = (span.last >> 20 & 0xfff) as u32 * 16;
@@ -142,8 +142,8 @@ fn window_word(span: WindowSetting) -> u32
 
 /// Returns the two bytes with an I/O window's base and limit. Bits 7 to 4 of each contain bits 15
 /// to 12 of the address.
-fn io_word(span: WindowSetting) -> u32
-    ensures { result ≡ io_word span }
+fn io_base_and_limit(span: WindowSetting) -> u32
+    ensures { result ≡ io_base_and_limit span }
 {
     let base = (span.first >> 12 & 0xf) as u32 * 16;
     let limit = (span.last >> 12 & 0xf) as u32 * 16;
@@ -152,8 +152,8 @@ fn io_word(span: WindowSetting) -> u32
 
 /// Returns the word with I/O Base Upper 16 Bits in its lower half and I/O Limit Upper 16 Bits in
 /// its upper half.
-fn io_upper_word(span: WindowSetting) -> u32
-    ensures { result ≡ io_upper_word span }
+fn io_base_and_limit_upper(span: WindowSetting) -> u32
+    ensures { result ≡ io_base_and_limit_upper span }
 {
     let base = (span.first >> 16 & 0xffff) as u32;
     let limit = (span.last >> 16 & 0xffff) as u32;

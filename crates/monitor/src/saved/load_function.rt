@@ -242,7 +242,7 @@ fn load_regions(host: &mut Host, guests: &mut [Guest], guest: usize, slot: usize
 }
 
 /// Loads the saved value of each register byte, by guest writes and device writes.
-fn take_steps(host: &mut Host, guests: &mut [Guest], guest: usize, slot: usize, values: &[u8])
+fn load_registers(host: &mut Host, guests: &mut [Guest], guest: usize, slot: usize, values: &[u8])
     requires { (k : KeepsFunction host.old guests.old guest slot) × IsLoadable k values.now }
     ensures becomes { (k : KeepsFunction host.old guests.old guest slot) → IsLoadable k values.now
         → Becomes k (steps k.f.decl values.now k.f.file) host.new guests.new }
@@ -268,5 +268,5 @@ pub(crate) fn load_function(
         → Becomes k (restored (filled_with values.now k.f)).file host.new guests.new }
     ensures counts { counts_of guests.new ≡ counts_of guests.old }
 {
-    take_steps(host, guests, guest, slot, values);
+    load_registers(host, guests, guest, slot, values);
 }

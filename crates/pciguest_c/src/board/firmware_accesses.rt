@@ -5,7 +5,7 @@ ghost use Rattle.pciguest_c.specs.{Told.{at_bus, host_target_told}, Calls.{Answe
 
 use crate::handle::Handle;
 use crate::machine::host::host_at;
-use crate::values::numbers::{ARGUMENT, number_of, put_value};
+use crate::values::numbers::{ARGUMENT, put_value, status_of};
 use accesses::{HostAccess, Op, Reply};
 use session::Board;
 use std::alloc::Global;
@@ -79,7 +79,7 @@ pub extern "C" fn pciguest_raw_board_write(
     ensures { AnswersBoard (board_write space bus device function place width value)
         handle.old handle.new result nothing nothing }
 {
-    number_of(handle.ask_board(alloc, |board| {
+    status_of(handle.ask_board(alloc, |board| {
         let width = u64::from(width);
         board_asked(
             board,

@@ -5,7 +5,7 @@ ghost use Rattle.pciguest_c.specs.Calls.{Answers, give, take, giving, tells, ref
 
 use crate::handle::Handle;
 use crate::values::arguments::check_guest;
-use crate::values::numbers::{number_of, number_of_done};
+use crate::values::numbers::{status_of, status_of_result};
 use board_file::path_text::path_of;
 use monitor::{AssignError, Monitor};
 use std::alloc::Global;
@@ -41,7 +41,7 @@ pub extern "C" fn pciguest_raw_give(
 ) -> u32
     ensures { Answers (give path.now guest slot) handle.old handle.new result nothing nothing }
 {
-    number_of_done(handle.ask_machine(alloc, |machine| give_at(machine, path, guest, slot)))
+    status_of_result(handle.ask_machine(alloc, |machine| give_at(machine, path, guest, slot)))
 }
 
 /// Unassigns the function in a guest's slot. The slot is then empty, and the function is at reset
@@ -55,7 +55,7 @@ pub extern "C" fn pciguest_raw_take(
 ) -> u32
     ensures { Answers (take guest slot) handle.old handle.new result nothing nothing }
 {
-    number_of(handle.ask_machine(alloc, |machine| {
+    status_of(handle.ask_machine(alloc, |machine| {
         check_guest(machine, guest)?;
         Ok(machine.unassign(guest, slot))
     }))

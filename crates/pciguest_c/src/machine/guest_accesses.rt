@@ -7,7 +7,7 @@ ghost use Rattle.pciguest_c.specs.{Told.reply_asked, Calls.{Answers, read, write
 
 use crate::handle::Handle;
 use crate::values::arguments::{index_named, part_for, target_for};
-use crate::values::numbers::{ARGUMENT, number_of, put_result, put_value};
+use crate::values::numbers::{ARGUMENT, put_result, put_value, status_of};
 use accesses::{Access, At, Op, Reply};
 use monitor::Monitor;
 use std::alloc::Global;
@@ -60,7 +60,7 @@ pub extern "C" fn pciguest_raw_write(
     ensures { Answers (write guest space slot place width value) handle.old handle.new result
         nothing nothing }
 {
-    number_of(handle.ask_machine(alloc, |machine| {
+    status_of(handle.ask_machine(alloc, |machine| {
         let at = target_for(machine, guest, space, slot, place)?;
         let width = u64::from(width);
         let op = Op::Write(value);
@@ -83,7 +83,7 @@ pub extern "C" fn pciguest_raw_raise(
     ensures { Answers (raise guest slot part offset mask) handle.old handle.new result
         nothing nothing }
 {
-    number_of(handle.ask_machine(alloc, |machine| {
+    status_of(handle.ask_machine(alloc, |machine| {
         let place = part_for(machine, guest, part)?;
         Ok(machine.raise(guest, slot, place, offset, mask))
     }))

@@ -5,7 +5,7 @@ ghost use Rattle.pciguest_c.specs.{Told.{at_bus, host_target_told}, Calls.{Answe
 
 use crate::handle::Handle;
 use crate::values::arguments::check_guest;
-use crate::values::numbers::{ARGUMENT, number_of, put_value};
+use crate::values::numbers::{ARGUMENT, put_value, status_of};
 use accesses::{Bdf, HostAccess, HostAt, Reply};
 use monitor::Monitor;
 use std::alloc::Global;
@@ -104,7 +104,7 @@ pub extern "C" fn pciguest_raw_move(
 ) -> u32
     ensures { Answers (move from slot to target) handle.old handle.new result nothing nothing }
 {
-    number_of(handle.ask_machine(alloc, |machine| {
+    status_of(handle.ask_machine(alloc, |machine| {
         check_guests(machine, from, to)?;
         Ok(machine.move_function(from, slot, to, target))
     }))

@@ -5,7 +5,7 @@ ghost use Rattle.pciguest_c.specs.{Calls.AnswersLoad, ImagesTold.{load_number, l
 
 use crate::handle::Handle;
 use crate::values::arguments::check_guest;
-use crate::values::numbers::number_of_done;
+use crate::values::numbers::status_of_result;
 use monitor::Monitor;
 use std::alloc::Global;
 
@@ -39,7 +39,7 @@ pub extern "C" fn pciguest_raw_load(
     ensures { AnswersLoad (λ m. load_asked m guest image.now)
         (λ m n. IsLoaded m (name_nth m.world guest) image.now n) handle.old handle.new result }
 {
-    number_of_done(handle.ask_machine(alloc, |machine| {
+    status_of_result(handle.ask_machine(alloc, |machine| {
         check_guest(machine, guest)?;
         load(machine, guest, image)
     }))

@@ -6,7 +6,7 @@ ghost use Rattle.pciguest_c.specs.{Calls.{Answers, read_wide, write_wide, nothin
 use crate::handle::Handle;
 use crate::values::arguments::{Side, byte_at, part_for};
 use crate::values::bytes::{wide_read, wide_write};
-use crate::values::numbers::{number_of_done, put_result};
+use crate::values::numbers::{put_result, status_of_result};
 use std::alloc::Global;
 
 /// Reads 1 to 8 bytes of one part of a guest's function, as its device does, as a little-endian
@@ -49,7 +49,7 @@ pub extern "C" fn pciguest_raw_device_write_wide(
     ensures { Answers (write_wide Device guest slot part offset width value)
         handle.old handle.new result nothing nothing }
 {
-    number_of_done(handle.ask_machine(alloc, |machine| {
+    status_of_result(handle.ask_machine(alloc, |machine| {
         let place = part_for(machine, guest, part)?;
         let byte = byte_at(Side::Device, slot, place, offset);
         wide_write(machine, guest, byte, width, value)
@@ -96,7 +96,7 @@ pub extern "C" fn pciguest_raw_region_write(
     ensures { Answers (write_wide Guest guest slot part offset width value)
         handle.old handle.new result nothing nothing }
 {
-    number_of_done(handle.ask_machine(alloc, |machine| {
+    status_of_result(handle.ask_machine(alloc, |machine| {
         let place = part_for(machine, guest, part)?;
         let byte = byte_at(Side::Guest, slot, place, offset);
         wide_write(machine, guest, byte, width, value)

@@ -4,7 +4,7 @@ ghost use Rattle.model_registers.specs.{ByteEnables.LiesInWord, Registers.{confi
 ghost use Rattle.model_board.specs.Ports.{file_at};
 ghost use Rattle.model_guests.specs.WorldNow.{board_state};
 ghost use Rattle.monitor.specs.FunctionsTold.{function_named, seat_named};
-ghost use Rattle.pciguest_c.specs.InterruptsTold.{own_command, command_now, pin_route, interrupt_of};
+ghost use Rattle.pciguest_c.specs.InterruptsTold.{own_command, own_or_board_command, pin_route, interrupt_of};
 
 use crate::values::arguments::guest_count;
 use intx_swizzle::at_root;
@@ -61,8 +61,8 @@ fn own_command(machine: &Monitor, seat: Assignment) -> u32
 
 /// Returns a function's Command register: the guest's copy if the function is assigned, or else the
 /// register on the board.
-fn command_now(machine: &Monitor, function: &LiveFunction) -> u32
-    ensures { result ≡ command_now machine.now.world (function_named function.now) }
+fn own_or_board_command(machine: &Monitor, function: &LiveFunction) -> u32
+    ensures { result ≡ own_or_board_command machine.now.world (function_named function.now) }
 {
     match function.seat {
         Some(seat) => own_command(machine, seat),
@@ -93,6 +93,6 @@ pub fn interrupt_of(machine: &Monitor, function: &LiveFunction) -> Interrupt
         pin,
         root_device,
         root_pin,
-        is_disabled: command_now(machine, function) / 0x400 % 2,
+        is_disabled: own_or_board_command(machine, function) / 0x400 % 2,
     }
 }

@@ -24,7 +24,7 @@ pub const FILE_MEMORY: u32 = 199;
 pub const MEMORY: u32 = 299;
 
 /// Returns 0, or the error number of a reply or of the call.
-pub fn number_of(answer: Result<Reply, u32>) -> u32
+pub fn status_of(answer: Result<Reply, u32>) -> u32
     ensures told { IfOk answer (λ r. result ≡ number_told (reply_of r)) }
     ensures refused { IfOk answer (λ r. result ≢ 0 → IsRefusal r) }
     ensures unasked { IfErr answer (λ n. result ≡ n) }
@@ -37,7 +37,7 @@ pub fn number_of(answer: Result<Reply, u32>) -> u32
 }
 
 /// Returns 0 for any result, or the error number.
-pub fn number_of_done<T: Drop>(answer: Result<T, u32>) -> u32
+pub fn status_of_result<T: Drop>(answer: Result<T, u32>) -> u32
     ensures done { IfOk answer (λ _. result ≡ 0) }
     ensures refused { IfErr answer (λ n. result ≡ n) }
 {
@@ -59,7 +59,7 @@ pub fn put_value(answer: Result<Reply, u32>, value: &mut u32) -> u32
     if let Ok(Reply::Value(read, _)) = answer {
         *value = read;
     }
-    number_of(answer)
+    status_of(answer)
 }
 
 /// Stores a result and returns 0, or returns the error number.

@@ -7,8 +7,8 @@ use Rattle.bus_scan.proofs.sizing.size_all.Goals as goal
 pub loop-row-init : goal.loop-row-init
 loop-row-init c = none_sized c.args.host.now c.deref_mut-row-items.result.now (c.deref_mut-row-items.ensures.value ∙ c.table.view_is ∙ c.requires.scanned)
 
-pub size_row-requires-clause-scanned : goal.size_row-requires-clause-scanned
-size_row-requires-clause-scanned c =
+pub size_function-requires-clause-scanned : goal.size_function-requires-clause-scanned
+size_function-requires-clause-scanned c =
     let b = board_at c.args.host.now.state.functions in
     let count = ap length (c.deref_mut-row-items.ensures.value ∙ c.table.view_is ∙ c.requires.scanned) ∙ length-map b (table_row b met_decl) in
     next_scanned c.args.host.now c.loop-row.host c.loop-row.row-items c.loop-row.row-index c.loop-row.invariant (omega (arith, count)) c.row-item.result
@@ -17,8 +17,8 @@ pub loop-row-preserved : goal.loop-row-preserved
 loop-row-preserved c =
     let b = board_at c.args.host.now.state.functions in
     let count = ap length (c.deref_mut-row-items.ensures.value ∙ c.table.view_is ∙ c.requires.scanned) ∙ length-map b (table_row b met_decl) in
-    next_sized c.args.host.now c.loop-row.host c.loop-row.row-items c.loop-row.row-index c.loop-row.invariant (omega (arith, count)) c.size_row.new.host c.size_row.ensures.host c.row-item.result c.size_row.new.row
-    c.size_row.ensures.sized
+    next_sized c.args.host.now c.loop-row.host c.loop-row.row-items c.loop-row.row-index c.loop-row.invariant (omega (arith, count)) c.size_function.new.host c.size_function.ensures.host c.row-item.result c.size_function.new.row
+    c.size_function.ensures.sized
 
 -- the rows when the loop ends
 sized : (c : goal.After-table-1) → take c.table.inside.rows.len (c.loop-row.row-items ++ drop (length c.loop-row.row-items) c.table.inside.rows.items) ≡ sized_table (board_at c.args.host.now.state.functions)

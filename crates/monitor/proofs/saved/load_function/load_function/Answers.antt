@@ -8,6 +8,6 @@ use Rattle.monitor.proofs.saved.load_function.load_function.Goals as goal
 pub returns-clause-loaded : goal.returns-clause-loaded
 returns-clause-loaded c = λ k l.
     let values = c.args.values.now in
-    subst (λ (file : File). Becomes k file c.take_steps.new.host c.take_steps.new.guests)
+    subst (λ (file : File). Becomes k file c.load_registers.new.host c.load_registers.new.guests)
     (ap (steps k.f.decl values) l.at_reset ∙ loads_by_steps (filled_with values k.f) (its_lawful k) l.bytes l.fits)
-    (c.take_steps.ensures.becomes k l)
+    (c.load_registers.ensures.becomes k l)

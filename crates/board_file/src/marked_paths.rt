@@ -4,7 +4,7 @@ ghost use Rattle.std.specs.{Prelude.{◌≡◌, ◌++◌, ◌||◌, not, IfOk, O
 ghost use Rattle.model_board.specs.Paths.{Path as PathValue};
 ghost use Rattle.paths.specs.PathOrders.{path_cmp};
 ghost use Rattle.board_file.specs.PathTexts.{is_path_text, path_at};
-ghost use Rattle.board_file.specs.PathEntries as said;
+ghost use Rattle.board_file.specs.MarkedPaths as said;
 
 use crate::entries::{FileEntries, GuestEntry};
 use crate::entry::Entry;
@@ -17,16 +17,16 @@ use std::marker::Model;
 
 /// The path text of an entry, and whether no earlier entry has the same path.
 #[derive(Drop)]
-pub(crate) struct PathEntry<'f, 'a> {
+pub(crate) struct MarkedPath<'f, 'a> {
     pub(crate) entry: Entry,
     pub(crate) text: &'f PathText<'a>,
-    pub(crate) is_own: bool,
+    pub(crate) is_first: bool,
 }
 
-impl<'f, 'a> Model for PathEntry<'f, 'a> {
-    ghost Value = { said.PathEntry };
+impl<'f, 'a> Model for MarkedPath<'f, 'a> {
+    ghost Value = { said.MarkedPath };
 
-    ghost view = { λ p. record { entry = p.entry; text = p.text.now; is_own = p.is_own } };
+    ghost view = { λ p. record { entry = p.entry; text = p.text.now; is_first = p.is_first } };
 }
 
 /// Returns the path texts of all functions, endpoints first.
@@ -108,32 +108,32 @@ fn take(taken: &mut BTreeSet<Path>, text: &PathText<'_>) -> Result<bool, AllocEr
 }
 
 /// Marks each text whose path is also that of an earlier entry.
-fn path_entries<'f, 'a>(
+fn mark_duplicates<'f, 'a>(
     alloc: Global,
     texts: Vec<(Entry, &'f PathText<'a>)>,
-) -> Result<Vec<PathEntry<'f, 'a>>, AllocError>
+) -> Result<Vec<MarkedPath<'f, 'a>>, AllocError>
     ensures { IfOk result (λ v.
-        v.items ≡ said.path_entries (map (λ p. (p.0, p.1.now)) texts.entry.items)) }
+        v.items ≡ said.mark_duplicates (map (λ p. (p.0, p.1.now)) texts.entry.items)) }
 {
     let mut taken = BTreeSet::new(alloc);
     let mut entries = Vec::with_capacity(alloc, texts.len())?;
     'texts: for (entry, text) in &texts {
-        entries.push(PathEntry {
+        entries.push(MarkedPath {
             entry: *entry,
             text: *text,
-            is_own: take(&mut taken, text)?,
+            is_first: take(&mut taken, text)?,
         })?;
     }
     Ok(entries)
 }
 
 /// Returns the path texts that a check examines, each marked if its path is a duplicate.
-pub(crate) fn asked_entries<'f, 'a>(
+pub(crate) fn marked_paths<'f, 'a>(
     alloc: Global,
     file: &'f FileEntries<'a>,
     fault: BoardFault,
-) -> Result<Vec<PathEntry<'f, 'a>>, AllocError>
-    ensures { IfOk result (λ v. v.items ≡ said.path_entries (said.path_texts fault file.now)) }
+) -> Result<Vec<MarkedPath<'f, 'a>>, AllocError>
+    ensures { IfOk result (λ v. v.items ≡ said.mark_duplicates (said.path_texts fault file.now)) }
 {
-    path_entries(alloc, path_texts(alloc, file, fault)?)
+    mark_duplicates(alloc, path_texts(alloc, file, fault)?)
 }

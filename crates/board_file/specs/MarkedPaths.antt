@@ -1,18 +1,18 @@
 -- Entries with the texts of paths: functions, each with its `at`, and slots.
---     PathEntry      an entry, its text, and whether no entry before it has the same path
+--     MarkedPath      an entry, its text, and whether no entry before it has the same path
 --     place_texts, slot_texts      the texts of all functions, endpoints first, and of all slots, guest after guest
 --     path_texts      those that a check asks
---     path_entries      the entries of a list of texts
+--     mark_duplicates      the entries of a list of texts
 use Rattle.std.specs.{Prelude.{ℕ, Bool, not, ◌&&◌, List, [], ◌++◌, map, flat_map, take}, List.{enumerate_from, list_all}}
 use Rattle.model_board.specs.Paths.{Path, path_eq}
 use Rattle.board_file.specs.{PathTexts.{is_path_text, path_at}, Entries.{Endpoint, Bridge, Guest, File}, EntryRules.are_same_place, declared.{fault.BoardFault.BoardFault, entry.Entry.Entry}}
 use Rattle.board_file.specs.declared.fault.BoardFault.TheVariants as fault
 use Rattle.board_file.specs.declared.entry.Entry.TheVariants as entry
 
-pub record PathEntry : Type 0 where
+pub record MarkedPath : Type 0 where
   pub entry : Entry
   pub text : List ℕ
-  pub is_own : Bool
+  pub is_first : Bool
 
 -- ---- texts
 
@@ -50,8 +50,8 @@ has_path p t = is_path_text t && path_eq (path_at t) p
 abbrev pub is_free : List (Entry × List ℕ) → List ℕ → Bool
 is_free texts t = list_all (λ s. not (are_same_place s.1 t)) texts
 
-abbrev pub path_entry : List (Entry × List ℕ) → ℕ × (Entry × List ℕ) → PathEntry
-path_entry texts (i, (e, t)) = record { entry = e; text = t; is_own = is_free (take i texts) t }
+abbrev pub marked_path : List (Entry × List ℕ) → ℕ × (Entry × List ℕ) → MarkedPath
+marked_path texts (i, (e, t)) = record { entry = e; text = t; is_first = is_free (take i texts) t }
 
-abbrev pub path_entries : List (Entry × List ℕ) → List PathEntry
-path_entries texts = map (path_entry texts) (enumerate_from 0 texts)
+abbrev pub mark_duplicates : List (Entry × List ℕ) → List MarkedPath
+mark_duplicates texts = map (marked_path texts) (enumerate_from 0 texts)

@@ -1,6 +1,6 @@
 use Rattle.std.{proofs.Common.{◌≡◌, ◌++◌, map, drop}, specs.List.enumerate_from}
-use Rattle.board_file.specs.PathEntries.{endpoint_text, bridge_text}
-use Rattle.board_file.proofs.path_entries.place_texts.Given as goal
+use Rattle.board_file.specs.MarkedPaths.{endpoint_text, bridge_text}
+use Rattle.board_file.proofs.marked_paths.place_texts.Given as goal
 
 abbrev pub invariant-endpoints : goal.invariant-endpoints
 invariant-endpoints l =

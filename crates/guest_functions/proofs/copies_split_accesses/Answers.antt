@@ -1,5 +1,5 @@
 use Rattle.guest_functions.proofs.{CopiedFiles.{other_cell, handed_read, block_read, copied_write, copied_block_write, same_copies, copies_held}, HeldCopies.{copied_raise, hidden_raise}}
-use Rattle.guest_functions.proofs.copied_files.Goals as goal
+use Rattle.guest_functions.proofs.copies_split_accesses.Goals as goal
 
 pub returns : goal.returns
 returns c = record {

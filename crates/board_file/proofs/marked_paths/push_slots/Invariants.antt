@@ -1,6 +1,6 @@
 use Rattle.std.{proofs.Common.{◌≡◌, ◌++◌, map, drop}, specs.List.enumerate_from}
-use Rattle.board_file.specs.PathEntries.{slot_text}
-use Rattle.board_file.proofs.path_entries.push_slots.Given as goal
+use Rattle.board_file.specs.MarkedPaths.{slot_text}
+use Rattle.board_file.proofs.marked_paths.push_slots.Given as goal
 
 abbrev pub invariant-slots : goal.invariant-slots
 invariant-slots l =

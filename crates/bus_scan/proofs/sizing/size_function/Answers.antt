@@ -2,9 +2,9 @@ use Rattle.std.proofs.Common.{◌≡◌, sym, ap, ◌∙◌, subst}
 use Rattle.paths.specs.BusAddresses.{bus_address_of}
 use Rattle.host_bridge.specs.HostState.{HostState}
 use Rattle.model_set_up.specs.FunctionTable.{TableRow}
-use Rattle.bus_scan.{specs.{declared.table.EnumeratedFunction.TheInside.Inside, Rows.decl_of, Probes.{IsBridgeReached, pref_reached}}, proofs.{SizedFunctions.{row_of, endpoint_reached, bridge_reached, sized_endpoint, sized_bridge}, sizing.size_row.Goals.{in-Endpoint, in-Bridge}}}
+use Rattle.bus_scan.{specs.{declared.table.EnumeratedFunction.TheInside.Inside, Rows.decl_of, Probes.{IsBridgeReached, pref_reached}}, proofs.{SizedFunctions.{row_of, endpoint_reached, bridge_reached, sized_endpoint, sized_bridge}, sizing.size_function.Goals.{in-Endpoint, in-Bridge}}}
 use Rattle.bus_scan.specs.declared.table.Enumerated.TheVariants as variants
-use Rattle.bus_scan.proofs.sizing.size_row.Goals as goal
+use Rattle.bus_scan.proofs.sizing.size_function.Goals as goal
 
 pub size_bars-requires-clause-endpoint : goal.size_bars-requires-clause-endpoint
 size_bars-requires-clause-endpoint c =

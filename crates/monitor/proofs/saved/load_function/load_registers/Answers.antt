@@ -1,5 +1,5 @@
 use Rattle.monitor.proofs.{LoadSteps.go_on, LoadedParts.{all_parts, enough_blocks, enough_header, enough_regions}}
-use Rattle.monitor.proofs.saved.load_function.take_steps.Goals as goal
+use Rattle.monitor.proofs.saved.load_function.load_registers.Goals as goal
 
 pub load_header-requires-clause-enough : goal.load_header-requires-clause-enough
 load_header-requires-clause-enough c = enough_header c.requires.0 c.requires.1

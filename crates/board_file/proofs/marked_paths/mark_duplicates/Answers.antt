@@ -1,5 +1,5 @@
 use Rattle.board_file.proofs.Taken.{both_more}
-use Rattle.board_file.proofs.path_entries.path_entries.Goals as goal
+use Rattle.board_file.proofs.marked_paths.mark_duplicates.Goals as goal
 
 pub texts-preserved : goal.texts-preserved
 texts-preserved c =

@@ -1,6 +1,6 @@
 use Rattle.std.{proofs.Common.{◌≡◌, ◌++◌, map, drop}, specs.List.{enumerate_from, flat_map}}
-use Rattle.board_file.specs.PathEntries.{guest_texts}
-use Rattle.board_file.proofs.path_entries.slot_texts.Given as goal
+use Rattle.board_file.specs.MarkedPaths.{guest_texts}
+use Rattle.board_file.proofs.marked_paths.slot_texts.Given as goal
 
 abbrev pub invariant-guests : goal.invariant-guests
 invariant-guests l =
