@@ -1,19 +1,13 @@
 //! Checks of guest names.
 ghost use Rattle.std.specs.{Prelude.{◌≡◌, not, take}, List.list_all, Str.bytes_eq};
-ghost use Rattle.model_guests.specs.World.{is_letter, is_name_byte, is_name};
+ghost use Rattle.model_guests.specs.World.{is_name_byte, is_name};
 
 use crate::entries::GuestEntry;
-
-fn is_letter(byte: u8) -> bool
-    ensures { result ≡ is_letter byte }
-{
-    b'a' <= byte && byte <= b'z'
-}
 
 fn is_name_byte(byte: u8) -> bool
     ensures { result ≡ is_name_byte byte }
 {
-    is_letter(byte) || (b'0' <= byte && byte <= b'9')
+    byte.is_ascii_lowercase() || byte.is_ascii_digit()
 }
 
 fn are_name_bytes(bytes: &[u8]) -> bool
@@ -30,7 +24,7 @@ pub(crate) fn is_name(name: &str) -> bool
     match name.as_bytes().split_first() {
         None => false,
         Some((first, rest)) => {
-            is_letter(*first) && are_name_bytes(rest) && rest.len() <= 15 && name != "host"
+            first.is_ascii_lowercase() && are_name_bytes(rest) && rest.len() <= 15 && name != "host"
         }
     }
 }

@@ -2,7 +2,7 @@
 --     Guest, World      a name with the paths of its slots; a board, its apertures and guests
 --     paths_of, declarations      the paths of a guest's slots, and the declarations there
 --     HasLawfulNames, HasLawfulGuests, IsLawfulWorld      the properties of every board and guests that a board file defines
-use Rattle.std.specs.{Prelude.{List, [], ◌∷◌, ℕ, Bool, false, ◌&&◌, ◌||◌, ◌≤◌, length, not, nat_le, Option, Some, None, map, find, flat_map, codes, IsTrue, IsFalse, IsSome}, List.list_all, Option.option_map_or, Str.bytes_eq}
+use Rattle.std.specs.{Prelude.{List, [], ◌∷◌, ℕ, Bool, false, ◌&&◌, ◌||◌, ◌≤◌, length, not, nat_le, Option, Some, None, map, find, flat_map, codes, IsTrue, IsFalse, IsSome}, Char.{is_ascii_digit, is_ascii_lowercase}, List.list_all, Option.option_map_or, Str.bytes_eq}
 use Rattle.lists.specs.Elements.{Each, EachPair}
 use Rattle.model_registers.specs.{Declarations.Endpoint, Apertures.Apertures}
 use Rattle.model_board.specs.{Paths.{Path, path_eq}, Board.{endpoint, bridge, Row, Board, IsBoard}, Lawful.HasLawfulDecls}
@@ -36,16 +36,13 @@ paths_of w name = option_map_or (λ (g : Guest). g.slots) (find (λ g. bytes_eq 
 abbrev pub declarations : World → Text → List (Option Endpoint)
 declarations w name = map (declared w.board) (paths_of w name)
 
-abbrev pub is_letter : ℕ → Bool
-is_letter c = nat_le 97 c && nat_le c 122
-
 abbrev pub is_name_byte : ℕ → Bool
-is_name_byte c = is_letter c || (nat_le 48 c && nat_le c 57)
+is_name_byte c = is_ascii_lowercase c || is_ascii_digit c
 
 -- a lower-case letter, then at most 15 letters and digits; not `host`
 abbrev pub is_name : Text → Bool
 is_name [] = false
-is_name (c ∷ cs) = is_letter c && list_all is_name_byte cs && nat_le (length cs) 15
+is_name (c ∷ cs) = is_ascii_lowercase c && list_all is_name_byte cs && nat_le (length cs) 15
     && not (bytes_eq (c ∷ cs) (codes "host"))
 
 abbrev pub HasLawfulNames : World → Type 0
