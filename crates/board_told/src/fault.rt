@@ -17,7 +17,7 @@ pub enum Fault {
     SetUp(bus_scan::Fault),
     /// An audit found a problem, and the run treats problems as a fault.
     NotInOrder,
-    /// The board has a problem or an unmet requirement.
+    /// The board has a problem or a readiness issue.
     NotReady,
     /// A line was refused, and the run treats refused lines as a fault.
     RefusedLine,

@@ -45,7 +45,7 @@ pub enum Choice<'a> {
         json: bool,
         strict: bool,
     },
-    /// Run a firmware session, and then report all problems and unmet requirements in the final
+    /// Run a firmware session, and then report all problems and readiness issues in the final
     /// registers, as JSON if `json`.
     Ready {
         path: &'a str,

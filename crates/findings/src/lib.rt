@@ -2,8 +2,8 @@
 //!
 //! Diagnoses the current registers of a board. An audit finds the problems: enabled BARs that
 //! aren't forwarded, address conflicts on a bus, and functions that no configuration cycle reaches.
-//! A second list has the requirements that aren't met yet: disabled BARs, BARs outside the
-//! apertures, BARs that are prefetched but mustn't be, and wrong Primary Bus Numbers.
+//! A second list has the readiness issues: disabled BARs, BARs outside the apertures, BARs that are
+//! prefetched but mustn't be, and wrong Primary Bus Numbers.
 //!
 //! Also explains the result of an access. For a memory address or an I/O port, names the BAR that
 //! answers and what keeps every other BAR that contains the address from answering. For a BDF,

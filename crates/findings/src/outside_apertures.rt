@@ -35,7 +35,7 @@ fn apertures_for(apertures: &Apertures, space: Space) -> (Option<Window>, Option
     }
 }
 
-/// Returns an unmet requirement if part of the BAR is outside the apertures.
+/// Returns a readiness issue if part of the BAR is outside the apertures.
 fn outside_issue(apertures: &Apertures, region: &LiveBar) -> Option<ReadinessIssue>
     ensures { option_to_list (option_map issue_of result)
         ≡ outside_issue apertures.now region.now }
@@ -48,7 +48,7 @@ fn outside_issue(apertures: &Apertures, region: &LiveBar) -> Option<ReadinessIss
     })
 }
 
-/// Appends an unmet requirement for each BAR that is partly outside the apertures.
+/// Appends a readiness issue for each BAR that is partly outside the apertures.
 pub(crate) fn add_outside(
     told: &mut Vec<ReadinessIssue>,
     apertures: &Apertures,

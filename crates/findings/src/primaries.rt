@@ -11,7 +11,7 @@ use bridge_forward::RoutingRow;
 use host_bridge::Host;
 use std::alloc::AllocError;
 
-/// Returns an unmet requirement if the function at an index is a bridge with a wrong Primary Bus
+/// Returns a readiness issue if the function at an index is a bridge with a wrong Primary Bus
 /// Number.
 fn primary_issue(host: &Host, rows: &[RoutingRow], index: usize) -> Option<ReadinessIssue>
     requires { rows.now ≡ routing host.now.state.functions }
@@ -34,7 +34,7 @@ fn primary_issue(host: &Host, rows: &[RoutingRow], index: usize) -> Option<Readi
     })
 }
 
-/// Appends an unmet requirement for each bridge with a wrong Primary Bus Number.
+/// Appends a readiness issue for each bridge with a wrong Primary Bus Number.
 pub(crate) fn add_primaries(
     told: &mut Vec<ReadinessIssue>,
     host: &Host,

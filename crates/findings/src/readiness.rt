@@ -1,4 +1,4 @@
-//! Finds the requirements that a board doesn't meet yet.
+//! Finds the readiness issues of a board.
 ghost use Rattle.std.specs.Prelude.{◌≡◌, ◌++◌, map, IfOk, OnOk};
 ghost use Rattle.model_findings.specs.ReadinessIssues.{not_open, readiness_issues, is_ready};
 ghost use Rattle.findings.specs.Findings.{issue_of};
@@ -15,7 +15,7 @@ use headers::Apertures;
 use host_bridge::Host;
 use std::alloc::{AllocError, Global};
 
-/// Appends an unmet requirement for each disabled BAR.
+/// Appends a readiness issue for each disabled BAR.
 fn add_closed(told: &mut Vec<ReadinessIssue>, closed: &[LiveBar]) -> Result<(), AllocError>
     ensures { OnOk result (map issue_of told.new.items
         ≡ map issue_of told.old.items ++ map not_open closed.now) }
@@ -51,7 +51,7 @@ pub fn readiness_issues(
     Ok(told)
 }
 
-/// Returns whether a board has neither problems nor unmet requirements. Leaves the host unchanged.
+/// Returns whether a board has neither problems nor readiness issues. Leaves the host unchanged.
 pub fn is_ready(alloc: Global, host: &mut Host, apertures: &Apertures) -> Result<bool, AllocError>
     ensures ready { let fs = host.old.state.functions in
         IfOk result (λ b. b ≡ is_ready apertures.now fs) }

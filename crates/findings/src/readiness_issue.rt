@@ -1,8 +1,8 @@
-//! Requirements that a board's registers don't meet.
+//! What is left to do before an operating system can use every function.
 use crate::region::LiveBar;
 use paths::Path;
 
-/// An unmet requirement, with the evidence for it.
+/// A readiness issue, with the evidence for it.
 #[derive(Debug, Drop)]
 pub enum ReadinessIssue {
     /// A BAR whose space is disabled in Command.

@@ -8,7 +8,7 @@ use crate::problem_lines::{push_problem_count, push_problems};
 use findings::{Problem, ReadinessIssue};
 use std::alloc::{AllocError, Global};
 
-/// The text about a board's problems, or about its problems and unmet requirements, with their
+/// The text about a board's problems, or about its problems and readiness issues, with their
 /// number.
 #[derive(Drop)]
 pub struct CountedText {
@@ -30,7 +30,7 @@ impl CountedText {
         Ok(CountedText { text, count })
     }
 
-    /// Renders a line for each problem and each unmet requirement, and a last line such as `ready:
+    /// Renders a line for each problem and each readiness issue, and a last line such as `ready:
     /// ok` or `ready: 2 problems, 5 left to do`.
     pub fn of_issues(
         alloc: Global,

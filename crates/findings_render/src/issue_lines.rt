@@ -1,4 +1,4 @@
-//! Renders unmet requirements, and the line that counts them and the problems.
+//! Renders readiness issues, and the line that counts them and the problems.
 ghost use Rattle.std.specs.Prelude.{OnOk};
 ghost use Rattle.lists.specs.Texts.{Adds};
 ghost use Rattle.model_findings.specs.{ReadinessIssues.prefetched_by, ReadyText.{issue_text, ready_total, ready_line}};
@@ -32,7 +32,7 @@ fn push_prefetched(
     )
 }
 
-/// Appends the description of an unmet requirement.
+/// Appends the description of a readiness issue.
 fn push_description(text: &mut String, issue: &ReadinessIssue) -> Result<(), AllocError>
     ensures { OnOk result (Adds text.old text.new (issue_text (issue_of issue.now))) }
 {
@@ -62,7 +62,7 @@ fn push_description(text: &mut String, issue: &ReadinessIssue) -> Result<(), All
     }
 }
 
-/// Appends the line of an unmet requirement.
+/// Appends the line of a readiness issue.
 fn push_issue(text: &mut String, issue: &ReadinessIssue) -> Result<(), AllocError>
     ensures { OnOk result (Adds text.old text.new
         (ended (ready_line (issue_text (issue_of issue.now))))) }
@@ -72,7 +72,7 @@ fn push_issue(text: &mut String, issue: &ReadinessIssue) -> Result<(), AllocErro
     text.push('\n')
 }
 
-/// Appends the lines of all unmet requirements.
+/// Appends the lines of all readiness issues.
 pub(crate) fn push_issues(
     text: &mut String,
     readiness_issues: &[ReadinessIssue],
@@ -85,7 +85,7 @@ pub(crate) fn push_issues(
     Ok(())
 }
 
-/// Appends the line that counts the problems and the unmet requirements.
+/// Appends the line that counts the problems and the readiness issues.
 pub(crate) fn push_ready_count(
     text: &mut String,
     problems: usize,

@@ -1,7 +1,7 @@
 //! Layer: findings. Below: findings, report. Above: session.
 //!
-//! Renders findings about a board as lines of text: a line for each problem and each unmet
-//! requirement in the current registers, and a last line that counts them.
+//! Renders findings about a board as lines of text: a line for each problem and each readiness
+//! issue in the current registers, and a last line that counts them.
 //!
 //! Also renders the explanation of an address, an I/O port or a BDF: a line for the target of the
 //! access, and a line for each cause.

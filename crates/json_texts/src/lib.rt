@@ -1,7 +1,7 @@
 //! Layer: program. Below: findings, report. Above: session.
 //!
 //! Reports about a board as JSON, each on one line: its functions with capability lists, BARs,
-//! interrupts and windows, and its guests; the problems and unmet requirements in its current
+//! interrupts and windows, and its guests; the problems and readiness issues in its current
 //! registers, each with the evidence for it; and explanations of an address, a port or a BDF.
 #![tactic(auto)]
 

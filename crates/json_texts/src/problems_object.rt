@@ -1,4 +1,4 @@
-//! Renders problems and unmet requirements as JSON.
+//! Renders problems and readiness issues as JSON.
 ghost use Rattle.std.specs.Prelude.{◌≡◌, ◌++◌, ◌∷◌, [], false, IfOk, map, string_bytes};
 ghost use Rattle.serde_json.specs.{View.view, Written.{compact_text, has_float}};
 ghost use Rattle.findings.specs.Findings.{problem_of, issue_of};
@@ -17,7 +17,7 @@ fn problems_value(alloc: Global, problems: &[Problem]) -> Result<Value, AllocErr
     json!(in alloc; {"problems": problems})
 }
 
-/// Returns the JSON object for the problems and the unmet requirements.
+/// Returns the JSON object for the problems and the readiness issues.
 fn issues_value(
     alloc: Global,
     problems: &[Problem],
@@ -51,8 +51,8 @@ pub fn problems_json(alloc: Global, problems: &[Problem]) -> Result<String, Allo
     line_of(alloc, &value)
 }
 
-/// Renders the problems and the unmet requirements as a JSON object on one line, each in their
-/// order. Fails only if memory is exhausted.
+/// Renders the problems and the readiness issues as a JSON object on one line, each in their order.
+/// Fails only if memory is exhausted.
 #[tactic(auto, using(crate::proofs::NoFloatsInAudits::none_in_issues))]
 pub fn lacks_json(
     alloc: Global,

@@ -1,4 +1,4 @@
-//! Unmet requirements as JSON.
+//! Readiness issues as JSON.
 ghost use Rattle.std.specs.Prelude.{◌≡◌, IfOk};
 ghost use Rattle.serde_json.specs.View.{view};
 ghost use Rattle.model_findings.specs.ReadinessIssues.{outside_apertures, other_primary, not_open};
@@ -13,7 +13,7 @@ use paths::Path;
 use serde_json::{Value, json};
 use std::alloc::{AllocError, Global};
 
-/// Returns, as JSON, the requirement to enable a BAR.
+/// Returns, as JSON, the readiness issue that a BAR is disabled.
 fn not_open(alloc: Global, region: &LiveBar) -> Result<Value, AllocError>
     ensures { IfOk result (λ v. view v ≡ issue_value (not_open region.now)) }
 {
@@ -21,7 +21,7 @@ fn not_open(alloc: Global, region: &LiveBar) -> Result<Value, AllocError>
     json!(in alloc; {"region": region, "type": "closed"})
 }
 
-/// Returns, as JSON, the requirement to move a BAR into the apertures.
+/// Returns, as JSON, the readiness issue that a BAR is partly outside the apertures.
 fn outside(alloc: Global, region: &LiveBar, address: u64) -> Result<Value, AllocError>
     ensures { IfOk result (λ v. view v ≡ issue_value (outside_apertures region.now address)) }
 {
@@ -29,7 +29,7 @@ fn outside(alloc: Global, region: &LiveBar, address: u64) -> Result<Value, Alloc
     json!(in alloc; {"address": address, "region": region, "type": "outside apertures"})
 }
 
-/// Returns, as JSON, the requirement to correct a Primary Bus Number.
+/// Returns, as JSON, the readiness issue that a bridge has a wrong Primary Bus Number.
 fn primary(alloc: Global, path: &Path, held: u8, number: u8) -> Result<Value, AllocError>
     ensures { IfOk result (λ v. view v ≡ issue_value (other_primary path.now held number)) }
 {

@@ -14,7 +14,7 @@ use accesses::HostAt;
 pub enum HostRequest {
     /// An audit: all problems in the current registers.
     Audit,
-    /// A readiness report: all problems and unmet requirements in the current registers.
+    /// A readiness report: all problems and readiness issues in the current registers.
     Ready,
     /// The handover of the board to its guests.
     Guests,

@@ -26,7 +26,7 @@ pub enum ReportForm {
 pub enum Question {
     /// Lists the problems, in the given format.
     Audit(ReportForm),
-    /// Lists the problems and the unmet requirements, in the given format.
+    /// Lists the problems and the readiness issues, in the given format.
     Ready(ReportForm),
 }
 
@@ -52,7 +52,7 @@ pub(crate) fn audit_in(
     }
 }
 
-/// Renders the problems and the unmet requirements in the given format, and counts both together.
+/// Renders the problems and the readiness issues in the given format, and counts both together.
 pub(crate) fn ready_in(
     alloc: Global,
     form: ReportForm,

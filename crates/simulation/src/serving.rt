@@ -17,7 +17,7 @@ use streams::{Reader, Writer};
 
 /// Writes the answer to a question about the board of a session, given the host's apertures, and
 /// flushes once. Writes nothing if there is no question. Returns the number of reported problems
-/// and unmet requirements.
+/// and readiness issues.
 fn answer<W: Writer>(
     alloc: Global,
     question: Option<Question>,
@@ -51,7 +51,7 @@ fn answer<W: Writer>(
 }
 
 /// Returns the fault to report once all output was written, if there is one. It depends on whether
-/// a line was refused, and on how many problems and unmet requirements were reported.
+/// a line was refused, and on how many problems and readiness issues were reported.
 fn last_fault(
     question: Option<Question>,
     strict: bool,
@@ -72,14 +72,14 @@ fn last_fault(
 
 /// Runs a session on the board that a board file declares, starting at reset: the built-in set-up
 /// doesn't run. The lines are firmware's. Among them, `host audit` reports all problems in the
-/// current registers, and `host ready` also reports all unmet requirements. `host guests` assigns
-/// the board's functions to the guests of the file, unless its audit reports a problem or a BAR of
-/// a guest is disabled. From then on, the lines are a script's, and the replies to a guest depend
+/// current registers, and `host ready` also reports all readiness issues. `host guests` assigns the
+/// board's functions to the guests of the file, unless its audit reports a problem or a BAR of a
+/// guest is disabled. From then on, the lines are a script's, and the replies to a guest depend
 /// only on its own functions, each an isolated register file, on its own lines, and on the moves
 /// that involve it.
 ///
 /// If there is a question, its answer is written after the output of the lines: a line for each
-/// problem and each unmet requirement and a last line with their number, or a JSON object on one
+/// problem and each readiness issue and a last line with their number, or a JSON object on one
 /// line. The answer is about the final registers and the apertures of the file. After a handover,
 /// it is about the guests' registers.
 ///
@@ -104,8 +104,8 @@ pub fn serve<R: Reader, W: Writer>(
     requires writer_has_room { W.failures writer.old < 2 ^ 64 - 1 }
 
     // The output of the lines on the board of the file, and then the answer to the question about
-    // the registers after them. The result says whether lines were refused, problems found or
-    // requirements not met.
+    // the registers after them. The result says whether lines were refused, or problems or
+    // readiness issues found.
     ensures serves { Serves question strict seen.new board.now
         (ends (R.rest reader.old) (R.rest reader.new)
         (W.written writer.old) (W.written writer.new) (W.flushed writer.new)) result }
