@@ -2,7 +2,7 @@
 --     MarkedPath      an entry, its text, and whether no entry before it has the same path
 --     place_texts, slot_texts      the texts of all functions, endpoints first, and of all slots, guest after guest
 --     path_texts      those that a check asks
---     mark_duplicates      the entries of a list of texts
+--     mark_duplicates      the texts of a list, each with whether no text before it has the same path
 use Rattle.std.specs.{Prelude.{ℕ, Bool, not, ◌&&◌, List, [], ◌++◌, map, flat_map, take}, List.{enumerate_from, list_all}}
 use Rattle.model_board.specs.Paths.{Path, path_eq}
 use Rattle.board_file.specs.{PathTexts.{is_path_text, path_at}, Entries.{Endpoint, Bridge, Guest, File}, EntryRules.are_same_place, declared.{fault.BoardFault.BoardFault, entry.Entry.Entry}}

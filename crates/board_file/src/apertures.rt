@@ -65,8 +65,8 @@ const MEM: Aperture = Aperture {
     last: 0xf_ffff,
 };
 
-/// Returns whether the I/O aperture is valid. Checks it together with a valid memory aperture,
-/// because [`Apertures::new`] needs both.
+/// Returns whether the I/O aperture is valid. Passes it to [`Apertures::new`] together with a
+/// memory aperture that is known to be valid.
 pub(crate) fn is_io(io: Bounds) -> bool
     ensures { result ≡ (is_natural io && is_io_aperture (aperture io)) }
 {
@@ -79,7 +79,7 @@ fn is_lawful_mem(mem: Bounds) -> bool
     Apertures::new(IO, aperture(mem), None).is_ok()
 }
 
-/// Returns whether the memory aperture is valid. Checks it together with a valid I/O aperture.
+/// Returns whether the memory aperture is valid, whatever the other apertures are.
 pub(crate) fn is_mem(mem: Bounds) -> bool
     ensures { result ≡ (is_natural mem && is_mem_aperture (aperture mem)) }
 {
@@ -94,8 +94,8 @@ fn is_lawful_pref(mem: Bounds, pref: Option<Bounds>) -> bool
     !is_lawful_mem(mem) || Apertures::new(IO, aperture(mem), pref_aperture(pref)).is_ok()
 }
 
-/// Returns whether the prefetchable aperture is valid beside the memory aperture. If the memory
-/// aperture isn't valid itself, checks only that no address is negative.
+/// Returns whether the prefetchable aperture is valid and doesn't overlap the memory aperture. If
+/// the memory aperture isn't valid itself, checks only that no address is negative.
 pub(crate) fn is_pref(mem: Bounds, pref: Option<Bounds>) -> bool
     ensures { result ≡ (are_natural pref
         && (not (is_mem_aperture (aperture mem)) || has_lawful_pref (aperture mem) (option_map aperture pref))) }

@@ -1,5 +1,5 @@
-//! Register blocks: the registers at the start of a BAR, device-specific configuration registers, or
-//! the structures of a capability list.
+//! Register blocks: the registers at the start of a BAR, device-specific configuration registers,
+//! or the structures of a capability list.
 ghost use Rattle.std.specs.{Prelude.{◌≡◌, ◌+◌, ◌<◌, IfOk, length, nat_abs, nat_le, option_map, take}, List.list_all};
 ghost use Rattle.board_file.specs.{Blocks.{decode_hex, is_pattern, decode_pattern, byte_at, are_apart as share_no_bit, cells, is_block, block_cells, Gives}, Rules.{config_extent, capability_extent, are_apart}};
 

@@ -7,18 +7,18 @@ pub enum Entry {
     File,
     /// The `host` table.
     Host,
-    /// The `endpoint` table with this index.
+    /// `Endpoint(i)` is the `i`-th `endpoint` table.
     Endpoint(usize),
-    /// A `bar` table, by the index of its endpoint and its index there.
+    /// `Bar(i, j)` is the `j`-th `bar` table of endpoint `i`.
     Bar(usize, usize),
-    /// A `config` table, by the index of its endpoint and its index there.
+    /// `Config(i, j)` is the `j`-th `config` table of endpoint `i`.
     Config(usize, usize),
-    /// A `capability` table, by the index of its endpoint and its index there.
+    /// `Capability(i, j)` is the `j`-th `capability` table of endpoint `i`.
     Capability(usize, usize),
-    /// The `bridge` table with this index.
+    /// `Bridge(i)` is the `i`-th `bridge` table.
     Bridge(usize),
-    /// The `guest` table with this index.
+    /// `Guest(i)` is the `i`-th `guest` table.
     Guest(usize),
-    /// A slot, by the index of its guest and its index there.
+    /// `Slot(i, j)` is the `j`-th string in the `slots` of guest `i`.
     Slot(usize, usize),
 }

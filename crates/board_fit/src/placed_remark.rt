@@ -17,10 +17,11 @@ pub struct PlacedRemark {
     pub other: Option<Other>,
 }
 
-/// The key that locates the other entry: the I/O window of a bridge.
+/// The key at which a message points in the other entry, which is always a bridge without an I/O
+/// window.
 const OTHER_KEY: &str = "io";
 
-/// Finds the places of a remark.
+/// Finds the place of a remark, and that of the other entry.
 fn locate(alloc: Global, places: &Places<'_>, remark: Remark) -> Result<PlacedRemark, AllocError>
     ensures same { IfOk result (λ l. l.remark ≡ remark) }
     ensures located { IfOk result
@@ -35,7 +36,7 @@ fn locate(alloc: Global, places: &Places<'_>, remark: Remark) -> Result<PlacedRe
     })
 }
 
-/// Finds the places of all remarks.
+/// Finds the places of all remarks, in the same order.
 pub(crate) fn with_places(
     alloc: Global,
     places: &Places<'_>,

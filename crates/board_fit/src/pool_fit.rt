@@ -60,8 +60,8 @@ fn pool_fit(
     })
 }
 
-/// Returns the pools to report: all pools if there is no fault, and the pool that doesn't fit if
-/// that is the fault.
+/// Returns the pools to report: all pools if there is no fault, only the pool that doesn't fit if
+/// that is the fault, and none for any other fault.
 fn pools_of(fault: Option<Fault>) -> &'static [Pool]
     ensures { result.now ≡ pools_of fault }
 {

@@ -5,8 +5,8 @@ use board_file::schema::{Field, Keyword, TableKind, ValueType, form_at};
 use std::alloc::{AllocError, Global};
 use strsim::levenshtein;
 
-/// Returns the key that was probably meant: the first that is one edit away, or else two. A key
-/// must be at least twice as long as the number of edits.
+/// Returns the key that was probably meant: the first within one edit of `word`, or else the first
+/// within two. A key with fewer than two letters for each edit doesn't count.
 fn nearest(
     alloc: Global,
     word: &str,

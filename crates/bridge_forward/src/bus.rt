@@ -98,7 +98,7 @@ impl Node {
         }
     }
 
-    /// Returns the declaration of the function with its path.
+    /// Returns the function's path and its declaration.
     fn declared(&self) -> Result<Decl, AllocError>
         ensures { IfOk result (λ d. d ≡ row_at (function_of self.now)) }
     {

@@ -142,7 +142,7 @@ fn size_pref_window(host: &mut Host, at: Bdf) -> PrefDecode
     }
 }
 
-/// Fills in the regions or windows of one row.
+/// Sizes one function: fills in the regions or windows in its row.
 fn size_function(host: &mut Host, row: &mut EnumeratedFunction)
     requires registers { IsNumbered host.old.state }
     requires scanned { IsScannedRow (board_at host.old.state.functions) row.old }

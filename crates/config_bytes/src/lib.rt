@@ -16,8 +16,8 @@ pub use cells::Cells;
 pub use lanes::{all_ones, enables_of, from_lanes, lowered, to_lanes};
 pub use op::Op;
 
-/// Proves laws of lists of cells with offsets: the register file that a list describes, and when
-/// the offsets are distinct.
+/// Proves laws about building a list of cells, each with its offset in configuration space: which
+/// register file the list describes, which offsets it uses, and that no offset is used twice.
 pub fn lists_of_offsets()
     ensures file_of_append { FileOfAppend }
     ensures file_of_offsets { FileOfOffsets }

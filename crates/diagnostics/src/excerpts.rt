@@ -87,8 +87,8 @@ fn line_after(text: &[u8], offset: usize) -> &[u8] {
     }
 }
 
-/// Appends the line of the file with a place, and marks below the value if `has_value`. Appends
-/// nothing if excerpts are off or the place is unknown.
+/// Appends the line of the file that contains `place`. If `has_value`, also appends a line of marks
+/// below that place. Appends nothing if excerpts are off or the place is unknown.
 pub fn push_shown_line(
     alloc: Global,
     shown: &mut String,
@@ -118,7 +118,8 @@ pub fn push_shown_line(
     Ok(())
 }
 
-/// Appends the line of the file that a message header points at.
+/// Appends the excerpt below the header of a message: the line of the file that the header names,
+/// with marks below the value if the key has one.
 pub fn push_below(alloc: Global, shown: &mut String, head: &Head<'_>) -> Result<(), AllocError> {
     let has_value = value_at(head.document, head.entry, head.key).is_some();
     push_shown_line(

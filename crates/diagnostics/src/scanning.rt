@@ -172,7 +172,7 @@ impl ScalarScanner {
         Ok(())
     }
 
-    /// Handles the end of a line.
+    /// Handles the end of a line: a key comes next, unless a bracket is still open.
     fn expect_key_unless_nested(&mut self) {
         if self.brackets.is_empty() {
             self.mode = Mode::Key;

@@ -88,9 +88,9 @@ fn number_text(
     counted_text(alloc, &mut lines)
 }
 
-/// Explains a port in the current registers. The line about the port's role in the configuration
-/// mechanism comes first (only for CONFIG_ADDRESS and CONFIG_DATA), then the explanation of the BDF
-/// that CONFIG_ADDRESS selects or that of an ordinary port.
+/// Explains where an access to a port goes in the current registers. For CONFIG_ADDRESS and
+/// CONFIG_DATA, the first line says so. Then explains the BDF in CONFIG_ADDRESS, if the access goes
+/// to a configuration register, and otherwise the port as an I/O address.
 fn port_text(alloc: Global, host: &mut Host, port: u64) -> Result<String, AllocError>
     ensures text { IfOk result (λ t. string_bytes t ≡ why_port_text host.old.state port) }
     ensures after { host.new ≡ host.old }

@@ -78,7 +78,7 @@ impl Aperture {
         }
     }
 
-    /// Checks an aperture for I/O: whole 4 KB pages within 1000h to FFFFh.
+    /// Checks that this can be the I/O aperture: whole 4 KB pages, none below 1000h or above FFFFh.
     pub fn check_io(&self) -> Result<(), ApertureFault>
         ensures { is_ok result ≡ is_io_aperture self.now }
     {
@@ -92,7 +92,7 @@ impl Aperture {
         }
     }
 
-    /// Checks an aperture for memory: whole megabytes below 4 GB.
+    /// Checks that this can be the memory aperture: whole megabytes, all below 4 GB.
     pub fn check_mem(&self) -> Result<(), ApertureFault>
         ensures { is_ok result ≡ is_mem_aperture self.now }
     {
@@ -104,8 +104,8 @@ impl Aperture {
         }
     }
 
-    /// Checks an aperture for prefetchable memory beside one for memory: whole megabytes below
-    /// 2^63, entirely below or above 4 GB, without overlapping memory.
+    /// Checks that this can be the prefetchable aperture of a board whose memory aperture is `mem`:
+    /// whole megabytes below 2^63, that lie all below or all above 4 GB, and don't overlap `mem`.
     pub fn check_pref(&self, mem: &Aperture) -> Result<(), ApertureFault>
         ensures { is_ok result ≡ is_pref_aperture mem.now self.now }
     {
@@ -122,7 +122,7 @@ impl Aperture {
     }
 }
 
-/// Checks the aperture for prefetchable memory, if there is one.
+/// Checks the prefetchable aperture, if there is one, against the memory aperture.
 fn check_pref(mem: &Aperture, pref: &Option<Aperture>) -> Result<(), ApertureFault>
     ensures { is_ok result ≡ has_lawful_pref mem.now pref.now }
 {

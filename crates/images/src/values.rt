@@ -29,7 +29,7 @@ fn can_hold(row: &ConfigRegister, byte: u8) -> bool
     is_device || byte & !writable & !clearable == value & !writable & !clearable
 }
 
-/// Strips the saved values of one register.
+/// Checks the saved value of each byte of a register, and returns the bytes after them.
 fn after_row(row: ConfigRegister, bytes: &[u8]) -> Result<&[u8], ImageFault>
     requires { IsRow row }
     ensures left { IfOk result (λ rest. after_values (row_cells row) bytes.now ≡ Ok rest.now) }
@@ -51,7 +51,7 @@ fn after_row(row: ConfigRegister, bytes: &[u8]) -> Result<&[u8], ImageFault>
     Ok(tail)
 }
 
-/// Strips `count` bytes of any value.
+/// Returns the bytes after the first `count`, whatever the values of these are.
 fn after_any(count: usize, bytes: &[u8]) -> Result<&[u8], ImageFault>
     ensures room { IfOk result (λ _. count ≤ length bytes.now) }
     ensures left { IfOk result (λ rest. rest.now ≡ drop count bytes.now) }
@@ -63,7 +63,7 @@ fn after_any(count: usize, bytes: &[u8]) -> Result<&[u8], ImageFault>
     Ok(&bytes[count..])
 }
 
-/// Strips the saved values of a list of registers.
+/// Checks the saved values of a list of registers, and returns the bytes after them.
 fn after_rows<'a>(rows: &[ConfigRegister], bytes: &'a [u8]) -> Result<&'a [u8], ImageFault>
     requires { Each IsRow rows.now }
     ensures left { IfOk result (λ rest.
@@ -80,7 +80,8 @@ fn after_rows<'a>(rows: &[ConfigRegister], bytes: &'a [u8]) -> Result<&'a [u8], 
     Ok(bytes)
 }
 
-/// Strips the saved values of the device-specific configuration registers.
+/// Returns the bytes after the saved values of the device-specific configuration registers, which
+/// can hold any value.
 fn after_blocks<'a>(blocks: &[ConfigBlock], bytes: &'a [u8]) -> Result<&'a [u8], ImageFault>
     requires { Each IsConfigBlock blocks.now }
     ensures left { IfOk result (λ rest.
@@ -97,8 +98,8 @@ fn after_blocks<'a>(blocks: &[ConfigBlock], bytes: &'a [u8]) -> Result<&'a [u8],
     Ok(bytes)
 }
 
-/// Strips the saved values of the regions: for each one, its base address register and then its
-/// declared bytes.
+/// Checks the saved values of the regions, and returns the bytes after them. The values of a region
+/// are those of its base address register, and then its declared bytes.
 fn after_regions<'a>(regions: &[Region], bytes: &'a [u8]) -> Result<&'a [u8], ImageFault>
     requires { Each IsLawfulRegion regions.now }
     ensures left { IfOk result (λ rest.
@@ -117,8 +118,8 @@ fn after_regions<'a>(regions: &[Region], bytes: &'a [u8]) -> Result<&'a [u8], Im
     Ok(bytes)
 }
 
-/// Strips a saved value for each register byte of an endpoint, and returns the rest. Refuses with
-/// 905 if the bytes end early or a register can't hold its value.
+/// Checks a saved value for each register byte of an endpoint, and returns the bytes after them.
+/// Refuses with 905 if the bytes end early or a register can't hold its value.
 pub(crate) fn after_values<'a>(decl: &EndpointDecl, bytes: &'a [u8]) -> Result<&'a [u8], ImageFault>
     ensures left { IfOk result (λ rest.
         after_values (endpoint_reset decl.now false) bytes.now ≡ Ok rest.now) }

@@ -7,14 +7,16 @@ use std::alloc::{AllocError, Global};
 
 /// A type whose values can be converted to JSON.
 pub trait HasValue {
-    /// The type that stands for `Self` in the model, the conversion to it, and the JSON of a model
-    /// value.
+    /// The type that stands for `Self` in the model.
     ghost Told: { Type 0 };
 
+    /// The model's value for a value of `Self`.
     ghost told: { Self → Told };
 
+    /// The JSON for a value of the model.
     ghost shown: { Told → Data };
 
+    /// Converts the value to JSON. Fails only if memory is exhausted.
     fn value(&self, alloc: Global) -> Result<Value, AllocError>
         ensures { IfOk result (λ v. view v ≡ shown (told self.now)) };
 }

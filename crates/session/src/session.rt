@@ -51,7 +51,7 @@ impl Session {
         Ok(Session::over(alloc, board))
     }
 
-    /// Returns a session over a board that firmware drives.
+    /// Creates a session in which firmware drives the board.
     pub fn over(alloc: Global, board: Board) -> Session
         ensures { result ≡ driven board }
     {
@@ -61,7 +61,7 @@ impl Session {
         }
     }
 
-    /// Returns a session over a board that is assigned to its guests.
+    /// Creates a session after the handover: the monitor has the board and its guests.
     pub fn of(alloc: Global, monitor: Monitor) -> Session
         ensures { result ≡ given monitor }
     {
@@ -89,7 +89,7 @@ impl Session {
         }
     }
 
-    /// Borrows the monitor, which has the board and its guests, if the board was assigned to guests.
+    /// Borrows the monitor, which has the board and its guests, after the handover.
     pub fn monitor(&mut self) -> Option<&mut Monitor>
         ensures* lends { sem 𝓛 (LendsMonitor self.entry result) }
         ensures machine { option_copied_mut result ≡ machine_in self.old }

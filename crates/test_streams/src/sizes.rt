@@ -1,7 +1,7 @@
 use bars::{Kind, size_of_mask};
 
-/// The value of a base address register after all ones were written, and the kind and size read
-/// from it.
+/// Sizing a BAR: each row has the values that its two registers return after all ones were written
+/// to them, and the kind and size that follow, or `None` if no BAR returns these values.
 #[test]
 fn sizes_of_masks(rt: HostRuntime) {
     let memory = |pref| Kind::Mem64 { pref };

@@ -1,4 +1,4 @@
-//! The changes to a board when the monitor takes it over.
+//! The changes to a board when the monitor takes it over from firmware.
 ghost use Rattle.std.specs.Prelude.{◌≡◌, map};
 ghost use Rattle.model_guests.specs.AgreedBoard.{agreed_function};
 ghost use Rattle.bridge_forward.specs.Lending.{with_endpoint_reset};
@@ -11,8 +11,8 @@ use accesses::GuestDecl;
 use host_bridge::Host;
 use paths::Path;
 
-/// Resets the endpoint at a path, if there is one, except for the registers that guests have copies
-/// of.
+/// Resets the endpoint at a path, except for the registers that guests have copies of. Does nothing
+/// if there is no endpoint.
 fn reset_at(host: &mut Host, path: &Path)
     ensures { host.new
         ≡ with_functions (with_endpoint_reset path.now host.old.state.functions) host.old }
@@ -34,8 +34,8 @@ fn reset_all(host: &mut Host, paths: &[Path])
     }
 }
 
-/// Resets each function to assign, except for the registers that guests have copies of, and clears
-/// CONFIG_ADDRESS.
+/// Resets each function that is about to be assigned to a guest, but keeps the registers that
+/// guests have copies of as firmware set them. Clears CONFIG_ADDRESS.
 pub(crate) fn take_over(host: &mut Host, decls: &[GuestDecl])
     ensures { let w = world_on host.old decls.now in
         host.new ≡ record host.old { state = taken_over w host.old.state } }

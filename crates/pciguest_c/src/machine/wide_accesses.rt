@@ -33,8 +33,8 @@ pub extern "C" fn pciguest_raw_device_read_wide(
     put_result(answer, value)
 }
 
-/// Writes the low 1 to 8 bytes of a value to one part of a guest's function, as its device does,
-/// regardless of the write masks. If one byte can't be read, no byte is written.
+/// Writes the low 1 to 8 bytes of a value to one part of a guest's function, as its device does, so
+/// that the write masks don't apply. If one of the bytes can't be read, writes none of them.
 #[unsafe(no_mangle)]
 pub extern "C" fn pciguest_raw_device_write_wide(
     alloc: Global,
