@@ -130,7 +130,7 @@ each_stays changes file [] at fits h = tt
 each_stays changes file (c ∷ cs) at fits h =
     (changes_still changes c.id fits.0 (config c.offset) file h.0, changes_still changes (first_offset cs) (next_fits cs at.1) (config (c.offset + 1)) file h.1, each_stays changes file cs at.1 fits.1 h.2)
 
-held_byte : (file : File) (off v : ℕ) → Holds file (config off) v → byte file off ≡ v
+pub held_byte : (file : File) (off v : ℕ) → Holds file (config off) v → byte file off ≡ v
 held_byte file off v h = let same : (cell_at file (config off)).value ≡ v = ap (λ (c : Cell). c.value) h in omega (arith, same)
 
 walk_of : (file : File) (cs : List Capability) (at : ℕ) → at ≡ first_offset cs → HoldsEach file cs → Finds file at cs

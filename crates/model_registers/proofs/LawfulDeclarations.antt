@@ -109,9 +109,12 @@ sorted_is_lawful d ys fits sizes none perm sorted =
 
 -- ---- a lawful declaration breaks no rule
 
+pub pointer_test : (b : ConfigBlock) → b.offset ≡ 0x34 → length b.cells ≡ 1 → list_all is_read_only b.cells ≡ true → is_pointer b ≡ true
+pointer_test b at one kept = and_from _ _ (and_from _ _ (eq-eqb b.offset 0x34 at) (eq-eqb (length b.cells) 1 one)) kept
+
 placed_test : (b : ConfigBlock) → IsInPlace b.offset (length b.cells) → (b.offset ≡ 0x34 → IsTrue (list_all is_read_only b.cells)) → (leb 0x40 b.offset || is_pointer b) ≡ true
 placed_test b (inl low) kept = ap (λ t. t || is_pointer b) (le-leb 0x40 b.offset low)
-placed_test b (inr is) kept = or_right (leb 0x40 b.offset) (is_pointer b) (and_from _ _ (and_from _ _ (eq-eqb b.offset 0x34 is.0) (eq-eqb (length b.cells) 1 is.1)) (kept is.0))
+placed_test b (inr is) kept = or_right (leb 0x40 b.offset) (is_pointer b) (pointer_test b is.0 is.1 (kept is.0))
 
 block_test : (b : ConfigBlock) → IsConfigBlock b → is_config_block b ≡ true
 block_test b h = and_from _ _ (and_from _ _ (placed_test b h.in_place h.read_only) (lt-ltb 0 (length b.cells) h.not_empty)) (le-leb (b.offset + length b.cells) 0x100 h.ends)

@@ -15,3 +15,4 @@ pub mod DeviceBytes
 pub mod Capabilities
 pub mod ConstantCells
 pub mod ListedCapabilities
+mod NoLists

@@ -9,6 +9,7 @@
 --     ShowsList file cs      Status says that there is a list, and the walk from 34h finds these structures
 --     Change, after_changes file cs      a write or a raise of registers; the file after all of them
 --     ListStays      the list is found in every state that accesses and raises can reach
+--     ShowsNoList, NoListStays      bit 4 of Status and the pointer read 0; they always do without a list
 --     Listed      a structure of a list with its size, which includes the two bytes of its header
 --     listed d      the structures that an endpoint's Status, Capabilities Pointer and Next Capability bytes lead to at reset
 --     ListsDeclared      these are the structures that were declared
@@ -76,6 +77,15 @@ ListStays = (d : Endpoint) (c : Capability) (cs : List Capability)
     → IsLawfulEndpoint (with_capabilities (c ∷ cs) d) → Each (λ e. e.id < 256) (c ∷ cs)
     → (multifunction : Bool) (command : ℕ) (bases : Region → ℕ) (changes : List Change)
     → ShowsList (after_changes (endpoint_file (with_capabilities (c ∷ cs) d) multifunction command bases) changes) (c ∷ cs)
+
+pub record ShowsNoList (file : File) : Type 0 where
+  pub status : bit_and (byte file 6) 0x10 ≡ 0
+  pub pointer : byte file 0x34 ≡ 0
+
+abbrev pub NoListStays : Type 0
+NoListStays = (d : Endpoint) → IsLawfulEndpoint d → bit_and d.status 0x10 ≡ 0
+    → (multifunction : Bool) (command : ℕ) (bases : Region → ℕ) (changes : List Change)
+    → ShowsNoList (after_changes (endpoint_file d multifunction command bases) changes)
 
 -- ---- what a declaration lists
 

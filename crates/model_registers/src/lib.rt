@@ -5,7 +5,7 @@
 #![tactic(auto)]
 
 ghost use Rattle.std.specs.Prelude.{◌≡◌, ℕ};
-ghost use Rattle.model_registers.specs.{Cell.{no_cell, written}, AccessLaws.{AlignedLiesInWord, NumberByLanes, LanesFit, NumberFromWord, AllOnesByLanes, WriteByLanes, DisabledRead, DisabledStay, NumberFits, ReadsEnabled}, FileLaws.{JoinedCell, JoinedChange, JoinedWrite, ReadNone, WriteNone, ReadSecond, ReadFirst, PlacesStay, RegionCells, RegionCell, RegionRead, RegionChange, RegionWrite, RegionHasNoConfig, RegionHasNoOther, ConfigHasNoBlock, ConfigStays}, RegisterLaws.{ChangeAtPlace, FieldReads, FieldWrites, EnabledFieldReads, EnabledFieldWrites}, BaseLaws.{ReadsOfBases, WritesOfBases}, Sizing.SizesRead, DecodingLaws.{HitIsOfRegion, HitsByBases, HitsOfRegisters}, OwnCopies.{OwnReads, OwnWrites, OwnStay, OwnHits, ResetHoldsOwn}, Capabilities.{ListStays, ListsDeclared}};
+ghost use Rattle.model_registers.specs.{Cell.{no_cell, written}, AccessLaws.{AlignedLiesInWord, NumberByLanes, LanesFit, NumberFromWord, AllOnesByLanes, WriteByLanes, DisabledRead, DisabledStay, NumberFits, ReadsEnabled}, FileLaws.{JoinedCell, JoinedChange, JoinedWrite, ReadNone, WriteNone, ReadSecond, ReadFirst, PlacesStay, RegionCells, RegionCell, RegionRead, RegionChange, RegionWrite, RegionHasNoConfig, RegionHasNoOther, ConfigHasNoBlock, ConfigStays}, RegisterLaws.{ChangeAtPlace, FieldReads, FieldWrites, EnabledFieldReads, EnabledFieldWrites}, BaseLaws.{ReadsOfBases, WritesOfBases}, Sizing.SizesRead, DecodingLaws.{HitIsOfRegion, HitsByBases, HitsOfRegisters}, OwnCopies.{OwnReads, OwnWrites, OwnStay, OwnHits, ResetHoldsOwn}, Capabilities.{ListStays, NoListStays, ListsDeclared}};
 
 /// Proves that writes to an unimplemented byte are dropped.
 pub fn no_cell_drops_writes()
@@ -101,6 +101,12 @@ pub fn own_copies()
 /// and raises there were.
 pub fn capability_lists()
     ensures { ListStays }
+{}
+
+/// Proves that without a capability list, bit 4 of Status and the byte at 34h read 0, whatever
+/// accesses and raises there were.
+pub fn no_capability_list()
+    ensures { NoListStays }
 {}
 
 /// Proves that an endpoint with a capability list lists the declared structures, in order, with
