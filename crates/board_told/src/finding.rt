@@ -107,7 +107,12 @@ fn lost(alloc: Global, monitor: &Monitor, guest: usize, at: At) -> Result<Findin
 ///
 /// Refused with 303 if a one-byte read would be: for a slot above 31, an offset above 255 or a port
 /// above FFFFFFFFh. Fails with 299 if memory is exhausted.
-pub fn find(alloc: Global, monitor: &Monitor, guest: usize, at: At) -> Result<Finding, WhyFault>
+pub fn find_target(
+    alloc: Global,
+    monitor: &Monitor,
+    guest: usize,
+    at: At,
+) -> Result<Finding, WhyFault>
     requires { guest < length monitor.now.world.guests }
     ensures found { let g = lone_asked monitor.now.world guest in
         IfOk result (λ f. finding_told f ≡ guest_finding g (target_of at)) }

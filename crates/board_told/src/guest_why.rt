@@ -9,7 +9,7 @@ ghost use Rattle.serde_json.specs.View.{view};
 ghost use Rattle.board_told.specs.{GuestFindings.{lone_asked, fault_at, closed_told, finding_told, IsWhyFault}, GuestLines.text_told, WhyJson.{closed_value, finding_value, guest_json, guest_why_in}};
 
 use crate::closed::ClosedInSlot;
-use crate::finding::{Finding, WhyFault, find};
+use crate::finding::{Finding, WhyFault, find_target};
 use crate::finding_lines::{push_closed_of, push_head};
 use accesses::{At, Place};
 use findings::{PortUse, port_use};
@@ -119,7 +119,7 @@ pub fn guest_why_in(
     ensures served { IfOk result (λ _. fault_at (target_of at) ≡ None) }
     ensures refused { IfErr result (λ e. IsWhyFault e (fault_at (target_of at))) }
 {
-    let finding = match find(alloc, monitor, guest, at) {
+    let finding = match find_target(alloc, monitor, guest, at) {
         Ok(finding) => finding,
         Err(fault) => return Err(fault),
     };

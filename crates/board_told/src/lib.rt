@@ -20,7 +20,7 @@ pub use checking::{Checked, check_text};
 pub use closed::ClosedInSlot;
 pub use diagnostics::MessageLayout;
 pub use fault::Fault;
-pub use finding::{Finding, WhyFault, find};
+pub use finding::{Finding, WhyFault, find_target};
 pub use guest_why::guest_why_in;
 pub use listing::list_in;
 pub use monitor::{At, Monitor};

@@ -49,7 +49,7 @@ impl Board {
     /// Returns the board of a board file, at reset. Validates and keeps the guests of the file, but
     /// assigns no function to them yet. Fails if the file is refused (101 to 112) or memory is
     /// exhausted (199).
-    pub fn open(alloc: Global, file: &[u8]) -> Result<Board, BoardFault>
+    pub fn parse(alloc: Global, file: &[u8]) -> Result<Board, BoardFault>
         ensures declared { IfOk result (λ b. Declares file.now b.world) }
         ensures lawful { IfOk result (λ b. IsLawfulWorld b.world) }
         ensures reset { IfOk result (λ b. b ≡ at_reset b.world) }

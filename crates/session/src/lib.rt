@@ -49,7 +49,7 @@ pub use headers::Apertures;
 pub use host_bridge::Host;
 pub use lines::{LineText, RunFault};
 pub use monitor::{HandoverFault, Monitor, Problem, Refused};
-pub use opening::{OpenFault, open};
+pub use opening::{OpenFault, open_and_set_up};
 pub use questions::{Question, ReportForm};
 pub use running::run;
 pub use session::{Session, SessionLines};

@@ -77,7 +77,7 @@ pub(crate) fn begin(
 ///
 /// Fails if the file is refused (101 to 112), the board can't be set up (201 to 205), or memory is
 /// exhausted (199 or 299).
-pub fn open(alloc: Global, file: &[u8]) -> Result<Monitor, OpenFault>
+pub fn open_and_set_up(alloc: Global, file: &[u8]) -> Result<Monitor, OpenFault>
     ensures opened { IfOk result (BeginsIn (IsOpened file.now)) }
     ensures file { IfErr result (OnFile (Refuses file.now)) }
     ensures placement { IfErr result (OnSetUp (Breaks file.now)) }

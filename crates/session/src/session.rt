@@ -47,7 +47,7 @@ impl Session {
             (w : World) × Declares file.now w × IsLawfulWorld w × (x ≡ driven (at_reset w))) }
         ensures refused { IfErr result (λ f. f ≢ Memory → Refuses file.now (file_number f)) }
     {
-        let board = Board::open(alloc, file)?;
+        let board = Board::parse(alloc, file)?;
         Ok(Session::over(alloc, board))
     }
 
@@ -134,7 +134,7 @@ impl Session {
         match &mut self.stage {
             Stage::Driven(board) => board.ask(alloc, question, apertures),
             Stage::Given(monitor) => {
-                let found = monitor.problems(alloc)?;
+                let found = monitor.audit_board(alloc)?;
                 match question {
                     Question::Audit(form) => audit_in(alloc, form, &found),
                     Question::Ready(form) => {

@@ -8,7 +8,7 @@ use board_told::Fault;
 use lines::{RunStats, run_watched};
 use monitor::Monitor;
 use script::Script;
-use session::open;
+use session::open_and_set_up;
 use std::alloc::Global;
 use streams::{Reader, Writer};
 
@@ -50,7 +50,7 @@ pub(crate) fn run_as<R: Reader, W: Writer>(
     ensures reads { R.failures reader.new ≡ R.failures reader.old + read_faults result }
     ensures writes { W.failures writer.new ≡ W.failures writer.old + write_faults result }
 {
-    let monitor = open(alloc, board)?;
+    let monitor = open_and_set_up(alloc, board)?;
     let (_, lines_seen) = run_watched::<Script, Monitor, R, W>(monitor, reader, writer)?;
     let refused = is_fault(strict, &lines_seen);
     *seen = lines_seen;

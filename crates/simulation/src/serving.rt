@@ -127,7 +127,7 @@ pub fn serve<R: Reader, W: Writer>(
     ensures reads { R.failures reader.new ≡ R.failures reader.old + read_faults result }
     ensures writes { W.failures writer.new ≡ W.failures writer.old + write_faults result }
 {
-    let driven = Board::open(alloc, board)?;
+    let driven = Board::parse(alloc, board)?;
     let apertures = driven.apertures();
     let session = Session::over(alloc, driven);
     let (mut session, lines_seen) = run_watched::<SessionLines, Session, R, W>(

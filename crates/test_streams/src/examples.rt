@@ -47,7 +47,7 @@ fn cycles_and_accesses_of_a_host(rt: HostRuntime) -> Result<(), Fail> {
 #[test]
 fn a_bridge_is_numbered_by_hand(rt: HostRuntime) -> Result<(), Fail> {
     let alloc = rt.alloc();
-    let board = Board::open(alloc, MAIN.as_bytes())?;
+    let board = Board::parse(alloc, MAIN.as_bytes())?;
     let apertures = board.apertures();
     let mut session = Session::over(alloc, board);
     let bridge = Bdf {

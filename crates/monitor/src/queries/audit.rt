@@ -13,7 +13,7 @@ use std::alloc::{AllocError, Global};
 impl<R: Route> Engine<R> {
     /// Returns the problems in the board's registers as they are now, and changes nothing. The list
     /// is always empty, whatever guests, their devices and the host have done.
-    pub fn problems(&mut self, alloc: Global) -> Result<Vec<Problem>, AllocError>
+    pub fn audit_board(&mut self, alloc: Global) -> Result<Vec<Problem>, AllocError>
         ensures told { IfOk result (λ v.
             map problem_of v.items ≡ problems (board_state self.old.world).functions) }
         ensures in_order { problems (board_state self.old.world).functions ≡ [] }

@@ -3,7 +3,7 @@ use Rattle.model_findings.{proofs.Witnesses.problems_decide, specs.Problems.prob
 use Rattle.model_guests.specs.WorldNow.{board_state}
 use Rattle.model_handoff.{proofs.Keeping.keeps_problems, specs.Changes.MachineNow}
 use Rattle.monitor.specs.Views.{texts, machine_shown}
-use Rattle.monitor.proofs.engine.Engine.problems.Goals as goal
+use Rattle.monitor.proofs.engine.Engine.audit_board.Goals as goal
 
 pub returns-clause-in_order : goal.returns-clause-in_order
 returns-clause-in_order g c =
