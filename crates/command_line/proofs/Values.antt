@@ -1,7 +1,9 @@
 -- The first value of an argument, by the rows of a parse.
 use Rattle.std.{proofs.Common.{◌≡◌, ◌⊎◌, inl, inr, ℕ, Bool, true, false, cond, List, [], ◌∷◌, Option, Some, None, map, refl, sym, ap, ◌∙◌, arith}, specs.{Prelude.{option_map, option_and_then, find, slice_get, unwrap_or, codes, Box}, Box.box_value, Borrow.Bor, Str.bytes_eq}}
 use Rattle.clap.{specs.{declared.parser.matches.{MatchedArg.MatchedArg, Found.Found, ArgMatches.{ArgMatches, TheViews.{out-ArgMatches, out-SubCommand}}, SubCommand.SubCommand}, Walk.{Row, rows_of, row_of, stop_after}, Matches.{first_value, subcommand_name_of}, Simple.{Shape, argument_words, built, entered, names_of, rows_at, subcommand_rows, subcommand_rows_of, subcommand_of}, Faults.is_simple_and_free}, proofs.OnLiterals.clap_on_literals}
-use Rattle.command_line.specs.{Words.{pciguest_app, is_taken, subcommand, value, value_in}, Choices.{is_json, is_all, is_strict, is_true, board_in, IsAskedBy, IsNoCommand}, declared.choice.Choice.{Choice, TheVariants.{Help, Demo, List as Lists, Check, Run, Firmware, Audit, Ready}}}
+use Rattle.command_line.specs.{Words.{pciguest_app, subcommand, value, value_in}, Choices.{is_json, is_all, is_strict, is_true, board_in, IsAskedBy, IsNoCommand}, declared.choice.Choice.{Choice, TheVariants.{Help, Demo, List as Lists, Check, Run, Firmware, Report}}}
+use Rattle.model_lines.specs.Reports.{report_named, of_problems, of_readiness}
+use Rattle.model_lines.specs.Reports as model
 
 -- the command line is one of which all is known that a parse may answer
 pub simple : is_simple_and_free pciguest_app ≡ true
@@ -71,14 +73,17 @@ pub no_other : (m : ArgMatches) (words : List (List ℕ)) (n : List ℕ) → sub
 no_other m words n read known none =
     by_name (stop_name (stop_after (built pciguest_app).top.rules (names_of (built pciguest_app)) (argument_words pciguest_app words)) n (known ∙ named_by_rows (out-ArgMatches m).subcommand ∙ ap (option_map (λ (p : List ℕ × List Row). p.0)) read))
   where
+    named : (r : model.Report) → report_named n ≡ Some r → ⊥
+    named r is = absurd (let wrong : Some r ≡ None = sym is ∙ none.report in cc)
+
     by_name : IsKnown n → ⊥
     by_name (inl is) = none.demo is
     by_name (inr (inl is)) = none.list is
     by_name (inr (inr (inl is))) = none.check is
     by_name (inr (inr (inr (inl is)))) = none.run is
     by_name (inr (inr (inr (inr (inl is))))) = none.firmware is
-    by_name (inr (inr (inr (inr (inr (inl is)))))) = none.audit is
-    by_name (inr (inr (inr (inr (inr (inr is)))))) = none.ready is
+    by_name (inr (inr (inr (inr (inr (inl is)))))) = named of_problems (ap report_named is)
+    by_name (inr (inr (inr (inr (inr (inr is)))))) = named of_readiness (ap report_named is)
 
 -- ---- what the same values ask for
 
@@ -103,5 +108,4 @@ asked_alike same alike terminal (Lists path json) said = (same ∙ said.0, said.
 asked_alike same alike terminal (Check path all plain) said = grind (arith, board_alike, all_alike)
 asked_alike same alike terminal (Run path strict) said = (same ∙ said.0, said.1 ∙ sym (board_alike alike), said.2 ∙ sym (strict_alike alike))
 asked_alike same alike terminal (Firmware path strict) said = (same ∙ said.0, said.1 ∙ sym (board_alike alike), said.2 ∙ sym (strict_alike alike))
-asked_alike same alike terminal (Audit path json strict) said = grind (arith, board_alike, json_alike, strict_alike)
-asked_alike same alike terminal (Ready path json strict) said = grind (arith, board_alike, json_alike, strict_alike)
+asked_alike same alike terminal (Report report path json strict) said = grind (arith, board_alike, json_alike, strict_alike)

@@ -8,8 +8,10 @@
 --     IsAsked words is_terminal choice      the choice is the subcommand that the words name
 --     IsNoCommand name      the program has no subcommand of this name
 --     IsHelp, IsWork choice      the choice is help, or is none
-use Rattle.std.specs.{Prelude.{◌≡◌, ◌≢◌, ℕ, Bool, false, not, ◌||◌, List, [], Option, None, Some, codes, unwrap_or}, Option.option_map_or, Str.bytes_eq}
-use Rattle.command_line.specs.{Words.{subcommand, value}, declared.choice.Choice.{Choice, TheVariants.{Help, Demo, List as Lists, Check, Run, Firmware, Audit, Ready}}}
+use Rattle.std.specs.{Prelude.{◌≡◌, ◌≢◌, ℕ, Bool, false, not, ◌||◌, List, [], Option, None, Some, codes, option_and_then, unwrap_or}, Option.option_map_or, Str.bytes_eq}
+use Rattle.model_lines.specs.Reports.{report_named}
+use Rattle.lines.specs.Requests.{report_of}
+use Rattle.command_line.specs.{Words.{subcommand, value}, declared.choice.Choice.{Choice, TheVariants.{Help, Demo, List as Lists, Check, Run, Firmware, Report}}}
 
 abbrev pub is_true : Option (List ℕ) → Bool
 is_true given = option_map_or (λ t. bytes_eq t (codes "true")) given false
@@ -45,10 +47,9 @@ IsAskedBy name value terminal (Run path strict) =
     (name ≡ Some (codes "run")) × (path.now ≡ board_in value) × (strict ≡ is_strict value)
 IsAskedBy name value terminal (Firmware path strict) =
     (name ≡ Some (codes "firmware")) × (path.now ≡ board_in value) × (strict ≡ is_strict value)
-IsAskedBy name value terminal (Audit path json strict) =
-    (name ≡ Some (codes "audit")) × (path.now ≡ board_in value) × (json ≡ is_json value) × (strict ≡ is_strict value)
-IsAskedBy name value terminal (Ready path json strict) =
-    (name ≡ Some (codes "ready")) × (path.now ≡ board_in value) × (json ≡ is_json value) × (strict ≡ is_strict value)
+IsAskedBy name value terminal (Report report path json strict) =
+    (option_and_then report_named name ≡ Some (report_of report)) × (path.now ≡ board_in value) × (json ≡ is_json value)
+    × (strict ≡ is_strict value)
 
 abbrev pub IsAsked : List (List ℕ) → Bool → Choice → Type 0
 IsAsked words terminal choice = IsAskedBy (subcommand words) (value words) terminal choice
@@ -59,8 +60,7 @@ pub record IsNoCommand (name : List ℕ) : Type 0 where
   pub check : name ≢ codes "check"
   pub run : name ≢ codes "run"
   pub firmware : name ≢ codes "firmware"
-  pub audit : name ≢ codes "audit"
-  pub ready : name ≢ codes "ready"
+  pub report : report_named name ≡ None
 
 abbrev pub board_path : Choice → Option (List ℕ)
 board_path (Help text) = None
@@ -69,8 +69,7 @@ board_path (Lists path json) = Some path.now
 board_path (Check path all plain) = Some path.now
 board_path (Run path strict) = Some path.now
 board_path (Firmware path strict) = Some path.now
-board_path (Audit path json strict) = Some path.now
-board_path (Ready path json strict) = Some path.now
+board_path (Report report path json strict) = Some path.now
 
 abbrev pub IsHelp : Choice → Type 0
 IsHelp (Help text) = Unit {0}

@@ -1,11 +1,14 @@
 //! The command that the program's arguments select.
 ghost use Rattle.std.specs.Prelude.{◌≡◌, Some, [], true, map, option_map, IfOk, IfSome, IfNone, Err, MatchResult};
 ghost use Rattle.clap.specs.{Faults.fault_of, Matches.{first_value, found_of}, Values.kind_of};
+ghost use Rattle.model_lines.specs.Reports.{report_named};
+ghost use Rattle.lines.specs.Requests.{report_of};
 ghost use Rattle.command_line.specs.{Words.{pciguest_app, is_taken}, Choices.{is_true, board_path, IsAsked, IsAskedBy, IsNoCommand, IsWork, IsHelp}};
 
 use crate::commands::command;
 use clap::error::ErrorKind;
 use clap::{ArgMatches, Error};
+use lines::Report;
 use std::alloc::Global;
 
 /// A command of the program.
@@ -38,16 +41,10 @@ pub enum Choice<'a> {
         path: &'a str,
         strict: bool,
     },
-    /// Run a firmware session, and then report all problems in the final registers, as JSON if
-    /// `json`. If `strict`, a problem is a fault too.
-    Audit {
-        path: &'a str,
-        json: bool,
-        strict: bool,
-    },
-    /// Run a firmware session, and then report all problems and readiness issues in the final
-    /// registers, as JSON if `json`.
-    Ready {
+    /// Run a firmware session, and then write a report about the final registers, as JSON if
+    /// `json`. If `strict`, a problem that an audit reports is a fault too.
+    Report {
+        report: Report,
         path: &'a str,
         json: bool,
         strict: bool,
@@ -66,8 +63,7 @@ impl<'a> Choice<'a> {
             Choice::Check { path, .. } => Some(*path),
             Choice::Run { path, .. } => Some(*path),
             Choice::Firmware { path, .. } => Some(*path),
-            Choice::Audit { path, .. } => Some(*path),
-            Choice::Ready { path, .. } => Some(*path),
+            Choice::Report { path, .. } => Some(*path),
         }
     }
 }
@@ -149,9 +145,15 @@ fn asked<'a>(name: &str, given: &ArgMatches<'a>, is_terminal: bool) -> Option<Ch
         }
         "run" => Some(Choice::Run { path, strict }),
         "firmware" => Some(Choice::Firmware { path, strict }),
-        "audit" => Some(Choice::Audit { path, json, strict }),
-        "ready" => Some(Choice::Ready { path, json, strict }),
-        _ => None,
+        _ => {
+            let report = Report::named(name.as_bytes())?;
+            Some(Choice::Report {
+                report,
+                path,
+                json,
+                strict,
+            })
+        }
     }
 }
 

@@ -1,4 +1,4 @@
-//! Layer: program. Below: lists. Above: simulation.
+//! Layer: program. Below: lines. Above: simulation.
 //!
 //! The command line: the command that the arguments select, the help texts, and the reason why
 //! arguments are invalid.

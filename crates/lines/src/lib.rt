@@ -1,4 +1,4 @@
-//! Layer: lines. Below: model_lines, accesses, streams. Above: script.
+//! Layer: lines. Below: model_lines, accesses, streams. Above: script, command_line.
 //!
 //! The line languages of scripts and firmware: parsing of lines and formatting of replies.
 //!
@@ -26,7 +26,7 @@ pub use firmware_line::{FirmwareCommand, firmware_meaning};
 pub use line::{LONGEST_LINE, Line, What, Who, line_meaning, parse_line};
 pub use reasons::{Reason, reason_of};
 pub use replies::{LONGEST_REPLY, LineText, line_text, push_line, push_named};
-pub use requests::HostRequest;
+pub use requests::{HostRequest, Report};
 pub use runs::{RunFault, run};
 pub use watching::{BadLine, RunStats, run_watched};
 pub use words::line_feed_in;

@@ -7,6 +7,7 @@ use crate::firmware_line::value;
 use crate::forms::{bus_address, mask, place};
 use crate::line::{LONGEST_LINE, is_comment, is_guest};
 use crate::numbers::number_of;
+use crate::requests::Report;
 use crate::words::first_words;
 use accesses::Names;
 use arrayvec::ArrayString;
@@ -136,7 +137,8 @@ fn roles_after(speaker: Dialect, verb: &[u8]) -> Option<&'static [ArgKind]> {
         (Guest | Firmware, b"mw") => Some(&[Address, Width, Value]),
         (Host, b"move") => Some(&[ArgKind::Guest, Slot, ArgKind::Guest, Slot]),
         (Firmware, b"why") => Some(&[Space, Place]),
-        (Firmware, b"audit" | b"ready" | b"guests") => Some(&[]),
+        (Firmware, b"guests") => Some(&[]),
+        (Firmware, _) if Report::named(verb).is_some() => Some(&[]),
         _ => None,
     }
 }

@@ -1,21 +1,43 @@
 //! Parsing of firmware's requests other than accesses.
 ghost use Rattle.std.specs.Prelude.{◌≡◌, ◌∷◌, [], map, option_map};
-ghost use Rattle.model_lines.specs.Requests.{why_place, request_of_word, request_of as request_of_words};
+ghost use Rattle.model_lines.specs.{Reports.report_named, Requests.{why_place, request_of_word, request_of as request_of_words}};
 ghost use Rattle.accesses.specs.Accesses.{host_target_of};
-ghost use Rattle.lines.specs.Requests.{request_of};
+ghost use Rattle.lines.specs.Requests.{report_of, request_of};
 
 use crate::firmware_line::value;
 use crate::forms::bus_address;
 use crate::numbers::number_of;
 use accesses::HostAt;
 
+/// A report about the current registers of a board.
+#[derive(Clone, Copy, Debug, PartialEq, Eq)]
+pub enum Report {
+    /// An audit: all problems.
+    Audit,
+    /// A readiness report: all problems and readiness issues.
+    Ready,
+}
+
+impl Report {
+    /// Returns the report that a word asks for, in a line or as a command of the program.
+    pub fn named(word: &[u8]) -> Option<Report>
+        ensures { option_map report_of result ≡ report_named word.now }
+    {
+        if word == b"audit".as_slice() {
+            return Some(Report::Audit);
+        }
+        if word == b"ready".as_slice() {
+            return Some(Report::Ready);
+        }
+        None
+    }
+}
+
 /// A request to a session other than an access.
 #[derive(Clone, Copy, Debug, PartialEq, Eq)]
 pub enum HostRequest {
-    /// An audit: all problems in the current registers.
-    Audit,
-    /// A readiness report: all problems and readiness issues in the current registers.
-    Ready,
+    /// A report about the current registers.
+    Report(Report),
     /// The handover of the board to its guests.
     Guests,
     /// An explanation of what an access reaches. For configuration space, the target's offset is 0.
@@ -45,16 +67,11 @@ pub(crate) fn why_place(space: &[u8], at: &[u8]) -> Option<HostAt>
 pub(crate) fn request_of_word(word: &[u8]) -> Option<HostRequest>
     ensures { option_map request_of result ≡ request_of_word word.now }
 {
-    if word == b"audit".as_slice() {
-        return Some(HostRequest::Audit);
-    }
-    if word == b"ready".as_slice() {
-        return Some(HostRequest::Ready);
-    }
     if word == b"guests".as_slice() {
         return Some(HostRequest::Guests);
     }
-    None
+    let report = Report::named(word)?;
+    Some(HostRequest::Report(report))
 }
 
 /// Parses `why` and its two arguments.

@@ -9,6 +9,7 @@ pub mod GuestExamples
 pub mod HostAccesses
 pub mod FirmwareLines
 pub mod FirmwareLaws
+pub mod Reports
 pub mod Requests
 pub mod Sessions
 pub mod SessionLaws

@@ -1,5 +1,5 @@
--- The session lines that request something of the host: `host audit`, `host ready` and `host guests`, and explanations
--- by `host why mem ADDR`, `host why io PORT` and `host why cfg BB:DD.F`.
+-- The session lines that request something of the host: reports by `host audit` and `host ready`, the handover by
+-- `host guests`, and explanations by `host why mem ADDR`, `host why io PORT` and `host why cfg BB:DD.F`.
 --     HostRequest, request line      the request that a line makes, if it has such a form
 --     why_written s t      the text of an explanation
 --     RequestExamples      the requests that some lines make
@@ -7,7 +7,7 @@ use Rattle.std.specs.{Prelude.{◌≡◌, List, [], ◌∷◌, ◌^◌, if◌the
 use Rattle.model_registers.specs.Decoding.{memory}
 use Rattle.model_board.specs.State.{State}
 use Rattle.model_guests.specs.{Text.{Text, words}, Numbers.{below, number_of}, Grammar.{HostTarget, host_configuration, host_port, host_address, on_word, bus_address, is_long}}
-use Rattle.model_lines.specs.{WhyText.{why_text, why_number_text}, WhyPorts.why_port_text}
+use Rattle.model_lines.specs.{Reports.{Report, of_problems, report_named}, WhyText.{why_text, why_number_text}, WhyPorts.why_port_text}
 
 -- mem ADDR, io PORT with a port of 32 bits, cfg BB:DD.F
 abbrev pub why_place : Text → Text → Option HostTarget
@@ -17,15 +17,12 @@ why_place space at =
     else on_word space (codes "cfg") (option_map (λ n. host_configuration n 0) (bus_address at)))
 
 pub data HostRequest : Type 0 where
-  for_audit : HostRequest
-  for_ready : HostRequest
+  for_report : Report → HostRequest
   for_guests : HostRequest
   for_why : HostTarget → HostRequest
 
 abbrev pub request_of_word : Text → Option HostRequest
-request_of_word w =
-    if bytes_eq w (codes "audit") then Some for_audit
-    else (if bytes_eq w (codes "ready") then Some for_ready else on_word w (codes "guests") (Some for_guests))
+request_of_word w = if bytes_eq w (codes "guests") then Some for_guests else option_map for_report (report_named w)
 
 -- the words after `host`
 abbrev pub request_of : List Text → Option HostRequest
@@ -50,7 +47,7 @@ why_written s (host_address n) = why_text s.functions memory n
 -- ---- worked examples
 
 pub record RequestExamples : Type 0 where
-  pub audit : request (codes "host audit") ≡ Some for_audit
+  pub audit : request (codes "host audit") ≡ Some (for_report of_problems)
   pub address : request (codes "host why mem 0x80000010") ≡ Some (for_why (host_address 0x80000010))
   pub port : request (codes "host why io 0xcf8") ≡ Some (for_why (host_port 0xcf8))
   pub number :

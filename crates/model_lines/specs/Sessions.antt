@@ -1,6 +1,6 @@
--- A session over a board: firmware lines from reset on, and among them `host audit`, which prints an audit,
--- `host ready`, which prints a readiness report, `host why ..`, which prints an explanation, and
--- `host guests`, which hands the board over to its guests. After that each line is a line of a script.
+-- A session over a board: firmware lines from reset on, and among them `host audit` and `host ready`, which print a
+-- report, `host why ..`, which prints an explanation, and `host guests`, which hands the board over to its guests. After
+-- that each line is a line of a script.
 --     DrivenNow      the board of a world that firmware programs, and whether a write succeeded since reset
 --     at_reset w      the board of a world at reset
 --     after_board_access, after_board_line      the board after a firmware access, and after a firmware line
@@ -16,8 +16,8 @@ use Rattle.std.specs.{Prelude.{List, [], ◌∷◌, ℕ, ◌++◌, ◌||◌, Boo
 use Rattle.model_board.specs.{AtReset.reset_state, State.{BoardFunction, State}}
 use Rattle.model_set_up.specs.PlacedRegions.{PlacedRegion}
 use Rattle.model_guests.specs.{Text.{Text, text_of_lines}, Grammar.host, Guests.GuestNow, Accesses.{Reply, answered, done, refused}, Replies.line_text, PathTexts.path_text, World.World, WorldNow.{WorldNow, world_over, board_state}, LineRuns.Protocol}
-use Rattle.model_lines.specs.{HostAccesses.{HostAccess, answer, after_access}, FirmwareLines.{Meaning, nothing, asked, bad, meaning, line_output}, Requests.{HostRequest, for_audit, for_ready, for_guests, for_why, request, why_written}}
-use Rattle.model_findings.specs.{AuditText.{audit, audit_line, problem_text, register_text}, ReadyText.ready_report}
+use Rattle.model_lines.specs.{HostAccesses.{HostAccess, answer, after_access}, FirmwareLines.{Meaning, nothing, asked, bad, meaning, line_output}, Reports.report_text, Requests.{HostRequest, for_report, for_guests, for_why, request, why_written}}
+use Rattle.model_findings.specs.{AuditText.{audit_line, problem_text, register_text}}
 use Rattle.model_handoff.specs.{Handoffs.taken_over, Regions.{HandoffFault, in_disorder, closed_region, first_fault}, Changes.{MachineNow, after_line_on_machine}}
 use Rattle.model_guests.specs.WorldNow as script
 
@@ -98,8 +98,7 @@ after_handover b (Some f) = driven b
 
 -- the output of a request, and the session after it: all requests except the one for guests are questions, and change nothing
 abbrev pub told_output : DrivenNow → HostRequest → Text
-told_output b for_audit = audit b.state.functions
-told_output b for_ready = ready_report b.world.apertures b.state.functions
+told_output b (for_report r) = report_text r b.world.apertures b.state.functions
 told_output b for_guests = handover_output (first_fault b.world b.state)
 told_output b (for_why at) = why_written b.state at
 

@@ -23,7 +23,10 @@
 //!     .map(|board| board.write(numbers, 0x0001_0100));
 //! let mut text = LineText::new();
 //! let more = session.run_line(b"host cr 01:00.0 0 4", &mut text)?;
-//! let question = Question::Audit(ReportForm::Lines);
+//! let question = Question {
+//!     report: Report::Audit,
+//!     form: ReportForm::Lines,
+//! };
 //! let audit = session.ask(alloc, question, &apertures)?;
 //! ```
 #![tactic(auto)]
@@ -47,7 +50,7 @@ pub use findings_render::CountedText;
 pub use functions::DrivenFunction;
 pub use headers::Apertures;
 pub use host_bridge::Host;
-pub use lines::{LineText, RunFault};
+pub use lines::{LineText, Report, RunFault};
 pub use monitor::{HandoverFault, Monitor, Problem, Refused};
 pub use opening::{OpenFault, open_and_set_up};
 pub use questions::{Question, ReportForm};

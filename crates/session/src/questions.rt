@@ -1,8 +1,9 @@
 //! Questions about the current registers of a board, and their answers as lines or as JSON.
-ghost use Rattle.std.specs.Prelude.{◌≡◌, ◌+◌, IfOk, length, map, string_bytes};
+ghost use Rattle.std.specs.Prelude.{◌≡◌, IfOk, map, string_bytes};
 ghost use Rattle.findings.specs.Findings.{problem_of, issue_of};
+ghost use Rattle.model_guests.specs.WorldNow.{board_state};
 ghost use Rattle.accesses.specs.Accesses.{host_target_of};
-ghost use Rattle.session.specs.Questions.{audit_in, ready_in, why_in, told_by, counted_by};
+ghost use Rattle.session.specs.Questions.{report_in, counted_in, why_in, told_by, counted_by};
 
 use crate::board::Board;
 use accesses::HostAt;
@@ -10,6 +11,8 @@ use findings::{Problem, ReadinessIssue, problems, readiness_issues};
 use findings_render::{CountedText, host_why_text};
 use headers::Apertures;
 use json_texts::{host_why_json, lacks_json, problems_json};
+use lines::Report;
+use monitor::Monitor;
 use std::alloc::{AllocError, Global};
 
 /// The output format of a report.
@@ -21,59 +24,42 @@ pub enum ReportForm {
     Json,
 }
 
-/// A question about the current registers of a board.
+/// A question about the current registers of a board: the report that answers it, and its format.
 #[derive(Clone, Copy)]
-pub enum Question {
-    /// Lists the problems, in the given format.
-    Audit(ReportForm),
-    /// Lists the problems and the readiness issues, in the given format.
-    Ready(ReportForm),
+pub struct Question {
+    pub report: Report,
+    pub form: ReportForm,
 }
 
-/// Renders the problems in the given format, and counts them.
-pub(crate) fn audit_in(
+/// Renders a report about these problems and readiness issues, and counts what it lists. An audit
+/// lists only the problems.
+fn report_in(
     alloc: Global,
-    form: ReportForm,
-    problems: &[Problem],
-) -> Result<CountedText, AllocError>
-    ensures text { IfOk result (λ t.
-        string_bytes t.text ≡ audit_in form (map problem_of problems.now)) }
-    ensures count { IfOk result (λ t. t.count ≡ length (map problem_of problems.now)) }
-{
-    match form {
-        ReportForm::Lines => CountedText::of_problems(alloc, problems),
-        ReportForm::Json => {
-            let text = problems_json(alloc, problems)?;
-            Ok(CountedText {
-                text,
-                count: problems.len(),
-            })
-        }
-    }
-}
-
-/// Renders the problems and the readiness issues in the given format, and counts both together.
-pub(crate) fn ready_in(
-    alloc: Global,
-    form: ReportForm,
+    question: Question,
     problems: &[Problem],
     readiness_issues: &[ReadinessIssue],
 ) -> Result<CountedText, AllocError>
     ensures text { let ps = map problem_of problems.now in
         let ls = map issue_of readiness_issues.now in
-        IfOk result (λ t. string_bytes t.text ≡ ready_in form ps ls) }
+        IfOk result (λ t. string_bytes t.text ≡ report_in question.report question.form ps ls) }
     ensures count { let ps = map problem_of problems.now in
         let ls = map issue_of readiness_issues.now in
-        IfOk result (λ t. t.count ≡ length ps + length ls) }
+        IfOk result (λ t. t.count ≡ counted_in question.report ps ls) }
 {
-    match form {
-        ReportForm::Lines => CountedText::of_issues(alloc, problems, readiness_issues),
-        ReportForm::Json => {
+    match (question.report, question.form) {
+        (Report::Audit, ReportForm::Lines) => CountedText::of_problems(alloc, problems),
+        (Report::Audit, ReportForm::Json) => {
+            let text = problems_json(alloc, problems)?;
+            let count = problems.len();
+            Ok(CountedText { text, count })
+        }
+        (Report::Ready, ReportForm::Lines) => {
+            CountedText::of_issues(alloc, problems, readiness_issues)
+        }
+        (Report::Ready, ReportForm::Json) => {
             let text = lacks_json(alloc, problems, readiness_issues)?;
-            Ok(CountedText {
-                text,
-                count: problems.len() + readiness_issues.len(),
-            })
+            let count = problems.len() + readiness_issues.len();
+            Ok(CountedText { text, count })
         }
     }
 }
@@ -94,11 +80,11 @@ impl Board {
         ensures after { self.new ≡ self.old }
     {
         let found = problems(alloc, &mut self.host)?;
-        match question {
-            Question::Audit(form) => audit_in(alloc, form, &found),
-            Question::Ready(form) => {
+        match question.report {
+            Report::Audit => report_in(alloc, question, &found, &[]),
+            Report::Ready => {
                 let lacking = readiness_issues(alloc, &self.host, apertures)?;
-                ready_in(alloc, form, &found, &lacking)
+                report_in(alloc, question, &found, &lacking)
             }
         }
     }
@@ -114,6 +100,30 @@ impl Board {
         match form {
             ReportForm::Lines => host_why_text(alloc, &mut self.host, at),
             ReportForm::Json => host_why_json(alloc, &mut self.host, at),
+        }
+    }
+}
+
+/// Answers a question about the registers of a machine's board as they are now, given these
+/// apertures. Changes nothing, even if memory is exhausted.
+pub(crate) fn ask_machine(
+    alloc: Global,
+    machine: &mut Monitor,
+    question: Question,
+    apertures: &Apertures,
+) -> Result<CountedText, AllocError>
+    ensures text { let functions = (board_state machine.old.world).functions in
+        IfOk result (λ t. string_bytes t.text ≡ told_by question apertures.now functions) }
+    ensures count { let functions = (board_state machine.old.world).functions in
+        IfOk result (λ t. t.count ≡ counted_by question apertures.now functions) }
+    ensures after { machine.new ≡ machine.old }
+{
+    let found = machine.audit_board(alloc)?;
+    match question.report {
+        Report::Audit => report_in(alloc, question, &found, &[]),
+        Report::Ready => {
+            let lacking = machine.readiness_issues(alloc, apertures)?;
+            report_in(alloc, question, &found, &lacking)
         }
     }
 }

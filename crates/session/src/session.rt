@@ -8,7 +8,7 @@ ghost use Rattle.session.specs.{Files.{Declares, Refuses}, Boards.{IsHandedOverA
 
 use crate::asking::meant;
 use crate::board::Board;
-use crate::questions::{Question, ReportForm, audit_in, ready_in};
+use crate::questions::{Question, ReportForm, ask_machine};
 use crate::stage::{Stage, answer_handover, hand_over};
 use board_file::BoardFault;
 use findings_render::CountedText;
@@ -133,22 +133,14 @@ impl Session {
     {
         match &mut self.stage {
             Stage::Driven(board) => board.ask(alloc, question, apertures),
-            Stage::Given(monitor) => {
-                let found = monitor.audit_board(alloc)?;
-                match question {
-                    Question::Audit(form) => audit_in(alloc, form, &found),
-                    Question::Ready(form) => {
-                        let lacking = monitor.readiness_issues(alloc, apertures)?;
-                        ready_in(alloc, form, &found, &lacking)
-                    }
-                }
-            }
+            Stage::Given(monitor) => ask_machine(alloc, monitor, question, apertures),
             Stage::Between => unreachable!(),
         }
     }
 
     /// Answers a line of the session. `long` means that the line's first bytes were discarded
     /// because it is too long.
+    #[tactic(auto, using(crate::proofs::Reports::told_in_lines))]
     fn answer_line(
         &mut self,
         line: &[u8],
@@ -184,15 +176,11 @@ impl Session {
                         Ok(Answer::short(refused))
                     }
                     Some(request) => match request {
-                        HostRequest::Audit => {
-                            let question = Question::Audit(ReportForm::Lines);
-                            let audit = board.ask(self.alloc, question, &apertures)?;
-                            Ok(Answer::text(audit.text))
-                        }
-                        HostRequest::Ready => {
-                            let question = Question::Ready(ReportForm::Lines);
-                            let ready = board.ask(self.alloc, question, &apertures)?;
-                            Ok(Answer::text(ready.text))
+                        HostRequest::Report(report) => {
+                            let form = ReportForm::Lines;
+                            let question = Question { report, form };
+                            let told = board.ask(self.alloc, question, &apertures)?;
+                            Ok(Answer::text(told.text))
                         }
                         HostRequest::Why(at) => {
                             let told = board.why(self.alloc, ReportForm::Lines, at)?;

@@ -10,10 +10,10 @@ use Rattle.streams.specs.Ends.{AppendsPart}
 use Rattle.model_registers.specs.Apertures.{Apertures}
 use Rattle.model_guests.specs.{Text.{Text, lines}, World.{World, IsLawfulWorld}}
 use Rattle.model_lines.{specs.Sessions.{SessionNow, driven, at_reset, session_functions, session_protocol}, proofs.HandoverLines.isolated_sessions}
-use Rattle.lines.{specs.{declared.{runs.RunFault.RunFault, watching.RunStats.RunStats}, Refusals.{refuses, none_seen, seen_along, IsWatched}, Runs.{Ends, ends, Runs}}, proofs.Parts.{same_end, same_error}}
-use Rattle.session.specs.{Files.Declares, Refusals.refusal_in, declared.questions.Question.{Question, TheVariants.{Audit, Ready}}}
+use Rattle.lines.{specs.{declared.{requests.Report.Report, runs.RunFault.RunFault, watching.RunStats.RunStats}, Refusals.{refuses, none_seen, seen_along, IsWatched}, Runs.{Ends, ends, Runs}}, proofs.Parts.{same_end, same_error}}
+use Rattle.session.specs.{Files.Declares, Refusals.refusal_in, declared.questions.Question.{Question}}
 use Rattle.board_told.specs.{declared.fault.Fault.{Fault, TheVariants.{SetUp, Write, NotInOrder, NotReady, RefusedLine}}, Faults.of_run}
-use Rattle.simulation.{specs.{Faults.{IsOfFile, IsToldLast, OnFile}, Serving.{at_first, session_text, left_after, told, counted, last_fault, HasEnded, IsSession, IsServed, Serves, IsOfAnswer, IsOfServing}}, proofs.Begun.runs_from}
+use Rattle.simulation.{specs.{Faults.{IsOfFile, IsToldLast, OnFile}, Serving.{at_first, session_text, left_after, told, counted, report_fault, last_fault, HasEnded, IsSession, IsServed, Serves, IsOfAnswer, IsOfServing}}, proofs.Begun.runs_from}
 use Rattle.lines.specs.declared.runs.RunFault.TheVariants as run
 use Rattle.bus_scan.specs.declared.fault.Fault.TheVariants as set_up
 
@@ -105,11 +105,13 @@ unanswered q strict seen board a _ script unread old mid mid_flushed new flushed
 
 -- ---- the fault that is told last
 
+reported : (r : Report) (strict : Bool) (f : Fault) → report_fault r strict ≡ Some f → IsToldLast f
+reported r strict f is = grind arith
+
 pub told_last : (q : Option Question) (strict refused : Bool) (n : ℕ) (f : Fault) → last_fault q strict refused n ≡ Some f → IsToldLast f
 told_last q true true n f is = subst IsToldLast {x = RefusedLine} (let same : RefusedLine ≡ f = cc in same) tt
 told_last None strict refused n f is = grind arith
-told_last (Some (Audit form)) strict refused n f is = grind arith
-told_last (Some (Ready form)) strict refused n f is = grind arith
+told_last (Some q) strict refused n f is = grind (arith, reported)
 
 pub served_fault : (q : Option Question) (strict refused : Bool) (n : ℕ) (seen : RunStats) (board : Text) (at : Ends) (f : Fault) → last_fault q strict refused n ≡ Some f
     → IsServed q strict (last_fault q strict refused n) seen board at → Serves {T = Unit {0}} q strict seen board at (Err f)
@@ -121,8 +123,10 @@ no_file P NotInOrder last = (tt, λ of. of)
 no_file P NotReady last = (tt, λ of. of)
 no_file P _ last = absurd last
 
+of_report : (q : Question) (strict : Bool) (f : Fault) → report_fault q.report strict ≡ Some f → IsOfServing (Some q) strict f
+of_report q strict f is = grind arith
+
 pub of_serving : (q : Option Question) (strict refused : Bool) (n : ℕ) (f : Fault) → last_fault q strict refused n ≡ Some f → IsOfServing q strict f
 of_serving q true true n f is = grind arith
 of_serving None strict refused n f is = grind arith
-of_serving (Some (Audit form)) strict refused n f is = grind arith
-of_serving (Some (Ready form)) strict refused n f is = grind arith
+of_serving (Some q) strict refused n f is = grind (arith, of_report)

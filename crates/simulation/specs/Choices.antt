@@ -1,5 +1,5 @@
 -- The effect of each of the program's commands.
---     form_of json      the form of a report or of an audit
+--     form_of json, question_of report json      the form of a report, and the question that asks for one in its form
 --     layout_of plain, warned_of all      the layout of a check's messages, and the warnings that it gives
 --     Prints text at result, Lists form board at result, Checks board at result      a text was written
 --         whole and flushed, or a beginning of it where a write or flush failed: one that is given, the report of a
@@ -12,16 +12,15 @@
 use Rattle.std.specs.{Prelude.{◌≡◌, Bool, if◌then◌else◌, None, Some, Result, Ok, Err, string_bytes, ⊤}, Io.KnownBytes.Appends}
 use Rattle.model_guests.specs.Text.{Text}
 use Rattle.streams.specs.Ends.{AppendsPart}
-use Rattle.lines.specs.{Runs.{Ends}, declared.watching.RunStats.{RunStats}}
-use Rattle.command_line.specs.declared.choice.Choice.{Choice, TheVariants.{Help, Demo, List, Check, Run, Firmware, Audit, Ready}}
+use Rattle.lines.specs.{Runs.{Ends}, declared.{requests.Report.Report, watching.RunStats.{RunStats}}}
+use Rattle.command_line.specs.declared.choice.Choice.{Choice, TheVariants.{Help, Demo, List, Check, Run, Firmware, Report as Reports}}
 use Rattle.diagnostics.specs.declared.message_layout.MessageLayout.{MessageLayout, TheVariants.{Plain, WithExcerpts}}
 use Rattle.board_fit.specs.declared.warning_level.WarningLevel.{WarningLevel}
-use Rattle.session.specs.declared.questions.ReportForm.{ReportForm, TheVariants.{Lines, Json}}
+use Rattle.session.specs.declared.questions.{Question.Question, ReportForm.{ReportForm, TheVariants.{Lines, Json}}}
 use Rattle.board_told.specs.declared.fault.Fault.{Fault, TheVariants.{SetUp, Write}}
 use Rattle.simulation.specs.{Demo.demo_board, Faults.{open_fault, IsRefusal, IsOfList, IsOfRun, IsOfRunAs, OnRun}, Listing.{IsListed, IsListedInPart}, Checking.{IsChecked, IsCheckedInPart}, Running.{IsRun, RunsAs}, Serving.{IsOfServing, Serves}}
 use Rattle.bus_scan.specs.declared.fault.Fault.TheVariants as set_up
 use Rattle.board_fit.specs.declared.warning_level.WarningLevel.TheVariants as of
-use Rattle.session.specs.declared.questions.Question.TheVariants as question
 
 abbrev pub Prints : {T : Type 0} → Text → Ends → Result T Fault → Type 0
 Prints text at (Ok x) = Appends at.before at.after text × (at.flushed ≡ at.after)
@@ -42,6 +41,9 @@ Checks board at (Err f) = IsRefusal f → IsChecked board (open_fault f) at.befo
 abbrev pub form_of : Bool → ReportForm
 form_of json = if json then Json else Lines
 
+abbrev pub question_of : Report → Bool → Question
+question_of report json = record { report = report; form = form_of json }
+
 abbrev pub layout_of : Bool → MessageLayout
 layout_of plain = if plain then Plain else WithExcerpts
 
@@ -55,14 +57,12 @@ Does (List path json) seen board at r = Lists (form_of json) board at r
 Does (Check path all plain) seen board at r = Checks board at r
 Does (Run path strict) seen board at r = RunsAs strict seen board at r
 Does (Firmware path strict) seen board at r = Serves None strict seen board at r
-Does (Audit path json strict) seen board at r = Serves (Some (question.Audit (form_of json))) strict seen board at r
-Does (Ready path json strict) seen board at r = Serves (Some (question.Ready (form_of json))) strict seen board at r
+Does (Reports report path json strict) seen board at r = Serves (Some (question_of report json)) strict seen board at r
 
 abbrev pub IsUntold : Choice → Type 0
 IsUntold (Run path strict) = ⊥
 IsUntold (Firmware path strict) = ⊥
-IsUntold (Audit path json strict) = ⊥
-IsUntold (Ready path json strict) = ⊥
+IsUntold (Reports report path json strict) = ⊥
 IsUntold _ = ⊤
 
 abbrev pub IsTelling : Choice → Fault → Type 0
@@ -72,8 +72,7 @@ IsTelling _ f = ⊥
 -- no memory for a question or for a handover
 abbrev pub IsLacking : Choice → Fault → Type 0
 IsLacking (Firmware path strict) f = f ≡ SetUp set_up.Memory
-IsLacking (Audit path json strict) f = f ≡ SetUp set_up.Memory
-IsLacking (Ready path json strict) f = f ≡ SetUp set_up.Memory
+IsLacking (Reports report path json strict) f = f ≡ SetUp set_up.Memory
 IsLacking _ f = ⊥
 
 abbrev pub IsOfChoice : Choice → Fault → Type 0
@@ -83,5 +82,4 @@ IsOfChoice (List path json) f = IsOfList f
 IsOfChoice (Check path all plain) f = IsOfList f
 IsOfChoice (Run path strict) f = IsOfRunAs strict f
 IsOfChoice (Firmware path strict) f = IsOfServing None strict f
-IsOfChoice (Audit path json strict) f = IsOfServing (Some (question.Audit (form_of json))) strict f
-IsOfChoice (Ready path json strict) f = IsOfServing (Some (question.Ready (form_of json))) strict f
+IsOfChoice (Reports report path json strict) f = IsOfServing (Some (question_of report json)) strict f

@@ -8,6 +8,7 @@
 --     HasEnded board at      all lines of such a run were read, and what they write was written and flushed
 --     told q a fs, counted q a fs      the text that answers a question of some functions, by these apertures, where one is
 --         asked, and how many problems and readiness issues it counts
+--     report_fault r strict      the fault of a report that counts something
 --     last_fault q strict refused n      the fault of who was told all, if there is one: by whether a line was refused, and
 --         n problems and readiness issues
 --     IsTold q board at      all lines were read, and the texts were written and flushed
@@ -22,8 +23,8 @@ use Rattle.model_registers.specs.Apertures.{Apertures}
 use Rattle.model_board.specs.State.{BoardFunction}
 use Rattle.model_guests.specs.{Text.{Text, lines}, World.World, LineRuns.{output, after_lines}}
 use Rattle.model_lines.specs.{Sessions.{SessionNow, driven, at_reset, session_protocol, session_functions}, SessionLaws.IsolatedFrom}
-use Rattle.lines.specs.{declared.{runs.RunFault.RunFault, watching.RunStats.RunStats}, Refusals.{refuses, none_seen, seen_along}, Runs.{Ends, Runs}}
-use Rattle.session.specs.{Files.Declares, Questions.{told_by, counted_by}, Refusals.refusal_in, declared.questions.Question.{Question, TheVariants.{Audit, Ready}}}
+use Rattle.lines.specs.{declared.{requests.Report.{Report, TheVariants.{Audit, Ready}}, runs.RunFault.RunFault, watching.RunStats.RunStats}, Refusals.{refuses, none_seen, seen_along}, Runs.{Ends, Runs}}
+use Rattle.session.specs.{Files.Declares, Questions.{told_by, counted_by}, Refusals.refusal_in, declared.questions.Question.{Question}}
 use Rattle.board_told.specs.declared.fault.Fault.{Fault, TheVariants.{SetUp, Read, Write, NotInOrder, NotReady, RefusedLine}}
 use Rattle.simulation.specs.Faults.{IsOfSession}
 use Rattle.lines.specs.declared.runs.RunFault.TheVariants as run
@@ -65,10 +66,13 @@ told_after q w ls = told q w.apertures (session_functions (left_after w ls))
 
 -- ---- how it ended
 
+abbrev pub report_fault : Report → Bool → Option Fault
+report_fault Audit strict = if strict then Some NotInOrder else None
+report_fault Ready strict = Some NotReady
+
 abbrev pub fault_by : Option Question → Bool → ℕ → Option Fault
 fault_by None strict n = None
-fault_by (Some (Audit form)) strict n = if strict && nat_lt 0 n then Some NotInOrder else None
-fault_by (Some (Ready form)) strict n = if nat_lt 0 n then Some NotReady else None
+fault_by (Some q) strict n = if nat_lt 0 n then report_fault q.report strict else None
 
 abbrev pub last_fault : Option Question → (strict refused : Bool) → ℕ → Option Fault
 last_fault q strict refused n = if strict && refused then Some RefusedLine else fault_by q strict n
@@ -122,6 +126,6 @@ IsOfAnswer _ = ⊥
 -- a refused line is a fault, and a problem of an audit, if `strict`
 abbrev pub IsOfServing : Option Question → Bool → Fault → Type 0
 IsOfServing q strict RefusedLine = strict ≡ true
-IsOfServing (Some (Audit form)) strict NotInOrder = strict ≡ true
-IsOfServing (Some (Ready form)) strict NotReady = ⊤
+IsOfServing (Some q) strict NotInOrder = (q.report ≡ Audit) × (strict ≡ true)
+IsOfServing (Some q) strict NotReady = q.report ≡ Ready
 IsOfServing q strict f = IsOfSession f

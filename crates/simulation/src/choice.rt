@@ -127,13 +127,15 @@ pub fn perform<R: Reader, W: Writer>(
         ),
         Choice::Run { strict, .. } => run_as(alloc, board, *strict, seen, reader, writer),
         Choice::Firmware { strict, .. } => serve(alloc, board, None, *strict, seen, reader, writer),
-        Choice::Audit { json, strict, .. } => {
-            let audit = Question::Audit(form_of(*json));
-            serve(alloc, board, Some(audit), *strict, seen, reader, writer)
-        }
-        Choice::Ready { json, strict, .. } => {
-            let ready = Question::Ready(form_of(*json));
-            serve(alloc, board, Some(ready), *strict, seen, reader, writer)
+        Choice::Report {
+            report,
+            json,
+            strict,
+            ..
+        } => {
+            let (report, form) = (*report, form_of(*json));
+            let question = Question { report, form };
+            serve(alloc, board, Some(question), *strict, seen, reader, writer)
         }
     }
 }

@@ -11,7 +11,7 @@ ghost use Rattle.simulation.specs.{Faults.{read_faults, write_faults, OnFile, Is
 use crate::choice::print;
 use board_told::Fault;
 use lines::{RunStats, run_watched};
-use session::{Apertures, Board, Question, Session, SessionLines};
+use session::{Apertures, Board, Question, Report, Session, SessionLines};
 use std::alloc::Global;
 use streams::{Reader, Writer};
 
@@ -63,9 +63,9 @@ fn last_fault(
     if strict && refused {
         return Some(Fault::RefusedLine);
     }
-    match question {
-        Some(Question::Audit(_)) if strict && count > 0 => Some(Fault::NotInOrder),
-        Some(Question::Ready(_)) if count > 0 => Some(Fault::NotReady),
+    match question?.report {
+        Report::Audit if strict && count > 0 => Some(Fault::NotInOrder),
+        Report::Ready if count > 0 => Some(Fault::NotReady),
         _ => None,
     }
 }

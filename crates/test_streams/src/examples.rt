@@ -7,7 +7,7 @@ use accesses::{Access, At, HostAccess, HostAt, Op, Reply};
 use board_file::read_board;
 use host_bridge::{Bdf, TreeWalk};
 use monitor::{Engine, Monitor};
-use session::{Board, LineText, Question, ReportForm, Session};
+use session::{Board, LineText, Question, Report, ReportForm, Session};
 use std::test::Fail;
 use window_packing::set_up;
 
@@ -65,7 +65,10 @@ fn a_bridge_is_numbered_by_hand(rt: HostRuntime) -> Result<(), Fail> {
         .map(|board| board.write(numbers, 0x0001_0100));
     let mut text = LineText::new();
     let more = session.run_line(b"host cr 01:00.0 0 4", &mut text)?;
-    let question = Question::Audit(ReportForm::Lines);
+    let question = Question {
+        report: Report::Audit,
+        form: ReportForm::Lines,
+    };
     let audit = session.ask(alloc, question, &apertures)?;
     assert!(rt; numbered == Some(Reply::Done));
     assert!(rt; more.is_none());

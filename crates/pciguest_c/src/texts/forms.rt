@@ -6,7 +6,7 @@ ghost use Rattle.board_told.specs.Listing.{report_in};
 ghost use Rattle.pciguest_c.specs.{Checks.IsCheckOf, TextsTold.{form_of, question_of}};
 
 use board_told::{MessageLayout, WarningLevel, check_text, list_in};
-use session::{OpenFault, Question, ReportForm};
+use session::{OpenFault, Question, Report, ReportForm};
 use std::alloc::Global;
 
 /// Returns the form of a text: JSON or lines.
@@ -26,11 +26,12 @@ pub fn question_of(is_ready: bool, is_json: bool) -> Question
     ensures { result ≡ question_of is_ready is_json }
 {
     let form = form_of(is_json);
-    if is_ready {
-        Question::Ready(form)
+    let report = if is_ready {
+        Report::Ready
     } else {
-        Question::Audit(form)
-    }
+        Report::Audit
+    };
+    Question { report, form }
 }
 
 /// Returns the report of a board file in a form, or the error number.
