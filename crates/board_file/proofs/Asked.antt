@@ -4,7 +4,7 @@ use Rattle.lists.{specs.Elements.{IsIn, all_pairs}, proofs.Members.all_in}
 use Rattle.model_registers.specs.Apertures.{is_io_aperture, is_mem_aperture, has_lawful_pref, are_lawful}
 use Rattle.model_board.specs.{Paths.{parent, function_zero}, Places.has_path}
 use Rattle.model_guests.specs.World.{is_name}
-use Rattle.board_file.{specs.{Entries.File, PathTexts.{is_path_text, path_at}, Functions.{standings, aperture, apertures}, Rules.{has_few_slashes, names_endpoint, is_natural, are_natural, masks_hold}, EntryRules.{are_same_place, is_behind_bridge}, MarkedPaths.{place_texts, slot_texts}, Problems.{none, problems_in}, Meaning.file_checks, Judged.{keeps, is_lawful_bridge, is_judged}, declared.{fault.BoardFault.BoardFault, entry.Entry.Entry}}, proofs.Tests.{all-both, with_earlier, pairs-append, pairs-map, any_order, nothing_listed}}
+use Rattle.board_file.{specs.{Entries.File, PathTexts.{is_path_text, path_at}, Functions.{standings, aperture, apertures}, Rules.{has_few_slashes, names_endpoint, is_natural, are_natural}, Endpoints.{masks_hold, keeps}, EntryRules.{are_same_place, is_behind_bridge}, MarkedPaths.{place_texts, slot_texts}, Problems.{none, problems_in}, Meaning.file_checks, Judged.{is_lawful_bridge, is_judged}, declared.{fault.BoardFault.BoardFault, entry.Entry.Entry}}, proofs.Tests.{all-both, with_earlier, pairs-append, pairs-map, any_order, nothing_listed}}
 use Rattle.board_file.specs.declared.fault.BoardFault.TheVariants as fault
 
 -- no problem is found under a check of a judged file

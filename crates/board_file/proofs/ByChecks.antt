@@ -6,7 +6,7 @@ use Rattle.std.{proofs.{Common.{◌≡◌, ℕ, Bool, true, false, List, [], ◌
 use Rattle.toml.specs.Data.{Members}
 use Rattle.lists.proofs.Tests.{right_true}
 use Rattle.model_registers.specs.DeclarationRules.{first_broken}
-use Rattle.board_file.{specs.{Entries.{File, file}, Faults.number_of, Judged.is_judged, KeyProblems.problems_of, Meaning.{file_checks, order, check, early_checks, checks, unless, world_of, meaning}, Problems.none, Rules.masks_hold, declared.fault.BoardFault.BoardFault}, proofs.Asked.masks}
+use Rattle.board_file.{specs.{Entries.{File, file}, Faults.number_of, Judged.is_judged, KeyProblems.problems_of, Meaning.{file_checks, order, check, early_checks, checks, unless, world_of, meaning}, Problems.none, Endpoints.masks_hold, declared.fault.BoardFault.BoardFault}, proofs.Asked.masks}
 use Rattle.board_file.specs.declared.fault.BoardFault.TheVariants as fault
 
 -- with one check more

@@ -3,10 +3,10 @@
 use Rattle.std.{proofs.{Common.{◌≡◌, inl, inr, ℕ, ◌+◌, ◌<◌, ◌≤◌, ◌^◌, ◌==◌, ℤ, pos, ◌+ℤ◌, nat_abs, Bool, true, false, cond, ◌&&◌, ◌||◌, List, [], ◌∷◌, ◌++◌, map, length, nat_le, drop, bit_and, bit_or, None, refl, ◌∙◌, sym, ap, ap₂, arith, leb-true, le-leb, lt-ltb, append-nil}, lemmas.{Bool.{and_parts, eqb-true, eq-eqb, ne_eqb}, List.{map-append, FromFn.length-map-range_with_len, Folds.{list_all-map, list_all-append}}}}, specs.{Prelude.{int_le, is_none}, Int.Bits.or_zero_r, List.{list_all, list_any}}}
 use Rattle.lists.{specs.Elements.all_pairs, proofs.Tests.{left_true, right_true, asked_true}}
 use Rattle.model_registers.{specs.{Cell.{Cell, constant}, Declarations.ConfigBlock, DeclarationRules.{first_broken, endpoint_rules, blocks_apart, is_read_only, is_pointer, status_with}, Capabilities.{first_offset, structure, structures, pointer, with_capabilities}}, proofs.Capabilities.status_with_list}
-use Rattle.board_file.{specs.{Entries.{Bar, Config, Capability, Endpoint, Patterns, File}, Blocks.block_cells, Functions.{region, config_block, capability, plain_values, endpoint_values}, Rules.{is_between, has_only_bits, is_size, config_extent, capability_extent, extents, are_apart}, EntryRules.{endpoint_numbers, value_rules, bar_rules}, Judged.{kept, keeps, is_region, is_config_block, is_capability, is_declarable, is_lawful_bridge, HasSmallNumbers, is_judged}, declared.{rule.Rule.Rule, blocks.ByteRange.ByteRange}}, proofs.{Asked.{unbroken, numbers, registers, sizes}, Tests.{first_three, imply_all, all-both, pairs-map, pairs-swap}}}
+use Rattle.board_file.{specs.{Bars.{Bar, region, bar_rules, is_region}, Configs.{Config, config_block, config_extent, is_config_block}, Capabilities.{Capability, declared_capability as capability, capability_extent, is_capability}, Endpoints.{Endpoint, plain_values, endpoint_values, extents, endpoint_numbers, value_rules, keeps, is_declarable, HasSmallNumbers}, Values.Patterns, Entries.File, Blocks.block_cells, Rules.{is_between, has_only_bits, is_size, are_apart, kept}, Judged.{is_lawful_bridge, is_judged}, declared.{rule.Rule.Rule, functions.blocks.ByteRange.ByteRange}}, proofs.{Asked.{unbroken, numbers, registers, sizes}, Tests.{first_three, imply_all, all-both, pairs-map, pairs-swap}}}
 use Rattle.model_registers.specs.DeclarationRules as rules
 use Rattle.model_registers.specs.Capabilities as listed
-use Rattle.board_file.specs.EntryRules as asked
+use Rattle.board_file.specs.Endpoints as asked
 use Rattle.board_file.specs.declared.fault.BoardFault.TheVariants as fault
 
 -- ---- tests
@@ -40,9 +40,9 @@ module _ (e : Endpoint) (h : is_declarable e ≡ true) where
   abbrev keep_all : (Bar → List (Rule × Bool)) → Bool
   keep_all rules = list_all (λ b. kept (rules b)) e.bars
 
-  numbers_of : (kept (endpoint_numbers e) ≡ true) × (keep_all (bar_rules fault.Number) ≡ true) × (list_all is_config_block e.configs ≡ true) × (list_all is_capability e.capabilities ≡ true)
+  numbers_of : (kept (endpoint_numbers e) ≡ true) × (keep_all (bar_rules fault.Number 0) ≡ true) × (list_all is_config_block e.configs ≡ true) × (list_all is_capability e.capabilities ≡ true)
   numbers_of =
-      four_parts (kept (endpoint_numbers e)) (keep_all (bar_rules fault.Number)) (list_all is_config_block e.configs)
+      four_parts (kept (endpoint_numbers e)) (keep_all (bar_rules fault.Number 0)) (list_all is_config_block e.configs)
       (list_all is_capability e.capabilities) parts_of.0
 
   identity_of : (is_between 0 0xfffe e.vendor ≡ true) × (is_between 0 0xffff e.device ≡ true) × (is_between 0 0xff e.revision ≡ true) × (kept (value_rules e) ≡ true)
@@ -60,12 +60,12 @@ module _ (e : Endpoint) (h : is_declarable e ≡ true) where
   pub small : HasSmallNumbers e
   small = grind (arith, below, within_le, identity_of, described_of, needs_of, status_of)
 
-  registers_of : (kept (asked.endpoint_rules fault.Register e) ≡ true) × (keep_all (bar_rules fault.Register) ≡ true)
-  registers_of = and_parts _ _ (left_true (kept (asked.endpoint_rules fault.Register e) && keep_all (bar_rules fault.Register)) _ (left_true _ _ parts_of.1))
+  registers_of : (kept (asked.endpoint_rules fault.Register e) ≡ true) × (keep_all (bar_rules fault.Register 0) ≡ true)
+  registers_of = and_parts _ _ (left_true (kept (asked.endpoint_rules fault.Register e) && keep_all (bar_rules fault.Register 0)) _ (left_true _ _ parts_of.1))
 
   pub regions_of : list_all is_region e.bars ≡ true
   regions_of =
-      all_three (λ b. kept (bar_rules fault.Number b)) (λ b. kept (bar_rules fault.Register b)) (λ b. kept (bar_rules fault.Size b)) e.bars
+      all_three (λ b. kept (bar_rules fault.Number 0 b)) (λ b. kept (bar_rules fault.Register 0 b)) (λ b. kept (bar_rules fault.Size 0 b)) e.bars
       numbers_of.1 registers_of.1 (left_true _ _ (left_true _ _ parts_of.2))
 
   pub configs_of : list_all is_config_block e.configs ≡ true

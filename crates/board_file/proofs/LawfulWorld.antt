@@ -3,7 +3,7 @@ use Rattle.std.{proofs.{Common.{◌≡◌, ◌⊎◌, inl, inr, ℕ, ◌+◌, �
 use Rattle.lists.{specs.Elements.{IsIn, Each, EachPair, all_pairs}, proofs.{EachLemmas.{each_map, each_of_map, each_from_map, each_test, pairs_map, pairs_from_map, pairs_test}, Members.{all_in, each_from, pairs_of_map, pairs_weaker}, Tests.{left_true, right_true}}}
 use Rattle.model_board.{specs.{Paths.{Path, IsPath, path_eq, parent, function_zero}, Board.{Decl, Row, Board, IsBoard, is_bridge, stands_at, is_bridge_at}, Places.{Standing, standing, has_path, has_bridge, board_of, IsFounded, AreLawfulPlaces}, Lawful.{HasLawfulDecls, IsLawfulDecl}, State.{row_at, State}, AtReset.{reset_state, reset_file, board_at, IsAtReset}}, proofs.PlacesLaw.{any_board, apart_turn, each_to_board, lawful_places_are_boards}}
 use Rattle.model_guests.specs.World.{is_name, declared, HasLawfulGuests, IsLawfulWorld}
-use Rattle.board_file.{specs.{Entries.{Endpoint, Bridge, Guest, File}, Functions.{rows, standings, guest}, PathTexts.{is_path_text, path_at}, Rules.{is_root, is_endpoint, names_endpoint}, EntryRules.{are_same_place, is_behind_bridge}, MarkedPaths.{guest_texts, place_texts, slot_texts}, Problems.{none, problems_in}, Judged.{is_judged, IsShortGuest}, Meaning.world_of, declared.entry.Entry.Entry}, proofs.{Asked.{others, unbroken, counts, names, places, slots}, ListTests.pairs_of_test, PathParts.path_at_is_path, Tests.{first_three, imply_all}}}
+use Rattle.board_file.{specs.{Endpoints.Endpoint, Entries.{Bridge, Guest, File}, Functions.{rows, standings, guest}, PathTexts.{is_path_text, path_at}, Rules.{is_root, is_endpoint, names_endpoint}, EntryRules.{are_same_place, is_behind_bridge}, MarkedPaths.{guest_texts, place_texts, slot_texts}, Problems.{none, problems_in}, Judged.{is_judged, IsShortGuest}, Meaning.world_of, declared.entry.Entry.Entry}, proofs.{Asked.{others, unbroken, counts, names, places, slots}, ListTests.pairs_of_test, PathParts.path_at_is_path, Tests.{first_three, imply_all}}}
 use Rattle.model_registers.specs.Registers as registers
 use Rattle.model_guests.specs.World as world
 use Rattle.board_file.specs.declared.fault.BoardFault.TheVariants as fault

@@ -1,7 +1,7 @@
 -- A walk over a list that appends problems of each element.
 --     GoesOn      what is there with those of the elements that are left
---     range_more, joined      steps of lists of entries
-use Rattle.std.{proofs.{Common.{◌≡◌, ℕ, ◌+◌, List, [], ◌∷◌, ◌++◌, map, drop, zero-add, append_assoc, arith}, lemmas.List.FromFn.map-range_with_len_more}, specs.List.{enumerate_from, flat_map, range_with_len}}
+--     range_more      a step of a list of entries
+use Rattle.std.{proofs.{Common.{◌≡◌, ℕ, ◌+◌, List, [], ◌∷◌, ◌++◌, map, drop, zero-add}, lemmas.List.FromFn.map-range_with_len_more}, specs.List.{enumerate_from, flat_map, range_with_len}}
 use Rattle.board_file.specs.{Problems.{Found, found_of}, declared.finding.Violation.Violation}
 
 -- with those of the elements from i on, the problems are those at first and those of all elements
@@ -11,8 +11,3 @@ GoesOn of xs i first problems =
 
 pub range_more : {X : Type 0} (f : ℕ → X) (n : ℕ) → map f (range_with_len 0 (n + 1)) ≡ map f (range_with_len 0 n) ++ f n ∷ []
 range_more f n = map-range_with_len_more f 0 n n (zero-add n)
-
--- a list to which an item was appended, then one list, then another, then a third
-pub joined : {X : Type 0} (old with_item with_one with_two : List X) (x : X) (xs ys zs : List X)
-    → with_item ≡ old ++ x ∷ [] → with_one ≡ with_item ++ xs → with_two ≡ with_one ++ ys → with_two ++ zs ≡ old ++ (x ∷ (xs ++ ys ++ zs))
-joined old with_item with_one with_two x xs ys zs first second third = grind (arith, append_assoc)

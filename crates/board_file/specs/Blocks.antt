@@ -5,7 +5,7 @@
 use Rattle.std.specs.{Prelude.{ℕ, ◌%◌, ◌==◌, nat_le, Bool, true, false, ◌≡◌, MatchOption, ◌&&◌, List, [], ◌∷◌, length, map, slice_index, Option, Some, None, is_some, unwrap_or, Result, Ok, Err, if◌then◌else◌, bit_and}, List.{list_all, range_with_len}}
 use Rattle.hex.specs.{Hex.decode_of, declared.error.FromHexError.FromHexError}
 use Rattle.model_registers.specs.Cell.{Cell}
-use Rattle.board_file.specs.Entries.{Patterns}
+use Rattle.board_file.specs.Values.{Patterns}
 
 abbrev pub Gives : {A : Type 0} → Bool → Option A → (A → Type 0) → Type 0
 Gives t found P = MatchOption found (t ≡ false) (λ x. (t ≡ true) × P x)

@@ -1,54 +1,15 @@
 -- The declarations in the tables of a board file that keeps the rules.
---     region, config_block, capability, endpoint, bridge      what the tables of a function declare
---     plain_values, endpoint_values      the values of an endpoint without its capability list, and with it
+--     bridge      what the table of a bridge declares
 --     endpoint_row, bridge_row      a function with its path
 --     standings, rows      the paths of functions, and the functions at them
 --     apertures, guests      the addresses that set-up may give out, and the guests
 use Rattle.std.specs.Prelude.{nat_abs, true, false, List, ◌++◌, map, option_map}
-use Rattle.model_registers.specs.{Apertures.{Aperture, Apertures}, Declarations.{Region, ConfigBlock}, DeclarationRules.with_ordered_regions, Capabilities.with_capabilities}
+use Rattle.model_registers.specs.Apertures.{Aperture, Apertures}
 use Rattle.model_board.specs.{Board.Row, Places.Standing}
-use Rattle.board_file.specs.{Entries.{Bar, Config, Capability, Endpoint, Bridge, Guest, File}, declared.entries.Bounds.Bounds, Blocks.block_cells, PathTexts.path_at}
+use Rattle.board_file.specs.{Endpoints.{Endpoint, declared_endpoint}, Entries.{Bridge, Guest, File}, declared.entries.Bounds.Bounds, PathTexts.path_at}
 use Rattle.model_registers.specs.Declarations as declared
-use Rattle.model_registers.specs.Capabilities as listed
 use Rattle.model_board.specs.Board as board
 use Rattle.model_guests.specs.World as world
-
-abbrev pub region : Bar → Region
-region b = record {
-  index = nat_abs b.index;
-  kind = b.kind;
-  size = nat_abs b.size;
-  cells = block_cells (nat_abs b.block) b.patterns;
-}
-
-abbrev pub config_block : Config → ConfigBlock
-config_block c = record { offset = nat_abs c.off; cells = block_cells (nat_abs c.block) c.patterns }
-
-abbrev pub capability : Capability → listed.Capability
-capability c = record { id = nat_abs c.id; offset = nat_abs c.config.off; cells = (config_block c.config).cells }
-
--- regions in the order of the file
-abbrev pub plain_values : Endpoint → declared.Endpoint
-plain_values e = record {
-  vendor = nat_abs e.vendor;
-  device = nat_abs e.device;
-  revision = nat_abs e.revision;
-  class = nat_abs e.class;
-  subvendor = nat_abs e.subvendor;
-  subsystem = nat_abs e.subsystem;
-  pin = nat_abs e.pin;
-  min_gnt = nat_abs e.min_gnt;
-  max_lat = nat_abs e.max_lat;
-  status = nat_abs e.status;
-  regions = map region e.bars;
-  blocks = map config_block e.configs;
-}
-
-abbrev pub endpoint_values : Endpoint → declared.Endpoint
-endpoint_values e = with_capabilities (map capability e.capabilities) (plain_values e)
-
-abbrev pub endpoint : Endpoint → declared.Endpoint
-endpoint e = with_ordered_regions (endpoint_values e)
 
 abbrev pub bridge : Bridge → declared.Bridge
 bridge b = record {
@@ -69,7 +30,7 @@ abbrev pub standings : File → List Standing
 standings f = map endpoint_standing f.endpoints ++ map bridge_standing f.bridges
 
 abbrev pub endpoint_row : Endpoint → Row
-endpoint_row e = record { path = path_at e.at; decl = board.endpoint (endpoint e) }
+endpoint_row e = record { path = path_at e.at; decl = board.endpoint (declared_endpoint e) }
 
 abbrev pub bridge_row : Bridge → Row
 bridge_row b = record { path = path_at b.at; decl = board.bridge (bridge b) }

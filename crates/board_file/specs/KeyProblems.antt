@@ -6,7 +6,7 @@
 --     problems_of ms fault      all entries that break a rule of this fault
 use Rattle.std.specs.{Prelude.{ℕ, Bool, true, not, ◌||◌, List, [], ◌∷◌, ◌++◌, length, map, flat_map, is_some, if◌then◌else◌}, List.{enumerate_from, range_with_len}, Option.option_map_or}
 use Rattle.toml.specs.Data.{Members, no_members, member, get_member}
-use Rattle.board_file.specs.{Entries.{Endpoint, File, file}, Schema.{Field, fields, form_at, has_form}, Tables.{level_of, table_at}, Problems.{Found, problems_in}, declared.{schema.TableKind.TableKind, fault.BoardFault.BoardFault, rule.Rule.Rule, entry.Entry.Entry}}
+use Rattle.board_file.specs.{Endpoints.{Endpoint, part_count}, Entries.{File, file}, Schema.{parts, Field, fields, form_at, has_form}, Tables.{level_of, table_at}, Problems.{Found, problems_in}, declared.{document.schema.TableKind.TableKind, fault.BoardFault.BoardFault, rule.Rule.Rule, entry.{Entry.Entry, EndpointPart.EndpointPart}}}
 use Rattle.board_file.specs.declared.fault.BoardFault.TheVariants as fault
 use Rattle.board_file.specs.declared.rule.Rule.TheVariants as rule
 use Rattle.board_file.specs.declared.entry.Entry.TheVariants as entry
@@ -16,13 +16,16 @@ use Rattle.board_file.specs.declared.entry.Entry.TheVariants as entry
 abbrev pub indices : {A : Type 0} → List A → List ℕ
 indices xs = range_with_len 0 (length xs)
 
--- an endpoint, its regions, its own registers and its capability list
+-- so many tables of a kind inside endpoint i
+abbrev pub in_endpoint : ℕ → EndpointPart → ℕ → List Entry
+in_endpoint i p n = map (entry.Part p i) (range_with_len 0 n)
+
+abbrev pub tables_in : ℕ → Endpoint → EndpointPart → List Entry
+tables_in i e p = in_endpoint i p (part_count p e)
+
+-- an endpoint and all tables inside it
 abbrev pub with_endpoint : ℕ × Endpoint → List Entry
-with_endpoint (i, e) =
-    entry.Endpoint i
-    ∷ (map (entry.Bar i) (indices e.bars)
-    ++ map (entry.Config i) (indices e.configs)
-    ++ map (entry.Capability i) (indices e.capabilities))
+with_endpoint (i, e) = entry.Endpoint i ∷ flat_map (tables_in i e) parts
 
 abbrev pub tables_of : File → List Entry
 tables_of f =

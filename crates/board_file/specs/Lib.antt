@@ -1,10 +1,15 @@
 pub mod Texts
 pub mod Schema
+pub mod Values
 pub mod Entries
 pub mod PathTexts
 pub mod Blocks
 pub mod Functions
 pub mod Rules
+pub mod Bars
+pub mod Configs
+pub mod Capabilities
+pub mod Endpoints
 pub mod EntryRules
 pub mod MarkedPaths
 pub mod RuleFaults

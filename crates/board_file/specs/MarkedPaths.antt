@@ -5,7 +5,7 @@
 --     mark_duplicates      the texts of a list, each with whether no text before it has the same path
 use Rattle.std.specs.{Prelude.{ℕ, Bool, not, ◌&&◌, List, [], ◌++◌, map, flat_map, take}, List.{enumerate_from, list_all}}
 use Rattle.model_board.specs.Paths.{Path, path_eq}
-use Rattle.board_file.specs.{PathTexts.{is_path_text, path_at}, Entries.{Endpoint, Bridge, Guest, File}, EntryRules.are_same_place, declared.{fault.BoardFault.BoardFault, entry.Entry.Entry}}
+use Rattle.board_file.specs.{PathTexts.{is_path_text, path_at}, Endpoints.Endpoint, Entries.{Bridge, Guest, File}, EntryRules.are_same_place, declared.{fault.BoardFault.BoardFault, entry.Entry.Entry}}
 use Rattle.board_file.specs.declared.fault.BoardFault.TheVariants as fault
 use Rattle.board_file.specs.declared.entry.Entry.TheVariants as entry
 

@@ -6,10 +6,11 @@
 --     Adds these old new      the problems, and then these
 --     none ps      there are none
 use Rattle.std.specs.{Prelude.{◌≡◌, ℕ, Bool, true, false, List, [], ◌∷◌, ◌++◌, map, flat_map, if◌then◌else◌}, List.enumerate_from}
-use Rattle.board_file.specs.{Entries.{Bar, Config, Capability, Endpoint, Bridge, Guest, File}, Functions.standings, MarkedPaths.{MarkedPath, path_texts, mark_duplicates}, RuleFaults.key_of, EntryRules.{file_rules, host_rules, path_rules, endpoint_rules, bar_rules, config_rules, capability_rules, bridge_rules, guest_rules}, declared.{fault.BoardFault.BoardFault, entry.Entry.Entry, rule.Rule.Rule, finding.Violation.Violation}}
+use Rattle.board_file.specs.{Bars.bar_rules, Configs.config_rules, Capabilities.capability_rules, Endpoints.{Endpoint, endpoint_rules}, Entries.{Bridge, Guest, File}, Functions.standings, MarkedPaths.{MarkedPath, path_texts, mark_duplicates}, RuleFaults.key_of, EntryRules.{file_rules, host_rules, path_rules, bridge_rules, guest_rules}, declared.{fault.BoardFault.BoardFault, entry.{Entry.Entry, EndpointPart.EndpointPart}, rule.Rule.Rule, finding.Violation.Violation}}
 use Rattle.model_board.specs.Places.{Standing}
 use Rattle.board_file.specs.declared.fault.BoardFault.TheVariants as fault
 use Rattle.board_file.specs.declared.entry.Entry.TheVariants as entry
+use Rattle.board_file.specs.declared.entry.EndpointPart.TheVariants as part
 
 pub record Found : Type 0 where
   pub entry : Entry
@@ -36,21 +37,24 @@ broken e rules = flat_map (unless_kept e) rules
 
 -- ---- entry by entry
 
-abbrev pub of_bar : BoardFault → ℕ → ℕ × Bar → List Found
-of_bar f i (j, b) = broken (entry.Bar i j) (bar_rules f b)
+-- of a table inside endpoint i
+abbrev pub of_part : {A : Type 0} → EndpointPart → ℕ → (ℕ → A → List (Rule × Bool)) → ℕ × A → List Found
+of_part p i rules (j, x) = broken (entry.Part p i j) (rules j x)
 
-abbrev pub of_config : BoardFault → ℕ → List Config → ℕ × Config → List Found
-of_config f i cs (j, c) = broken (entry.Config i j) (config_rules f cs j c)
+-- of the tables inside endpoint i
+abbrev pub of_bars : BoardFault → ℕ → Endpoint → List Found
+of_bars fault i e = flat_map (of_part part.Bar i (bar_rules fault)) (enumerate_from 0 e.bars)
 
-abbrev pub of_capability : BoardFault → ℕ → List Config → List Capability → ℕ × Capability → List Found
-of_capability f i cs ds (j, c) = broken (entry.Capability i j) (capability_rules f cs ds j c)
+abbrev pub of_configs : BoardFault → ℕ → Endpoint → List Found
+of_configs fault i e = flat_map (of_part part.Config i (config_rules fault e.configs)) (enumerate_from 0 e.configs)
+
+abbrev pub of_capabilities : BoardFault → ℕ → Endpoint → List Found
+of_capabilities fault i e =
+    flat_map (of_part part.Capability i (capability_rules fault e.configs e.capabilities)) (enumerate_from 0 e.capabilities)
 
 abbrev pub of_endpoint : BoardFault → ℕ × Endpoint → List Found
 of_endpoint fault (i, e) =
-    broken (entry.Endpoint i) (endpoint_rules fault e)
-    ++ flat_map (of_bar fault i) (enumerate_from 0 e.bars)
-    ++ flat_map (of_config fault i e.configs) (enumerate_from 0 e.configs)
-    ++ flat_map (of_capability fault i e.configs e.capabilities) (enumerate_from 0 e.capabilities)
+    broken (entry.Endpoint i) (endpoint_rules fault e) ++ of_bars fault i e ++ of_configs fault i e ++ of_capabilities fault i e
 
 abbrev pub of_bridge : BoardFault → ℕ × Bridge → List Found
 of_bridge fault (i, b) = broken (entry.Bridge i) (bridge_rules fault b)

@@ -3,15 +3,14 @@
 --     has_few_slashes      a text has at most 15 slashes
 --     is_root, is_endpoint, names_endpoint      bus 0; there is an endpoint at a path; a text is the path of an endpoint
 --     is_size      a power of two within the limits of a region's kind
+--     identity_rules, kept      the rules of what identifies a function; all rules of a list are kept
 --     is_natural, are_natural      both addresses of an aperture are 0 or more
---     config_extent, capability_extent, extents      where a block of own registers is, a structure with its header, and all of them
---     are_apart      two of these don't overlap
---     masks_hold      each block and structure of an endpoint has lawful patterns, and no two of them overlap
-use Rattle.std.specs.{Prelude.{ℕ, ℤ, ◌+◌, pos, nat_abs, int_le, Bool, true, false, not, ◌&&◌, ◌||◌, List, [], ◌∷◌, ◌++◌, map, ◌==◌, nat_le, Option, Some, None, bit_and, count_by}, List.list_all, Int.is_power_of_two}
-use Rattle.lists.specs.Elements.{all_pairs}
+--     are_apart      two ranges of offsets don't overlap
+use Rattle.std.specs.{Prelude.{ℕ, ℤ, ◌+◌, pos, nat_abs, int_le, Bool, true, false, not, ◌&&◌, ◌||◌, List, [], ◌∷◌, ◌==◌, nat_le, Option, Some, None, bit_and, count_by}, List.list_all, Int.is_power_of_two}
 use Rattle.model_registers.specs.Declarations.{Kind, least_size, greatest_size}
 use Rattle.model_board.specs.{Paths.Path, Places.{Standing, has_path, has_bridge}}
-use Rattle.board_file.specs.{Entries.{Bar, Config, Capability, Endpoint}, declared.{entries.Bounds.Bounds, blocks.ByteRange.ByteRange}, Blocks.is_block, PathTexts.{is_path_text, path_at}}
+use Rattle.board_file.specs.{PathTexts.{is_path_text, path_at}, declared.{entries.Bounds.Bounds, functions.blocks.ByteRange.ByteRange, rule.Rule.Rule}}
+use Rattle.board_file.specs.declared.rule.Rule.TheVariants as rule
 
 -- ---- numbers
 
@@ -23,6 +22,16 @@ has_only_bits mask n = is_between 0 0xffff n && (bit_and (nat_abs n) mask == nat
 
 abbrev pub is_size : Kind → ℤ → Bool
 is_size kind n = is_between (least_size kind) (greatest_size kind) n && is_power_of_two (nat_abs n)
+
+-- of an endpoint or a bridge
+abbrev pub identity_rules : ℤ → ℤ → ℤ → List (Rule × Bool)
+identity_rules vendor device revision =
+    (rule.Vendor, is_between 0 0xfffe vendor)
+    ∷ (rule.Device, is_between 0 0xffff device)
+    ∷ (rule.Revision, is_between 0 0xff revision) ∷ []
+
+abbrev pub kept : List (Rule × Bool) → Bool
+kept rules = list_all (λ r. r.1) rules
 
 -- ---- paths
 
@@ -52,32 +61,6 @@ are_natural (Some b) = is_natural b
 
 -- ---- offsets
 
-abbrev pub config_extent : Config → ByteRange
-config_extent c = record { off = nat_abs c.off; len = nat_abs c.block }
-
--- with the two bytes of the header
-abbrev pub capability_extent : Capability → ByteRange
-capability_extent c = record { off = nat_abs c.config.off; len = 2 + nat_abs c.config.block }
-
-abbrev pub extents : Endpoint → List ByteRange
-extents e = map config_extent e.configs ++ map capability_extent e.capabilities
-
 -- one ends before the other begins
 abbrev pub are_apart : ByteRange → ByteRange → Bool
 are_apart a b = nat_le (a.off + a.len) b.off || nat_le (b.off + b.len) a.off
-
--- ---- cell masks
-
-abbrev pub bar_holds : Bar → Bool
-bar_holds b = is_block (nat_abs b.block) b.patterns
-
-abbrev pub config_holds : Config → Bool
-config_holds c = is_block (nat_abs c.block) c.patterns
-
-abbrev pub capability_holds : Capability → Bool
-capability_holds c = config_holds c.config
-
-abbrev pub masks_hold : Endpoint → Bool
-masks_hold e =
-    list_all bar_holds e.bars && list_all config_holds e.configs && list_all capability_holds e.capabilities
-    && all_pairs are_apart (extents e)

@@ -1,11 +1,21 @@
 -- The keys of a board file, and the form of the value at each key.
+--     parts, part_key      the kinds of tables inside an endpoint, in the order in which they are checked; their keys
 --     fields      the keys of a table, whether each is required, and the form of its value
 --     has_form      a value has the type, or is one of the words, that stands at its key
 --     form_at      what stands at a key
 use Rattle.std.specs.{Prelude.{ℕ, codes, Bool, true, false, ◌&&◌, List, [], ◌∷◌, length, ◌==◌, Option, Some, None, is_some, if◌then◌else◌}, List.list_all}
 use Rattle.toml.specs.Data.{Data, string, array, Items, no_items, item, as_integer, as_str, as_table}
-use Rattle.board_file.specs.{Texts.{same_text, region_kind, io_decode, pref_decode}, declared.schema.{TableKind.TableKind, Keyword.{Keyword, TheVariants.{RegionKind, IoDecode, PrefDecode}}, ValueType.{ValueType, TheVariants.{Integer, Text, Word, Pair, Texts, Table, Tables}}, Field.Field as FieldInCode}}
-use Rattle.board_file.specs.declared.schema.TableKind.TheVariants as level
+use Rattle.board_file.specs.{Texts.{same_text, region_kind, io_decode, pref_decode}, declared.{entry.EndpointPart.EndpointPart, document.schema.{TableKind.TableKind, Keyword.{Keyword, TheVariants.{RegionKind, IoDecode, PrefDecode}}, ValueType.{ValueType, TheVariants.{Integer, Text, Word, Pair, Texts, Table, Tables}}, Field.Field as FieldInCode}}}
+use Rattle.board_file.specs.declared.document.schema.TableKind.TheVariants as level
+use Rattle.board_file.specs.declared.entry.EndpointPart.TheVariants as part
+
+abbrev pub parts : List EndpointPart
+parts = part.Bar ∷ part.Config ∷ part.Capability ∷ []
+
+abbrev pub part_key : EndpointPart → List ℕ
+part_key part.Bar = codes "bar"
+part_key part.Config = codes "config"
+part_key part.Capability = codes "capability"
 
 pub record Field : Type 0 where
   pub key : List ℕ
@@ -42,10 +52,10 @@ fields level.Endpoint =
     ∷ optional (codes "min_gnt") Integer
     ∷ optional (codes "max_lat") Integer
     ∷ optional (codes "status") Integer
-    ∷ optional (codes "bar") (Tables level.Bar)
-    ∷ optional (codes "config") (Tables level.Config)
-    ∷ optional (codes "capability") (Tables level.Capability) ∷ []
-fields level.Bar =
+    ∷ optional (codes "bar") (Tables (level.Part part.Bar))
+    ∷ optional (codes "config") (Tables (level.Part part.Config))
+    ∷ optional (codes "capability") (Tables (level.Part part.Capability)) ∷ []
+fields (level.Part part.Bar) =
     needed (codes "index") Integer
     ∷ needed (codes "kind") (Word RegionKind)
     ∷ needed (codes "size") Integer
@@ -53,13 +63,13 @@ fields level.Bar =
     ∷ optional (codes "reset") Text
     ∷ optional (codes "rw") Text
     ∷ optional (codes "w1c") Text ∷ []
-fields level.Config =
+fields (level.Part part.Config) =
     needed (codes "off") Integer
     ∷ needed (codes "block") Integer
     ∷ optional (codes "reset") Text
     ∷ optional (codes "rw") Text
     ∷ optional (codes "w1c") Text ∷ []
-fields level.Capability =
+fields (level.Part part.Capability) =
     needed (codes "id") Integer
     ∷ needed (codes "off") Integer
     ∷ needed (codes "block") Integer

@@ -6,8 +6,8 @@
 --     level_of entry      the kind of table that it has to be
 use Rattle.std.specs.Prelude.{ℕ, codes, List, Option, Some, None, option_and_then}
 use Rattle.toml.specs.Data.{Data, Members, get_member, at, as_table}
-use Rattle.board_file.specs.declared.{schema.TableKind.TableKind, entry.Entry.Entry}
-use Rattle.board_file.specs.declared.schema.TableKind.TheVariants as level
+use Rattle.board_file.specs.{Schema.part_key, declared.{document.schema.TableKind.TableKind, entry.Entry.Entry}}
+use Rattle.board_file.specs.declared.document.schema.TableKind.TheVariants as level
 use Rattle.board_file.specs.declared.entry.Entry.TheVariants as entry
 
 -- the table at an index of the list at a key
@@ -18,9 +18,7 @@ abbrev pub table_at : Members → Entry → Option Members
 table_at ms entry.File = Some ms
 table_at ms entry.Host = option_and_then as_table (get_member (codes "host") ms)
 table_at ms (entry.Endpoint i) = table_in (codes "endpoint") i ms
-table_at ms (entry.Bar i j) = option_and_then (table_in (codes "bar") j) (table_in (codes "endpoint") i ms)
-table_at ms (entry.Config i j) = option_and_then (table_in (codes "config") j) (table_in (codes "endpoint") i ms)
-table_at ms (entry.Capability i j) = option_and_then (table_in (codes "capability") j) (table_in (codes "endpoint") i ms)
+table_at ms (entry.Part p i j) = option_and_then (table_in (part_key p) j) (table_in (codes "endpoint") i ms)
 table_at ms (entry.Bridge i) = table_in (codes "bridge") i ms
 table_at ms (entry.Guest i) = table_in (codes "guest") i ms
 table_at ms (entry.Slot i j) = None
@@ -31,9 +29,7 @@ value_at ms (entry.Slot i j) k =
 value_at ms e k = option_and_then (get_member k) (table_at ms e)
 
 abbrev pub owner_of : Entry → Entry
-owner_of (entry.Bar i j) = entry.Endpoint i
-owner_of (entry.Config i j) = entry.Endpoint i
-owner_of (entry.Capability i j) = entry.Endpoint i
+owner_of (entry.Part p i j) = entry.Endpoint i
 owner_of (entry.Slot i j) = entry.Guest i
 owner_of e = e
 
@@ -48,9 +44,7 @@ abbrev pub level_of : Entry → Option TableKind
 level_of entry.File = Some level.Top
 level_of entry.Host = Some level.Host
 level_of (entry.Endpoint i) = Some level.Endpoint
-level_of (entry.Bar i j) = Some level.Bar
-level_of (entry.Config i j) = Some level.Config
-level_of (entry.Capability i j) = Some level.Capability
+level_of (entry.Part p i j) = Some (level.Part p)
 level_of (entry.Bridge i) = Some level.Bridge
 level_of (entry.Guest i) = Some level.Guest
 level_of (entry.Slot i j) = None

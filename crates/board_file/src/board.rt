@@ -3,11 +3,10 @@ ghost use Rattle.std.specs.{Prelude.{◌≡◌, ◌++◌, ◌⊎◌, IsTrue, IfO
 ghost use Rattle.lists.specs.Elements.{Each};
 ghost use Rattle.model_board.specs.{AtReset.{IsAtReset, reset_state}, Board.IsBoard, Lawful.HasLawfulDecls, Places.board_of};
 ghost use Rattle.model_guests.specs.World.{IsLawfulWorld};
-ghost use Rattle.board_file.specs.{Blocks.Gives, Judged.{is_judged, is_declarable, is_lawful_bridge, IsShortGuest}, Rules.masks_hold, Meaning.{world_in, world_of}, declared.fault.BoardFault.TheVariants.{Memory, CellMasks}};
+ghost use Rattle.board_file.specs.{Blocks.Gives, Judged.{is_judged, is_lawful_bridge, IsShortGuest}, Endpoints.{is_declarable, masks_hold}, Meaning.{world_in, world_of}, declared.fault.BoardFault.TheVariants.{Memory, CellMasks}};
 ghost use Rattle.board_file.specs.Functions as said;
 
 use crate::apertures::apertures;
-use crate::building::{bridge, endpoint, guest};
 use crate::entries::{BridgeEntry, EndpointEntry, FileEntries, GuestEntry};
 use crate::fault::BoardFault;
 use accesses::GuestDecl;
@@ -27,7 +26,7 @@ fn endpoint_decls(
 {
     let mut decls = Vec::new(alloc);
     'entries: for entry in entries {
-        match endpoint(alloc, entry)? {
+        match entry.declare(alloc)? {
             Some(decl) => decls.push(Decl {
                 path: entry.at.path(),
                 function: Declared::Endpoint(decl),
@@ -49,7 +48,7 @@ fn with_bridges(decls: Vec<Decl>, entries: &[BridgeEntry<'_>]) -> Result<Vec<Dec
     'entries: for entry in entries {
         decls.push(Decl {
             path: entry.at.path(),
-            function: Declared::Bridge(bridge(entry)),
+            function: Declared::Bridge(entry.declare()),
         })?;
     }
     Ok(decls)
@@ -75,7 +74,7 @@ fn guests(alloc: Global, entries: &[GuestEntry<'_>]) -> Result<Vec<GuestDecl>, A
 {
     let mut guests = Vec::new(alloc);
     'entries: for entry in entries {
-        guests.push(guest(entry))?;
+        guests.push(entry.declare())?;
     }
     Ok(guests)
 }
@@ -91,7 +90,7 @@ fn host(alloc: Global, decls: Vec<Decl>, apertures: Apertures) -> Result<Host, A
 
 /// Builds the host and the guests of a file that passed all earlier checks. Returns `CellMasks` if
 /// a pattern isn't valid or configuration blocks overlap, and `Memory` if memory is exhausted.
-pub(crate) fn build(
+pub(crate) fn build_checked(
     alloc: Global,
     file: &FileEntries<'_>,
 ) -> Result<(Host, Vec<GuestDecl>), BoardFault>

@@ -1,8 +1,71 @@
-//! Checks of guest names.
-ghost use Rattle.std.specs.{Prelude.{◌≡◌, not, take}, List.list_all, Str.bytes_eq};
+//! The `guest` tables of a board file.
+ghost use Rattle.std.specs.{Prelude.{◌≡◌, ◌≤◌, not, length, map, take}, List.list_all, Str.bytes_eq};
 ghost use Rattle.model_guests.specs.World.{is_name_byte, is_name};
+ghost use Rattle.board_file.specs.{Entries.guest, Functions.{guest as declared_guest}, PathTexts.path_at};
+ghost use Rattle.board_file.specs.Entries as said;
 
-use crate::entries::GuestEntry;
+use crate::document::reading::{FromTable, slots, text};
+use crate::path::text::PathText;
+use accesses::GuestDecl;
+use arrayvec::{ArrayString, ArrayVec};
+use paths::Path;
+use std::alloc::{AllocError, Global};
+use std::marker::Model;
+use toml::Table;
+
+pub(crate) mod problems;
+
+/// A `guest` table.
+#[derive(Drop)]
+pub struct GuestEntry<'a> {
+    pub name: &'a str,
+    pub slots: Vec<PathText<'a>>,
+}
+
+impl<'a> Model for GuestEntry<'a> {
+    ghost Value = { said.Guest };
+
+    ghost view = { λ g. record { name = g.name.now; slots = g.slots.items } };
+}
+
+impl<'a> FromTable<'a> for GuestEntry<'a> {
+    ghost said = { guest };
+
+    fn from_table(alloc: Global, table: &'a Table) -> Result<Self, AllocError> {
+        Ok(GuestEntry {
+            name: text(table, "name"),
+            slots: slots(alloc, table)?,
+        })
+    }
+}
+
+impl<'a> GuestEntry<'a> {
+    /// Builds the declaration.
+    pub(crate) fn declare(&self) -> GuestDecl
+        requires name { length self.now.name ≤ 16 }
+        requires slots { length self.now.slots ≤ 32 }
+        ensures { result ≡ declared_guest self.now }
+    {
+        let mut name = ArrayString::new();
+        name.push_str(self.name);
+        GuestDecl {
+            name,
+            slots: slot_paths(&self.slots),
+        }
+    }
+}
+
+/// Returns the paths of a guest's slots.
+fn slot_paths(texts: &[PathText<'_>]) -> ArrayVec<Path, 32>
+    requires { length texts.now ≤ 32 }
+    ensures { result.items ≡ map path_at texts.now }
+{
+    let mut slots = ArrayVec::new();
+    'texts: for text in texts {
+        slots.push(text.path());
+    }
+    slots
+}
 
 fn is_name_byte(byte: u8) -> bool
     ensures { result ≡ is_name_byte byte }

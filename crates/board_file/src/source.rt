@@ -7,14 +7,14 @@ ghost use Rattle.model_guests.specs.World.{IsLawfulWorld};
 ghost use Rattle.board_file.specs.{Functions.standings, KeyProblems.problems_of, Problems.found_of, Meaning.{early_checks, world_in, meaning, document_meaning}, Faults.number_of, declared.fault.BoardFault.TheVariants.{NotToml, Memory}};
 ghost use Rattle.board_file.specs.Entries as said;
 
-use crate::board::build;
+use crate::board::build_checked;
 use crate::checks::order;
+use crate::document::key_problems::key_problems;
+use crate::document::reading::read_entries;
 use crate::entries::FileEntries;
 use crate::fault::BoardFault;
 use crate::finding::{Violation, value_problems};
-use crate::key_problems::key_problems;
-use crate::places::{FunctionPath, function_paths};
-use crate::reading::read_entries;
+use crate::path::places::{FunctionPath, function_paths};
 use accesses::GuestDecl;
 use host_bridge::Host;
 use std::alloc::{AllocError, Global};
@@ -95,7 +95,7 @@ impl<'a> Source<'a> {
     {
         match self.first_fault(alloc)? {
             Some(fault) => Err(fault),
-            None => build(alloc, &self.file),
+            None => build_checked(alloc, &self.file),
         }
     }
 }

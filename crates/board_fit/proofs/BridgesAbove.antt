@@ -3,7 +3,7 @@
 use Rattle.std.{proofs.{Common.{◌≡◌, Bool, true, ◌&&◌, ◌||◌, not, List, [], ◌∷◌, ◌++◌, map, refl, ◌∙◌, arith}, Math.Bool.{and_assoc, and_comm}}, specs.List.list_all}
 use Rattle.model_board.specs.{Paths.{Path, is_ancestor_of}, Board.{Decl, endpoint, bridge, Row, Board}, Places.{row_inserted, board_of}}
 use Rattle.model_set_up.specs.Pools.{bridges_above}
-use Rattle.board_file.specs.{Entries.{Bridge, Endpoint, File}, Functions.{endpoint_row, bridge_row, rows}, PathTexts.path_at}
+use Rattle.board_file.specs.{Entries.{Bridge, File}, Endpoints.Endpoint, Functions.{endpoint_row, bridge_row, rows}, PathTexts.path_at}
 use Rattle.model_registers.specs.Declarations as declared
 
 abbrev pub all_above : (Bridge → Bool) → List Bridge → Path → Bool

@@ -5,7 +5,7 @@ use Rattle.lists.{specs.Elements.Each, proofs.{EachLemmas.each_append, Members.{
 use Rattle.model_registers.specs.Declarations.{IoDecode}
 use Rattle.model_board.{specs.{Paths.Path, Board.{Row, Board, is_bridge}, BusNumbers.{bridge_count, numbers_suffice}, Places.{row_inserted, board_of}}, proofs.PlacesLaw.each_to_board}
 use Rattle.model_set_up.specs.Pools.{opens_io, has_io, bridges_above, has_io_paths}
-use Rattle.board_file.{specs.{Entries.{Bar, Bridge, Endpoint, File}, Functions.{endpoint_row, bridge_row, rows}, PathTexts.path_at}, proofs.{Declaring.declared_regions, FirstBroken.{alone, broken_at}, Searches.{position_none, not_empty, both_empty}}}
+use Rattle.board_file.{specs.{Bars.Bar, Entries.{Bridge, File}, Endpoints.Endpoint, Functions.{endpoint_row, bridge_row, rows}, PathTexts.path_at}, proofs.{Declaring.declared_regions, FirstBroken.{alone, broken_at}, Searches.{position_none, not_empty, both_empty}}}
 use Rattle.board_fit.{specs.{ReasonLaws.ReasonsAreTold, Misfits.{is_io, has_no_io_window, first_without_io_window, no_io_window, blocked_bars, blocked_in, blocked_regions, bridge_too_many}}, proofs.BridgesAbove.{all_above, by_file}}
 use Rattle.model_registers.specs.Declarations as declared
 

@@ -2,7 +2,7 @@
 use Rattle.std.{proofs.{Common.{◌≡◌, ℕ, Bool, true, false, not, ◌&&◌, ◌||◌, cond, List, [], ◌∷◌, ◌++◌, Option, Some, None, map, refl, sym, ap, ◌∙◌, arith}, lemmas.List.Elements.filter_agree}, specs.{Prelude.{filter, flat_map, option_map, option_and_then, unwrap_or}, List.{list_any, filter_map, cons_option}, Ordering.eq_by_cmp, BTreeSet.{BTreeSet, IsFromIterResult, contains}}}
 use Rattle.model_board.{specs.Paths.{Part, Path, path_eq, parent}, proofs.PathEnds.path_eq-sym}
 use Rattle.paths.specs.{PathOrders.path_cmp, PathLaws.paths_tied}
-use Rattle.board_file.specs.{Entries.{Bridge, Endpoint, Guest}, EntryRules.are_same_place, PathTexts.{part_at_front, parts_after, path_at, is_path_text}}
+use Rattle.board_file.specs.{Entries.{Bridge, Guest}, Endpoints.Endpoint, EntryRules.are_same_place, PathTexts.{part_at_front, parts_after, path_at, is_path_text}}
 use Rattle.board_fit.specs.{PathSets.{bridge_at, bridge_above, given_paths}, Warnings.{bridge_path, has_none_behind, is_given}}
 
 -- ---- bridges

@@ -7,7 +7,7 @@ use Rattle.std.specs.{Prelude.{ℕ, nat_lt, Bool, true, false, ◌&&◌, List, [
 use Rattle.model_registers.specs.Declarations.{Kind, io_kind, mem32, mem64, IoDecode, no_io, io16, io32}
 use Rattle.model_board.specs.Paths.{Path, is_ancestor_of}
 use Rattle.bus_scan.specs.declared.fault.Fault.{Fault, TheVariants.{Buses, NoIoWindow}}
-use Rattle.board_file.specs.{Entries.{Bar, Endpoint, Bridge, File}, PathTexts.path_at}
+use Rattle.board_file.specs.{Bars.Bar, Endpoints.Endpoint, Entries.{Bridge, File}, PathTexts.path_at}
 use Rattle.board_fit.specs.declared.remark.Remark.{Remark}
 use Rattle.board_fit.specs.declared.remark.Remark.TheVariants as remark
 

@@ -6,7 +6,7 @@
 use Rattle.std.specs.{Prelude.{◌&&◌, not, List, [], ◌∷◌, Option, Some, None, map, filter, flat_map}, List.enumerate_from, BTreeSet.{BTreeSet, contains}}
 use Rattle.model_board.specs.Paths.{Path, parent}
 use Rattle.paths.specs.PathOrders.{path_cmp}
-use Rattle.board_file.specs.{Entries.{Bridge, Endpoint, Guest}, PathTexts.{path_at, is_path_text}}
+use Rattle.board_file.specs.{Entries.{Bridge, Guest}, Endpoints.Endpoint, PathTexts.{path_at, is_path_text}}
 use Rattle.board_fit.specs.{declared.remark.Remark.Remark, Warnings.{with_index, bridge_path}}
 use Rattle.board_fit.specs.declared.remark.Remark.TheVariants as remark
 

@@ -6,6 +6,7 @@ use Rattle.board_file.specs.declared.entry.Entry.{Entry}
 use Rattle.window_packing.specs.declared.pool.Pool.{Pool, TheVariants.{Io, Mem, Pref}}
 use Rattle.board_fit.specs.declared.remark.Remark.{Remark}
 use Rattle.board_file.specs.declared.entry.Entry.TheVariants as entry
+use Rattle.board_file.specs.declared.entry.EndpointPart.TheVariants as part
 use Rattle.board_fit.specs.declared.remark.Remark.TheVariants as remark
 
 abbrev pub aperture_key : Pool → List ℕ
@@ -19,7 +20,7 @@ entry_of (remark.EndpointOfNone i) = entry.Endpoint i
 entry_of (remark.GuestWithoutSlots i) = entry.Guest i
 entry_of (remark.WideAperture pool) = entry.Host
 entry_of (remark.BridgeTooMany i) = entry.Bridge i
-entry_of (remark.NoIoWindow i j k) = entry.Bar i j
+entry_of (remark.NoIoWindow i j k) = entry.Part part.Bar i j
 
 abbrev pub key_of : Remark → List ℕ
 key_of (remark.EmptyBridge i) = codes "at"

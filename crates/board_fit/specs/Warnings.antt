@@ -7,7 +7,7 @@
 --     warnings w f xs      what is warned of, in order
 use Rattle.std.specs.{Prelude.{ℕ, ◌*◌, ◌==◌, Bool, false, not, ◌&&◌, nat_lt, List, [], ◌++◌, filter, length, map, Option, Some, None, if◌then◌else◌}, List.{list_all, list_any, enumerate_from}}
 use Rattle.model_board.specs.Paths.{Path, path_eq, parent}
-use Rattle.board_file.specs.{Entries.{Endpoint, Bridge, Guest, File}, EntryRules.are_same_place, PathTexts.path_at}
+use Rattle.board_file.specs.{Endpoints.Endpoint, Entries.{Bridge, Guest, File}, EntryRules.are_same_place, PathTexts.path_at}
 use Rattle.window_packing.specs.declared.pool_uses.PoolUse.{PoolUse}
 use Rattle.board_fit.specs.declared.{pool_fit.PoolFit.PoolFit, remark.Remark.Remark, warning_level.WarningLevel.WarningLevel}
 use Rattle.board_fit.specs.declared.remark.Remark.TheVariants as remark

@@ -2,7 +2,7 @@
 ghost use Rattle.std.specs.Prelude.{◌≡◌};
 ghost use Rattle.board_fit.specs.Remarks.{aperture_key, entry_of, key_of, other_of};
 
-use board_file::Entry;
+use board_file::{EndpointPart, Entry};
 use window_packing::Pool;
 
 /// A possible mistake in a board file, or a reason why its board can't be set up. List indices
@@ -46,7 +46,7 @@ impl Remark {
             Remark::GuestWithoutSlots(index) => Entry::Guest(index),
             Remark::WideAperture(_) => Entry::Host,
             Remark::BridgeTooMany(index) => Entry::Bridge(index),
-            Remark::NoIoWindow(endpoint, bar, _) => Entry::Bar(endpoint, bar),
+            Remark::NoIoWindow(endpoint, bar, _) => Entry::Part(EndpointPart::Bar, endpoint, bar),
         }
     }
 

@@ -9,7 +9,7 @@ use crate::pool_fit::PoolFit;
 use crate::remark::Remark;
 use crate::warning_level::WarningLevel;
 use board_file::entries::{BridgeEntry, EndpointEntry, FileEntries, GuestEntry};
-use board_file::path_text::PathText;
+use board_file::path::text::PathText;
 use paths::Path;
 use std::alloc::{AllocError, Global};
 use std::collections::BTreeSet;

@@ -3,10 +3,10 @@
 use crate::key_causes::push_key_suggestion;
 use crate::others::path_of;
 use crate::path_causes::push_meant;
+use board_file::document::schema::TableKind;
+use board_file::document::tables::level_of;
 use board_file::entries::FileEntries;
-use board_file::schema::TableKind;
-use board_file::tables::level_of;
-use board_file::{Rule, Violation};
+use board_file::{EndpointPart, Rule, Violation};
 use std::alloc::{AllocError, Global};
 
 /// Appends what to write, if the sentence about the problem doesn't say it.
@@ -26,9 +26,10 @@ pub(crate) fn push_remedy(
         (Rule::OwnRegisters, _, _) => {
             text.push_str("a 64-bit BAR uses two registers, index and index + 1")
         }
-        (Rule::ConfigEnd | Rule::OwnOffsets, Some(TableKind::Capability), _) => text.push_str(
-            "the header of a structure takes the two bytes at off, and its block follows them",
-        ),
+        (Rule::ConfigEnd | Rule::OwnOffsets, Some(TableKind::Part(EndpointPart::Capability)), _) =>
+            text.push_str(
+                "the header of a structure takes the two bytes at off, and its block follows them",
+            ),
         _ => Ok(()),
     }
 }

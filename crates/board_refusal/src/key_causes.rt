@@ -1,7 +1,7 @@
 //! Keys that were probably meant, and the form that the value of a key must have.
 
-use board_file::keys::fields;
-use board_file::schema::{Field, Keyword, TableKind, ValueType, form_at};
+use board_file::document::keys::fields;
+use board_file::document::schema::{Field, Keyword, TableKind, ValueType, form_at};
 use std::alloc::{AllocError, Global};
 use strsim::levenshtein;
 
@@ -43,22 +43,9 @@ pub(crate) fn push_key_suggestion(
     Ok(())
 }
 
-/// Returns what an array of tables of this kind must be.
-fn tables_words(inner: TableKind) -> &'static str {
-    match inner {
-        TableKind::Top | TableKind::Host => " an array of tables",
-        TableKind::Endpoint => " an array of tables: write [[endpoint]]",
-        TableKind::Bar => " an array of tables: write [[endpoint.bar]]",
-        TableKind::Config => " an array of tables: write [[endpoint.config]]",
-        TableKind::Capability => " an array of tables: write [[endpoint.capability]]",
-        TableKind::Bridge => " an array of tables: write [[bridge]]",
-        TableKind::Guest => " an array of tables: write [[guest]]",
-    }
-}
-
-/// Returns what the value of a key must be.
-pub(crate) fn form_words(level: TableKind, key: &str) -> &'static str {
-    match form_at(level, key) {
+/// Appends what the value of a key must be.
+pub(crate) fn push_form(text: &mut String, level: TableKind, key: &str) -> Result<(), AllocError> {
+    let words = match form_at(level, key) {
         Some(ValueType::Integer) => " an integer such as 16 or 0x10, without quotes",
         Some(ValueType::Text) => match key {
             "reset" | "rw" | "w1c" => " hexadecimal digits in quotes, such as \"ff\"",
@@ -72,7 +59,14 @@ pub(crate) fn form_words(level: TableKind, key: &str) -> &'static str {
         Some(ValueType::Pair) => " an array of two integers such as [0x1000, 0xffff]",
         Some(ValueType::Texts) => " an array of strings such as [\"1.0\", \"2.0/0.0\"]",
         Some(ValueType::Table(_)) => " a table: write [host]",
-        Some(ValueType::Tables(inner)) => tables_words(inner),
+        Some(ValueType::Tables(_)) => {
+            let owner = match level {
+                TableKind::Endpoint => "endpoint.",
+                _ => "",
+            };
+            return write!(text, " an array of tables: write [[{owner}{key}]]");
+        }
         None => "",
-    }
+    };
+    text.push_str(words)
 }

@@ -7,6 +7,7 @@
 mod helps;
 mod key_causes;
 mod others;
+mod parts;
 mod path_causes;
 mod placed_breach;
 mod problems;

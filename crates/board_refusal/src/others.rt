@@ -1,11 +1,11 @@
 //! The entries that a problem involves.
 
-use crate::value_causes::{extent_of, pattern_key};
+use crate::parts::{extent_of, overlapped};
+use crate::value_causes::pattern_key;
 use bars::Kind;
-use board_file::blocks::{ByteRange, are_apart, capability_extent, config_extent};
 use board_file::entries::{BarEntry, FileEntries};
-use board_file::path_text::{PathText, are_same_place};
-use board_file::{Entry, Rule};
+use board_file::path::text::{PathText, are_same_place};
+use board_file::{EndpointPart, Entry, Rule};
 
 /// Returns the path text of a function or slot.
 pub(crate) fn path_of<'f, 'a>(file: &'f FileEntries<'a>, entry: Entry) -> Option<&'f PathText<'a>> {
@@ -47,7 +47,7 @@ fn taker(bars: &[BarEntry<'_>]) -> Option<(usize, Option<usize>)> {
 /// Returns the first BAR of an endpoint that has no registers of its own.
 fn taker_of(file: &FileEntries<'_>, endpoint: usize) -> Option<Entry> {
     let (bar, _) = taker(&file.endpoints.get(endpoint)?.bars)?;
-    Some(Entry::Bar(endpoint, bar))
+    Some(Entry::Part(EndpointPart::Bar, endpoint, bar))
 }
 
 /// Returns the entry and the key that cause a problem, if they aren't those of the rule: the BAR
@@ -92,26 +92,6 @@ fn slot_with(file: &FileEntries<'_>, at: &PathText<'_>) -> Option<Entry> {
     None
 }
 
-/// Returns the first block of configuration registers of an endpoint that overlaps a range.
-/// Structures of the capability list come after configuration blocks.
-fn overlapped(file: &FileEntries<'_>, endpoint: usize, extent: ByteRange) -> Option<Entry> {
-    let entry = file.endpoints.get(endpoint)?;
-    let config = entry
-        .configs
-        .iter()
-        .position(|other| !are_apart(config_extent(other), extent));
-    match config {
-        Some(j) => Some(Entry::Config(endpoint, j)),
-        None => {
-            let j = entry
-                .capabilities
-                .iter()
-                .position(|other| !are_apart(capability_extent(other), extent))?;
-            Some(Entry::Capability(endpoint, j))
-        }
-    }
-}
-
 /// Returns the first entry that conflicts with this one over a path, a name, an offset or a
 /// register. Returns `None` for rules that no other entry is involved in.
 pub(crate) fn other_of(file: &FileEntries<'_>, entry: Entry, rule: Rule) -> Option<Entry> {
@@ -123,12 +103,10 @@ pub(crate) fn other_of(file: &FileEntries<'_>, entry: Entry, rule: Rule) -> Opti
             let other = file.guests.iter().position(|guest| guest.name == name)?;
             Some(Entry::Guest(other))
         }
-        (Rule::OwnOffsets, Entry::Config(i, _) | Entry::Capability(i, _)) => {
-            overlapped(file, i, extent_of(file, entry)?)
-        }
+        (Rule::OwnOffsets, Entry::Part(_, i, _)) => { overlapped(file, i, extent_of(file, entry)?) }
         (Rule::OwnRegisters, Entry::Endpoint(i)) => {
             let (_, met) = taker(&file.endpoints.get(i)?.bars)?;
-            Some(Entry::Bar(i, met?))
+            Some(Entry::Part(EndpointPart::Bar, i, met?))
         }
         _ => None,
     }

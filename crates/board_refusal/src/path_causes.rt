@@ -1,8 +1,8 @@
 //! Paths that were probably meant, and paths at which a function is missing.
 
 use crate::others::function_at;
-use board_file::path_text::{PathText, path_of};
-use board_file::places::{FunctionPath, has_bridge};
+use board_file::path::places::{FunctionPath, has_bridge};
+use board_file::path::text::{PathText, path_of};
 use board_file::{Entry, Source};
 use diagnostics::Shown;
 use std::alloc::AllocError;

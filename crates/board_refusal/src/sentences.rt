@@ -1,14 +1,13 @@
 //! The sentence that says what is wrong with an entry.
 
-use crate::key_causes::form_words;
+use crate::key_causes::push_form;
 use crate::others::path_of;
+use crate::parts::bar_of;
 use crate::path_causes::{push_bridge, push_zero, slot_words};
 use crate::placed_breach::PlacedBreach;
-use crate::value_causes::{
-    bar_of, io_words, mem_words, pref_words, push_overlap, push_pattern, push_size,
-};
+use crate::value_causes::{io_words, mem_words, pref_words, push_overlap, push_pattern, push_size};
+use board_file::document::tables::level_of;
 use board_file::entries::FileEntries;
-use board_file::tables::level_of;
 use board_file::{Entry, Rule, Source};
 use diagnostics::{Head, Other, Shown, Subject};
 use std::alloc::AllocError;
@@ -117,7 +116,7 @@ pub(crate) fn push_sentence(
     let file = &source.file;
     match (rule, level_of(entry), file.pref) {
         (Rule::Needed | Rule::Known, _, _) => write!(text, " '{}'", Shown(key.as_bytes())),
-        (Rule::Form, Some(level), _) => text.push_str(form_words(level, key)),
+        (Rule::Form, Some(level), _) => push_form(text, level, key),
         (Rule::IoAperture, _, _) => text.push_str(io_words(file.io)),
         (Rule::MemAperture, _, _) => text.push_str(mem_words(file.mem)),
         (Rule::PrefAperture, _, Some(pref)) => text.push_str(pref_words(file.mem, pref)),

@@ -1,9 +1,9 @@
 //! Causes of invalid sizes, apertures and patterns.
 
+use crate::parts::{extent_of, patterns_of};
 use bars::Kind;
 use board_file::Entry;
-use board_file::blocks::{ByteRange, capability_extent, config_extent};
-use board_file::entries::{BarEntry, Bounds, ConfigEntry, FileEntries, PatternTexts};
+use board_file::entries::{BarEntry, Bounds, FileEntries};
 use diagnostics::Other;
 use std::alloc::AllocError;
 
@@ -15,14 +15,6 @@ fn first_words(rules: &[(&'static str, bool)]) -> &'static str {
         }
     }
     ""
-}
-
-/// Returns the BAR of an entry, if it is one.
-pub(crate) fn bar_of<'f, 'a>(file: &'f FileEntries<'a>, entry: Entry) -> Option<&'f BarEntry<'a>> {
-    match entry {
-        Entry::Bar(i, j) => file.endpoints.get(i)?.bars.get(j),
-        _ => None,
-    }
 }
 
 /// Appends why a BAR can't have its size.
@@ -132,23 +124,6 @@ fn pattern_words(block: i64, pattern: &str) -> &'static str {
     ])
 }
 
-/// Returns the size and the patterns of a register block.
-fn patterns_of<'f, 'a>(
-    file: &'f FileEntries<'a>,
-    entry: Entry,
-) -> Option<(i64, &'f PatternTexts<'a>)> {
-    match entry {
-        Entry::Bar(_, _) => {
-            let bar = bar_of(file, entry)?;
-            Some((bar.block, &bar.patterns))
-        }
-        _ => {
-            let config = config_of(file, entry)?;
-            Some((config.block, &config.patterns))
-        }
-    }
-}
-
 /// Returns the key and the text of the first pattern of a register block that isn't valid, and the
 /// size of the block.
 fn invalid_pattern<'a>(
@@ -198,27 +173,6 @@ pub(crate) fn push_pattern(
     text.push_str(words)
 }
 
-/// Returns the configuration registers of an entry, if it has any.
-fn config_of<'f, 'a>(file: &'f FileEntries<'a>, entry: Entry) -> Option<&'f ConfigEntry<'a>> {
-    match entry {
-        Entry::Config(i, j) => file.endpoints.get(i)?.configs.get(j),
-        Entry::Capability(i, j) => Some(&file.endpoints.get(i)?.capabilities.get(j)?.config),
-        _ => None,
-    }
-}
-
-/// Returns the offsets of the configuration registers of an entry, if it has any.
-pub(crate) fn extent_of(file: &FileEntries<'_>, entry: Entry) -> Option<ByteRange> {
-    match entry {
-        Entry::Config(i, j) => Some(config_extent(file.endpoints.get(i)?.configs.get(j)?)),
-        Entry::Capability(i, j) => {
-            let capability = file.endpoints.get(i)?.capabilities.get(j)?;
-            Some(capability_extent(capability))
-        }
-        _ => None,
-    }
-}
-
 /// Appends the size of a block of configuration registers, and the block that it overlaps.
 pub(crate) fn push_overlap(
     text: &mut String,
@@ -226,7 +180,7 @@ pub(crate) fn push_overlap(
     entry: Entry,
     other: Other,
 ) -> Result<(), AllocError> {
-    let Some(config) = config_of(file, entry) else {
+    let Some((block, _)) = patterns_of(file, entry) else {
         return Ok(());
     };
     let Some(met) = extent_of(file, other.entry) else {
@@ -236,8 +190,7 @@ pub(crate) fn push_overlap(
     let end = first.saturating_add(met.len);
     write!(
         text,
-        " {} overlaps {other}, which is at 0x{first:x} to 0x{:x}",
-        config.block,
+        " {block} overlaps {other}, which is at 0x{first:x} to 0x{:x}",
         end.saturating_sub(1)
     )
 }

@@ -8,7 +8,7 @@
 use Rattle.std.specs.Prelude.{◌≡◌, ℕ, codes, List, [], ◌∷◌, ◌++◌, map, is_some, if◌then◌else◌}
 use Rattle.toml.specs.Data.{Members}
 use Rattle.diagnostics.specs.{declared.{steps.Step.{Step, TheVariants.{Key, Index}}, text_place.TextPlace.TextPlace, entry_places.Other.Other}, Places.IsPlaceWithin}
-use Rattle.board_file.specs.{declared.entry.Entry.Entry, Tables.value_at}
+use Rattle.board_file.specs.{declared.entry.Entry.Entry, Schema.part_key, Tables.value_at}
 use Rattle.board_file.specs.declared.entry.Entry.TheVariants as entry
 
 pub data Turn : Type 0 where
@@ -26,9 +26,7 @@ abbrev pub way_of : Entry → List Turn
 way_of entry.File = []
 way_of entry.Host = at_key (codes "host") ∷ []
 way_of (entry.Endpoint i) = way_in (codes "endpoint") i []
-way_of (entry.Bar i j) = way_in (codes "endpoint") i (way_in (codes "bar") j [])
-way_of (entry.Config i j) = way_in (codes "endpoint") i (way_in (codes "config") j [])
-way_of (entry.Capability i j) = way_in (codes "endpoint") i (way_in (codes "capability") j [])
+way_of (entry.Part p i j) = way_in (codes "endpoint") i (way_in (part_key p) j [])
 way_of (entry.Bridge i) = way_in (codes "bridge") i []
 way_of (entry.Guest i) = way_in (codes "guest") i []
 way_of (entry.Slot i j) = way_in (codes "guest") i (way_in (codes "slots") j [])

@@ -8,7 +8,7 @@ use crate::entry_texts::EntryText;
 use crate::steps::Step;
 use crate::text_place::TextPlace;
 use board_file::Entry;
-use board_file::tables::value_at;
+use board_file::document::tables::value_at;
 use std::alloc::{AllocError, Global};
 use std::fmt;
 
@@ -35,28 +35,17 @@ fn way_of<'k>(alloc: Global, entry: Entry) -> Result<Vec<Step<'k>>, AllocError>
     ensures { IfOk result (λ v. map turn v.items ≡ way_of entry) }
 {
     let endpoint = Step::Key("endpoint");
-    let bar = Step::Key("bar");
-    let config = Step::Key("config");
-    let capability = Step::Key("capability");
     let guest = Step::Key("guest");
     let slots = Step::Key("slots");
     match entry {
         Entry::File => Ok(Vec::new(alloc)),
         Entry::Host => Ok(vec![in alloc; Step::Key("host")]?),
         Entry::Endpoint(i) => Ok(vec![in alloc; endpoint, Step::Index(i)]?),
-        Entry::Bar(i, j) => Ok(vec![in alloc; endpoint, Step::Index(i), bar, Step::Index(j)]?),
-        Entry::Config(i, j) => Ok(vec![in alloc;
-            endpoint,
-            Step::Index(i),
-            config,
-            Step::Index(j),
-        ]?),
-        Entry::Capability(i, j) => Ok(vec![in alloc;
-            endpoint,
-            Step::Index(i),
-            capability,
-            Step::Index(j),
-        ]?),
+        Entry::Part(part, i, j) => {
+            let key: &'k str = part.key();
+            let part = Step::Key(key);
+            Ok(vec![in alloc; endpoint, Step::Index(i), part, Step::Index(j)]?)
+        }
         Entry::Bridge(i) => Ok(vec![in alloc; Step::Key("bridge"), Step::Index(i)]?),
         Entry::Guest(i) => Ok(vec![in alloc; guest, Step::Index(i)]?),
         Entry::Slot(i, j) => Ok(vec![in alloc; guest, Step::Index(i), slots, Step::Index(j)]?),

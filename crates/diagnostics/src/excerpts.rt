@@ -3,7 +3,7 @@
 use crate::heads::Head;
 use crate::message_layout::MessageLayout;
 use crate::text_place::TextPlace;
-use board_file::tables::value_at;
+use board_file::document::tables::value_at;
 use std::alloc::{AllocError, Global};
 
 /// The maximum number of bytes of a line to show before a place, and from the place on.

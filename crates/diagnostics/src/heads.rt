@@ -6,7 +6,7 @@ use crate::message_layout::RenderOptions;
 use crate::shown::Shown;
 use crate::text_place::TextPlace;
 use board_file::Entry;
-use board_file::tables::{owner_name, value_at};
+use board_file::document::tables::{owner_name, value_at};
 use std::fmt;
 use toml::Table;
 use toml::value::Value;

@@ -6,7 +6,7 @@ ghost use Rattle.pciguest_c.specs.Calls.{Answers, give, take, giving, tells, ref
 use crate::handle::Handle;
 use crate::values::arguments::check_guest;
 use crate::values::numbers::{status_of, status_of_result};
-use board_file::path_text::path_of;
+use board_file::path::text::path_of;
 use monitor::{AssignError, Monitor};
 use std::alloc::Global;
 

@@ -1,6 +1,6 @@
 use Rattle.std.{proofs.Common.{◌≡◌, ◌++◌, map, drop, IsTrue}, specs.List.list_all}
 use Rattle.model_board.specs.Lawful.{HasLawfulDecls}
-use Rattle.board_file.specs.{Functions.endpoint_row, Judged.is_declarable, Rules.masks_hold}
+use Rattle.board_file.specs.{Functions.endpoint_row, Endpoints.{is_declarable, masks_hold}}
 use Rattle.board_file.proofs.board.endpoint_decls.Given as goal
 
 abbrev pub invariant-entries : goal.invariant-entries

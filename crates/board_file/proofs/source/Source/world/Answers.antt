@@ -3,8 +3,8 @@ use Rattle.toml.specs.View.{table_view}
 use Rattle.board_file.proofs.ByChecks.{judged_file, means_world, means_masks}
 use Rattle.board_file.proofs.source.Source.world.Goals as goal
 
-pub build-requires : goal.build-requires
-build-requires c = let s = c.args.self.now in grind (arith, judged_file (table_view s.document.now) s.file s.entries)
+pub build_checked-requires : goal.build_checked-requires
+build_checked-requires c = let s = c.args.self.now in grind (arith, judged_file (table_view s.document.now) s.file s.entries)
 
 pub returns-in-None-clause-world : goal.returns-in-None-clause-world
 returns-in-None-clause-world c = let s = c.args.self.now in grind (arith, means_world (table_view s.document.now) s.file s.entries)

@@ -1,0 +1,4 @@
+use Rattle.board_file.proofs.path.text.+push_parts.Given as goal
+
+abbrev pub decreases-push_parts : goal.decreases-push_parts
+decreases-push_parts l = l.room

@@ -1,0 +1,124 @@
+//! The `bridge` tables of a board file.
+ghost use Rattle.std.specs.{Prelude.{◌≡◌, ◌<◌, ◌^◌, nat_abs, OnOk, flat_map}, List.enumerate_from};
+ghost use Rattle.model_registers.specs.DeclarationRules.{IsLawfulBridge};
+ghost use Rattle.headers.specs.Decodes.{io_decode_of, pref_decode_of};
+ghost use Rattle.board_file.specs.{Entries.bridge, Functions.{bridge as declared_bridge}, Problems.{Adds, of_bridge}};
+ghost use Rattle.board_file.specs.Entries as said;
+
+use crate::document::keywords::{io_decode, pref_decode};
+use crate::document::reading::{FromTable, number, text};
+use crate::entries::FileEntries;
+use crate::entry::Entry;
+use crate::fault::BoardFault;
+use crate::finding::{Violation, push_broken};
+use crate::functions::numbers::{byte, half_word, has_few_slashes, is_between};
+use crate::path::text::PathText;
+use crate::rule::Rule;
+use headers::{BridgeDecl, IoDecode, PrefDecode};
+use std::alloc::{AllocError, Global};
+use std::marker::Model;
+use toml::Table;
+
+/// A `bridge` table.
+#[derive(Drop)]
+pub struct BridgeEntry<'a> {
+    pub at: PathText<'a>,
+    pub vendor: i64,
+    pub device: i64,
+    pub revision: i64,
+    pub io: IoDecode,
+    pub pref: PrefDecode,
+}
+
+impl<'a> Model for BridgeEntry<'a> {
+    ghost Value = { said.Bridge };
+
+    ghost view = { λ b. record {
+      at = b.at;
+      vendor = b.vendor;
+      device = b.device;
+      revision = b.revision;
+      io = io_decode_of b.io;
+      pref = pref_decode_of b.pref;
+    } };
+}
+
+impl<'a> FromTable<'a> for BridgeEntry<'a> {
+    ghost said = { bridge };
+
+    fn from_table(_alloc: Global, table: &'a Table) -> Result<Self, AllocError> {
+        Ok(BridgeEntry {
+            at: PathText::new(text(table, "at")),
+            vendor: number(table, "vendor"),
+            device: number(table, "device"),
+            revision: number(table, "revision"),
+            io: io_decode(text(table, "io")).unwrap_or(IoDecode::Unimplemented),
+            pref: pref_decode(text(table, "pref")).unwrap_or(PrefDecode::Unimplemented),
+        })
+    }
+}
+
+impl<'a> BridgeEntry<'a> {
+    /// Builds the declaration.
+    pub(crate) fn declare(&self) -> BridgeDecl
+        requires vendor { nat_abs self.now.vendor < 0xffff }
+        requires device { nat_abs self.now.device < 2 ^ 16 }
+        requires revision { nat_abs self.now.revision < 2 ^ 8 }
+        ensures value { result ≡ declared_bridge self.now }
+        ensures lawful { IsLawfulBridge result }
+    {
+        BridgeDecl::new(
+            half_word(self.vendor),
+            half_word(self.device),
+            byte(self.revision),
+            self.io,
+            self.pref,
+        )
+        .unwrap()
+    }
+}
+
+/// Appends the problems of a bridge.
+fn push_bridge(
+    problems: &mut Vec<Violation<'_>>,
+    fault: BoardFault,
+    index: usize,
+    bridge: &BridgeEntry<'_>,
+) -> Result<(), AllocError>
+    ensures { OnOk result
+        (Adds (of_bridge fault (index, bridge.now)) problems.old.items problems.new.items) }
+{
+    let entry = Entry::Bridge(index);
+    match fault {
+        BoardFault::Number => push_broken(
+            problems,
+            entry,
+            &[
+                (Rule::Vendor, is_between(0, 0xfffe, bridge.vendor)),
+                (Rule::Device, is_between(0, 0xffff, bridge.device)),
+                (Rule::Revision, is_between(0, 0xff, bridge.revision)),
+            ],
+        ),
+        BoardFault::TooMany => {
+            let slashes = has_few_slashes(&bridge.at);
+            push_broken(problems, entry, &[(Rule::Slashes, slashes)])
+        }
+        _ => Ok(()),
+    }
+}
+
+/// Appends the problems of all bridges.
+pub(crate) fn push_bridges(
+    problems: &mut Vec<Violation<'_>>,
+    file: &FileEntries<'_>,
+    fault: BoardFault,
+) -> Result<(), AllocError>
+    ensures { OnOk result
+        (Adds (flat_map (of_bridge fault) (enumerate_from 0 file.now.bridges))
+        problems.old.items problems.new.items) }
+{
+    'bridges: for (index, bridge) in file.bridges.iter().enumerate() {
+        push_bridge(problems, fault, index, bridge)?;
+    }
+    Ok(())
+}

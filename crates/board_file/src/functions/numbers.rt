@@ -1,0 +1,71 @@
+//! Ranges and conversions of integers, and limits on the number of entries.
+ghost use Rattle.std.specs.Prelude.{◌≡◌, ◌<◌, ◌+◌, ◌^◌, ◌+ℤ◌, int_le, nat_abs, nat_le, pos, length};
+ghost use Rattle.board_file.specs.Rules.{is_between, has_only_bits, has_few_slashes};
+
+use crate::entries::FileEntries;
+use crate::path::text::PathText;
+
+/// Returns whether the number is between `first` and `last`, both inclusive.
+pub(crate) fn is_between(first: u16, last: u32, number: i64) -> bool
+    ensures { result ≡ is_between first last number }
+{
+    i64::from(first) <= number && number <= i64::from(last)
+}
+
+/// Returns whether the number fits in 16 bits and has no bit outside the mask.
+pub(crate) fn has_only_bits(mask: u16, number: i64) -> bool
+    ensures { result ≡ has_only_bits mask number }
+{
+    match u16::try_from(number) {
+        Ok(bits) => bits & mask == bits,
+        Err(_) => false,
+    }
+}
+
+/// Returns whether the sum of `off` and `block` is at most `end`.
+pub(crate) fn ends_by(end: u16, off: i64, block: i64) -> bool
+    ensures { result ≡ int_le (off +ℤ block) (pos end) }
+{
+    match off.checked_add(block) {
+        Some(sum) => sum <= i64::from(end),
+        None => off < 0,
+    }
+}
+
+/// Returns whether the text has at most 15 slashes. A path of 16 parts has 15.
+pub(crate) fn has_few_slashes(at: &PathText<'_>) -> bool
+    ensures { result ≡ has_few_slashes at.now }
+{
+    let text = at.text().as_bytes();
+    text.iter().filter(|byte| **byte == b'/').count() <= 15
+}
+
+/// Returns whether the file has at most 1024 endpoints and bridges.
+pub(crate) fn has_few_functions(file: &FileEntries<'_>) -> bool
+    ensures { result ≡ nat_le (length file.now.endpoints + length file.now.bridges) 1024 }
+{
+    let endpoints = file.endpoints.len();
+    let bridges = file.bridges.len();
+    endpoints <= 1024 && bridges <= 1024 && endpoints + bridges <= 1024
+}
+
+/// Converts a number that isn't negative.
+pub(crate) fn natural(number: i64) -> u64
+    ensures { result ≡ nat_abs number }
+{
+    number.unsigned_abs()
+}
+
+pub(crate) fn byte(number: i64) -> u8
+    requires { nat_abs number < 2 ^ 8 }
+    ensures { result ≡ nat_abs number }
+{
+    natural(number) as u8
+}
+
+pub(crate) fn half_word(number: i64) -> u16
+    requires { nat_abs number < 2 ^ 16 }
+    ensures { result ≡ nat_abs number }
+{
+    natural(number) as u16
+}

@@ -1,0 +1,70 @@
+//! Checks of the paths of functions and slots.
+ghost use Rattle.std.specs.Prelude.{◌≡◌, OnOk};
+ghost use Rattle.board_file.specs.{Functions.standings, Problems.{Adds, of_path, of_paths}};
+
+use crate::entries::FileEntries;
+use crate::fault::BoardFault;
+use crate::finding::{Violation, push_broken};
+use crate::path::marked::{MarkedPath, marked_paths};
+use crate::path::places::FunctionPath;
+use crate::path::sets::PathSets;
+use crate::rule::Rule;
+use std::alloc::{AllocError, Global};
+
+/// Appends the problems of the path of a function or slot.
+fn push_path(
+    problems: &mut Vec<Violation<'_>>,
+    functions: &PathSets<'_>,
+    fault: BoardFault,
+    at: &MarkedPath<'_, '_>,
+) -> Result<(), AllocError>
+    ensures { OnOk result
+        (Adds (of_path fault functions.now at.now) problems.old.items problems.new.items) }
+{
+    match fault {
+        BoardFault::Place => {
+            let path = at.text.path();
+            let is_behind = functions.is_behind_bridge(path.parent());
+            let has_zero = functions.has_path(&path.function_zero());
+            push_broken(
+                problems,
+                at.entry,
+                &[
+                    (Rule::Path, at.text.is_path()),
+                    (Rule::OwnPlace, at.is_first),
+                    (Rule::BehindBridge, is_behind),
+                    (Rule::FunctionZero, has_zero),
+                ],
+            )
+        }
+        BoardFault::Slot => push_broken(
+            problems,
+            at.entry,
+            &[
+                (Rule::NamesEndpoint, functions.names_endpoint(at.text)),
+                (Rule::OwnSlot, at.is_first),
+            ],
+        ),
+        _ => Ok(()),
+    }
+}
+
+/// Appends the problems of all paths that a check examines.
+pub(crate) fn push_paths(
+    alloc: Global,
+    problems: &mut Vec<Violation<'_>>,
+    file: &FileEntries<'_>,
+    functions: &[FunctionPath],
+    fault: BoardFault,
+) -> Result<(), AllocError>
+    requires { functions.now ≡ standings file.now }
+    ensures { OnOk result
+        (Adds (of_paths fault file.now) problems.old.items problems.new.items) }
+{
+    let functions = PathSets::new(alloc, functions)?;
+    let entries = marked_paths(alloc, file, fault)?;
+    'entries: for at in &entries {
+        push_path(problems, &functions, fault, at)?;
+    }
+    Ok(())
+}
