@@ -149,7 +149,7 @@ static void limits(void)
 
     memset(&told, 0x5a, sizeof told);
     IS(pciguest_limits(&told), 0);
-    IS(told.guest_image, 8490860);
+    IS(told.guest_image, 3187244);
     IS(told.functions == 1024 && told.guests == 32 && told.slots == 32 && told.bars == PCIGUEST_BARS, 1);
     IS(told.block == 4096 && told.own_cells == 0x100 - 0x40 && told.slots * told.bars == PCIGUEST_PLACES, 1);
     for (int n = 0; n < PCIGUEST_ROOM; n++)

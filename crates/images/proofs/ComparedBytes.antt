@@ -1,6 +1,6 @@
 -- Bytes that are compared in two steps.
 use Rattle.std.{proofs.{Common.{◌≡◌, ◌<◌, ℕ, ◌⊎◌, inl, inr, true, false, List, [], ◌∷◌, ◌++◌, length, take, drop, Ok, Err, refl, sym, ap, ap₂, ◌∙◌, subst, arith}, lemmas.{List.{append-nil, take-append-drop, take_all, take_at}, Slice.Eq.bytes_eq-Decides}}, specs.{Prelude.flat_map, Str.bytes_eq}}
-use Rattle.model_images.{specs.LoadedBytes.{then_read, after_bytes}, proofs.{Savable.block_count, LoadedBytes.{compared, after_both, own_bytes, Follows, FallsShort}}}
+use Rattle.model_images.{specs.LoadedBytes.{then_read, after_bytes}, proofs.{BlockCounts.block_count, LoadedBytes.{compared, after_both, own_bytes, Follows, FallsShort}}}
 use Rattle.lists.specs.Elements.{Each}
 use Rattle.model_registers.specs.{Declarations.{Region, ConfigBlock, Endpoint}, DeclarationRules.{IsConfigBlock, IsLawfulEndpoint}}
 use Rattle.images.specs.Parts.{counted_blocks, region_bytes, rest_bytes}

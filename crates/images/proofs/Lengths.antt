@@ -1,8 +1,9 @@
 -- How long the parts of a declaration are.
-use Rattle.std.{proofs.Common.{◌≡◌, ◌+◌, ◌*◌, ◌≤◌, ℕ, zero, suc, false, List, [], ◌∷◌, ◌/◌, length, refl, ap, ◌∙◌, arith, length-append}, specs.Prelude.flat_map}
-use Rattle.model_registers.specs.{Cell.Cell, Declarations.{Kind, io_kind, mem32, mem64, registers_of, Region, ConfigBlock, Endpoint}, EndpointTable.{block_cells, endpoint_reset, region_cells}, Registers.{Place, after, File, field}, DeclarationRules.IsLawfulEndpoint}
-use Rattle.model_images.proofs.Savable.{region_count, block_count}
-use Rattle.images.{proofs.TakenValues.many_cells, specs.Parts.{cell_bytes, endpoint_head, region_head, block_head, region_bytes, block_bytes, declared_bytes}}
+use Rattle.std.{proofs.Common.{◌≡◌, ◌+◌, ◌*◌, ◌≤◌, ℕ, zero, suc, false, List, [], ◌∷◌, ◌/◌, length, refl, sym, ap, ◌∙◌, subst, arith, length-append}, specs.Prelude.flat_map}
+use Rattle.lists.specs.Elements.{Each, EachPair}
+use Rattle.model_registers.{specs.{Cell.Cell, Declarations.{Kind, io_kind, mem32, mem64, registers_of, Region, IsLawfulRegion, ConfigBlock, Endpoint}, EndpointTable.{block_cells, endpoint_reset, region_cells}, Registers.{Place, config, after, File, field}, DeclarationRules.IsLawfulEndpoint}, proofs.Bases.registers_positive}
+use Rattle.model_images.proofs.{BlockCounts.{many_cells, cell_count, block_count}, Savable.{all_above, region_count}}
+use Rattle.images.specs.Parts.{cell_bytes, endpoint_head, region_head, block_head, region_bytes, block_bytes, declared_bytes}
 
 cells_length : (cs : List Cell) → length (flat_map cell_bytes cs) ≡ 3 * length cs
 unfolding cell_bytes
@@ -40,9 +41,6 @@ parts_length d rs bs regions blocks = grind (arith, length-append, endpoint_head
 pub few_regions : (d : Endpoint) (rs : List Region) → IsLawfulEndpoint d → rs ≡ d.regions → length rs ≤ 6
 few_regions d rs h same = let few = region_count d h in let as_many = ap (λ (l : List Region). length l) same in omega arith
 
-pub few_blocks : (d : Endpoint) (bs : List ConfigBlock) → IsLawfulEndpoint d → bs ≡ d.blocks → length bs ≤ 204
-few_blocks d bs h same = let few = block_count d h in let as_many = ap (λ (l : List ConfigBlock). length l) same in omega arith
-
 -- ---- how many cells
 
 pub first_cells : {A : Type 0} (f : A → File) (x : A) (left rest : List A) → left ≡ x ∷ rest → length (flat_map f left) ≡ length (f x) + length (flat_map f rest)
@@ -63,3 +61,29 @@ region_cell_count r = grind (arith, field_count, many_cells)
 pub cells_count : (d : Endpoint) (rs : List Region) (bs : List ConfigBlock) → rs ≡ d.regions → bs ≡ d.blocks
     → 23 + length (flat_map block_cells bs) + length (flat_map (region_cells (λ r. 0)) rs) ≡ length (endpoint_reset d false)
 cells_count d rs bs regions blocks = grind (arith, length-append)
+
+-- ---- how many at most
+
+-- a block has two bytes, and three for each cell
+blocks_length : (bs : List ConfigBlock) → length (flat_map block_bytes bs) ≡ 2 * length bs + 3 * length (flat_map block_cells bs)
+blocks_length [] = refl
+blocks_length (b ∷ bs) = grind (arith, length-append, block_length b, many_cells (config b.offset) b.cells, blocks_length bs)
+
+pub few_block_bytes : (d : Endpoint) (bs : List ConfigBlock) → IsLawfulEndpoint d → bs ≡ d.blocks → length (flat_map block_bytes bs) ≤ 965
+few_block_bytes d bs h same =
+    let few : length (flat_map block_bytes d.blocks) ≤ 965 = omega (arith, blocks_length d.blocks, block_count d h, cell_count d h) in
+    subst (λ (l : List ConfigBlock). length (flat_map block_bytes l) ≤ 965) (sym same) few
+
+pub few_block_cells : (d : Endpoint) (bs : List ConfigBlock) → IsLawfulEndpoint d → bs ≡ d.blocks → length (flat_map block_cells bs) ≤ 193
+few_block_cells d bs h same = subst (λ (l : List ConfigBlock). length (flat_map block_cells l) ≤ 193) (sym same) (cell_count d h)
+
+-- a region has 4100 for each of its registers at most
+cells_from_register : (n : ℕ) (rs : List Region) → n ≤ 6 → Each IsLawfulRegion rs → Each (λ r. length r.cells ≤ 4096) rs → EachPair (λ r s. r.index + registers_of r.kind ≤ s.index) rs → Each (λ r. n ≤ r.index) rs
+    → length (flat_map (region_cells (λ r. 0)) rs) + 4100 * n ≤ 24600
+cells_from_register n [] low all short order above = omega arith
+cells_from_register n (r ∷ rs) low all short order above = grind (arith, length-append, region_cell_count, registers_positive, cells_from_register (r.index + registers_of r.kind) rs)
+
+pub few_region_cells : (d : Endpoint) (rs : List Region) → IsLawfulEndpoint d → rs ≡ d.regions → length (flat_map (region_cells (λ r. 0)) rs) ≤ 24600
+few_region_cells d rs h same =
+    let few = cells_from_register 0 d.regions (omega arith) h.regions.each h.region_blocks h.regions.in_order (all_above d.regions) in
+    subst (λ (l : List Region). length (flat_map (region_cells (λ r. 0)) l) ≤ 24600) (sym same) (omega (arith, few))

@@ -1,8 +1,8 @@
 -- Values that are taken one after the other.
 use Rattle.std.{proofs.{Common.{◌≡◌, ℕ, suc, ◌+◌, ◌-◌, ◌/◌, ◌%◌, ◌<◌, ◌≤◌, ◌⊎◌, inl, inr, true, false, List, [], ◌∷◌, ◌++◌, length, drop, Ok, Err, refl, ap, ◌∙◌, subst, arith}, lemmas.Bool.Decides.nat_tests}, specs.Prelude.flat_map}
 use Rattle.lists.specs.Elements.{Each}
-use Rattle.model_registers.specs.{Cell.Cell, Registers.{Place, config, block, after, PlacedCell, File, field, cells_from}, Declarations.{Region, ConfigBlock, Endpoint}, DeclarationRules.{IsInPlace, IsConfigBlock}, EndpointTable.{base_cells, block_cells, header_cells, endpoint_reset}, DeviceBytes.is_device_byte}
-use Rattle.model_images.specs.{Images.can_hold, LoadedBytes.{then_read, after_values}}
+use Rattle.model_registers.specs.{Cell.Cell, Registers.{Place, config, block, PlacedCell, File, field, cells_from}, Declarations.{Region, ConfigBlock, Endpoint}, DeclarationRules.{IsInPlace, IsConfigBlock}, EndpointTable.{base_cells, block_cells, header_cells, endpoint_reset}, DeviceBytes.is_device_byte}
+use Rattle.model_images.{specs.{Images.can_hold, LoadedBytes.{then_read, after_values}}, proofs.BlockCounts.many_cells}
 use Rattle.model_registers.specs.EndpointTable as table
 
 values_both : (xs ys : File) (bytes : List ℕ) → after_values (xs ++ ys) bytes ≡ then_read (after_values ys) (after_values xs bytes)
@@ -83,10 +83,6 @@ first_in_place b left rest all first = (subst (Each IsConfigBlock) first all).0.
 region_cells : (n a : ℕ) (cs : List Cell) → AreDevice (cells_from (block n a) cs)
 region_cells n a [] = tt
 region_cells n a (c ∷ cs) = (refl, region_cells n (a + 1) cs)
-
-pub many_cells : (p : Place) (cs : List Cell) → length (cells_from p cs) ≡ length cs
-many_cells p [] = refl
-many_cells p (c ∷ cs) = ap suc (many_cells (after p) cs)
 
 pub block_taken : (a : ℕ) (cs : List Cell) (bytes rest : List ℕ) → IsInPlace a (length cs) → length cs ≤ length bytes → rest ≡ drop (length cs) bytes → after_values (cells_from (config a) cs) bytes ≡ Ok rest
 block_taken a cs bytes rest low room left = grind (arith, many_cells, any_taken, block_cells_are)

@@ -16,7 +16,7 @@ pub fn function_size(endpoint: &EndpointFn) -> usize
     requires { HasDeclaredPlaces endpoint.now }
     ensures size { (own : OwnCopies)
         → result ≡ length (function_bytes (seen endpoint.now own)) }
-    ensures bound { result ≤ 265338 }
+    ensures bound { result ≤ 99600 }
 {
     let decl = endpoint.decl();
     declaration_size(decl) + values_size(decl)

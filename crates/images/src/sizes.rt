@@ -24,9 +24,9 @@ fn regions_size(regions: &[Region]) -> usize
 
 fn blocks_size(blocks: &[ConfigBlock]) -> usize
     requires lawful { Each IsConfigBlock blocks.now }
-    requires few { length blocks.now ≤ 204 }
+    requires few { length (flat_map block_bytes blocks.now) ≤ 965 }
     ensures size { result ≡ length (flat_map block_bytes blocks.now) }
-    ensures bound { result ≤ 125256 }
+    ensures bound { result ≤ 965 }
 {
     let mut left = blocks;
     let mut size = 0;
@@ -40,7 +40,7 @@ fn blocks_size(blocks: &[ConfigBlock]) -> usize
 /// Returns the total size of the parts of a declaration, in bytes.
 fn parts_size(decl: &EndpointDecl) -> usize
     ensures size { result ≡ length (declared_bytes decl.now) }
-    ensures bound { result ≤ 199075 }
+    ensures bound { result ≤ 74784 }
 {
     let values = decl.values();
     19 + regions_size(&values.bar) + blocks_size(&values.config)
@@ -50,7 +50,7 @@ fn parts_size(decl: &EndpointDecl) -> usize
 #[tactic(auto, using(crate::proofs::DeclaredBytes::declared_is))]
 pub fn declaration_size(decl: &EndpointDecl) -> usize
     ensures size { result ≡ length (declaration_bytes decl.now) }
-    ensures bound { result ≤ 199075 }
+    ensures bound { result ≤ 74784 }
 {
     parts_size(decl)
 }
@@ -58,9 +58,9 @@ pub fn declaration_size(decl: &EndpointDecl) -> usize
 /// Returns how many register bytes the regions have, including their base address registers.
 fn regions_cells(regions: &[Region]) -> usize
     requires counts { Each (λ r. length r.cells ≤ 4096) regions.now }
-    requires few { length regions.now ≤ 6 }
+    requires few { length (flat_map (region_cells (λ r. 0)) regions.now) ≤ 24600 }
     ensures size { result ≡ length (flat_map (region_cells (λ r. 0)) regions.now) }
-    ensures bound { result ≤ 24624 }
+    ensures bound { result ≤ 24600 }
 {
     let mut left = regions;
     let mut size = 0;
@@ -73,9 +73,9 @@ fn regions_cells(regions: &[Region]) -> usize
 
 fn blocks_cells(blocks: &[ConfigBlock]) -> usize
     requires lawful { Each IsConfigBlock blocks.now }
-    requires few { length blocks.now ≤ 204 }
+    requires few { length (flat_map block_cells blocks.now) ≤ 193 }
     ensures size { result ≡ length (flat_map block_cells blocks.now) }
-    ensures bound { result ≤ 41616 }
+    ensures bound { result ≤ 193 }
 {
     let mut left = blocks;
     let mut size = 0;
@@ -89,7 +89,7 @@ fn blocks_cells(blocks: &[ConfigBlock]) -> usize
 /// Returns how many register bytes a declared endpoint has. Each takes one byte in a saved state.
 pub fn values_size(decl: &EndpointDecl) -> usize
     ensures size { result ≡ length (endpoint_reset decl.now false) }
-    ensures bound { result ≤ 66263 }
+    ensures bound { result ≤ 24816 }
 {
     let values = decl.values();
     23 + blocks_cells(&values.config) + regions_cells(&values.bar)

@@ -14,6 +14,7 @@ pub mod Numbers
 pub mod Layouts
 pub mod ImageLayouts
 pub mod ImageBytes
+pub mod BlockCounts
 pub mod Savable
 pub mod LoadedBytes
 pub mod TakenBytes

@@ -1,9 +1,10 @@
 -- The image of a guest of lawful functions, which hold what they can, has bytes.
-use Rattle.std.{proofs.{Common.{◌≡◌, ℕ, ◌+◌, ◌-◌, ◌^◌, ◌<◌, ◌≤◌, Bool, true, false, cond, ◌&&◌, eqb, List, [], ◌∷◌, length, map, Some, None, refl, ap, ◌∙◌, subst, arith}, lemmas.{Bool.{and_from, lt-ltb, eq-eqb, ne_eqb, eqb-true}, List.length-map, Nat.{and_le_r, or_of_16}, Map.Steps.length-le_from_distinct_below}}, specs.{Prelude.{option_map, bit_and, IsTrue}, List.{list_any, AllByRecursion, IsDistinct}}}
+use Rattle.std.{proofs.{Common.{◌≡◌, ℕ, ◌+◌, ◌^◌, ◌<◌, ◌≤◌, Bool, true, false, cond, ◌&&◌, List, [], ◌∷◌, length, map, Some, None, refl, ap, ◌∙◌, subst, arith}, lemmas.{Bool.{and_from, lt-ltb, eq-eqb}, List.length-map, Nat.{and_le_r, or_of_16}}}, specs.{Prelude.{option_map, bit_and}, List.list_any}}
 use Rattle.lists.{specs.Elements.{Each, EachPair}, proofs.EachLemmas.each_map}
-use Rattle.model_registers.{specs.{Cell.{Cell, IsCell}, Registers.File, AccessLaws.HoldsBytes, ConfigAddress.latched, CopiedFiles.shape_of, Declarations.{Kind, registers_of, greatest_size, Region, IsLawfulRegion, ConfigBlock, Endpoint}, DeclarationRules.{is_pointer, list_bit, IsConfigBlock, blocks_apart, IsLawfulEndpoint}, EndpointTable.endpoint_reset, Decoding.Function}, proofs.Bases.registers_positive}
+use Rattle.model_registers.{specs.{Cell.{Cell, IsCell}, Registers.File, AccessLaws.HoldsBytes, ConfigAddress.latched, CopiedFiles.shape_of, Declarations.{Kind, registers_of, greatest_size, Region, IsLawfulRegion, ConfigBlock, Endpoint}, DeclarationRules.{is_pointer, list_bit, IsConfigBlock, IsLawfulEndpoint}, EndpointTable.endpoint_reset, Decoding.Function}, proofs.Bases.registers_positive}
 use Rattle.model_guests.specs.Slots.{Slots}
 use Rattle.model_images.specs.{Images.{values_of, saved, fit_cells}, Layouts.{Layout, number, fit_times, counted, optional}, ImageBytes.{cell_layout, kind_layout, region_layout, block_layout, endpoint_layout, function_layout, latch_layout}, ByteLaws.{IsDeclared, IsSavable, HoldsSavable, GuestsHaveBytes}}
+use Rattle.model_images.proofs.BlockCounts.{block_count}
 
 -- ---- lists
 
@@ -43,37 +44,12 @@ few_regions : (rs : List Region) (n : ℕ) → n ≤ 6 → Each IsLawfulRegion r
 few_regions [] n low all order above = omega arith
 few_regions (r ∷ rs) n low all order above = grind (arith, registers_positive, each_map, few_regions rs (r.index + 1))
 
-abbrev places : List ConfigBlock → List ℕ
-places bs = map (λ (b : ConfigBlock). b.offset - 0x34) bs
-
-other_places : (b : ConfigBlock) (cs : List ConfigBlock) → IsConfigBlock b → Each IsConfigBlock cs → Each (λ c. IsTrue (blocks_apart b c)) cs → AllByRecursion (λ n. eqb (b.offset - 0x34) n ≡ false) (places cs)
-other_places b [] h all apart = tt
-other_places b (c ∷ cs) h all apart = grind (arith, ne_eqb, other_places b cs h all.1 apart.1)
-
-distinct_places : (bs : List ConfigBlock) → Each IsConfigBlock bs → EachPair (λ b c. IsTrue (blocks_apart b c)) bs → IsDistinct eqb (places bs)
-unfolding IsDistinct
-distinct_places [] all apart = tt
-distinct_places (b ∷ bs) all apart = (other_places b bs all.0 all.1 apart.0, distinct_places bs all.1 apart.1)
-
-low_places : (bs : List ConfigBlock) → Each IsConfigBlock bs → (q : ℕ) → list_any (eqb q) (places bs) ≡ true → q < 204
-low_places [] all q h = cc
-low_places (b ∷ bs) all q h = grind (arith, low_places bs all.1 q, eqb-true)
-
-few_blocks : (bs : List ConfigBlock) → Each IsConfigBlock bs → EachPair (λ b c. IsTrue (blocks_apart b c)) bs → length bs ≤ 204
-few_blocks bs all apart =
-    let most = length-le_from_distinct_below (places bs) 204 (distinct_places bs all apart) (low_places bs all) in
-    let same = length-map bs (λ (b : ConfigBlock). b.offset - 0x34) in
-    omega arith
-
-all_above : (rs : List Region) → Each (λ r. 0 ≤ r.index) rs
+pub all_above : (rs : List Region) → Each (λ r. 0 ≤ r.index) rs
 all_above [] = tt
 all_above (r ∷ rs) = (omega arith, all_above rs)
 
 pub region_count : (d : Endpoint) → IsLawfulEndpoint d → length d.regions ≤ 6
 region_count d h = let a = few_regions d.regions 0 (omega arith) h.regions.each h.regions.in_order (all_above d.regions) in omega arith
-
-pub block_count : (d : Endpoint) → IsLawfulEndpoint d → length d.blocks ≤ 204
-block_count d h = few_blocks d.blocks h.config_blocks h.blocks_apart
 
 -- ---- declarations
 

@@ -19,7 +19,8 @@ use Rattle.lists.proofs.{Indices.{at_below, each_at}, Tests.right_true}
 use Rattle.model_registers.proofs.LawfulDeclarations.{byte_in_place}
 use Rattle.model_registers.specs.{Registers.{config, block, File}, Declarations.{ConfigBlock, Endpoint, IsLawfulRegion, Region, registers_of}, DeclarationRules.IsConfigBlock, DeviceBytes.is_device_byte, EndpointTable.{block_cells, endpoint_reset, region_cells}, Decoding.Function}
 use Rattle.model_images.specs.{Images.{can_hold, fit_cells}, StepLaws.{base_size, blocks_size, blocks_steps, header_steps, put_run, region_steps, regions_steps, steps, written_run}}
-use Rattle.images.proofs.{Lengths.{cells_count, few_registers, region_cell_count}, TakenValues.many_cells}
+use Rattle.model_images.proofs.BlockCounts.{many_cells}
+use Rattle.images.proofs.Lengths.{cells_count, few_registers, region_cell_count}
 use Rattle.headers.specs.{declared.place.Place.TheVariants.{Cfg, Bar}, Places.place_of}
 use Rattle.bridge_forward.specs.Lending.{endpoint_nth}
 use Rattle.host_bridge.specs.HostState.{HostState}

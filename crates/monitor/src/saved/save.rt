@@ -35,7 +35,7 @@ pub(crate) fn slot_shown<'a>(
 fn slot_size(host: &Host, slot: &Option<AssignedFunction>) -> usize
     requires { HasPlaces (slot_shown host.now.state.functions slot.now) }
     ensures size { result ≡ length (slot_image host.now.state.functions slot.now) }
-    ensures bound { result ≤ 265339 }
+    ensures bound { result ≤ 99601 }
 {
     match slot_shown(host, slot) {
         Some((endpoint, _)) => 1 + function_size(endpoint),
@@ -47,7 +47,7 @@ fn slots_size(host: &Host, slots: &[Option<AssignedFunction>]) -> usize
     requires places { HavePlaces host.now.state.functions slots.now }
     requires few { length slots.now ≤ 32 }
     ensures size { result ≡ length (slots_image host.now.state.functions slots.now) }
-    ensures bound { result ≤ 8490848 }
+    ensures bound { result ≤ 3187232 }
 {
     let mut left = slots;
     let mut size = 0;
@@ -159,13 +159,13 @@ pub(crate) fn compare_image(host: &Host, guest: &Guest, bytes: &[u8]) -> Result<
 }
 
 impl<R: Route> Engine<R> {
-    /// Returns the size of a guest's saved state in bytes: 12, and 1 to 246,307 for each of the 32
+    /// Returns the size of a guest's saved state in bytes: 12, and 1 to 99,601 for each of the 32
     /// slots.
     pub fn image_size(&self, guest: usize) -> usize
         requires { guest < length self.now.world.guests }
         ensures size { let image = image_of_guest (name_nth self.now.world guest) self.now.world in
             result ≡ length (image_bytes image) }
-        ensures bound { result ≤ 8490860 }
+        ensures bound { result ≤ 3187244 }
     {
         let _ = &self.names;
         12 + slots_size(&self.host, &self.guests[guest].slots)

@@ -23,7 +23,7 @@ pub extern "C" fn pciguest_raw_limits(told: &mut LimitsRow) -> u32
     ensures done { result ≡ 0 }
 {
     *told = LimitsRow {
-        guest_image: 8_490_860,
+        guest_image: 3_187_244,
         functions: 1024,
         guests: 32,
         slots: 32,

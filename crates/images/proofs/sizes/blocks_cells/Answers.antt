@@ -1,6 +1,7 @@
 use Rattle.std.proofs.Common.{arith}
 use Rattle.model_registers.specs.{Registers.config, EndpointTable.block_cells}
-use Rattle.images.proofs.{Lengths.first_cells, TakenValues.many_cells}
+use Rattle.model_images.proofs.BlockCounts.{many_cells}
+use Rattle.images.proofs.Lengths.{first_cells}
 use Rattle.images.proofs.sizes.blocks_cells.Goals as goal
 
 pub loop-block-preserved : goal.loop-block-preserved

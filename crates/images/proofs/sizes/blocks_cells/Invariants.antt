@@ -1,4 +1,4 @@
-use Rattle.std.{proofs.Common.{◌≡◌, ◌+◌, ◌*◌, ◌≤◌, length}, specs.Prelude.flat_map}
+use Rattle.std.{proofs.Common.{◌≡◌, ◌+◌, ◌≤◌, length}, specs.Prelude.flat_map}
 use Rattle.lists.specs.Elements.{Each}
 use Rattle.model_registers.specs.{DeclarationRules.IsConfigBlock, EndpointTable.block_cells}
 use Rattle.images.proofs.sizes.blocks_cells.Given as goal
@@ -7,7 +7,7 @@ abbrev pub invariant-loop-block : goal.invariant-loop-block
 invariant-loop-block l = record {
   lawful : Each IsConfigBlock l.left;
   all : l.size + length (flat_map block_cells l.left) ≡ length (flat_map block_cells l.blocks);
-  bound : l.size + 204 * length l.left ≤ 41616;
+  bound : l.size ≤ 193;
 }
 
 abbrev pub decreases-loop-block : goal.decreases-loop-block

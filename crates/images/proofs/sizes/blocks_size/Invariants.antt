@@ -1,4 +1,4 @@
-use Rattle.std.{proofs.Common.{◌≡◌, ◌+◌, ◌*◌, ◌≤◌, length}, specs.Prelude.flat_map}
+use Rattle.std.{proofs.Common.{◌≡◌, ◌+◌, ◌≤◌, length}, specs.Prelude.flat_map}
 use Rattle.lists.specs.Elements.{Each}
 use Rattle.model_registers.specs.DeclarationRules.{IsConfigBlock}
 use Rattle.images.specs.Parts.{block_bytes}
@@ -8,7 +8,7 @@ abbrev pub invariant-loop-block : goal.invariant-loop-block
 invariant-loop-block l = record {
   lawful : Each IsConfigBlock l.left;
   all : l.size + length (flat_map block_bytes l.left) ≡ length (flat_map block_bytes l.blocks);
-  bound : l.size + 614 * length l.left ≤ 125256;
+  bound : l.size ≤ 965;
 }
 
 abbrev pub decreases-loop-block : goal.decreases-loop-block

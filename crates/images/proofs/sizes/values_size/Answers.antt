@@ -1,12 +1,12 @@
 use Rattle.std.proofs.Common.{arith}
-use Rattle.images.proofs.Lengths.{few_blocks, few_regions, cells_count}
+use Rattle.images.proofs.Lengths.{few_block_cells, few_region_cells, cells_count}
 use Rattle.images.proofs.sizes.values_size.Goals as goal
 
 pub regions_cells-requires-clause-few : goal.regions_cells-requires-clause-few
-regions_cells-requires-clause-few c = few_regions c.args.decl.now c.deref-2.result.now c.values-values.ensures.lawful (grind arith)
+regions_cells-requires-clause-few c = few_region_cells c.args.decl.now c.deref-2.result.now c.values-values.ensures.lawful (grind arith)
 
 pub blocks_cells-requires-clause-few : goal.blocks_cells-requires-clause-few
-blocks_cells-requires-clause-few c = few_blocks c.args.decl.now c.deref.result.now c.values-values.ensures.lawful (grind arith)
+blocks_cells-requires-clause-few c = few_block_cells c.args.decl.now c.deref.result.now c.values-values.ensures.lawful (grind arith)
 
 pub returns-clause-size : goal.returns-clause-size
 returns-clause-size c = let all = cells_count c.args.decl.now c.deref-2.result.now c.deref.result.now (grind arith) (grind arith) in grind arith

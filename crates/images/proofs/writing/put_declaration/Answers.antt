@@ -1,5 +1,5 @@
 use Rattle.std.{proofs.Common.{◌≡◌, ◌+◌, ◌%◌, ◌++◌, ◌∙◌, List, [], ◌∷◌, ℕ, length, ap, arith}, specs.Prelude.flat_map}
-use Rattle.model_images.{specs.Layouts.le_bytes, proofs.Savable.{region_count, block_count}}
+use Rattle.model_images.{specs.Layouts.le_bytes, proofs.{BlockCounts.block_count, Savable.region_count}}
 use Rattle.images.{specs.{Parts.{endpoint_head, region_bytes, block_bytes}, Puts.put}, proofs.Puts.next}
 use Rattle.images.proofs.writing.put_declaration.Goals as goal
 

@@ -6,7 +6,7 @@ abbrev pub invariant-loop-slot : goal.invariant-loop-slot
 invariant-loop-slot l = record {
   places : HavePlaces l.host.state.functions l.left;
   all : l.size + length (slots_image l.host.state.functions l.left) ≡ length (slots_image l.host.state.functions l.slots);
-  bound : l.size + 265339 * length l.left ≤ 8490848;
+  bound : l.size + 99601 * length l.left ≤ 3187232;
 }
 
 abbrev pub decreases-loop-slot : goal.decreases-loop-slot
