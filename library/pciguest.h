@@ -108,6 +108,17 @@ struct pciguest_hit {
     uint32_t found; /* 1 if the access reaches anything, otherwise 0 */
 };
 
+/* Describes a vector of a function's MSI-X table: the message that the function sends for it, which
+ * is a 4-byte write to memory, and whether it may send the message now. If `is_enabled` is 1 and
+ * `can_be_sent` is 0, the function keeps the message pending. */
+struct pciguest_message {
+    uint64_t address;     /* where the message is written */
+    uint32_t data;        /* what is written */
+    uint32_t is_enabled;  /* 1 if MSI-X Enable is set; if 0, the function uses its interrupt pin */
+    uint32_t is_masked;   /* 1 if Function Mask or the vector's own mask bit is set, otherwise 0 */
+    uint32_t can_be_sent; /* 1 if enabled and not masked, and the guest has set Bus Master */
+};
+
 /* Array sizes. PCIGUEST_PATH: the bytes for the text of a path, which uses at most 79 of them.
  * PCIGUEST_BARS: the base address registers of a function. PCIGUEST_WINDOWS: the windows of a
  * bridge. PCIGUEST_ROOM: the reserved fields of a struct, which are 0. A later version can use
@@ -551,6 +562,73 @@ static inline uint32_t pciguest_find_capability(struct pciguest *machine, size_t
     if (!number)
         *offset = found;
     return number;
+}
+
+/* Stores whether the function in a guest's slot may access memory by itself (DMA): whether Bus
+ * Master, bit 2 of Command, is set in the guest's own Command (PCI Local Bus 3.0, 6.2.2). A device
+ * accesses the memory of the guest that has its function, and no other guest's, and only while the
+ * bit is set. The library can't enforce this, because it has no access to memory, so a device model
+ * makes this call before it reads or writes memory. A reset or a move clears the bit. Changes
+ * nothing.
+ * Returns 0 on success; 303 if the slot is above 31; 601 if the slot is empty; 902 if there is no
+ * such guest. Since 0.4.0. */
+static inline uint32_t pciguest_bus_master(struct pciguest *machine, size_t guest, uint64_t slot,
+                                           bool *is_set)
+{
+    uint32_t command = 0, number;
+
+    if (!is_set)
+        return PCIGUEST_ARGUMENT;
+    number = pciguest_read(machine, guest, PCIGUEST_CONFIG, slot, 0x04, 2, &command);
+    if (!number && command == 0xffff) /* all ones: nothing responds, since Command has fewer bits */
+        number = PCIGUEST_EMPTY_SLOT;
+    if (!number)
+        *is_set = (command & 0x4) != 0;
+    return number;
+}
+
+/* Stores the message of an MSI-X vector of the function in a guest's slot, and whether the function
+ * may send it now (PCI Local Bus 3.0, 6.8.2). Vectors are counted from 0. Finds the MSI-X structure
+ * in the capability list, and in it the table's region and offset, and reads these registers as the
+ * device does. If the function has no MSI-X structure, all fields are 0. A message is a write to
+ * memory, so it can only be sent while Bus Master is set. The library doesn't set pending bits: a
+ * device model that can't send a message sets the vector's pending bit, and repeats the call when
+ * the guest has written Command, Message Control or the table. Changes nothing.
+ * Returns 0 on success; 303 if the slot is above 31, the table has no such vector, or the table
+ * isn't in a region of the function; 601 if the slot is empty; 902 if there is no such guest. Since
+ * 0.4.0. */
+static inline uint32_t pciguest_msix_message(struct pciguest *machine, size_t guest, uint64_t slot,
+                                             uint32_t vector, struct pciguest_message *message)
+{
+    struct pciguest_message found = {0, 0, 0, 0, 0};
+    uint64_t at = 0, head = 0, first, entry[2] = {0, 0};
+    uint32_t bar, half, number;
+    bool is_master = false;
+
+    if (!message)
+        return PCIGUEST_ARGUMENT;
+    number = pciguest_bus_master(machine, guest, slot, &is_master);
+    if (!number)
+        number = pciguest_find_capability(machine, guest, slot, 0, 0x11, &at);
+    if (!number && at) /* Message Control, then the table's register and offset */
+        number = pciguest_device_read_wide(machine, guest, slot, PCIGUEST_PART_CONFIG, at + 2, 6,
+                                           &head);
+    bar = (uint32_t)(head >> 16) & 7;
+    first = (head >> 19) * 8 + (uint64_t)vector * 16;
+    if (!number && at && (vector > (head & 0x7ff) || bar >= PCIGUEST_BARS))
+        number = PCIGUEST_OUT_OF_RANGE;
+    for (half = 0; half < 2 && !number && at; half++)
+        number = pciguest_device_read_wide(machine, guest, slot, bar, first + 8 * half, 8,
+                                           &entry[half]);
+    if (number)
+        return number;
+    found.address = entry[0];
+    found.data = (uint32_t)entry[1];
+    found.is_enabled = (uint32_t)(head >> 15) & 1;
+    found.is_masked = (uint32_t)(head >> 14 | entry[1] >> 32) & 1;
+    found.can_be_sent = is_master && found.is_enabled && !found.is_masked;
+    *message = found;
+    return 0;
 }
 
 /* Stores where a region of the function in a guest's slot is now, as the guest sees it. The region

@@ -18,6 +18,7 @@ STRUCTS = {
     "pciguest_board": _calls.BoardHandle,
     "pciguest_region": _calls.RegionTold,
     "pciguest_hit": _calls.HitTold,
+    "pciguest_message": _calls.MessageTold,
     "pciguest_bar": _calls.BarTold,
     "pciguest_window": _calls.WindowTold,
     "pciguest_function": _calls.FunctionTold,
