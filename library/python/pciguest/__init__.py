@@ -49,13 +49,14 @@ except ModuleNotFoundError:  # (in a fresh clone)
     raise ImportError("pciguest/_calls.py is missing: tools/bindings at the top of the repository generates it") from None
 from ._board import Audit, Board, Readiness
 from ._declared import Register
+from ._device_side import Capability, Message
 from ._devices import Device
 from ._differs import DeclaredOtherwise
 from ._functions import Bar, BoardFunction, Function, Interrupt, Window, Windows
 from ._image_fault import ImageFault
 from ._library import version
 from ._limits import Limits, limits
-from ._machine import Capability, Guest, Host, Machine
+from ._machine import Guest, Host, Machine
 from ._refusal import BoardRefusal, Problem, Refusal, strerror
 from ._regions import Hit, Moved, Region
 from ._spaces import Functions, ReadableSpace, ReadableWide, Space, Wide
@@ -63,8 +64,8 @@ from ._texts import Check, check, report, report_json
 
 __all__ = [
     "Audit", "Bar", "Board", "BoardFunction", "BoardRefusal", "Capability", "Check", "DeclaredOtherwise", "Device",
-    "Function", "Functions", "Guest", "Hit", "Host", "ImageFault", "Interrupt", "Limits", "Machine", "Moved", "Problem",
-    "ReadableSpace", "ReadableWide", "Readiness", "Refusal", "Region", "Register", "Space", "Wide", "Window",
+    "Function", "Functions", "Guest", "Hit", "Host", "ImageFault", "Interrupt", "Limits", "Machine", "Message", "Moved",
+    "Problem", "ReadableSpace", "ReadableWide", "Readiness", "Refusal", "Region", "Register", "Space", "Wide", "Window",
     "Windows", "check", "limits", "report", "report_json", "strerror", "version",
 ]
 __version__ = VERSION

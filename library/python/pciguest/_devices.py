@@ -11,6 +11,7 @@ from ._library import number
 
 if TYPE_CHECKING:
     from ._attached import Attaching
+    from ._device_side import Message
     from ._machine import Guest
 
 
@@ -113,13 +114,34 @@ class Device:
         """The index of the guest that has its function, and the slot, or None where no guest has it."""
         return self._seat
 
-    def _place(self, register: Register) -> Tuple[int, int, int]:
-        """Guest, slot and part of a register, as the library takes them."""
+    @property
+    def bus_master(self) -> bool:
+        """Whether the device may access the memory of the guest that has its function, as `Guest.bus_master` returns it."""
+        guest, slot = self._taken()
+        return guest.bus_master(slot)
+
+    def msix_message(self, vector: int) -> Message:
+        """The message of an MSI-X vector, and whether the device may send it now, as `Guest.msix_message` returns it. 303: the
+        MSI-X table has no such vector, or isn't in a region of the function."""
+        guest, slot = self._taken()
+        return guest.msix_message(slot, vector)
+
+    def _attached(self) -> Tuple[Attaching, Tuple[int, int]]:
+        """The machine and the seat. ValueError: there is none."""
         if self._machine is None:
             raise ValueError("the device is attached to no machine")
         if self._seat is None:
             raise ValueError("no guest has the function of the device")
-        return (*self._seat, PART_CONFIG if register.bar is None else register.bar)
+        return self._machine, self._seat
+
+    def _taken(self) -> Tuple[Guest, int]:
+        """The guest that has its function, and the slot."""
+        machine, (guest, slot) = self._attached()
+        return machine._guest_at(guest), slot
+
+    def _place(self, register: Register) -> Tuple[int, int, int]:
+        """Guest, slot and part of a register, as the library takes them."""
+        return (*self._attached()[1], PART_CONFIG if register.bar is None else register.bar)
 
     def _read(self, register: Register) -> int:
         value, read, place = 0, c_uint64(), self._place(register)

@@ -9,6 +9,7 @@ from typing import Any, Callable, Iterator, List, NamedTuple, Optional, Tuple, U
 
 from ._attached import Attaching, Touch
 from ._calls import BARS, CONFIG, GUEST_NAME, IO, MEMORY, PLACES, PART_CONFIG, FunctionTold, Handle, PlaceTold, RegionTold
+from ._device_side import DeviceSide
 from ._functions import Function, function_of
 from ._held import Held, as_bytes
 from ._images import Saved
@@ -166,14 +167,6 @@ class Machine(Attaching):
             return None
 
 
-class Capability(NamedTuple):
-    """A structure of a function's capability list, which `Guest.capabilities` returns: its Capability ID, and the offset in
-    configuration space where its header begins."""
-
-    id: int
-    offset: int
-
-
 class _Slots:
     """Configuration space by slot: slots[0] is that of the function in slot 0. One can go through all 32."""
 
@@ -187,7 +180,7 @@ class _Slots:
         return (self[slot] for slot in range(32))
 
 
-class Guest(Saved):
+class Guest(Saved, DeviceSide):
     """A guest of a machine. What it reads is what its own functions answer, and all ones where nothing of the guest's
     answers; what it writes, no other guest can tell. A read changes nothing.
 
@@ -250,81 +243,6 @@ class Guest(Saved):
         device = self.machine._device_at((self.index, slot))
         is_reached = device is not None and self.region(slot, register).is_open
         return [Touch(device, register, offset, width, value)] if device and is_reached else []
-
-    def raise_bits(self, slot: int, offset: int, mask: int, region: Optional[int] = None) -> None:
-        """Sets bits of one byte of the function in a slot, as its device does: at an offset of configuration space, or
-        of the region of a base address register, 0 to 5. Only bits that writing a one clears can rise.
-
-        303: the slot is above 31, or the function has no such byte. 601: the slot is empty. 902: the region is above 5.
-        """
-        place = self._byte(slot, offset, region)
-        self.machine._call("raise", self.index, *place, number("mask", mask, 8))
-
-    def _byte(self, slot: int, offset: int, region: Optional[int]) -> Tuple[int, int, int]:
-        part = PART_CONFIG
-        if region is not None:
-            # the library's number of configuration space is no register; the next one is nothing, and is refused
-            asked = number("region", region, 32)
-            part = asked if asked < PART_CONFIG else PART_CONFIG + 1
-        return number("slot", slot, 64), part, number("offset", offset, 64)
-
-    def device_read(self, slot: int, offset: int, region: Optional[int] = None, width: int = 1) -> int:
-        """1 to 8 bytes of the function in a slot, as its device reads them: of the region of a base address register, 0
-        to 5, or of configuration space the two bytes of Status (06h, 07h), the Capabilities Pointer (34h) and the
-        device's own registers (40h to FFh). The byte at the lowest offset is the lowest of the number, and one that has
-        no register reads 0. It changes nothing.
-
-        302: the width is not 1 to 8. 303: the slot is above 31, or the device has no such byte. 601: the slot is empty.
-        902: the region is above 5.
-        """
-        place = *self._byte(slot, offset, region), number("width", width, 32)
-        return self.machine._number(c_uint64, "device_read_wide", self.index, *place)
-
-    def device_write(self, slot: int, offset: int, value: int, region: Optional[int] = None, width: int = 1) -> None:
-        """Writes such bytes as its device does: they take the number, whatever a guest's writes may change of them, and
-        what they may change of them stays. Where no register is, nothing changes. Refused as a read is; then nothing is
-        written. A value that has more bits than the bytes is a ValueError.
-        """
-        place = *self._byte(slot, offset, region), number("width", width, 32)
-        bits = number("value", value, 8 * min(max(width, 1), 8))
-        self.machine._call("device_write_wide", self.index, *place, bits)
-
-    def capabilities(self, slot: int) -> List[Capability]:
-        """Returns the capability list of the function in a slot (PCI Local Bus 3.0, 6.7), in the order of the list. Reads
-        the registers as the device does. Bits 0 and 1 of a pointer are ignored, and a pointer below 40h ends the list. If
-        the device has changed the pointers to a loop, the list ends where it would repeat. Changes nothing.
-
-        303: the slot is above 31. 601: the slot is empty.
-        """
-        found: List[Capability] = []
-        with self.machine._lock:
-            has_list = self.device_read(slot, 0x06) & 0x10
-            offset = self.device_read(slot, 0x34) & 0xFC if has_list else 0
-            while offset >= 0x40 and all(before.offset != offset for before in found):
-                header = self.device_read(slot, offset, width=2)
-                found.append(Capability(header & 0xFF, offset))
-                offset = header >> 8 & 0xFC
-        return found
-
-    def find_capability(self, slot: int, id: int) -> Optional[int]:
-        """Returns the offset of the first structure with this Capability ID in the capability list of the function in a
-        slot, or None if there is none. Refused as `capabilities` is.
-
-        >>> msix = '''
-        ... [[endpoint.capability]]
-        ... id = 0x11
-        ... off = 0x40
-        ... block = 10
-        ... reset = "030000080000000c0000"
-        ... '''
-        >>> a = Machine(BOARD + msix).guest("a")  # the last endpoint of the board is in slot 1
-        >>> a.capabilities(1)
-        [Capability(id=17, offset=64)]
-        >>> table = a.device_read(1, a.find_capability(1, 0x11) + 4, width=4)
-        >>> table & 7, hex(table & ~7)  # the MSI-X table is in BAR 0, at offset 800h
-        (0, '0x800')
-        """
-        return next((it.offset for it in self.capabilities(slot) if it.id == id), None)
 
     def reset(self, slot: int) -> None:
         """Resets the function in a slot, where it is: nothing is carried over, as in a move.

@@ -10,7 +10,7 @@ from pciguest import Machine, Refusal, Register, check, report, report_json, str
 
 def load_tests(loader, tests, pattern):
     extra = {"BOARD": MAIN, "Machine": Machine, "Refusal": Refusal, "Register": Register}
-    for name in ("", "._board", "._devices", "._held", "._images", "._library", "._machine", "._recording",
+    for name in ("", "._board", "._device_side", "._devices", "._held", "._images", "._library", "._machine", "._recording",
                  "._refusal", "._spaces", "._texts"):
         tests.addTests(doctest.DocTestSuite("pciguest" + name, extraglobs=extra))
     return tests

@@ -1,6 +1,7 @@
 //! A board that is set up, with its guests.
 
 use crate::attached::Attached;
+use crate::device_side::{Capability, DeviceSide};
 use crate::error::{answered, valued, Error};
 use crate::lines::{asked_by, Asked};
 use crate::place::{At, Guest, Hit, HostAt, Part, Region};
@@ -14,15 +15,6 @@ use core::ptr::null_mut;
 /// A call that tells a guest why.
 type WhyCall =
     unsafe extern "C" fn(*mut Handle, usize, u32, u64, u64, *mut u8, usize, *mut usize) -> u32;
-
-/// A structure of a function's capability list, which [`Machine::capabilities`] returns.
-#[derive(Clone, Copy, Debug, PartialEq, Eq)]
-pub struct Capability {
-    /// Its Capability ID.
-    pub id: u8,
-    /// Its offset in configuration space, where its header begins: the Capability ID, then the Next Capability.
-    pub offset: u64,
-}
 
 /// A board that is set up, with its guests. What it holds is freed when it is dropped.
 ///
@@ -457,18 +449,7 @@ impl Machine {
         offset: u64,
         width: u32,
     ) -> Result<u64, Error> {
-        // SAFETY: `value` is a place of its own.
-        valued(|value| unsafe {
-            raw::pciguest_device_read_wide(
-                &mut self.handle,
-                guest.index(),
-                slot,
-                part.number(),
-                offset,
-                width,
-                value,
-            )
-        })
+        DeviceSide::of(&mut self.handle, guest, slot).read(part, offset, width)
     }
 
     /// Writes the low 1 to 8 bytes of a value so, whatever a guest's writes may change of them. Refused as a read is; then
@@ -532,15 +513,7 @@ impl Machine {
     /// # Ok::<(), pciguest::Error>(())
     /// ```
     pub fn capabilities(&mut self, guest: Guest, slot: u64) -> Result<Vec<Capability>, Error> {
-        let mut read = |at, width| self.device_read_wide(guest, slot, Part::Config, at, width);
-        let mut list: Vec<Capability> = Vec::new();
-        let mut offset = if read(0x06, 1)? & 0x10 == 0 { 0 } else { read(0x34, 1)? & 0xfc };
-        while offset >= 0x40 && list.iter().all(|before| before.offset != offset) {
-            let header = read(offset, 2)?;
-            list.push(Capability { id: header as u8, offset });
-            offset = header >> 8 & 0xfc;
-        }
-        Ok(list)
+        DeviceSide::of(&mut self.handle, guest, slot).capabilities()
     }
 
     /// Where the region that begins at a base address register, 0 to 5, stands now, in the guest's own view. The answer

@@ -1,0 +1,177 @@
+//! Whether a device may access its guest's memory, and the messages of MSI-X vectors: in each state
+//! of the four bits that decide, and out of range. `tests/library/messages.c` tests the same in C.
+
+mod doorbell;
+
+use doorbell::{Doorbell, TOP};
+use pciguest::{At, DeviceModel, Error, Guest, Machine, Message, Part};
+
+/// The function in slot 0 of guest a has MSI-X, second in its list, with a table at 800h of BAR 2.
+/// The one in slot 1 has a list without MSI-X, and the one in slot 2 has no list.
+const BOARD: &str = r#"
+host = { io = [0x1000, 0xffff], mem = [0xc0000000, 0xdfffffff] }
+guest = [ { name = "a", slots = ["1.0", "2.0", "3.0"] }, { name = "b", slots = [] } ]
+
+[[endpoint]]
+at = "1.0"
+vendor = 0x1234
+device = 1
+class = 0xff0000
+config = [ { off = 0xfc, block = 4 } ]
+
+[[endpoint.bar]]
+index = 0
+kind = "mem32"
+size = 0x1000
+block = 16
+reset = "5a"
+
+[[endpoint.bar]]
+index = 2
+kind = "mem64"
+size = 0x1000
+block = 0x840
+reset = "00000000000000000000000001000000"
+rw = "fcffffffffffffffffffffff01000000"
+
+[[endpoint.capability]]
+id = 9
+off = 0x40
+block = 14
+
+[[endpoint.capability]]
+id = 0x11
+off = 0x60
+block = 10
+reset = "03000208000002000000"
+rw = "00c00000000000000000"
+
+[[endpoint]]
+at = "2.0"
+vendor = 0x1234
+device = 2
+class = 0xff0000
+capability = [ { id = 9, off = 0x40, block = 14 } ]
+
+[[endpoint]]
+at = "3.0"
+vendor = 0x1234
+device = 3
+class = 0xff0000
+"#;
+
+const COMMAND: u64 = 4;
+const CONTROL: u64 = 0x62;
+const TABLE: u64 = 0x64;
+
+/// The machine of the board, and its guests.
+fn start() -> Result<(Machine, Guest, Guest), Error> {
+    let mut machine = Machine::new(BOARD)?;
+    let (a, b) = (machine.guest("a")?, machine.guest("b")?);
+    Ok((machine, a, b))
+}
+
+fn config(offset: u64) -> At {
+    At::Config { slot: 0, offset }
+}
+
+/// The number by which a call is refused.
+fn number<T>(answer: Result<T, Error>) -> u32 {
+    answer.err().expect("a refusal").number()
+}
+
+/// Writes 4 bytes of the table as the driver does.
+fn set_table(machine: &mut Machine, a: Guest, offset: u64, value: u64) -> Result<(), Error> {
+    machine.write(a, config(COMMAND), 2, 2)?;
+    machine.region_write(a, 0, 2, 0x800 + offset, 4, value)
+}
+
+#[test]
+fn bus_master_is_that_of_the_guest() -> Result<(), Error> {
+    let (mut machine, a, b) = start()?;
+    assert!(!machine.bus_master(a, 0)?);
+    machine.write(a, config(COMMAND), 2, 0x543)?; // all but Bus Master
+    assert!(!machine.bus_master(a, 0)?);
+    machine.write(a, config(COMMAND), 1, 4)?;
+    assert!(machine.bus_master(a, 0)?);
+    assert!(!machine.bus_master(a, 1)?);
+    machine.move_function(a, 0, b, 5)?;
+    assert!(!machine.bus_master(b, 5)?);
+    assert_eq!(number(machine.bus_master(a, 0)), 601);
+    assert_eq!(number(machine.bus_master(a, 32)), 303);
+    assert_eq!(number(machine.bus_master(Guest::of_index(2), 0)), 902);
+    Ok(())
+}
+
+#[test]
+fn a_message_can_be_sent_in_one_of_sixteen_states() -> Result<(), Error> {
+    let (mut machine, a, _) = start()?;
+    let masked = Message { is_masked: true, ..Message::default() };
+    assert_eq!(machine.msix_message(a, 0, 3)?, masked); // as at reset
+    for (offset, value) in [(0x20, 0xfee0_1003), (0x24, 1), (0x28, 0x4321)] {
+        set_table(&mut machine, a, offset, value)?;
+    }
+    for bits in 0..16 {
+        let [is_enabled, function, vector, is_master] = [1, 2, 4, 8].map(|bit| bits & bit != 0);
+        set_table(&mut machine, a, 0x2c, vector.into())?;
+        let control = u32::from(is_enabled) << 15 | u32::from(function) << 14;
+        machine.write(a, config(CONTROL), 2, control)?;
+        machine.write(a, config(COMMAND), 2, u32::from(is_master) << 2)?;
+        let is_masked = function || vector;
+        let can_be_sent = bits == 0b1001;
+        let wanted =
+            Message { address: 0x1_fee0_1000, data: 0x4321, is_enabled, is_masked, can_be_sent };
+        assert_eq!(machine.msix_message(a, 0, 2)?, wanted, "{bits:04b}");
+    }
+    assert_eq!(machine.msix_message(a, 1, 0)?, Message::default());
+    assert_eq!(machine.msix_message(a, 2, 2000)?, Message::default());
+    Ok(())
+}
+
+#[test]
+fn vectors_out_of_range() -> Result<(), Error> {
+    let (mut machine, a, _) = start()?;
+    for vector in [4, u32::MAX] {
+        assert_eq!(number(machine.msix_message(a, 0, vector)), 303);
+    }
+    for register in [1, 3, 4, 5, 6, 7] {
+        machine.device_write(a, 0, Part::Config, TABLE, register)?;
+        assert_eq!(number(machine.msix_message(a, 0, 0)), 303);
+    }
+    // the region ends after vector 1
+    machine.device_write_wide(a, 0, Part::Config, TABLE, 4, 0xfe0)?;
+    assert_eq!(machine.msix_message(a, 0, 1)?, Message::default());
+    assert_eq!(number(machine.msix_message(a, 0, 2)), 303);
+    machine.device_write_wide(a, 0, Part::Config, TABLE, 4, 0xffff_fff8)?;
+    assert_eq!(number(machine.msix_message(a, 0, 0)), 303);
+    machine.device_write(a, 0, Part::Config, 0x34, 0xfc)?; // extends past configuration space
+    machine.device_write(a, 0, Part::Config, 0xfc, 0x11)?;
+    assert_eq!(number(machine.msix_message(a, 0, 0)), 303);
+    machine.device_write(a, 0, Part::Config, 0xfc, 0x09)?;
+    machine.device_write(a, 0, Part::Config, 0xfd, 0xfc)?; // a loop
+    assert_eq!(machine.msix_message(a, 0, 0)?, Message::default());
+    assert_eq!(number(machine.msix_message(a, 3, 0)), 601);
+    assert_eq!(number(machine.msix_message(a, 32, 0)), 303);
+    assert_eq!(number(machine.msix_message(Guest::of_index(2), 0, 0)), 902);
+    Ok(())
+}
+
+/// An attached device finds out the same from its registers.
+#[test]
+fn a_device_asks_for_itself() -> Result<(), Error> {
+    let msix = "[[endpoint.capability]]\nid = 0x11\noff = 0x60\nblock = 10\n\
+                reset = \"00800220000002300000\"\n";
+    let guest = "[[guest]]\nname = \"a\"\nslots = [\"1.0\"]\n";
+    let endpoint = Doorbell::default().declaration().endpoint("1.0");
+    let mut machine = Machine::new([TOP, &endpoint, msix, guest].concat())?;
+    let a = machine.guest("a")?;
+    machine.attach(a, 0, Doorbell::default()).expect("a device");
+    assert!(!machine.registers(a, 0)?.bus_master());
+    machine.write(a, config(COMMAND), 2, 4)?;
+    let mut registers = machine.registers(a, 0)?;
+    assert!(registers.bus_master());
+    let message = Message { is_enabled: true, can_be_sent: true, ..Message::default() };
+    assert_eq!(registers.msix_message(0)?, message);
+    assert_eq!(number(registers.msix_message(1)), 303);
+    Ok(())
+}
