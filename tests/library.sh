@@ -169,6 +169,8 @@ if cargo --version > /dev/null 2>&1; then
   holds 'Rust: the program that saves a machine is built' offline outside/carried target cargo build --offline --quiet
   offline "$top/examples/rust" device env RUSTFLAGS='-D warnings' make -s > device.rust.out
   holds 'Rust: the example prints what the one in C does' cmp device.rust.out "$top/tests/library/device.stdout"
+  offline "$top/examples/rust" device env RUSTFLAGS='-D warnings' make -s entropy > entropy.rust.out 2>&1
+  holds 'Rust: the virtio device and its driver' cmp entropy.rust.out "$top/tests/library/entropy.stdout"
   if ls -d /usr/share/cargo/registry/vm-{memory,superio}-* > /dev/null 2>&1; then
     offline "$top/examples/rust" vmm make -s vmm > vmm.out
     holds 'Rust: the buses of a hypervisor' test "$(cat vmm.out)" = $'printer: read from RAM by the device\nserial: 1 printed'
@@ -196,6 +198,8 @@ else
   holds 'Python: random machines, saved and loaded as by a second hand' python "$top/tests/fuzz/machines.py" --machines 20
   python "$top/examples/python/device.py" "$top/examples/device.toml" > device.python.out 2>&1
   holds 'Python: the example prints what the one in C does' cmp device.python.out "$top/tests/library/device.stdout"
+  python "$top/examples/python/entropy.py" "$top/examples/entropy.toml" > entropy.python.out 2>&1
+  holds 'Python: the virtio device and its driver' cmp entropy.python.out "$top/tests/library/entropy.stdout"
 fi
 
 # ---- a machine that is saved in one process and goes on in another, in each of the languages that are here

@@ -67,7 +67,7 @@ fi
 done_by 'who writes firmware'
 
 # ---- a hypervisor: the program in C, by make and by pkg-config, and the crate for Rust
-device=$top/tests/library/device.stdout
+device=$top/tests/library/device.stdout entropy=$top/tests/library/entropy.stdout
 if has cc && has make; then
   holds 'make -C examples/c' outside make -s -C examples/c
   holds 'the program in C' same "$device" outside make -s -C examples/c
@@ -91,6 +91,7 @@ if cargo --version > /dev/null 2>&1; then
   holds 'the crate for Rust' with_cargo cargo build --offline --quiet --manifest-path crate/Cargo.toml
   holds 'what it reports' same wanted with_cargo cargo run --offline --quiet --manifest-path crate/Cargo.toml
   holds 'the program in Rust' same "$device" with_cargo make -s -C examples/rust
+  holds 'the virtio device in Rust' same "$entropy" with_cargo make -s -C examples/rust entropy
   if ls -d /usr/share/cargo/registry/vm-{memory,superio}-* > /dev/null 2>&1; then
     holds 'the buses of a hypervisor in Rust' with_cargo sh -c 'make -s -C examples/rust vmm | grep -qx "serial: 1 printed"'
   else
@@ -107,6 +108,7 @@ if has python3; then
   outside python3 examples/python/doorbell.py > rings
   holds 'the device in Python' grep -qx 'driver: 2 rings, status 1' rings
   holds 'the device model in Python' same "$device" outside python3 examples/python/device.py examples/device.toml
+  holds 'the virtio device in Python' same "$entropy" outside python3 examples/python/entropy.py examples/entropy.toml
   done_by 'who writes a device'
   # ---- who teaches: its prompt, the page, and the lessons, whose commands were run above
   printf 'a.vendor\ntree\n' | outside python3 -m pciguest boards/main.toml > answers
