@@ -8,6 +8,16 @@
 
 #include <stdlib.h>
 
+/* A function with MSI-X, which the driver has enabled, first in a list of six structures as virtio's drivers find it. */
+static const char with_messages[] =
+    "host = { io = [0x1000, 0xffff], mem = [0xc0000000, 0xdfffffff] }\n"
+    "guest = [ { name = \"a\", slots = [\"1.0\"] } ]\n"
+    "endpoint = [ { at = \"1.0\", vendor = 0x1af4, device = 0x1042, class = 0x010000,\n"
+    "bar = [ { index = 1, kind = \"mem32\", size = 0x1000, block = 32 } ], capability = [\n"
+    "{ id = 0x11, off = 0x98, block = 10, reset = \"01800100000001080000\" },\n"
+    "{ id = 9, off = 0x84, block = 18 }, { id = 9, off = 0x70, block = 18 }, { id = 9, off = 0x60, block = 14 },\n"
+    "{ id = 9, off = 0x50, block = 14 }, { id = 9, off = 0x40, block = 14 } ] } ]\n";
+
 int main(int argc, char **argv)
 {
     static uint8_t board[65536];
@@ -24,6 +34,8 @@ int main(int argc, char **argv)
     struct pciguest_region region = {0};
     struct pciguest_hit hit = {0};
     struct pciguest_function function = {0};
+    struct pciguest_message message = {0};
+    bool is_master = false;
 
     if (!file)
         return 2;
@@ -58,6 +70,13 @@ int main(int argc, char **argv)
     COST("tell of a function by its slot", 1000000, pciguest_slot(&machine, 0, 0, &function));
     COST("read memory as the host", 1000000, pciguest_host_read(&machine, PCIGUEST_MEMORY, 0, 0, 0, 0xc0100010, 4, &value));
     COST("run a line that reads memory", 300000, pciguest_run_line(&machine, line, sizeof line - 1, reply, sizeof reply, &written));
+    if (pciguest_new(&other, with_messages, sizeof with_messages - 1))
+        return 1;
+    pciguest_write(&other, 0, PCIGUEST_CONFIG, 0, 4, 2, 6);
+    COST("ask whether a device may access memory", 1000000, pciguest_bus_master(&other, 0, 0, &is_master));
+    COST("ask for the message of a vector", 1000000, pciguest_msix_message(&other, 0, 0, 1, &message));
+    faults += !message.can_be_sent;
+    pciguest_free(&other);
     COST("new and free", 300, pciguest_new(&other, board, length) + (pciguest_free(&other), 0));
     if (pciguest_board_new(&at_reset, board, length) || pciguest_board_new(&driven, board, length))
         return 1;

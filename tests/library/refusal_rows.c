@@ -17,6 +17,8 @@ static union {
     struct pciguest_function function;
     struct pciguest_board_function driven;
     struct pciguest_place places[PCIGUEST_PLACES];
+    struct pciguest_message message;
+    bool is_set;
 } out, untouched;
 
 /* A number of a row, or a word for one. */
@@ -61,6 +63,8 @@ static uint32_t asked(struct pciguest *m, struct pciguest_board *b, const char *
     CALL(why_json, m, n[0], n[1], n[2], n[3], room, size, &(size_t){0});
     CALL(function, m, n[0], &out.function);
     CALL(slot, m, n[0], n[1], &out.function);
+    CALL(bus_master, m, n[0], n[1], &out.is_set);
+    CALL(msix_message, m, n[0], n[1], n[2], &out.message);
     CALL(guest, m, text, length, &out.count);
     CALL(guest_name, m, n[0], room, size, &(size_t){0});
     CALL(move, m, n[0], n[1], n[2], n[3]);

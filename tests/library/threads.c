@@ -40,6 +40,8 @@ static void ask_machine(void)
     struct pciguest_hit hit = {0};
     struct pciguest_function row = {0};
     struct pciguest_place place = {0};
+    struct pciguest_message message = {0};
+    bool is_master = false;
     char text[PCIGUEST_REPLY] = {0};
     uint64_t wide = 7;
     uint32_t value = 7;
@@ -69,6 +71,8 @@ static void ask_machine(void)
     BUSY(pciguest_take(&machine, 0, 0));
     BUSY(pciguest_device_read_wide(&machine, 0, 0, 1, 0, 8, &wide));
     BUSY(pciguest_device_write_wide(&machine, 0, 0, 1, 0, 8, 1));
+    BUSY(pciguest_bus_master(&machine, 0, 0, &is_master));
+    BUSY(pciguest_msix_message(&machine, 0, 0, 0, &message));
     BUSY(pciguest_region_read(&machine, 0, 0, 1, 0, 8, &wide));
     BUSY(pciguest_region_write(&machine, 0, 0, 1, 0, 8, 1));
     BUSY(pciguest_region(&machine, 0, 0, 1, &region));

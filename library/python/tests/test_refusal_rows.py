@@ -51,6 +51,8 @@ CALLS = {
     "why_json": lambda m, g, name, slot, at: guest(m, g).why_json(name, at, slot),
     "function": lambda m, index: m.function(index),
     "slot": lambda m, g, slot: guest(m, g).function(slot),
+    "bus_master": lambda m, g, slot: guest(m, g).bus_master(slot),
+    "msix_message": lambda m, g, slot, vector: guest(m, g).msix_message(slot, vector),
     "guest": lambda m, name: m.guest(name),
     "guest_name": lambda m, g: m._name(g),
     "move": lambda m, g, slot, to, target: m.move(guest(m, g), slot, guest(m, to), target),

@@ -105,6 +105,8 @@ fn asked(call: &str, r: &Row, m: &mut Machine, b: &mut Board) -> Result<(), Erro
         "why_json" => m.why_json(r.guest(0), r.at()).map(drop),
         "function" => m.function(r.number(0) as usize).map(drop),
         "slot" => m.slot_function(r.guest(0), r.number(1)).map(drop),
+        "bus_master" => m.bus_master(r.guest(0), r.number(1)).map(drop),
+        "msix_message" => m.msix_message(r.guest(0), r.number(1), r.short(2)).map(drop),
         "guest" => m.guest(r.text()).map(drop),
         "guest_name" => m.guest_name(r.guest(0)).map(drop),
         "move" => m.move_function(r.guest(0), r.number(1), r.guest(2), r.number(3)),
