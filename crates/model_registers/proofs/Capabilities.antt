@@ -1,7 +1,7 @@
 -- A capability list is found as it was declared.
 use Rattle.std.{proofs.{Common.{◌≡◌, ℕ, ◌+◌, ◌*◌, ◌/◌, ◌%◌, ◌<◌, ◌≤◌, ◌⊎◌, Bool, true, false, ◌&&◌, List, [], ◌∷◌, ◌++◌, length, refl, sym, ap, ◌∙◌, subst, arith, ltb, append_assoc}, lemmas.{Bool.{Decides.nat_tests, and_parts, ltb-true}, Nat.{and_mask, and_mod, and_shr, and_block, or_block, and_or_self}}, Math.Nat.{mod-eq_of_lt}}, specs.{Prelude.{⊤, IsTrue, bit_and, bit_or, flat_map}, Int.Bits.{or_zero_r, and_zero_r}}}
 use Rattle.lists.specs.Elements.{Each, EachPair}
-use Rattle.model_registers.{specs.{Cell.{Cell, constant, IsConstant, no_cell, written, raised}, Registers.{Place, config, block, place_eq, after, File, cell_at, changed, write, cells_from}, Declarations.{ConfigBlock, Region, Endpoint}, DeclarationRules.{blocks_apart, IsConfigBlock, IsLawfulEndpoint}, EndpointTable.{block_cells, header_cells, region_cells, endpoint_file}, Capabilities.{Capability, first_offset, structure, structures, pointer, with_capabilities, byte, Finds, Change, write_of, raise_of, after_change, after_changes, ListStays}}, proofs.{RegisterFiles.{change_at_place, self, above, below}, ConstantCells.{constant_written, constant_raised, no_cell_stays, raised_none}, Owned.same_cell}}
+use Rattle.model_registers.{specs.{Cell.{Cell, constant, IsConstant, no_cell, written, raised}, Registers.{Place, config, block, place_eq, after, File, cell_at, changed, write, cells_from}, Declarations.{ConfigBlock, Region, Endpoint}, DeclarationRules.{blocks_apart, IsConfigBlock, IsLawfulEndpoint}, EndpointTable.{block_cells, header_cells, region_cells, endpoint_file}, CopiedFiles.agreed_file, Capabilities.{Capability, first_offset, structure, structures, pointer, with_capabilities, byte, Finds, ShowsList, Change, write_of, raise_of, after_change, after_changes, ListStays}}, proofs.{RegisterFiles.{change_at_place, place_same, self, above, below}, ConstantCells.{constant_written, constant_raised, no_cell_stays, raised_none}, Owned.same_cell}}
 
 -- ---- a byte that always reads the same
 
@@ -100,9 +100,9 @@ unfolding are_low is_low
 pointer_low cs = refl
 
 -- a structure isn't the pointer, which has one byte
-record IsPlaced (c : Capability) : Type 0 where
-  high : 0x40 ≤ c.offset
-  ends : c.offset + 2 ≤ 0x100
+pub record IsPlaced (c : Capability) : Type 0 where
+  pub high : 0x40 ≤ c.offset
+  pub ends : c.offset + 2 ≤ 0x100
 
 placed : (c : Capability) (next : ℕ) → IsConfigBlock (structure c next) → IsPlaced c
 placed c next is =
@@ -125,11 +125,6 @@ next_fits : (cs : List Capability) → Each IsPlaced cs → first_offset cs < 25
 next_fits [] h = omega arith
 next_fits (c ∷ cs) h = let ends : c.offset + 2 ≤ 0x100 = h.0.ends in omega (arith, ends)
 
-each_stays : (changes : List Change) (file : File) (cs : List Capability) → Each IsPlaced cs → Each (λ (c : Capability). c.id < 256) cs → HoldsEach file cs → HoldsEach (after_changes file changes) cs
-each_stays changes file [] at fits h = tt
-each_stays changes file (c ∷ cs) at fits h =
-    (changes_still changes c.id fits.0 (config c.offset) file h.0, changes_still changes (first_offset cs) (next_fits cs at.1) (config (c.offset + 1)) file h.1, each_stays changes file cs at.1 fits.1 h.2)
-
 pub held_byte : (file : File) (off v : ℕ) → Holds file (config off) v → byte file off ≡ v
 held_byte file off v h = let same : (cell_at file (config off)).value ≡ v = ap (λ (c : Cell). c.value) h in omega (arith, same)
 
@@ -140,10 +135,62 @@ walk_of file (c ∷ cs) at e h =
     let next : byte file (at + 1) ≡ first_offset cs = ap (λ n. byte file (n + 1)) e ∙ held_byte file (c.offset + 1) (first_offset cs) h.1 in
     (e, id, walk_of file cs (byte file (at + 1)) next h.2)
 
--- ---- the law
+-- ---- a file with a list
+
+-- the cells in which an endpoint, apart from its list, has this list
+pub record HoldsList (d : Endpoint) (cs : List Capability) (file : File) : Type 0 where
+  pub places : Each IsPlaced cs
+  pub ids : Each (λ (c : Capability). c.id < 256) cs
+  pub status : Holds file (config 6) (bit_or d.status 0x10 % 256)
+  pub start : Holds file (config 0x34) (first_offset cs)
+  pub headers : HoldsEach file cs
+
+-- a byte that always reads the same in both files does so in the third
+abbrev pub Joins : File → File → File → Type 0
+Joins one two file = (q : Place) (v : ℕ) → v < 256 → Holds one q v → Holds two q v → Holds file q v
+
+headers_joined : (one two file : File) → Joins one two file → (cs : List Capability) → Each IsPlaced cs → Each (λ (c : Capability). c.id < 256) cs → HoldsEach one cs → HoldsEach two cs → HoldsEach file cs
+headers_joined one two file joins [] at ids h k = tt
+headers_joined one two file joins (c ∷ cs) at ids h k =
+    (joins (config c.offset) c.id ids.0 h.0 k.0, joins (config (c.offset + 1)) (first_offset cs) (next_fits cs at.1) h.1 k.1, headers_joined one two file joins cs at.1 ids.1 h.2 k.2)
+
+list_joined : (one two file : File) → Joins one two file → (d : Endpoint) (cs : List Capability) → HoldsList d cs one → HoldsList d cs two → HoldsList d cs file
+list_joined one two file joins d cs h k = record {
+  places = h.places;
+  ids = h.ids;
+  status = joins (config 6) (bit_or d.status 0x10 % 256) (omega arith) h.status k.status;
+  start = joins (config 0x34) (first_offset cs) (next_fits cs h.places) h.start k.start;
+  headers = headers_joined one two file joins cs h.places h.ids h.headers k.headers;
+}
 
 listed_bit : (s : ℕ) → bit_and (bit_or s 0x10 % 256) 0x10 ≡ 0x10
 listed_bit s = sym (and_mod (bit_or s 0x10) 0x10 8) ∙ ap (λ n. n % 256) (and_or_self 0x10 s)
+
+pub list_shown : (d : Endpoint) (cs : List Capability) (file : File) → HoldsList d cs file → ShowsList file cs
+list_shown d cs file h = record {
+  status = ap (λ n. bit_and n 0x10) (held_byte file 6 _ h.status) ∙ listed_bit d.status;
+  walk = walk_of file cs (byte file 0x34) (held_byte file 0x34 (first_offset cs) h.start) h.headers;
+}
+
+-- each list that an endpoint was declared with
+abbrev pub HoldsLists : Endpoint → File → Type 0
+HoldsLists d file = (e : Endpoint) (c : Capability) (cs : List Capability) → d ≡ with_capabilities (c ∷ cs) e → Each (λ (x : Capability). x.id < 256) (c ∷ cs) → HoldsList e (c ∷ cs) file
+
+pub lists_joined : (one two file : File) → Joins one two file → (d : Endpoint) → HoldsLists d one → HoldsLists d two → HoldsLists d file
+lists_joined one two file joins d h k e c cs is ids = list_joined one two file joins e (c ∷ cs) (h e c cs is ids) (k e c cs is ids)
+
+pub lists_after : (change : Change) (d : Endpoint) (file : File) → HoldsLists d file → HoldsLists d (after_change file change)
+lists_after change d file h = lists_joined file file (after_change file change) (λ q v fits k again. change_still change v fits q file k) d h h
+
+-- a file that is put together of the cells of two
+agreed_joins : (left own : File) → Joins left own (agreed_file left own)
+agreed_joins [] own q v fits h k = h
+agreed_joins (e ∷ es) own q v fits h k = grind (arith, agreed_joins es own q v fits, place_same e.place q)
+
+pub lists_agreed : (d : Endpoint) (left own : File) → HoldsLists d left → HoldsLists d own → HoldsLists d (agreed_file left own)
+lists_agreed d left own = lists_joined left own (agreed_file left own) (agreed_joins left own) d
+
+-- ---- at reset
 
 module _ (d : Endpoint) (c : Capability) (cs : List Capability) (lawful : IsLawfulEndpoint (with_capabilities (c ∷ cs) d)) (multifunction : Bool) (command : ℕ) (bases : Region → ℕ) where
   abbrev first : File
@@ -158,7 +205,7 @@ module _ (d : Endpoint) (c : Capability) (cs : List Capability) (lawful : IsLawf
   places : Each IsPlaced (c ∷ cs)
   places = all_placed (c ∷ cs) d.blocks lawful.config_blocks.1
 
-  pub each_held : HoldsEach first (c ∷ cs)
+  each_held : HoldsEach first (c ∷ cs)
   each_held =
       let header : File = header_cells (with_capabilities (c ∷ cs) d) multifunction command in
       let regions : File = flat_map (region_cells bases) d.regions in
@@ -169,18 +216,20 @@ module _ (d : Endpoint) (c : Capability) (cs : List Capability) (lawful : IsLawf
       let all : HoldsEach (header ++ (start ++ (others ++ regions))) (c ∷ cs) = behind header (start ++ (others ++ regions)) (c ∷ cs) (placed_passed header (header_low (with_capabilities (c ∷ cs) d) multifunction command) (c ∷ cs) places) more in
       subst (λ (f : File). HoldsEach f (c ∷ cs)) (sym (append_assoc header (start ++ others) regions)) all
 
+  list_held : Each (λ (e : Capability). e.id < 256) (c ∷ cs) → HoldsList d (c ∷ cs) first
+  list_held ids = record { places = places; ids = ids; status = status_held; start = pointer_held; headers = each_held }
+
+pub lists_held : (d : Endpoint) → IsLawfulEndpoint d → (multifunction : Bool) (command : ℕ) (bases : Region → ℕ) → HoldsLists d (endpoint_file d multifunction command bases)
+lists_held d lawful multifunction command bases e c cs is ids =
+    subst (λ (x : Endpoint). HoldsList e (c ∷ cs) (endpoint_file x multifunction command bases)) (sym is) (list_held e c cs (subst IsLawfulEndpoint is lawful) multifunction command bases ids)
+
+-- ---- the law
+
 pub list_stays : ListStays
 list_stays d c cs lawful ids multifunction command bases changes =
     let first = endpoint_file (with_capabilities (c ∷ cs) d) multifunction command bases in
-    let now = after_changes first changes in
-    let at = places d c cs lawful multifunction command bases in
-    let status : Holds now (config 6) (bit_or d.status 0x10 % 256) = changes_still changes (bit_or d.status 0x10 % 256) (omega arith) (config 6) first (status_held d c cs lawful multifunction command bases) in
-    let start : Holds now (config 0x34) c.offset = changes_still changes c.offset (next_fits (c ∷ cs) at) (config 0x34) first (pointer_held d c cs lawful multifunction command bases) in
-    let each : HoldsEach now (c ∷ cs) = each_stays changes first (c ∷ cs) at ids (each_held d c cs lawful multifunction command bases) in
-    record {
-      status = ap (λ n. bit_and n 0x10) (held_byte now 6 _ status) ∙ listed_bit d.status;
-      walk = walk_of now (c ∷ cs) (byte now 0x34) (held_byte now 0x34 c.offset start) each;
-    }
+    let held = list_held d c cs lawful multifunction command bases ids in
+    list_shown d (c ∷ cs) (after_changes first changes) (list_joined first first (after_changes first changes) (λ q v fits h k. changes_still changes v fits q first h) d (c ∷ cs) held held)
 
 -- ---- Status of a lawful declaration
 
