@@ -1,44 +1,35 @@
--- Every function in a slot is its declaration at reset after some writes and raises, so its capability list is found.
-use Rattle.std.{proofs.{Common.{◌≡◌, ℕ, zero, suc, ◌+◌, ◌-◌, ◌*◌, ◌<◌, ◌≤◌, Bool, true, false, cond, List, [], ◌∷◌, ◌++◌, length, Some, None, Option, refl, sym, ap, ◌∙◌, subst, arith}, lemmas.Bool.{Decides.nat_tests}}, specs.{Prelude.{slice_set, replicate, is_some, ⊤, MatchOption, bit_and}, Option.option_map_or}}
+-- Every function in a slot has the lists of its declaration, because writes, raises and moves leave them as they are.
+use Rattle.std.{proofs.{Common.{◌≡◌, ℕ, zero, suc, ◌+◌, ◌-◌, ◌*◌, ◌≤◌, Bool, true, false, cond, List, [], ◌∷◌, ◌++◌, length, Some, None, Option, refl, sym, ap, ◌∙◌, subst, arith}, lemmas.Bool.{Decides.nat_tests}}, specs.{Prelude.{slice_set, replicate, is_some, ⊤, MatchOption, bit_and}, Option.option_map_or}}
 use Rattle.lists.{specs.Elements.Each, proofs.EachLemmas.{each_append, each_map, each_of_map}}
-use Rattle.model_registers.{specs.{Cell.Cell, Registers.{Place, config, File, all_bytes, cell_at}, Declarations.Endpoint, DeclarationRules.IsLawfulEndpoint, EndpointTable.endpoint_reset, Decoding.Function, OwnCopies.is_own, Capabilities.{Capability, with_capabilities, byte, Finds, ShowsList, Change, write_of, raise_of, after_change, after_changes}}, proofs.Capabilities.list_stays}
-use Rattle.model_guests.specs.{Accesses.{Op, reads, writes, Event, access, raises, Raise}, Slots.{Slots, slot_at, Landing, landing, effect, affected, raise_landing, event_fault, with_file, reset_function, reset_slots}, Lone.{LoneGuest, Destination, own_latch, no_function, at_target, destination, after_access_at, changed_by, after_event, filled, emptied, reset_guest}, Inputs.{Input, own_line, loses, gets, lone_event, after_own, after_input, after_inputs}, AgreedLaws.HoldsFile, CapabilityLists.{IsLawfulInput, GuestsFindLists, BoardShowsLists}}
+use Rattle.model_registers.{specs.{Cell.Cell, Registers.{Place, config, File, all_bytes}, Declarations.Endpoint, DeclarationRules.IsLawfulEndpoint, EndpointTable.endpoint_reset, Decoding.Function, OwnCopies.is_own, Capabilities.{Capability, byte, Finds, Change, write_of, raise_of, after_change}}, proofs.Capabilities.{HoldsLists, lists_held, lists_after, list_shown}}
+use Rattle.model_guests.specs.{Accesses.{Op, reads, writes, Event, access, raises, Raise}, Slots.{Slots, slot_at, Landing, landing, effect, raise_landing, event_fault, with_file, reset_function, reset_slots}, Lone.{LoneGuest, Destination, own_latch, no_function, at_target, destination, after_access_at, changed_by, after_event, reset_guest}, Inputs.{Input, own_line, loses, gets, lone_event, after_own, after_input, after_inputs}, CapabilityLists.{IsLawfulInput, GuestsFindLists, BoardShowsLists}}
 
 -- ---- what a function has become
 
-record IsReached (f : Function) : Type 0 where
-  lawful : IsLawfulEndpoint f.decl
-  changes : List Change
-  file : f.file ≡ after_changes (endpoint_reset f.decl false) changes
+pub record IsReached (f : Function) : Type 0 where
+  pub lawful : IsLawfulEndpoint f.decl
+  pub lists : HoldsLists f.decl f.file
 
-abbrev MayBeReached : Option Function → Type 0
+abbrev pub MayBeReached : Option Function → Type 0
 MayBeReached o = MatchOption o ⊤ IsReached
 
-abbrev AllReached : Slots → Type 0
+abbrev pub AllReached : Slots → Type 0
 AllReached slots = Each MayBeReached slots
 
-one_later : (file : File) (cs : List Change) (c : Change) → after_changes file (cs ++ c ∷ []) ≡ after_change (after_changes file cs) c
-one_later file [] c = refl
-one_later file (e ∷ es) c = one_later (after_change file e) es c
-
 one_more : (f : Function) (c : Change) → IsReached f → IsReached (record f { file = after_change f.file c })
-one_more f c is = record {
-  lawful = is.lawful;
-  changes = is.changes ++ c ∷ [];
-  file = ap (λ (x : File). after_change x c) is.file ∙ sym (one_later (endpoint_reset f.decl false) is.changes c);
-}
+one_more f c is = record { lawful = is.lawful; lists = lists_after c f.decl f.file is.lists }
 
-at_reset : (d : Endpoint) → IsLawfulEndpoint d → IsReached (record { decl = d; file = endpoint_reset d false })
-at_reset d lawful = record { lawful = lawful; changes = []; file = refl }
+pub at_reset : (d : Endpoint) → IsLawfulEndpoint d → IsReached (record { decl = d; file = endpoint_reset d false })
+at_reset d lawful = record { lawful = lawful; lists = lists_held d lawful false 0 (λ r. 0) }
 
 -- ---- slots
 
-set_reached : (slots : Slots) (n : ℕ) (o : Option Function) → AllReached slots → MayBeReached o → AllReached (slice_set slots n o)
+pub set_reached : (slots : Slots) (n : ℕ) (o : Option Function) → AllReached slots → MayBeReached o → AllReached (slice_set slots n o)
 set_reached [] n o h k = grind arith
 set_reached (x ∷ xs) zero o h k = (k, h.1)
 set_reached (x ∷ xs) (suc n) o h k = (h.0, set_reached xs n o h.1 k)
 
-at_reached : (slots : Slots) (n : ℕ) → AllReached slots → MayBeReached (slot_at slots n)
+pub at_reached : (slots : Slots) (n : ℕ) → AllReached slots → MayBeReached (slot_at slots n)
 at_reached [] n h = grind arith
 at_reached (x ∷ xs) zero h = h.0
 at_reached (x ∷ xs) (suc n) h = at_reached xs n h.1
@@ -76,7 +67,7 @@ either_reached : (t : Bool) (a b : LoneGuest) → AllReached a.slots → AllReac
 either_reached true a b h k = h
 either_reached false a b h k = k
 
-event_reached : (g : LoneGuest) (e : Event) → AllReached g.slots → AllReached (after_event g e).slots
+pub event_reached : (g : LoneGuest) (e : Event) → AllReached g.slots → AllReached (after_event g e).slots
 event_reached g e h = either_reached (is_some (event_fault g.slots e)) g (changed_by g e) h (changed_reached g e h)
 
 own_reached : (g : LoneGuest) (e : Option Event) → AllReached g.slots → AllReached (after_own g e).slots
@@ -102,7 +93,7 @@ no_functions : (n : ℕ) → Each (λ (o : Option Endpoint). MayBeReached (reset
 no_functions zero = tt
 no_functions (suc n) = (tt, no_functions n)
 
-slots_reached : (ds : List (Option Endpoint)) → Each (λ o. MatchOption o ⊤ IsLawfulEndpoint) ds → AllReached (reset_slots ds)
+pub slots_reached : (ds : List (Option Endpoint)) → Each (λ o. MatchOption o ⊤ IsLawfulEndpoint) ds → AllReached (reset_slots ds)
 slots_reached ds lawful =
     let rest : List (Option Endpoint) = replicate (32 - length ds) None in
     each_of_map MayBeReached reset_function (ds ++ rest)
@@ -115,8 +106,7 @@ guests_find_lists ds lawful is inputs n f at d c cs same ids =
     let slots : Slots = (after_inputs (reset_guest ds) is).slots in
     let all : AllReached slots = inputs_reached (reset_guest ds) is inputs (slots_reached ds lawful) in
     let reached : IsReached f = subst MayBeReached at (at_reached slots n all) in
-    let file : f.file ≡ after_changes (endpoint_reset (with_capabilities (c ∷ cs) d) false) reached.changes = reached.file ∙ ap (λ (e : Endpoint). after_changes (endpoint_reset e false) reached.changes) same in
-    subst (λ (x : File). ShowsList x (c ∷ cs)) (sym file) (list_stays d c cs (subst IsLawfulEndpoint same reached.lawful) ids false 0 (λ r. 0) reached.changes)
+    list_shown d (c ∷ cs) f.file (reached.lists d c cs same ids)
 
 -- ---- on the board
 

@@ -33,3 +33,4 @@ pub mod DeviceBytes
 pub mod Calls
 pub mod DeviceExamples
 pub mod CapabilityLists
+pub mod ListedBoards
