@@ -12,3 +12,4 @@ pub mod HandoverLines
 pub mod FirmwareLeaves
 pub mod Written
 pub mod GivenBoards
+pub mod SessionLists

@@ -15,3 +15,4 @@ pub mod Sessions
 pub mod SessionLaws
 pub mod FirmwareLeaves
 pub mod GivenLaws
+pub mod SessionLists

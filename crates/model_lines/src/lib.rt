@@ -7,7 +7,7 @@
 //! replies that guests get afterwards are defined for boards set up by any firmware.
 #![tactic(auto)]
 
-ghost use Rattle.model_lines.specs.{WhyExamples.WhyExamples, GuestExamples.GuestExamples, WhyGuests.{FoundAsLocated, ClosedAreAll, ClosedAreTrue}, WhyPorts.{PortsByLatch, PortExamples}, WhyLaws.{AddressesExplained, NumbersExplained, OrderlyAnswersAlone, ReadyTellsNothing}, FirmwareLaws.{BadLinesChangeNothing, DataIsByNumber, LatchIsPort, LongLinesAlike, ReadsChangeNoRegister, RefusedChangesNothing}, FirmwareLines.board_protocol, Sessions.session_protocol, Requests.RequestExamples, SessionLaws.{HostWordsAreNoForm, QuestionsChangeNothing, RefusedStays, RequestsAreNoForm, DrivenIsFirmware, GivenIsScript, PlainSessions, AccessesTellWritten, GivenBy, IsolatedSessions, LinesTellWritten}, FirmwareLeaves.{AccessLeaves, LinesLeave}, GivenLaws.{GivenAlike, GivenAsSetUp, GivenIsolated, GivenStays, OrderlyStays}};
+ghost use Rattle.model_lines.specs.{WhyExamples.WhyExamples, GuestExamples.GuestExamples, WhyGuests.{FoundAsLocated, ClosedAreAll, ClosedAreTrue}, WhyPorts.{PortsByLatch, PortExamples}, WhyLaws.{AddressesExplained, NumbersExplained, OrderlyAnswersAlone, ReadyTellsNothing}, FirmwareLaws.{BadLinesChangeNothing, DataIsByNumber, LatchIsPort, LongLinesAlike, ReadsChangeNoRegister, RefusedChangesNothing}, FirmwareLines.board_protocol, Sessions.session_protocol, Requests.RequestExamples, SessionLaws.{HostWordsAreNoForm, QuestionsChangeNothing, RefusedStays, RequestsAreNoForm, DrivenIsFirmware, GivenIsScript, PlainSessions, AccessesTellWritten, GivenBy, IsolatedSessions, LinesTellWritten}, FirmwareLeaves.{AccessLeaves, LinesLeave}, SessionLists.SessionsShowLists, GivenLaws.{GivenAlike, GivenAsSetUp, GivenIsolated, GivenStays, OrderlyStays}};
 ghost use Rattle.model_guests.specs.LineRuns.{AfterAlong, CutIsBeginning, OutputAlong, StoppedIsBeginning};
 
 /// Proves that the explanation of an address is true, and that each region that contains the
@@ -135,4 +135,10 @@ pub fn sessions_in_pieces()
 pub fn firmware_hands_over()
     ensures access { AccessLeaves }
     ensures lines { LinesLeave }
+{}
+
+/// Proves that in every state that a session reaches, a walk of an endpoint's capability list on the
+/// board finds the declared structures, in order.
+pub fn sessions_show_lists()
+    ensures { SessionsShowLists }
 {}
