@@ -17,8 +17,8 @@ CHOICES = {(name, key): form["enum"] for name, table in TABLES.items() for key, 
 NUMBERS = [key for key, form in TABLES["endpoint"]["properties"].items() if form.get("type") == "integer"]
 RANGES = {key: TABLES["endpoint"]["properties"][key]["maximum"] for key in NUMBERS if key != "status"}
 WIDTHS = {key: (RANGES.get(key, 0xFFFF).bit_length() + 7) // 8 for key in NUMBERS}
-# where an endpoint has them: as offset and width; the class code begins below the register with its base class
-PLACES = {**runpy.run_path(str(TOP / "library/python/pciguest/_names.py"))["ENDPOINT"], "class": (0x09, 3)}
+# where an endpoint has them: as offset and width
+PLACES = runpy.run_path(str(TOP / "library/python/pciguest/_names.py"))["DECLARED"]
 REGISTERS = tomllib.loads((TOP / "docs/own.toml").read_text())["register"]
 
 

@@ -5,13 +5,14 @@ from __future__ import annotations
 from typing import TYPE_CHECKING, Dict, Iterator, List, NamedTuple, Optional, Tuple, Type
 
 from ._declared import KINDS, PATTERNS, Register
+from ._names import DECLARED, HEADER
 
 if TYPE_CHECKING:
     from ._devices import Device
 
-# the fields of an identity, with their bytes in an image
-IDENTITY = {"vendor_id": 2, "device_id": 2, "revision_id": 1, "class_code": 3, "subsystem_vendor_id": 2, "subsystem_id": 2,
-            "interrupt_pin": 1}
+# the fields that a device declares, by their keys in a board file
+IDENTITY = {"vendor": "vendor_id", "device": "device_id", "revision": "revision_id", "class": "class_code",
+            "subvendor": "subsystem_vendor_id", "subsystem": "subsystem_id", "pin": "interrupt_pin"}
 # of a cell: at reset, which bits are writable, and which are cleared by ones
 Cell = Tuple[int, int, int]
 
@@ -96,9 +97,9 @@ class _Bytes:
 
     def declared(self) -> Tuple[Found, int]:
         """What is declared of a function, and how many bytes of values come behind it."""
-        found = Found({name: self.number(width) for name, width in IDENTITY.items()}, {}, {})
-        self.number(4)  # Min_Gnt, Max_Lat, Status at reset
-        values = 23
+        numbers = {key: self.number(width) for key, (_, width) in DECLARED.items()}
+        found = Found({name: numbers[key] for key, name in IDENTITY.items()}, {}, {})
+        values = len(HEADER)
         for _ in range(self.number(1)):
             bar, kind = self.number(1), list(KINDS)[self.number(1)]
             found.bars[bar] = kind, self.number(8)

@@ -4,9 +4,8 @@ from __future__ import annotations
 
 from typing import Iterator, NamedTuple, Optional, Tuple
 
-#: the fields of a function in front of its regions: their keys in a board file, and how many bytes they have
-IDENTITY = {"vendor": 2, "device": 2, "revision": 1, "class": 3, "subvendor": 2, "subsystem": 2, "pin": 1,
-            "min_gnt": 1, "max_lat": 1, "status": 2}
+from ._names import DECLARED, HEADER
+
 # a field, and how many bytes it has
 Field = Tuple[str, int]
 
@@ -54,8 +53,9 @@ class _Fields:
                 yield from self._function()
 
     def _function(self) -> Iterator[Field]:
-        yield from IDENTITY.items()
-        values = 0x0F + 4 + 4  # in the header
+        for key, (_, width) in DECLARED.items():
+            yield key, width
+        values = len(HEADER)
         yield "how many regions there are", 1
         for _ in range(self._before(1)):
             yield "the register of a region", 1
