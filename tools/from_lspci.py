@@ -9,7 +9,9 @@ address and the data of MSI are, and the control bits of MSI-X and Power Managem
 its value at reset. Boards have only devices 0 to 15: a device above 15 gets a free number on its bus, and if none is left, the
 device is left out. So is a device without function 0."""
 import re
+import runpy
 import sys
+from pathlib import Path
 
 HOST = "[host]\nio = [0x1000, 0xffff]\nmem = [0x80000000, 0xfebfffff]\npref = [0x1000000000, 0x1fffffffff]\n"
 FUNCTION = re.compile(r"(?:(\w+):)?(\w\w):(\w\w)\.([0-7]) ")
@@ -17,6 +19,11 @@ REGION = re.compile(r"\tRegion (\d): (?!\[virtual\]).*\[size=(\d+)([KMGT]?)\]")
 ROW = re.compile(r"(\w\w):((?: \w\w){16})$")
 UNITS = {unit: 1 << 10 * power for power, unit in enumerate(["", "K", "M", "G", "T"])}
 POWER_MANAGEMENT, MSI, MSI_X = 0x01, 0x05, 0x11
+# the registers that an endpoint declares, by their keys, and those of them that a bridge declares too
+DECLARED = runpy.run_path(str(Path(__file__).resolve().parent.parent / "library/python/pciguest/_names.py"))["DECLARED"]
+IDENTITY = ("vendor", "device", "revision")
+# the bits of Status that an endpoint may declare
+STATUS = 0xF900
 
 
 # ---- the text of a function, by its 256 bytes of configuration space
@@ -53,22 +60,19 @@ def number(cells, at, width):
     return int.from_bytes(cells[at:at + width], "little")
 
 
-def identity_text(kind, path, cells):
-    return (f'\n[[{kind}]]\nat = "{path}"\nvendor = {number(cells, 0, 2):#x}\ndevice = {number(cells, 2, 2):#x}\n'
-            f"revision = {cells[8]:#x}\n")
+def declared_text(kind, path, cells, keys):
+    """A table with the values of these keys."""
+    found = {key: number(cells, *DECLARED[key]) & (STATUS if key == "status" else -1) for key in keys}
+    return f'\n[[{kind}]]\nat = "{path}"\n' + "".join(f"{key} = {value:#x}\n" for key, value in found.items())
 
 
 def endpoint_text(path, cells, bars, rw, w1c=bytes(256)):
     """An endpoint with these bytes at reset; `bars` has a line for each region."""
-    return (identity_text("endpoint", path, cells)
-            + f"class = {number(cells, 9, 3):#x}\nstatus = {number(cells, 6, 2) & 0xF900:#x}\n"
-            f"subvendor = {number(cells, 0x2C, 2):#x}\nsubsystem = {number(cells, 0x2E, 2):#x}\npin = {cells[0x3D]}\n"
-            f"min_gnt = {cells[0x3E]}\nmax_lat = {cells[0x3F]}\n"
-            + f"bar = [\n{bars}]\n" * bool(bars) + own_text(cells, rw, w1c))
+    return declared_text("endpoint", path, cells, DECLARED) + f"bar = [\n{bars}]\n" * bool(bars) + own_text(cells, rw, w1c)
 
 
 def bridge_text(path, cells, io, pref):
-    return f'{identity_text("bridge", path, cells)}io = "{io}"\npref = "{pref}"\n'
+    return f'{declared_text("bridge", path, cells, IDENTITY)}io = "{io}"\npref = "{pref}"\n'
 
 
 def kind_of(value):
