@@ -1,6 +1,7 @@
 //! In what a function differs from what a device declares. The image of the guest that has it says what it is.
 
 use crate::declared::{Declaration, Kind, Register, PATTERNS};
+use crate::image_fault::{HEADER, IDENTITY};
 use crate::place::Part;
 use crate::prelude::*;
 use core::fmt;
@@ -34,8 +35,8 @@ struct Declared {
     blocks: Vec<(Part, u64, Vec<Cell>)>,
 }
 
-/// The fields of an identity, in the order of an image.
-const IDENTITY: [&str; 7] = [
+/// The fields that a device declares: the first ones of an image.
+const FIELDS: [&str; 7] = [
     "vendor_id",
     "device_id",
     "revision_id",
@@ -58,7 +59,7 @@ pub(crate) fn first_difference(
     let of_identity = (0..7).find(|&at| identity[at] != function.identity[at]);
     if let Some(at) = of_identity {
         let text = |value| format!("{value:#x}");
-        return differs(IDENTITY[at], text(identity[at]), text(function.identity[at]));
+        return differs(FIELDS[at], text(identity[at]), text(function.identity[at]));
     }
     let regions = (0..6).find_map(|at| region(device, &function, at));
     let mut registers: Vec<&Register> = device.registers.iter().collect();
@@ -131,13 +132,13 @@ impl<'a> Bytes<'a> {
 
     /// The declaration of a function, and how many bytes of values come after it (`docs/image-format.md`).
     fn declared(&mut self) -> Option<(Declared, usize)> {
-        let mut identity = [0; 7];
-        for (field, width) in identity.iter_mut().zip([2, 2, 1, 3, 2, 2, 1]) {
-            *field = self.number(width)?;
+        let mut numbers = [0; IDENTITY.len()];
+        for (number, (_, width)) in numbers.iter_mut().zip(IDENTITY) {
+            *number = self.number(width)?;
         }
-        self.take(4)?; // Min_Gnt, Max_Lat, Status at reset
+        let identity = core::array::from_fn(|at| numbers[at]); // the first seven numbers
         let (mut regions, mut blocks) = ([None; 6], Vec::new());
-        let (mut values, count) = (23, self.number(1)?);
+        let (mut values, count) = (HEADER, self.number(1)?);
         for _ in 0..count {
             let (at, kind, size) = (self.number(1)? as u8, self.number(1)? as u8, self.number(8)?);
             *regions.get_mut(usize::from(at))? = Some((kind, size));

@@ -25,7 +25,7 @@ impl fmt::Display for ImageFault {
 }
 
 /// The fields of a function in front of its regions: their keys in a board file, and how many bytes they have.
-const IDENTITY: [(&str, usize); 10] = [
+pub(crate) const IDENTITY: [(&str, usize); 10] = [
     ("vendor", 2),
     ("device", 2),
     ("revision", 1),
@@ -37,6 +37,9 @@ const IDENTITY: [(&str, usize); 10] = [
     ("max_lat", 1),
     ("status", 2),
 ];
+
+/// How many bytes of a function's header, except its base address registers, have their values in an image.
+pub(crate) const HEADER: usize = 0x0f + 4 + 4;
 
 impl ImageFault {
     /// The fault at a byte of an image, if there is such a byte.
@@ -82,7 +85,7 @@ impl Fields<'_> {
         for (key, width) in IDENTITY {
             self.number(width, || key.to_owned())?;
         }
-        let mut values = 0x0f + 4 + 4; // in the header
+        let mut values = HEADER as u64;
         for _ in 0..self.number(1, || "how many regions there are".to_owned())? {
             let index = self.number(1, || "the register of a region".to_owned())?;
             let kind = self.number(1, || format!("the kind of bar{index}"))?;
