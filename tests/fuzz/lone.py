@@ -2,7 +2,7 @@
 import itertools
 
 from board import masks
-from keys import NUMBERS
+from keys import NUMBERS, PLACES, bits
 
 KINDS = ["io", "mem32", "mem32p", "mem64", "mem64p"]
 
@@ -15,7 +15,10 @@ def runs(bar):
 
 def endpoint_lines(endpoint):
     """The lines of one endpoint."""
-    yield "endpoint " + " ".join(str(endpoint.values.get(name, 0)) for name in NUMBERS)
+    yield "endpoint"
+    for key in NUMBERS:
+        offset, width = PLACES[key]
+        yield f"register {offset} {width} {endpoint.values.get(key, 0)} {bits('clears', 0, offset)}"
     for bar in endpoint.bars:
         yield f"bar {bar.index} {KINDS.index(bar.kind)} {bar.size}"
         yield from ("cells " + " ".join(map(str, run)) for run in runs(bar))

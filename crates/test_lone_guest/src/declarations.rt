@@ -1,8 +1,9 @@
 //! A parser for files of guests. Each line is a keyword and its operands:
 //!
 //! - `guest NAME` starts a guest. Its endpoints follow, slot 0 first.
-//! - `endpoint VALUE..` starts an endpoint, with the values of the registers in
-//!   `function::DECLARED`. Its regions and its device-specific configuration registers follow.
+//! - `endpoint` starts an endpoint. Its declared registers, its regions and its device-specific
+//!   configuration registers follow.
+//! - `register OFFSET WIDTH VALUE CLEARED` declares a register of the header. No bit is writable.
 //! - `bar INDEX KIND SIZE` declares a region. KIND is 0 (I/O), 1 (32-bit memory), 2 (32-bit
 //!   prefetchable memory), 3 (64-bit memory) or 4 (64-bit prefetchable memory).
 //! - `cells COUNT VALUE WRITABLE CLEARED` appends COUNT identical registers to the last region.
@@ -38,19 +39,6 @@ fn number(text: &str) -> u64 {
     text.parse::<u64>().unwrap_or(0)
 }
 
-/// Returns an endpoint with these values, without regions.
-fn endpoint(alloc: Global, values: &[&str]) -> Option<LoneEndpoint> {
-    let mut numbers = Vec::new(alloc);
-    for text in values {
-        numbers.push(number(text)).ok()?;
-    }
-    Some(LoneEndpoint {
-        numbers,
-        bar: Vec::new(alloc),
-        config: Vec::new(alloc),
-    })
-}
-
 /// Parses the operands of a line. Missing ones are 0.
 fn numbers_of(words: &[&str]) -> [u64; 4] {
     let mut numbers = [0u64; 4];
@@ -68,11 +56,12 @@ impl Declared {
         self.guests.push(Vec::new(alloc)).ok()
     }
 
-    /// Adds the region or the registers in a line to the last endpoint.
+    /// Adds the region, the register or the registers in a line to the last endpoint.
     fn add_part(&mut self, alloc: Global, kind: &str, numbers: [u64; 4]) -> Option<()> {
         let [first, second, third, fourth] = numbers;
         let last = self.guests.last_mut()?.last_mut()?;
         match kind {
+            "register" => last.header.push(numbers).ok(),
             "bar" => {
                 let block = Vec::new(alloc);
                 let (index, kind, size) = (byte(first), kind_of(second), third);
@@ -112,8 +101,12 @@ impl Declared {
         match words {
             [] => Some(()),
             ["guest", name] => self.add_guest(alloc, name),
-            ["endpoint", rest @ ..] => {
-                let added = endpoint(alloc, rest)?;
+            ["endpoint"] => {
+                let added = LoneEndpoint {
+                    header: Vec::new(alloc),
+                    bar: Vec::new(alloc),
+                    config: Vec::new(alloc),
+                };
                 self.guests.last_mut()?.push(added).ok()
             }
             [kind, rest @ ..] => self.add_part(alloc, kind, numbers_of(rest)),

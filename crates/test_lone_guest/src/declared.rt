@@ -22,8 +22,9 @@ pub struct LoneBlock {
 /// An endpoint: the declared values in its header, its regions and its device-specific registers.
 #[derive(Drop)]
 pub struct LoneEndpoint {
-    /// The values of the registers in `function::DECLARED`.
-    pub numbers: Vec<u64>,
+    /// The declared registers: offset, width in bytes, value at reset, and the bits cleared by
+    /// writing a one.
+    pub header: Vec<[u64; 4]>,
     pub bar: Vec<LoneRegion>,
     pub config: Vec<LoneBlock>,
 }

@@ -16,29 +16,14 @@ pub(crate) struct Function {
     regions: Vec<LoneRegion>,
 }
 
-/// The read-only registers with declared values, and Status: offset, width in bytes, and the bits
-/// cleared by writing a one. They are in the order of the keys of a board file.
-const DECLARED: [(usize, usize, u64); 10] = [
-    (0x00, 2, 0), // Vendor ID
-    (0x02, 2, 0), // Device ID
-    (0x08, 1, 0), // Revision ID
-    (0x09, 3, 0), // Class Code
-    (0x2c, 2, 0), // Subsystem Vendor ID
-    (0x2e, 2, 0), // Subsystem ID
-    (0x3d, 1, 0), // Interrupt Pin
-    (0x3e, 1, 0), // Min_Gnt
-    (0x3f, 1, 0), // Max_Lat
-    (0x06, 2, 0xf900),
-];
-
 /// Declares the header of an endpoint, without the base address registers (PCI Local Bus 3.0,
 /// section 6.1). A guest always reads Header Type as 00h.
 fn declare_header(file: &mut [Register], decl: &LoneEndpoint) {
     declare(file, 0x04, 2, 0, 0x0547, 0);
     declare(file, 0x0c, 2, 0, 0xffff, 0);
     declare(file, 0x3c, 1, 0, 0xff, 0);
-    for ((offset, width, cleared), value) in DECLARED.iter().zip(&decl.numbers) {
-        declare(file, *offset, *width, *value, 0, *cleared);
+    for [offset, width, value, cleared] in &decl.header {
+        declare(file, *offset as usize, *width as usize, *value, 0, *cleared);
     }
 }
 
