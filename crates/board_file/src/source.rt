@@ -118,9 +118,9 @@ fn read_document(
 }
 
 /// Reads a board file. Returns its host bridge and board at reset, with CONFIG_ADDRESS 0, and its
-/// guests in file order. A file that fails checks is refused with the first of them, in the order
-/// 101, 102, 103, 104, 108, 105, 106, 107, 109, 110, 111, 112. Each check covers the whole file.
-/// Bytes that aren't UTF-8 aren't TOML (101). Exhausted memory can be reported at any point.
+/// guests in file order. A file that fails checks is refused with the first of them: `NotToml`,
+/// those of [`order`](crate::checks::order), `CellMasks`. Each check covers the whole file. Bytes
+/// that aren't UTF-8 aren't TOML. Exhausted memory can be reported at any point.
 pub fn read_board(alloc: Global, bytes: &[u8]) -> Result<(Host, Vec<GuestDecl>), BoardFault>
     ensures world { IfOk result (λ r.
         IsUtf8 bytes.now

@@ -10,9 +10,9 @@ use std::fmt;
 /// The reason that a run of the program failed.
 #[derive(Clone, Copy, Debug, PartialEq, Eq)]
 pub enum Fault {
-    /// The board file is refused (101 to 112), or memory was exhausted while reading it (199).
+    /// The board file is refused (1xx), or memory was exhausted while reading it (199).
     File(BoardFault),
-    /// The board can't be set up (201 to 205), or memory was exhausted while the board was built,
+    /// The board can't be set up (2xx), or memory was exhausted while the board was built,
     /// set up, reported, examined or assigned to guests (299).
     SetUp(bus_scan::Fault),
     /// An audit found a problem, and the run treats problems as a fault.

@@ -45,7 +45,7 @@ fn report_in(
 
 /// Reads a board file, sets up its board and returns the listing.
 ///
-/// Fails if the file is refused (101 to 112), if the board can't be set up (201 to 205), or if
+/// Fails if the file is refused (1xx), if the board can't be set up (2xx), or if
 /// memory is exhausted (199 or 299).
 pub fn list_in(alloc: Global, board: &[u8], form: ReportForm) -> Result<String, OpenFault>
     ensures report { IfOk result (λ t.

@@ -47,7 +47,7 @@ impl Model for Board {
 
 impl Board {
     /// Returns the board of a board file, at reset. Validates and keeps the guests of the file, but
-    /// assigns no function to them yet. Fails if the file is refused (101 to 112) or memory is
+    /// assigns no function to them yet. Fails if the file is refused (1xx) or memory is
     /// exhausted (199).
     pub fn parse(alloc: Global, file: &[u8]) -> Result<Board, BoardFault>
         ensures declared { IfOk result (λ b. Declares file.now b.world) }
@@ -163,8 +163,8 @@ impl Board {
     }
 
     /// Runs our own set-up on a copy of this board, which is at reset, and assigns its functions to
-    /// the guests of the file. This board isn't changed. Fails if the board can't be set up (201 to
-    /// 205) or memory is exhausted (299).
+    /// the guests of the file. This board isn't changed. Fails if the board can't be set up
+    /// (2xx) or memory is exhausted (299).
     pub fn set_up(&self, alloc: Global) -> Result<Monitor, bus_scan::Fault>
         ensures made { IfOk result (BeginsIn (IsAtFirst self.now.world)) }
         ensures placement { IfErr result (λ f.

@@ -18,10 +18,10 @@ use window_packing::set_up;
 /// The reason why the board of a board file can't be set up.
 #[derive(Clone, Copy, Debug, PartialEq, Eq, Error)]
 pub enum OpenFault {
-    /// The board file is refused (101 to 112), or memory was exhausted while it was read (199).
+    /// The board file is refused (1xx), or memory was exhausted while it was read (199).
     #[error(transparent)]
     File(BoardFault),
-    /// The board can't be set up (201 to 205), or memory was exhausted while it was built, set up
+    /// The board can't be set up (2xx), or memory was exhausted while it was built, set up
     /// or assigned to guests (299).
     #[error(transparent)]
     SetUp(bus_scan::Fault),
@@ -56,7 +56,7 @@ impl From<bus_scan::Fault> for OpenFault {
 }
 
 /// Sets up a board at reset, and assigns its functions to guests. Fails if the board can't be set
-/// up (201 to 205) or memory is exhausted (299).
+/// up (2xx) or memory is exhausted (299).
 pub(crate) fn begin(
     alloc: Global,
     host: Host,
@@ -75,7 +75,7 @@ pub(crate) fn begin(
 
 /// Sets up the board of a board file, and assigns its functions to the guests of the file.
 ///
-/// Fails if the file is refused (101 to 112), the board can't be set up (201 to 205), or memory is
+/// Fails if the file is refused (1xx), the board can't be set up (2xx), or memory is
 /// exhausted (199 or 299).
 pub fn open_and_set_up(alloc: Global, file: &[u8]) -> Result<Monitor, OpenFault>
     ensures opened { IfOk result (BeginsIn (IsOpened file.now)) }

@@ -40,8 +40,8 @@ impl Model for Session {
 impl Session {
     ghost use Rattle.session.specs.Lending.{LendsBoard, LendsMonitor};
 
-    /// Opens a session over the board of a board file, at reset. Fails if the file is refused (101
-    /// to 112) or memory is exhausted (199).
+    /// Opens a session over the board of a board file, at reset. Fails if the file is refused
+    /// (1xx) or memory is exhausted (199).
     pub fn open(alloc: Global, file: &[u8]) -> Result<Session, BoardFault>
         ensures reset { IfOk result (λ x.
             (w : World) × Declares file.now w × IsLawfulWorld w × (x ≡ driven (at_reset w))) }

@@ -12,7 +12,7 @@ use streams::Writer;
 /// Sets up the board that a board file declares, writes its report in the given format, and flushes
 /// once.
 ///
-/// Fails only if the file is refused (101 to 112), the board is refused (201 to 205), memory is
+/// Fails only if the file is refused (1xx), the board is refused (2xx), memory is
 /// exhausted (199 or 299), or the output can't be written (`Write`). Only in the last case can part
 /// of the report have been written.
 pub fn list<W: Writer>(

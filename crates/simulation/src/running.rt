@@ -66,7 +66,7 @@ pub(crate) fn run_as<R: Reader, W: Writer>(
 /// The replies to a guest depend only on its own functions, each an isolated register file, on its
 /// own lines, and on the moves that involve it.
 ///
-/// Fails if the file is refused (101 to 112), its board is refused (201 to 205), or memory is
+/// Fails if the file is refused (1xx), its board is refused (2xx), or memory is
 /// exhausted (199 or 299). In these cases nothing is read or written. Afterwards, only a read
 /// (501), or a write or a flush (502), can fail.
 pub fn whole<R: Reader, W: Writer>(

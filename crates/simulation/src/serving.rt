@@ -83,7 +83,7 @@ fn last_fault(
 /// line. The answer is about the final registers and the apertures of the file. After a handover,
 /// it is about the guests' registers.
 ///
-/// Fails if the file is refused (101 to 112), or memory is exhausted while the file is read (199).
+/// Fails if the file is refused (1xx), or memory is exhausted while the file is read (199).
 /// In these cases nothing is read or written. Afterwards, a read (501), or a write or a flush
 /// (502), can fail. If memory is exhausted by a line, by the handover or by the answer (299), the
 /// output of the earlier lines was written and flushed, and nothing was written after it. If

@@ -3,7 +3,7 @@
 //! Placement: chooses the addresses of all regions and bridge windows, and programs the registers
 //! (PCI Local Bus 3.0, section 6.2.5; PCI-to-PCI Bridge Architecture 1.2, section 3.2.5).
 //!
-//! Sets up a host at reset, or fails with error 201 to 205. Afterwards the registers of the host
+//! Sets up a host at reset, or fails with error 2xx. Afterwards the registers of the host
 //! contain all addresses:
 //!
 //! ```

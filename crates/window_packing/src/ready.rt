@@ -90,7 +90,7 @@ pub fn enumerate(alloc: Global, host: &mut Host) -> Result<FunctionTable, Fault>
 }
 
 /// Sets up the board of a host at reset: enumerates, sizes, places and programs, in that order.
-/// Fails if memory is exhausted, or with the lowest of the errors 201 to 205 that applies. The host
+/// Fails if memory is exhausted, or with the lowest error 2xx that applies. The host
 /// is dropped on failure.
 pub fn set_up(alloc: Global, host: Host) -> Result<Ready, Fault>
     requires { IsAtReset host.state }

@@ -9,7 +9,7 @@ use crate::values::numbers::{FILE_MEMORY, IN_USE};
 use session::Session;
 use std::alloc::Global;
 
-/// Creates the board of a board file at reset, before any access by firmware. Returns 101 to 112 if
+/// Creates the board of a board file at reset, before any access by firmware. Returns 1xx if
 /// the file is refused, 199 if memory is exhausted, or 903 if the handle is already in use.
 #[unsafe(no_mangle)]
 pub extern "C" fn pciguest_raw_board_new(alloc: Global, handle: &mut Handle, file: &[u8]) -> u32

@@ -9,7 +9,7 @@ use session::{Board, Session};
 use std::alloc::Global;
 
 /// Runs the built-in set-up on the board, and stores the resulting machine in an empty handle.
-/// Returns 903 if the handle isn't empty, 904 if the board isn't at reset, 201 to 205 if the board
+/// Returns 903 if the handle isn't empty, 904 if the board isn't at reset, 2xx if the board
 /// can't be set up, or 299 if memory is exhausted.
 fn set_up(alloc: Global, board: &Board, machine: &mut Handle) -> u32
     ensures { SetsUp (Some board.now) (session_of machine.old) (session_of machine.new) result }
@@ -47,7 +47,7 @@ fn set_up_in(alloc: Global, session: &mut Session, machine: &mut Handle) -> u32
 
 /// Runs the built-in set-up on a board at reset, and assigns its functions to the guests of its
 /// file. The machine is the one that `pciguest_raw_new` makes from the same file. The board doesn't
-/// change. Returns 201 to 205 if the board can't be set up, 299 if memory is exhausted, 903 if the
+/// change. Returns 2xx if the board can't be set up, 299 if memory is exhausted, 903 if the
 /// machine's handle is already in use, or 904 if the board has been written to since reset.
 #[unsafe(no_mangle)]
 pub extern "C" fn pciguest_raw_set_up(

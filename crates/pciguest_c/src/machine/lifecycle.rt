@@ -10,7 +10,7 @@ use session::{Session, open_and_set_up};
 use std::alloc::Global;
 
 /// Sets up the board of a board file, and assigns its functions to the guests of the file. Returns
-/// 101 to 112 if the file is refused, 201 to 205 if the board can't be set up, 199 or 299 if memory
+/// 1xx if the file is refused, 2xx if the board can't be set up, 199 or 299 if memory
 /// is exhausted, or 903 if the handle is already in use.
 #[unsafe(no_mangle)]
 pub extern "C" fn pciguest_raw_new(alloc: Global, handle: &mut Handle, board: &[u8]) -> u32
