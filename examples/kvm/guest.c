@@ -14,7 +14,7 @@ enum { INTERRUPT_LINE = 0x3c, CONFIG_ADDRESS = 0xcf8, BELL_STATUS = 0, BELL_COUN
 static const unsigned lines[WIRES] = {5, 9, 10, 11};
 
 /* A number of the library that this program can't go on with. */
-static void expect(uint32_t number, const char *what)
+void expect(uint32_t number, const char *what)
 {
     if (!number)
         return;
@@ -22,35 +22,64 @@ static void expect(uint32_t number, const char *what)
     exit(1);
 }
 
-uint8_t board_cell(struct machine *machine, uint64_t slot, uint32_t part, uint64_t offset)
+uint64_t machine_cells(struct machine *machine, uint64_t slot, uint32_t part, uint64_t offset, uint32_t width)
 {
     uint64_t value = 0;
 
-    expect(pciguest_device_read_wide(&machine->board->guests, machine->guest, slot, part, offset, 1, &value), "a device's cell");
-    return (uint8_t)value;
+    expect(pciguest_device_read_wide(&machine->board->guests, machine->guest, slot, part, offset, width, &value),
+           "a device's cells");
+    return value;
 }
 
-void board_set_cell(struct machine *machine, uint64_t slot, uint32_t part, uint64_t offset, uint8_t value)
+void machine_set_cells(struct machine *machine, uint64_t slot, uint32_t part, uint64_t offset, uint32_t width,
+                       uint64_t value)
 {
-    expect(pciguest_device_write_wide(&machine->board->guests, machine->guest, slot, part, offset, 1, value), "a device's cell");
+    expect(pciguest_device_write_wide(&machine->board->guests, machine->guest, slot, part, offset, width, value),
+           "a device's cells");
 }
 
-/* Finds the guest of the machine's name, and what stands behind its functions. */
-void machine_find_guest(struct machine *machine)
+/* Attaches the virtio device of a function, if there is one: a disk if it has a file. */
+static bool find_virtio(struct machine *machine, uint64_t slot, const struct pciguest_function *function)
 {
-    struct pciguest *guests = &machine->board->guests;
+    struct virtio device = {.machine = machine, .slot = slot};
+
+    if (function->vendor_id != 0x1af4)
+        return false;
+    for (struct disk *disk = machine->board->disks; disk < machine->board->disks + DISKS; disk++)
+        if (disk->path && strcmp(disk->path, (const char *)function->path) == 0) {
+            device.kind = &virtio_blk;
+            device.features = disk_features(disk);
+            device.behind = disk;
+        }
+    machine->virtio[slot] = device;
+    return device.kind != NULL;
+}
+
+/* Finds the device behind the function in a slot. */
+static void find_device(struct machine *machine, uint64_t slot)
+{
     struct pciguest_function function;
 
-    expect(pciguest_guest(guests, machine->name, strlen(machine->name), &machine->guest), machine->name);
-    for (uint64_t slot = 0; slot < SLOTS; slot++) {
-        if (pciguest_slot(guests, machine->guest, slot, &function) != 0)
-            continue; /* the slot is empty */
-        if (function.class_code >> 8 == 0x0700)
-            machine->devices[slot] = SERIAL_PORT;
-        else if (function.vendor_id == 0x1234 && function.device_id == 0x0d0b)
-            machine->devices[slot] = BELL;
-        machine->ports[slot] = (struct uart){.machine = machine, .slot = slot};
-    }
+    machine->devices[slot] = NO_DEVICE;
+    if (pciguest_slot(&machine->board->guests, machine->guest, slot, &function) != 0)
+        return; /* the slot is empty */
+    if (function.class_code >> 8 == 0x0700)
+        machine->devices[slot] = SERIAL_PORT;
+    else if (function.vendor_id == 0x1234 && function.device_id == 0x0d0b)
+        machine->devices[slot] = BELL;
+    else if (find_virtio(machine, slot, &function))
+        machine->devices[slot] = VIRTIO;
+    machine->ports[slot] = (struct uart){.machine = machine, .slot = slot};
+    if (machine->devices[slot] == VIRTIO)
+        virtio_reset(&machine->virtio[slot]);
+}
+
+/* Finds the guest of the machine's name, and the devices behind its functions. */
+void machine_find_guest(struct machine *machine)
+{
+    expect(pciguest_guest(&machine->board->guests, machine->name, strlen(machine->name), &machine->guest), machine->name);
+    for (uint64_t slot = 0; slot < SLOTS; slot++)
+        find_device(machine, slot);
 }
 
 /* The interrupt line to which a function's pin is wired; 0 where it has none. To a guest a function stands on bus 0 as the
@@ -81,12 +110,22 @@ void machine_interrupt(struct machine *machine, uint64_t slot, bool is_asking)
     drive_line(machine, slot);
 }
 
+/* Tells a function's driver in Interrupt Line where its pin arrives. */
+static void write_line(struct machine *machine, uint64_t slot)
+{
+    struct pciguest_function function;
+
+    if (machine->devices[slot])
+        expect(pciguest_write(&machine->board->guests, machine->guest, PCIGUEST_CONFIG, slot, INTERRUPT_LINE, 1,
+                              line_of(machine, slot, &function)),
+               "Interrupt Line");
+}
+
 /* What the firmware of a PC does, but for regions, which Linux places itself: it tells in Interrupt Line where pins arrive,
  * and that these lines are driven by level. */
 void machine_wire(struct machine *machine)
 {
     struct kvm_irqchip chips[2] = {{.chip_id = KVM_IRQCHIP_PIC_MASTER}, {.chip_id = KVM_IRQCHIP_PIC_SLAVE}};
-    struct pciguest_function function;
 
     for (unsigned i = 0; i < 2; i++)
         needed(ioctl(machine->file, KVM_GET_IRQCHIP, &chips[i]), "KVM_GET_IRQCHIP");
@@ -95,10 +134,7 @@ void machine_wire(struct machine *machine)
     for (unsigned i = 0; i < 2; i++)
         needed(ioctl(machine->file, KVM_SET_IRQCHIP, &chips[i]), "KVM_SET_IRQCHIP");
     for (uint64_t slot = 0; slot < SLOTS; slot++)
-        if (machine->devices[slot])
-            expect(pciguest_write(&machine->board->guests, machine->guest, PCIGUEST_CONFIG, slot, INTERRUPT_LINE, 1,
-                                  line_of(machine, slot, &function)),
-                   "Interrupt Line");
+        write_line(machine, slot);
 }
 
 /* Asks where the regions stand now. */
@@ -146,10 +182,14 @@ static void act(struct machine *machine, const struct access *access, const stru
         if (access->is_write) {
             follow_regions(machine);
             drive_line(machine, hit->slot);
+            if (device == VIRTIO)
+                virtio_settle(&machine->virtio[hit->slot]);
         }
     } else if (device == SERIAL_PORT) {
         for (uint64_t offset = hit->offset; offset < end; offset++)
             uart_touched(&machine->ports[hit->slot], (unsigned)offset, access->is_write);
+    } else if (device == VIRTIO) {
+        virtio_touched(&machine->virtio[hit->slot], hit->part, hit->offset, access->width, access->is_write);
     } else if (device == BELL && access->is_write && hit->offset < BELL_RING + 4 && end > BELL_RING) {
         ring(machine, hit);
     }
@@ -202,8 +242,29 @@ bool machine_board_access(struct machine *machine, struct access *access)
 void machine_settle(struct machine *machine)
 {
     uart_settle(&machine->console);
-    for (uint64_t slot = 0; slot < SLOTS; slot++)
+    for (uint64_t slot = 0; slot < SLOTS; slot++) {
         if (machine->devices[slot] == SERIAL_PORT)
             uart_settle(&machine->ports[slot]);
+        else if (machine->devices[slot] == VIRTIO)
+            virtio_settle(&machine->virtio[slot]);
+    }
     follow_regions(machine);
+}
+
+/* Moves a function, with the device behind it, to a slot of another machine. The function is reset, so the device is too. */
+uint32_t machine_move(struct machine *from, uint64_t slot, struct machine *to, uint64_t target)
+{
+    uint32_t fault;
+
+    if (slot < SLOTS && from->devices[slot])
+        machine_interrupt(from, slot, false);
+    fault = pciguest_move(&from->board->guests, from->guest, slot, to->guest, target);
+    if (!fault) {
+        find_device(from, slot);
+        find_device(to, target);
+        write_line(to, target);
+    }
+    machine_settle(from);
+    machine_settle(to);
+    return fault;
 }

@@ -1,13 +1,15 @@
 /* Machines of KVM over one board: the PCI of each is a guest of the board, and there is no other.
  *
- *     kvm BOARD KERNEL INITIAL GUEST[=FILE] ..
+ *     kvm BOARD KERNEL INITIAL [PATH=FILE] .. GUEST[=FILE] ..
  *
- * The machine of a guest boots Linux, or goes on where it was saved to a file. A line on standard input is typed at the
- * console of the machine whose name stands first (`a ls`), or is one of the host: `host save a FILE` stops a machine and
- * saves it, and `host count` tells what was counted since the last such line. The lines of a console come on standard
+ * The function at a path of the board is a disk whose contents are the file. The machine of a guest boots Linux, or goes on
+ * where it was saved to a file. A line on standard input is typed at the console of the machine whose name stands first
+ * (`a ls`), or is one of the host: `host save a FILE` stops a machine and saves it, `host move a SLOT b SLOT` moves a function
+ * to another machine, and `host count` tells what was counted since the last such line. The lines of a console come on standard
  * output, after the machine's name. The program ends when its machines have. */
 #include "machine.h"
 
+#include <ctype.h>
 #include <inttypes.h>
 #include <stdio.h>
 #include <stdlib.h>
@@ -21,7 +23,7 @@ enum { MACHINES = 8, MOMENT = 1000 /* microseconds */ };
 static const char words[] = "console=ttyS0 loglevel=1 nowatchdog acpi=off pci=conf1,noearly initcall_blacklist=add_rtc_cmos "
                             "cryptomgr.notests reboot=t panic=-1";
 
-static struct board board = {PCIGUEST_INIT, PTHREAD_MUTEX_INITIALIZER};
+static struct board board = {.guests = PCIGUEST_INIT, .lock = PTHREAD_MUTEX_INITIALIZER};
 static struct machine machines[MACHINES];
 
 int needed(int result, const char *what)
@@ -98,10 +100,24 @@ static void type_byte(struct machine *machine, uint8_t byte)
     }
 }
 
+/* Moves a function while both machines run. Neither is notified: its driver has to let go of it, or to look for it. */
+static void move(const char *from, uint64_t slot, const char *to, uint64_t target)
+{
+    struct machine *source = machine_of(from, strlen(from)), *sink = machine_of(to, strlen(to));
+    uint32_t fault = PCIGUEST_UNKNOWN_GUEST;
+
+    pthread_mutex_lock(&board.lock);
+    if (source && sink)
+        fault = machine_move(source, slot, sink, target);
+    printf("host: %s\n", fault ? pciguest_strerror(fault) : "moved");
+    pthread_mutex_unlock(&board.lock);
+}
+
 static void host_line(char *line)
 {
     static char paths[MACHINES][256];
     char name[17], path[256];
+    uint64_t slot, target;
     struct machine *machine;
 
     if (strcmp(line, "count\n") == 0) {
@@ -109,6 +125,8 @@ static void host_line(char *line)
             tell_counts(machine);
     } else if (sscanf(line, "save %16s %255s", name, path) == 2 && (machine = machine_of(name, strlen(name)))) {
         machine_stop(machine, strcpy(paths[machine - machines], path));
+    } else if (sscanf(line, "move %16s %" SCNu64 " %16s %" SCNu64, name, &slot, path, &target) == 4) {
+        move(name, slot, path, target);
     } else {
         puts("host: bad line");
     }
@@ -154,19 +172,32 @@ static void make_machine(struct machine *machine, char *word, const char *kernel
         machine_boot(machine, kernel, initial, words);
 }
 
+/* Opens the disks of the words PATH=FILE, which come first. Returns how many there are. */
+static int open_disks(char **words)
+{
+    int count = 0;
+
+    for (char *file; count < DISKS && words[count] && isdigit((unsigned char)*words[count]); count++) {
+        needed((file = strchr(words[count], '=')) ? 0 : -1, words[count]);
+        *file++ = '\0';
+        disk_open(&board.disks[count], words[count], file);
+    }
+    return count;
+}
+
 int main(int argc, char **argv)
 {
-    int count = argc - 4;
+    int disks = argc > 4 ? open_disks(argv + 4) : 0, count = argc - 4 - disks;
     pthread_t reader;
 
     if (count < 1 || count >= MACHINES) {
-        fputs("kvm BOARD KERNEL INITIAL GUEST[=FILE] ..\n", stderr);
+        fputs("kvm BOARD KERNEL INITIAL [PATH=FILE] .. GUEST[=FILE] ..\n", stderr);
         return 2;
     }
     setvbuf(stdout, NULL, _IOLBF, 0);
     open_board(argv[1]);
     for (int i = 0; i < count; i++)
-        make_machine(&machines[i], argv[4 + i], argv[2], argv[3]);
+        make_machine(&machines[i], argv[4 + disks + i], argv[2], argv[3]);
     for (int i = 0; i < count; i++)
         machine_start(&machines[i]);
     needed(-pthread_create(&reader, NULL, take_lines, NULL), "a thread");

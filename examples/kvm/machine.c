@@ -71,6 +71,13 @@ void machine_line(struct machine *machine, unsigned line, bool is_high)
     needed(ioctl(machine->file, KVM_IRQ_LINE, &level), "KVM_IRQ_LINE");
 }
 
+void machine_message(struct machine *machine, uint64_t address, uint32_t data)
+{
+    struct kvm_msi message = {.address_lo = (uint32_t)address, .address_hi = (uint32_t)(address >> 32), .data = data};
+
+    needed(ioctl(machine->file, KVM_SIGNAL_MSI, &message), "KVM_SIGNAL_MSI");
+}
+
 /* The console prints whole lines, each after the machine's name. */
 void machine_print(struct machine *machine, uint8_t byte)
 {

@@ -4,17 +4,19 @@
 
 #include "pciguest.h"
 #include "uart.h"
+#include "virtio.h"
 
 #include <linux/kvm.h>
 #include <pthread.h>
 #include <stddef.h>
 
-enum { MEMORY = 128 << 20, SLOTS = 32, CONSOLE_PORT = 0x3f8, CONSOLE_LINE = 4 };
+enum { MEMORY = 128 << 20, SLOTS = 32, DISKS = 8, CONSOLE_PORT = 0x3f8, CONSOLE_LINE = 4 };
 
 /* This lock protects the library's struct, and everything in a machine that both its own thread and another one use. */
 struct board {
     struct pciguest guests;
     pthread_mutex_t lock;
+    struct disk disks[DISKS]; /* by their functions; those that have no path aren't there */
 };
 
 /* An access at which KVM stopped. */
@@ -26,7 +28,7 @@ struct access {
     uint64_t value;
 };
 
-enum device { NO_DEVICE, SERIAL_PORT, BELL };
+enum device { NO_DEVICE, SERIAL_PORT, BELL, VIRTIO };
 
 struct machine {
     struct board *board;
@@ -34,6 +36,7 @@ struct machine {
     size_t guest;
     enum device devices[SLOTS]; /* the device behind the function in each slot */
     struct uart ports[SLOTS];   /* for devices that are serial ports */
+    struct virtio virtio[SLOTS]; /* for disks */
     struct uart console;
     char line[256]; /* the beginning of an unfinished line of the console */
     size_t length;
@@ -56,6 +59,7 @@ void machine_new(struct machine *machine, struct board *board, const char *name)
 void machine_start(struct machine *machine);
 void machine_stop(struct machine *machine, const char *save_path);
 void machine_line(struct machine *machine, unsigned line, bool is_high);
+void machine_message(struct machine *machine, uint64_t address, uint32_t data); /* an MSI */
 void machine_print(struct machine *machine, uint8_t byte);
 
 /* boot.c: loads Linux and its initial file system, and sets the processor to their entry point. */
@@ -64,12 +68,17 @@ void machine_boot(struct machine *machine, const char *kernel, const char *initi
 /* guest.c: the machine's PCI. */
 void machine_find_guest(struct machine *machine);
 void machine_wire(struct machine *machine); /* acts as the machine's firmware */
+uint32_t machine_move(struct machine *from, uint64_t slot, struct machine *to, uint64_t target);
 bool machine_board_access(struct machine *machine, struct access *access);
 void machine_settle(struct machine *machine); /* updates lines and regions after a load */
 uint64_t now(void); /* nanoseconds */
 void machine_interrupt(struct machine *machine, uint64_t slot, bool is_asking);
-uint8_t board_cell(struct machine *machine, uint64_t slot, uint32_t part, uint64_t offset);
-void board_set_cell(struct machine *machine, uint64_t slot, uint32_t part, uint64_t offset, uint8_t value);
+void expect(uint32_t number, const char *what); /* ends the program if a call of the library failed */
+
+/* Reads and writes cells of a function as its device does, 1 to 8 bytes. */
+uint64_t machine_cells(struct machine *machine, uint64_t slot, uint32_t part, uint64_t offset, uint32_t width);
+void machine_set_cells(struct machine *machine, uint64_t slot, uint32_t part, uint64_t offset, uint32_t width,
+                       uint64_t value);
 
 /* saved.c: saves a stopped machine to a file, and loads one. */
 void machine_save(struct machine *machine, const char *path);

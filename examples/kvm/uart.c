@@ -9,7 +9,7 @@ static uint8_t get(const struct uart *uart, unsigned cell)
 {
     if (uart->is_console)
         return uart->own[cell];
-    return board_cell(uart->machine, uart->slot, cell < HIDDEN ? 0 : PCIGUEST_PART_CONFIG, cell);
+    return (uint8_t)machine_cells(uart->machine, uart->slot, cell < HIDDEN ? 0 : PCIGUEST_PART_CONFIG, cell, 1);
 }
 
 static void set(struct uart *uart, unsigned cell, uint8_t value)
@@ -17,7 +17,7 @@ static void set(struct uart *uart, unsigned cell, uint8_t value)
     if (uart->is_console)
         uart->own[cell] = value;
     else
-        board_set_cell(uart->machine, uart->slot, cell < HIDDEN ? 0 : PCIGUEST_PART_CONFIG, cell, value);
+        machine_set_cells(uart->machine, uart->slot, cell < HIDDEN ? 0 : PCIGUEST_PART_CONFIG, cell, 1, value);
 }
 
 void uart_write(struct uart *uart, unsigned offset, uint8_t value)
