@@ -88,6 +88,7 @@ size_t virtio_copy(const struct iovec *parts, unsigned count, size_t from, void 
 /* virtio_blk.c: a disk, which is a file. If nobody may write to the file, the disk is read-only. */
 struct disk {
     const char *path; /* of the disk's function on the board */
+    const char *name; /* of the file */
     int file;
     bool is_read_only;
 };

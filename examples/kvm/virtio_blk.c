@@ -17,6 +17,7 @@ void disk_open(struct disk *disk, const char *path, const char *file)
 
     needed(stat(file, &status), file);
     disk->path = path;
+    disk->name = file;
     disk->is_read_only = !(status.st_mode & (S_IWUSR | S_IWGRP | S_IWOTH));
     disk->file = needed(open(file, (disk->is_read_only ? O_RDONLY : O_RDWR) | O_CLOEXEC), file);
 }
@@ -79,7 +80,7 @@ static uint8_t perform(const struct disk *disk, const struct virtio_chain *chain
     case VIRTIO_BLK_T_FLUSH:
         return fdatasync(disk->file) == 0 ? VIRTIO_BLK_S_OK : VIRTIO_BLK_S_IOERR;
     case VIRTIO_BLK_T_GET_ID:
-        snprintf(id, sizeof id, "disk %s", disk->path);
+        snprintf(id, sizeof id, "%s", disk->name);
         virtio_copy(in, in_count, 0, id, sizeof id, true);
         return VIRTIO_BLK_S_OK;
     default:
