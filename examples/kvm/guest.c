@@ -8,7 +8,8 @@
 #include <sys/ioctl.h>
 #include <time.h>
 
-enum { INTERRUPT_LINE = 0x3c, CONFIG_ADDRESS = 0xcf8, BELL_STATUS = 0, BELL_COUNT = 4, BELL_RING = 8, WIRES = 4 };
+enum { INTERRUPT_LINE = 0x3c, CONFIG_ADDRESS = 0xcf8, BELL_STATUS = 0, BELL_COUNT = 4, BELL_RING = 8, WIRES = 4,
+       NETWORK_CARD = 0x1041 };
 
 /* The interrupt lines to which the wires of the machine's bus lead. */
 static const unsigned lines[WIRES] = {5, 9, 10, 11};
@@ -38,7 +39,7 @@ void machine_set_cells(struct machine *machine, uint64_t slot, uint32_t part, ui
            "a device's cells");
 }
 
-/* Attaches the virtio device of a function, if there is one: a disk if it has a file. */
+/* Attaches the virtio device of a function, if there is one: a disk if it has a file, or a network card. */
 static bool find_virtio(struct machine *machine, uint64_t slot, const struct pciguest_function *function)
 {
     struct virtio device = {.machine = machine, .slot = slot};
@@ -51,7 +52,13 @@ static bool find_virtio(struct machine *machine, uint64_t slot, const struct pci
             device.features = disk_features(disk);
             device.behind = disk;
         }
+    if (function->device_id == NETWORK_CARD) {
+        device.kind = &virtio_net;
+        device.features = card_features;
+    }
     machine->virtio[slot] = device;
+    if (device.kind == &virtio_net)
+        cable_plug(&machine->board->cable, &machine->virtio[slot]);
     return device.kind != NULL;
 }
 
@@ -61,6 +68,7 @@ static void find_device(struct machine *machine, uint64_t slot)
     struct pciguest_function function;
 
     machine->devices[slot] = NO_DEVICE;
+    machine->virtio[slot].kind = NULL;
     if (pciguest_slot(&machine->board->guests, machine->guest, slot, &function) != 0)
         return; /* the slot is empty */
     if (function.class_code >> 8 == 0x0700)

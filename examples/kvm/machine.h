@@ -17,6 +17,7 @@ struct board {
     struct pciguest guests;
     pthread_mutex_t lock;
     struct disk disks[DISKS]; /* by their functions; those that have no path aren't there */
+    struct cable cable;
 };
 
 /* An access at which KVM stopped. */
@@ -36,7 +37,7 @@ struct machine {
     size_t guest;
     enum device devices[SLOTS]; /* the device behind the function in each slot */
     struct uart ports[SLOTS];   /* for devices that are serial ports */
-    struct virtio virtio[SLOTS]; /* for disks */
+    struct virtio virtio[SLOTS]; /* for disks and network cards */
     struct uart console;
     char line[256]; /* the beginning of an unfinished line of the console */
     size_t length;

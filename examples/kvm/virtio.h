@@ -41,7 +41,7 @@ struct virtio {
     uint64_t features;       /* that it offers beside VIRTIO_F_VERSION_1 */
     struct machine *machine; /* whose guest has the function, and whose memory it accesses */
     uint64_t slot;
-    void *behind; /* what its kind needs: a disk's file */
+    void *behind; /* what its kind needs: a disk's file, a card's cable */
 };
 
 /* The buffers of one request, in the machine's memory: the device reads the first `out`, and writes
@@ -95,5 +95,14 @@ struct disk {
 extern const struct virtio_kind virtio_blk;
 void disk_open(struct disk *disk, const char *path, const char *file);
 uint64_t disk_features(const struct disk *disk);
+
+/* virtio_net.c: a cable, and the network cards at its two ends. An end is free if it has no card, or
+ * if the card's function was moved away. */
+struct cable {
+    struct virtio *ends[2];
+};
+extern const struct virtio_kind virtio_net;
+extern const uint64_t card_features;
+void cable_plug(struct cable *cable, struct virtio *device);
 
 #endif
