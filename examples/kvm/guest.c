@@ -8,8 +8,8 @@
 #include <sys/ioctl.h>
 #include <time.h>
 
-enum { INTERRUPT_LINE = 0x3c, CONFIG_ADDRESS = 0xcf8, BELL_STATUS = 0, BELL_COUNT = 4, BELL_RING = 8, WIRES = 4,
-       NETWORK_CARD = 0x1041 };
+enum { INTERRUPT_LINE = 0x3c, CONFIG_ADDRESS = 0xcf8, BELL_STATUS = 0, BELL_COUNT = 4,
+       BELL_RING = 8, WIRES = 4, NETWORK_CARD = 0x1041 };
 
 /* The interrupt lines to which the wires of the machine's bus lead. */
 static const unsigned lines[WIRES] = {5, 9, 10, 11};
@@ -23,24 +23,29 @@ void expect(uint32_t number, const char *what)
     exit(1);
 }
 
-uint64_t machine_cells(struct machine *machine, uint64_t slot, uint32_t part, uint64_t offset, uint32_t width)
+uint64_t machine_cells(struct machine *machine, uint64_t slot, uint32_t part, uint64_t offset,
+                       uint32_t width)
 {
     uint64_t value = 0;
 
-    expect(pciguest_device_read_wide(&machine->board->guests, machine->guest, slot, part, offset, width, &value),
+    expect(pciguest_device_read_wide(&machine->board->guests, machine->guest, slot, part, offset,
+                                     width, &value),
            "a device's cells");
     return value;
 }
 
-void machine_set_cells(struct machine *machine, uint64_t slot, uint32_t part, uint64_t offset, uint32_t width,
-                       uint64_t value)
+void machine_set_cells(struct machine *machine, uint64_t slot, uint32_t part, uint64_t offset,
+                       uint32_t width, uint64_t value)
 {
-    expect(pciguest_device_write_wide(&machine->board->guests, machine->guest, slot, part, offset, width, value),
+    expect(pciguest_device_write_wide(&machine->board->guests, machine->guest, slot, part, offset,
+                                      width, value),
            "a device's cells");
 }
 
-/* Attaches the virtio device of a function, if there is one: a disk if it has a file, or a network card. */
-static bool find_virtio(struct machine *machine, uint64_t slot, const struct pciguest_function *function)
+/* Attaches the virtio device of a function, if there is one: a disk if it has a file, or a network
+ * card. */
+static bool find_virtio(struct machine *machine, uint64_t slot,
+                        const struct pciguest_function *function)
 {
     struct virtio device = {.machine = machine, .slot = slot};
 
@@ -85,7 +90,9 @@ static void find_device(struct machine *machine, uint64_t slot)
 /* Finds the guest of the machine's name, and the devices behind its functions. */
 void machine_find_guest(struct machine *machine)
 {
-    expect(pciguest_guest(&machine->board->guests, machine->name, strlen(machine->name), &machine->guest), machine->name);
+    expect(pciguest_guest(&machine->board->guests, machine->name, strlen(machine->name),
+                          &machine->guest),
+           machine->name);
     for (uint64_t slot = 0; slot < SLOTS; slot++)
         find_device(machine, slot);
 }
@@ -124,8 +131,8 @@ static void write_line(struct machine *machine, uint64_t slot)
     struct pciguest_function function;
 
     if (machine->devices[slot])
-        expect(pciguest_write(&machine->board->guests, machine->guest, PCIGUEST_CONFIG, slot, INTERRUPT_LINE, 1,
-                              line_of(machine, slot, &function)),
+        expect(pciguest_write(&machine->board->guests, machine->guest, PCIGUEST_CONFIG, slot,
+                              INTERRUPT_LINE, 1, line_of(machine, slot, &function)),
                "Interrupt Line");
 }
 
@@ -197,7 +204,8 @@ static void act(struct machine *machine, const struct access *access, const stru
         for (uint64_t offset = hit->offset; offset < end; offset++)
             uart_touched(&machine->ports[hit->slot], (unsigned)offset, access->is_write);
     } else if (device == VIRTIO) {
-        virtio_touched(&machine->virtio[hit->slot], hit->part, hit->offset, access->width, access->is_write);
+        virtio_touched(&machine->virtio[hit->slot], hit->part, hit->offset, access->width,
+                       access->is_write);
     } else if (device == BELL && access->is_write && hit->offset < BELL_RING + 4 && end > BELL_RING) {
         ring(machine, hit);
     }
@@ -237,13 +245,14 @@ bool machine_board_access(struct machine *machine, struct access *access)
     struct pciguest_hit hit = {0};
     uint64_t began = now();
 
+    machine->board->away = 0;
     if (!find(machine, access, &hit))
         return false;
     make(machine, access, &hit);
     if (hit.found)
         act(machine, access, &hit);
     machine->board_exits++;
-    machine->board_nanoseconds += now() - began;
+    machine->board_nanoseconds += now() - began - machine->board->away;
     return true;
 }
 
@@ -259,7 +268,8 @@ void machine_settle(struct machine *machine)
     follow_regions(machine);
 }
 
-/* Moves a function, with the device behind it, to a slot of another machine. The function is reset, so the device is too. */
+/* Moves a function, with the device behind it, to a slot of another machine. The function is reset,
+ * so the device is too. */
 uint32_t machine_move(struct machine *from, uint64_t slot, struct machine *to, uint64_t target)
 {
     uint32_t fault;

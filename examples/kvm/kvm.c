@@ -2,11 +2,12 @@
  *
  *     kvm BOARD KERNEL INITIAL [PATH=FILE] .. GUEST[=FILE] ..
  *
- * The function at a path of the board is a disk whose contents are the file. The machine of a guest boots Linux, or goes on
- * where it was saved to a file. A line on standard input is typed at the console of the machine whose name stands first
- * (`a ls`), or is one of the host: `host save a FILE` stops a machine and saves it, `host move a SLOT b SLOT` moves a function
- * to another machine, and `host count` tells what was counted since the last such line. The lines of a console come on standard
- * output, after the machine's name. The program ends when its machines have. */
+ * The function at a path of the board is a disk, whose contents are the file. The machine of a guest
+ * boots Linux, or goes on where it was saved to a file. A line on standard input is typed at the
+ * console of the machine whose name stands first (`a ls`), or is one of the host: `host save a FILE`
+ * stops a machine and saves it, `host move a SLOT b SLOT` moves a function from one machine to
+ * another, and `host count` tells what was counted since the last such line. The lines of a console
+ * come on standard output, after the machine's name. The program ends when its machines have. */
 #include "machine.h"
 
 #include <ctype.h>
@@ -100,7 +101,8 @@ static void type_byte(struct machine *machine, uint8_t byte)
     }
 }
 
-/* Moves a function while both machines run. Neither is notified: its driver has to let go of it, or to look for it. */
+/* Moves a function while both machines run. Neither is notified: their drivers have to let go of it
+ * before, and to look for it afterwards. */
 static void move(const char *from, uint64_t slot, const char *to, uint64_t target)
 {
     struct machine *source = machine_of(from, strlen(from)), *sink = machine_of(to, strlen(to));
@@ -116,7 +118,7 @@ static void move(const char *from, uint64_t slot, const char *to, uint64_t targe
 static void host_line(char *line)
 {
     static char paths[MACHINES][256];
-    char name[17], path[256];
+    char name[17], to[17], path[256];
     uint64_t slot, target;
     struct machine *machine;
 
@@ -125,8 +127,8 @@ static void host_line(char *line)
             tell_counts(machine);
     } else if (sscanf(line, "save %16s %255s", name, path) == 2 && (machine = machine_of(name, strlen(name)))) {
         machine_stop(machine, strcpy(paths[machine - machines], path));
-    } else if (sscanf(line, "move %16s %" SCNu64 " %16s %" SCNu64, name, &slot, path, &target) == 4) {
-        move(name, slot, path, target);
+    } else if (sscanf(line, "move %16s %" SCNu64 " %16s %" SCNu64, name, &slot, to, &target) == 4) {
+        move(name, slot, to, target);
     } else {
         puts("host: bad line");
     }
@@ -177,10 +179,13 @@ static int open_disks(char **words)
 {
     int count = 0;
 
-    for (char *file; count < DISKS && words[count] && isdigit((unsigned char)*words[count]); count++) {
-        needed((file = strchr(words[count], '=')) ? 0 : -1, words[count]);
+    while (count < DISKS && words[count] && isdigit((unsigned char)*words[count])) {
+        char *file = strchr(words[count], '=');
+
+        needed(file ? 0 : -1, words[count]);
         *file++ = '\0';
         disk_open(&board.disks[count], words[count], file);
+        count++;
     }
     return count;
 }

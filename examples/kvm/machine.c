@@ -41,6 +41,16 @@ static void *map(size_t length, int flags, int file, const char *what)
     return memory;
 }
 
+/* A machine's memory begins at a multiple of 2 MB, so that the host can use large pages for it. */
+static uint8_t *map_memory(void)
+{
+    enum { LARGE_PAGE = 2 << 20 };
+    uint8_t *memory =
+        map(MEMORY + LARGE_PAGE, MAP_PRIVATE | MAP_ANONYMOUS | MAP_NORESERVE, -1, "memory");
+
+    return memory + -(uintptr_t)memory % LARGE_PAGE;
+}
+
 void machine_new(struct machine *machine, struct board *board, const char *name)
 {
     struct kvm_pit_config timer = {.flags = KVM_PIT_SPEAKER_DUMMY};
@@ -54,7 +64,7 @@ void machine_new(struct machine *machine, struct board *board, const char *name)
     needed(ioctl(machine->file, KVM_SET_TSS_ADDR, 0xfffbd000), "KVM_SET_TSS_ADDR");
     needed(ioctl(machine->file, KVM_CREATE_IRQCHIP, 0), "KVM_CREATE_IRQCHIP");
     needed(ioctl(machine->file, KVM_CREATE_PIT2, &timer), "KVM_CREATE_PIT2");
-    machine->memory = map(MEMORY, MAP_PRIVATE | MAP_ANONYMOUS | MAP_NORESERVE, -1, "memory");
+    machine->memory = map_memory();
     memory.userspace_addr = (uintptr_t)machine->memory;
     needed(ioctl(machine->file, KVM_SET_USER_MEMORY_REGION, &memory), "KVM_SET_USER_MEMORY_REGION");
     machine->processor = needed(ioctl(machine->file, KVM_CREATE_VCPU, 0), "KVM_CREATE_VCPU");
@@ -67,15 +77,21 @@ void machine_new(struct machine *machine, struct board *board, const char *name)
 void machine_line(struct machine *machine, unsigned line, bool is_high)
 {
     struct kvm_irq_level level = {.irq = line, .level = is_high};
+    uint64_t began = now();
 
     needed(ioctl(machine->file, KVM_IRQ_LINE, &level), "KVM_IRQ_LINE");
+    machine->board->away += now() - began;
 }
 
 void machine_message(struct machine *machine, uint64_t address, uint32_t data)
 {
-    struct kvm_msi message = {.address_lo = (uint32_t)address, .address_hi = (uint32_t)(address >> 32), .data = data};
+    struct kvm_msi message = {.address_lo = (uint32_t)address,
+                              .address_hi = (uint32_t)(address >> 32),
+                              .data = data};
+    uint64_t began = now();
 
     needed(ioctl(machine->file, KVM_SIGNAL_MSI, &message), "KVM_SIGNAL_MSI");
+    machine->board->away += now() - began;
 }
 
 /* The console prints whole lines, each after the machine's name. */

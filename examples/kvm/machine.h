@@ -18,6 +18,7 @@ struct board {
     pthread_mutex_t lock;
     struct disk disks[DISKS]; /* by their functions; those that have no path aren't there */
     struct cable cable;
+    uint64_t away; /* nanoseconds of an access that were spent in KVM or in files */
 };
 
 /* An access at which KVM stopped. */
@@ -74,12 +75,13 @@ bool machine_board_access(struct machine *machine, struct access *access);
 void machine_settle(struct machine *machine); /* updates lines and regions after a load */
 uint64_t now(void); /* nanoseconds */
 void machine_interrupt(struct machine *machine, uint64_t slot, bool is_asking);
-void expect(uint32_t number, const char *what); /* ends the program if a call of the library failed */
+void expect(uint32_t number, const char *what); /* ends the program if a call failed */
 
 /* Reads and writes cells of a function as its device does, 1 to 8 bytes. */
-uint64_t machine_cells(struct machine *machine, uint64_t slot, uint32_t part, uint64_t offset, uint32_t width);
-void machine_set_cells(struct machine *machine, uint64_t slot, uint32_t part, uint64_t offset, uint32_t width,
-                       uint64_t value);
+uint64_t machine_cells(struct machine *machine, uint64_t slot, uint32_t part, uint64_t offset,
+                       uint32_t width);
+void machine_set_cells(struct machine *machine, uint64_t slot, uint32_t part, uint64_t offset,
+                       uint32_t width, uint64_t value);
 
 /* saved.c: saves a stopped machine to a file, and loads one. */
 void machine_save(struct machine *machine, const char *path);

@@ -5,11 +5,17 @@
 enum { DIVISOR_ACCESS = 0x80, ON_DATA = 1, ON_EMPTY = 2, HAS_DATA = 1, IS_EMPTY = 0x60, NO_CAUSE = 1, EMPTY_CAUSE = 2,
        DATA_CAUSE = 4 };
 
+/* The part of the function that has a cell. */
+static uint32_t part_of(unsigned cell)
+{
+    return cell < HIDDEN ? 0 : PCIGUEST_PART_CONFIG;
+}
+
 static uint8_t get(const struct uart *uart, unsigned cell)
 {
     if (uart->is_console)
         return uart->own[cell];
-    return (uint8_t)machine_cells(uart->machine, uart->slot, cell < HIDDEN ? 0 : PCIGUEST_PART_CONFIG, cell, 1);
+    return (uint8_t)machine_cells(uart->machine, uart->slot, part_of(cell), cell, 1);
 }
 
 static void set(struct uart *uart, unsigned cell, uint8_t value)
@@ -17,7 +23,7 @@ static void set(struct uart *uart, unsigned cell, uint8_t value)
     if (uart->is_console)
         uart->own[cell] = value;
     else
-        machine_set_cells(uart->machine, uart->slot, cell < HIDDEN ? 0 : PCIGUEST_PART_CONFIG, cell, 1, value);
+        machine_set_cells(uart->machine, uart->slot, part_of(cell), cell, 1, value);
 }
 
 void uart_write(struct uart *uart, unsigned offset, uint8_t value)

@@ -23,7 +23,7 @@ struct queue {
     struct vring_used *used;
 };
 
-enum { REGISTER_WORDS = 4, COUNT_WORD = 4, QUEUE_BYTES = 64, IS_DRIVEN = 1 /* a bit of ISR */ };
+enum { REGISTER_WORDS = 4, COUNT_WORD = 4, QUEUE_BYTES = 64, QUEUE_INTERRUPT = 1 /* of ISR */ };
 
 static uint64_t get(struct virtio *device, uint32_t region, uint64_t offset, uint32_t width)
 {
@@ -63,7 +63,7 @@ void virtio_settle(struct virtio *device)
 {
     uint64_t pending = get(device, VIRTIO_OWN, OWN_PENDING, 8);
     struct pciguest_message message = message_of(device, 0);
-    bool is_driven = get(device, VIRTIO_OWN, OWN_ISR, 1) & IS_DRIVEN && !message.is_enabled;
+    bool is_driven = get(device, VIRTIO_OWN, OWN_ISR, 1) & QUEUE_INTERRUPT && !message.is_enabled;
 
     for (uint32_t vector = 0; pending >> vector; vector++) {
         message = message_of(device, vector);
@@ -82,7 +82,7 @@ static void interrupt(struct virtio *device, uint16_t vector)
     if (message.is_enabled && is_in_table) {
         send(device, vector, &message);
     } else if (!message.is_enabled) {
-        set(device, VIRTIO_OWN, OWN_ISR, 1, IS_DRIVEN);
+        set(device, VIRTIO_OWN, OWN_ISR, 1, QUEUE_INTERRUPT);
         virtio_settle(device);
     }
 }

@@ -96,8 +96,8 @@ extern const struct virtio_kind virtio_blk;
 void disk_open(struct disk *disk, const char *path, const char *file);
 uint64_t disk_features(const struct disk *disk);
 
-/* virtio_net.c: a cable, and the network cards at its two ends. An end is free if it has no card, or
- * if the card's function was moved away. */
+/* virtio_net.c: a cable, and the network cards at its two ends. An end is free if it has no card,
+ * or if the card's function was moved away. */
 struct cable {
     struct virtio *ends[2];
 };

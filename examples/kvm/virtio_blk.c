@@ -112,7 +112,11 @@ static void notified(struct virtio *device, unsigned queue)
     bool has_returned = false;
 
     while (virtio_take(device, queue, &chain)) {
-        virtio_return(device, queue, &chain, serve(device->behind, &chain));
+        uint64_t began = now();
+        uint32_t written = serve(device->behind, &chain);
+
+        device->machine->board->away += now() - began;
+        virtio_return(device, queue, &chain, written);
         has_returned = true;
     }
     if (has_returned)
