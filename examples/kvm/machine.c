@@ -83,6 +83,8 @@ void machine_line(struct machine *machine, unsigned line, bool is_high)
     machine->board->away += now() - began;
 }
 
+/* A message that isn't for an interrupt controller, or that none accepts, is lost: the driver chose
+ * its address. */
 void machine_message(struct machine *machine, uint64_t address, uint32_t data)
 {
     struct kvm_msi message = {.address_lo = (uint32_t)address,
@@ -90,7 +92,8 @@ void machine_message(struct machine *machine, uint64_t address, uint32_t data)
                               .data = data};
     uint64_t began = now();
 
-    needed(ioctl(machine->file, KVM_SIGNAL_MSI, &message), "KVM_SIGNAL_MSI");
+    if (address >> 20 == 0xfee)
+        (void)ioctl(machine->file, KVM_SIGNAL_MSI, &message);
     machine->board->away += now() - began;
 }
 
