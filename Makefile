@@ -163,9 +163,9 @@ qemu: has-qemu pciguest library/libpciguest.a
 has-qemu:
 	@examples/qemu/needs
 
-# Two machines of KVM under Linux over one board, one of which goes on over another; and whether what they say tells of each
-# mistake that is made in the hypervisor or in the board. It takes /dev/kvm or QEMU and Debian's packages, which it names where
-# they are missing.
+# Two machines of KVM under Linux over one board, with virtio disks and network cards, which go on over another; how fast they
+# read from a disk, beside QEMU; and whether what they say tells of each mistake that is made in the hypervisor or in the board.
+# It takes /dev/kvm or QEMU and Debian's packages, which it names where they are missing.
 kvm: has-kvm library/libpciguest.a
 	@$(MAKE) --no-print-directory -C examples/kvm check
 
