@@ -108,9 +108,9 @@ struct pciguest_hit {
     uint32_t found; /* 1 if the access reaches anything, otherwise 0 */
 };
 
-/* Describes a vector of a function's MSI-X table: the message that the function sends for it, which
- * is a 4-byte write to memory, and whether it may send the message now. If `is_enabled` is 1 and
- * `can_be_sent` is 0, the function keeps the message pending. */
+/* Describes a vector of a function's MSI-X table: the message (a 4-byte write to memory) that the
+ * function sends for it, and whether the function may send the message now. If `is_enabled` is 1
+ * and `can_be_sent` is 0, the function keeps the message pending. */
 struct pciguest_message {
     uint64_t address;     /* where the message is written */
     uint32_t data;        /* what is written */
@@ -564,12 +564,11 @@ static inline uint32_t pciguest_find_capability(struct pciguest *machine, size_t
     return number;
 }
 
-/* Stores whether the function in a guest's slot may access memory by itself (DMA): whether Bus
- * Master, bit 2 of Command, is set in the guest's own Command (PCI Local Bus 3.0, 6.2.2). A device
- * accesses the memory of the guest that has its function, and no other guest's, and only while the
- * bit is set. The library can't enforce this, because it has no access to memory, so a device model
- * makes this call before it reads or writes memory. A reset or a move clears the bit. Changes
- * nothing.
+/* Stores whether the function in a guest's slot may access memory by itself (DMA), that is, whether
+ * Bus Master, bit 2 of Command, is set in the guest's own Command (PCI Local Bus 3.0, 6.2.2). A
+ * device may access only the memory of the guest that has its function, and only while the bit is
+ * set. The library has no access to memory and can't enforce this, so a device model must make this
+ * call before it reads or writes memory. A reset or a move clears the bit. Changes nothing.
  * Returns 0 on success; 303 if the slot is above 31; 601 if the slot is empty; 902 if there is no
  * such guest. Since 0.4.0. */
 static inline uint32_t pciguest_bus_master(struct pciguest *machine, size_t guest, uint64_t slot,
@@ -587,13 +586,14 @@ static inline uint32_t pciguest_bus_master(struct pciguest *machine, size_t gues
     return number;
 }
 
-/* Stores the message of an MSI-X vector of the function in a guest's slot, and whether the function
- * may send it now (PCI Local Bus 3.0, 6.8.2). Vectors are counted from 0. Finds the MSI-X structure
- * in the capability list, and in it the table's region and offset, and reads these registers as the
- * device does. If the function has no MSI-X structure, all fields are 0. A message is a write to
- * memory, so it can only be sent while Bus Master is set. The library doesn't set pending bits: a
- * device model that can't send a message sets the vector's pending bit, and repeats the call when
- * the guest has written Command, Message Control or the table. Changes nothing.
+/* Stores the message that the function in a guest's slot sends for an MSI-X vector, and whether the
+ * function may send it now (PCI Local Bus 3.0, 6.8.2). Vectors are counted from 0. Finds the MSI-X
+ * structure in the capability list, and the table's region and offset in that structure. Reads
+ * these registers as the device does. If the function has no MSI-X structure, all fields are 0. A
+ * message is a write to memory, so it can only be sent while Bus Master is set. The library doesn't
+ * set pending bits: a device model that can't send a message sets the vector's pending bit, and
+ * repeats the call when the guest has written Command, Message Control or the table. Changes
+ * nothing.
  * Returns 0 on success; 303 if the slot is above 31, the table has no such vector, or the table
  * isn't in a region of the function; 601 if the slot is empty; 902 if there is no such guest. Since
  * 0.4.0. */

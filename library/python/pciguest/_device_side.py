@@ -23,9 +23,9 @@ class Capability(NamedTuple):
 
 
 class Message(NamedTuple):
-    """The message that a function sends for a vector of its MSI-X table, which is a 4-byte write to
-    memory, and whether it may send the message now: `Guest.msix_message`. If `is_enabled` is True
-    and `can_be_sent` is False, the function keeps the message pending."""
+    """The message (a 4-byte write to memory) that a function sends for a vector of its MSI-X table,
+    and whether the function may send it now. `Guest.msix_message` returns it. If `is_enabled` is
+    True and `can_be_sent` is False, the function keeps the message pending."""
 
     #: where the message is written
     address: int
@@ -40,15 +40,15 @@ class Message(NamedTuple):
 
 
 class DeviceSide:
-    """A guest, whose functions are used from the device's side."""
+    """The calls of a guest that use its functions from the device's side."""
 
     machine: Machine
     index: int
 
     def raise_bits(self, slot: int, offset: int, mask: int, region: Optional[int] = None) -> None:
         """Sets bits of one byte of the function in a slot, as its device does: at an offset of
-        configuration space, or of the region of a base address register, 0 to 5. Only bits that
-        writing a one clears can rise.
+        configuration space, or of the region of a base address register, 0 to 5. Only bits that are
+        cleared by writing a one can be set.
 
         303: the slot is above 31, or the function has no such byte. 601: the slot is empty. 902:
         the region is above 5.
@@ -66,11 +66,11 @@ class DeviceSide:
 
     def device_read(self, slot: int, offset: int, region: Optional[int] = None,
                     width: int = 1) -> int:
-        """1 to 8 bytes of the function in a slot, as its device reads them: of the region of a base
-        address register, 0 to 5, or of configuration space the two bytes of Status (06h, 07h), the
-        Capabilities Pointer (34h) and the device's own registers (40h to FFh). The byte at the
-        lowest offset is the lowest of the number, and one that has no register reads 0. It changes
-        nothing.
+        """Returns 1 to 8 bytes of the function in a slot, as its device reads them: bytes in the
+        region of a base address register, 0 to 5, or in configuration space. In configuration
+        space, a device can read only the two bytes of Status (06h, 07h), the Capabilities Pointer
+        (34h) and its own registers (40h to FFh). The byte at the lowest offset is the lowest byte
+        of the number, and a byte without a register reads 0. Changes nothing.
 
         302: the width is not 1 to 8. 303: the slot is above 31, or the device has no such byte.
         601: the slot is empty. 902: the region is above 5.
@@ -80,10 +80,11 @@ class DeviceSide:
 
     def device_write(self, slot: int, offset: int, value: int, region: Optional[int] = None,
                      width: int = 1) -> None:
-        """Writes such bytes as its device does: they take the number, whatever a guest's writes may
-        change of them, and what they may change of them stays. Where no register is, nothing
-        changes. Refused as a read is; then nothing is written. A value that has more bits than the
-        bytes is a ValueError.
+        """Writes 1 to 8 bytes of the function in a slot, as its device does, at the places that
+        `device_read` reads. The device can change all bits of these bytes, even bits that the guest
+        can't change; which bits the guest can change stays the same. A write to a byte without a
+        register is dropped. Refused as `device_read` is; if any byte is refused, none is written.
+        ValueError: the value doesn't fit into the bytes.
         """
         place = *self._byte(slot, offset, region), number("width", width, 32)
         bits = number("value", value, 8 * min(max(width, 1), 8))
@@ -128,12 +129,12 @@ class DeviceSide:
         return next((it.offset for it in self.capabilities(slot) if it.id == id), None)
 
     def bus_master(self, slot: int) -> bool:
-        """Returns whether the function in a slot may access memory by itself (DMA): whether Bus
-        Master, bit 2 of Command, is set in this guest's own Command (PCI Local Bus 3.0, 6.2.2). A
-        device accesses the memory of the guest that has its function, and no other guest's, and
-        only while the bit is set. The library can't enforce this, because it has no access to
-        memory, so a device model makes this call before it reads or writes memory. A reset or a
-        move clears the bit. Changes nothing.
+        """Returns whether the function in a slot may access memory by itself (DMA), that is,
+        whether Bus Master, bit 2 of Command, is set in this guest's own Command (PCI Local Bus 3.0,
+        6.2.2). A device may access only the memory of the guest that has its function, and only
+        while the bit is set. The library has no access to memory and can't enforce this, so a
+        device model must make this call before it reads or writes memory. A reset or a move clears
+        the bit. Changes nothing.
 
         303: the slot is above 31. 601: the slot is empty.
 
@@ -149,14 +150,14 @@ class DeviceSide:
         return bool(command & 4)
 
     def msix_message(self, slot: int, vector: int) -> Message:
-        """Returns the message of an MSI-X vector of the function in a slot, and whether the
-        function may send it now (PCI Local Bus 3.0, 6.8.2). Vectors are counted from 0. Finds the
-        MSI-X structure in the capability list, and in it the table's region and offset, and reads
-        these registers as the device does. If the function has no MSI-X structure, all fields are 0
-        or False. A message is a write to memory, so it can only be sent while Bus Master is set.
-        The library doesn't set pending bits: a device model that can't send a message sets the
-        vector's pending bit, and repeats the call when the guest has written Command, Message
-        Control or the table. Changes nothing.
+        """Returns the message that the function in a slot sends for an MSI-X vector, and whether
+        the function may send it now (PCI Local Bus 3.0, 6.8.2). Vectors are counted from 0. Finds
+        the MSI-X structure in the capability list, and the table's region and offset in that
+        structure. Reads these registers as the device does. If the function has no MSI-X structure,
+        all fields are 0 or False. A message is a write to memory, so it can only be sent while Bus
+        Master is set. The library doesn't set pending bits: a device model that can't send a
+        message sets the vector's pending bit, and repeats the call when the guest has written
+        Command, Message Control or the table. Changes nothing.
 
         303: the slot is above 31, the table has no such vector, or the table isn't in a region of
         the function. 601: the slot is empty.

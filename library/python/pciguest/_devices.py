@@ -116,18 +116,22 @@ class Device:
 
     @property
     def bus_master(self) -> bool:
-        """Whether the device may access the memory of the guest that has its function, as `Guest.bus_master` returns it."""
+        """Whether the device may access the memory of the guest that has its function, like
+        `Guest.bus_master`."""
         guest, slot = self._taken()
         return guest.bus_master(slot)
 
     def msix_message(self, vector: int) -> Message:
-        """The message of an MSI-X vector, and whether the device may send it now, as `Guest.msix_message` returns it. 303: the
-        MSI-X table has no such vector, or isn't in a region of the function."""
+        """Returns the message for an MSI-X vector, and whether the device may send it now, like
+        `Guest.msix_message`.
+
+        303: the MSI-X table has no such vector, or isn't in a region of the function.
+        """
         guest, slot = self._taken()
         return guest.msix_message(slot, vector)
 
     def _attached(self) -> Tuple[Attaching, Tuple[int, int]]:
-        """The machine and the seat. ValueError: there is none."""
+        """Returns the machine and the seat. ValueError: the device has no machine or no seat."""
         if self._machine is None:
             raise ValueError("the device is attached to no machine")
         if self._seat is None:
@@ -135,7 +139,7 @@ class Device:
         return self._machine, self._seat
 
     def _taken(self) -> Tuple[Guest, int]:
-        """The guest that has its function, and the slot."""
+        """Returns the guest that has the device's function, and the slot."""
         machine, (guest, slot) = self._attached()
         return machine._guest_at(guest), slot
 

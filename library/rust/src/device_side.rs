@@ -18,9 +18,9 @@ pub struct Capability {
     pub offset: u64,
 }
 
-/// The message that a function sends for a vector of its MSI-X table, which is a 4-byte write to
-/// memory, and whether it may send the message now: [`Machine::msix_message`]. If `is_enabled` is
-/// true and `can_be_sent` is false, the function keeps the message pending.
+/// The message (a 4-byte write to memory) that a function sends for a vector of its MSI-X table,
+/// and whether the function may send it now. [`Machine::msix_message`] returns it. If `is_enabled`
+/// is true and `can_be_sent` is false, the function keeps the message pending.
 #[derive(Clone, Copy, Debug, Default, PartialEq, Eq)]
 pub struct Message {
     /// Where the message is written.
@@ -58,7 +58,8 @@ impl DeviceSide<'_> {
         })
     }
 
-    /// Where the capability list begins, or below 40h if the function has none.
+    /// Returns the offset at which the capability list begins, or a value below 40h if the function
+    /// has no list.
     fn first(&mut self) -> Result<u64, Error> {
         let has_list = self.read(Part::Config, 0x06, 1)? & 0x10 != 0;
         Ok(if has_list { self.read(Part::Config, 0x34, 1)? & 0xfc } else { 0 })
@@ -75,8 +76,8 @@ impl DeviceSide<'_> {
         Ok(list)
     }
 
-    /// The first structure with a Capability ID, without memory for the list; no list without a
-    /// loop has more than 48.
+    /// Returns the offset of the first structure with a Capability ID, and allocates no memory. A
+    /// list without a loop has at most 48 structures.
     fn find(&mut self, id: u8) -> Result<Option<u64>, Error> {
         let mut offset = self.first()?;
         for _ in 0..48 {
@@ -126,12 +127,12 @@ impl DeviceSide<'_> {
 }
 
 impl Machine {
-    /// Returns whether the function in a guest's slot may access memory by itself (DMA): whether
-    /// Bus Master, bit 2 of Command, is set in the guest's own Command (PCI Local Bus 3.0, 6.2.2).
-    /// A device accesses the memory of the guest that has its function, and no other guest's, and
-    /// only while the bit is set. The library can't enforce this, because it has no access to
-    /// memory, so a device model makes this call before it reads or writes memory. A reset or a
-    /// move clears the bit. Changes nothing.
+    /// Returns whether the function in a guest's slot may access memory by itself (DMA), that is,
+    /// whether Bus Master, bit 2 of Command, is set in the guest's own Command (PCI Local Bus 3.0,
+    /// 6.2.2). A device may access only the memory of the guest that has its function, and only
+    /// while the bit is set. The library has no access to memory and can't enforce this, so a
+    /// device model must make this call before it reads or writes memory. A reset or a move clears
+    /// the bit. Changes nothing.
     ///
     /// # Errors
     ///
@@ -152,14 +153,14 @@ impl Machine {
         DeviceSide::of(&mut self.handle, guest, slot).bus_master()
     }
 
-    /// Returns the message of an MSI-X vector of the function in a guest's slot, and whether the
-    /// function may send it now (PCI Local Bus 3.0, 6.8.2). Vectors are counted from 0. Finds the
-    /// MSI-X structure in the capability list, and in it the table's region and offset, and reads
-    /// these registers as the device does. If the function has no MSI-X structure, all fields are 0
-    /// or false. A message is a write to memory, so it can only be sent while Bus Master is set.
-    /// The library doesn't set pending bits: a device model that can't send a message sets the
-    /// vector's pending bit, and repeats the call when the guest has written Command, Message
-    /// Control or the table. Changes nothing.
+    /// Returns the message that the function in a guest's slot sends for an MSI-X vector, and
+    /// whether the function may send it now (PCI Local Bus 3.0, 6.8.2). Vectors are counted from 0.
+    /// Finds the MSI-X structure in the capability list, and the table's region and offset in that
+    /// structure. Reads these registers as the device does. If the function has no MSI-X structure,
+    /// all fields are 0 or false. A message is a write to memory, so it can only be sent while Bus
+    /// Master is set. The library doesn't set pending bits: a device model that can't send a
+    /// message sets the vector's pending bit, and repeats the call when the guest has written
+    /// Command, Message Control or the table. Changes nothing.
     ///
     /// # Errors
     ///
@@ -198,7 +199,7 @@ impl Registers<'_> {
         answer.unwrap_or(false)
     }
 
-    /// Returns the message of an MSI-X vector, and whether the device may send it now, as
+    /// Returns the message for an MSI-X vector, and whether the device may send it now, as
     /// [`Machine::msix_message`] does.
     ///
     /// # Errors

@@ -35,7 +35,7 @@ struct Declared {
     blocks: Vec<(Part, u64, Vec<Cell>)>,
 }
 
-/// The fields that a device declares: the first ones of an image.
+/// The fields that a device declares, which are a function's first ones in an image.
 const FIELDS: [&str; 7] = [
     "vendor_id",
     "device_id",

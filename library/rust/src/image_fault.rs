@@ -38,7 +38,8 @@ pub(crate) const IDENTITY: [(&str, usize); 10] = [
     ("status", 2),
 ];
 
-/// How many bytes of a function's header, except its base address registers, have their values in an image.
+/// The number of bytes in a function's header, except its base address registers, whose values an
+/// image contains.
 pub(crate) const HEADER: usize = 0x0f + 4 + 4;
 
 impl ImageFault {

@@ -1,5 +1,6 @@
-//! Whether a device may access its guest's memory, and the messages of MSI-X vectors: in each state
-//! of the four bits that decide, and out of range. `tests/library/messages.c` tests the same in C.
+//! Tests whether a device may access its guest's memory, and the messages for MSI-X vectors, in
+//! each state of the four bits that decide and with arguments out of range.
+//! `tests/library/messages.c` tests the same in C.
 
 mod doorbell;
 
