@@ -28,7 +28,7 @@ EDITS = [
     ("an I/O region of twice the size", r'("io", size = )(0x[0-9a-f]{1,2})\b', doubled),
     ("a region that is prefetchable", r'"mem32"', '"mem32p"'),
     ("a region of 32 bits in place of 64", r'"mem64p"', '"mem32p"'),
-    ("another pin", r"pin = 1", "pin = 2"),
+    ("another pin", r"pin = 0x1\b", "pin = 0x2"),
     ("own cells that can't be written", r'rw = "[0-9a-f]{384}"', 'rw = "00"'),
     ("another revision", r"revision = 0x[0-9a-f]+", "revision = 0x77"),
     ("another class code", r"class = 0xff00", "class = 0xff01"),
