@@ -6,7 +6,8 @@ import subprocess
 import sys
 from pathlib import Path
 
-sys.path += map(str, (Path(__file__).resolve().parents[2] / "library/python", Path(__file__).resolve().parents[1]))
+TESTS = Path(__file__).resolve().parents[1]
+sys.path += map(str, (TESTS.parent / "library/python", TESTS, TESTS / "kit"))
 import pciguest
 from options import options
 from pciguest._chipset import BoardError

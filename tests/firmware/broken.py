@@ -5,8 +5,8 @@ changed, or what it reads there.
     broken.py PROGRAM
 
 Each row of BREAKS says what is changed, and what the program's `ready` then has to tell, among others: a problem that its
-audit tells too, or a lack. Each line that is told is held against the board itself (shown.py), and what the library tells is
-what the program does. A board with a problem is refused to its guests by 207, and one whose guests get a closed region by
+audit tells too, or a lack. What is told is held against the registers (shown.py), and what the library tells is what the
+program does. A board with a problem is refused to its guests by 207, and one whose guests get a closed region by
 206. Status 1 says that a break was not told, or that something was told that isn't so."""
 import sys
 import tempfile
@@ -16,10 +16,11 @@ from pathlib import Path
 from typing import Callable, NamedTuple
 
 from board import DATA, LATCH, LibraryBoard, options
-from boot import SEABIOS, untrue
+from boot import SEABIOS
 from guests import Given
 from pciguest._board_file import text_of
 from pciguest._pc import PC
+from shown import Shown
 from trees import HOST
 
 SERVER = Path(__file__).resolve().parents[2] / "boards/server.toml"
@@ -99,7 +100,7 @@ def examine(program, file, broken):
         PC(Broken(board, broken), Path(SEABIOS.rom).read_bytes(), SEABIOS.plain).boot(SEABIOS.ending)
         audit, ready = (board.told(program, command) for command in ("audit", "ready"))
         print(f"{broken.name}: {audit[-1]}, {ready[-1]}", *ready[:-1], sep="\n  ", flush=True)
-        wrong = untrue(board.board, tomllib.loads(file.read_text()), ready)
+        wrong = Shown(board.board, tomllib.loads(file.read_text())).untrue(ready)
         given = Given(program, file, board.board, audit, ready)
         wrong += given.wrong + [f"it is refused to guests by {given.number}"] * (given.number != broken.refusal)
         return wrong + [f"isn't told: {broken.told}"] * (broken.told not in ready)

@@ -1,4 +1,4 @@
-"""The configuration bytes of a board that firmware drives by lines, and what its bridges' windows hold."""
+"""The configuration bytes of a board that firmware drives by lines."""
 
 from board import LATCH
 from pciguest._board_file import functions
@@ -7,26 +7,6 @@ from pciguest._board_file import functions
 def asked(board, line):
     """What a line reads."""
     return int((board.run_line(line) or "").split()[-1], 16)
-
-
-def number(cells, offset, width):
-    return int.from_bytes(cells[offset:offset + width], "little")
-
-
-def io_window(cells, decode):
-    """First and last port; the first is above the last where the bridge has none."""
-    first, last = (number(cells, 0x1C + n, 1) >> 4 << 12 for n in (0, 1))
-    if decode == "32":
-        first, last = first | number(cells, 0x30, 2) << 16, last | number(cells, 0x32, 2) << 16
-    return (1, 0) if decode == "none" else (first, last | 0xFFF)
-
-
-def memory_window(cells, at=0x20, decode="32"):
-    """First and last address of the memory window, or of the prefetchable one, which is at 24h; likewise."""
-    first, last = (number(cells, at + 2 * n, 2) >> 4 << 20 for n in (0, 1))
-    if decode == "64":
-        first, last = first | number(cells, 0x28, 4) << 32, last | number(cells, 0x2C, 4) << 32
-    return (1, 0) if decode == "none" else (first, last | 0xFFFFF)
 
 
 class Walk:
@@ -61,7 +41,7 @@ class Walk:
             self.go(bus + 1, bridge.path)
             self.give_numbers(bus, bridge, 0x0000FF00)
         for bridge in bridges:
-            self.give_numbers(bus, bridge, number(self.found[bridge.at], 0x18, 4))
+            self.give_numbers(bus, bridge, int.from_bytes(self.found[bridge.at][0x18:0x1C], "little"))
 
 
 def of_all(board, document):

@@ -1,10 +1,13 @@
 """What a script writes over a board, by a second hand."""
-from board import Endpoint
-from guests import ONES, OWN_COPIES, Function, Guest, Refusal, number_at
+from audited import State
+from board import Bridge
+from guests import ONES, OWN_COPIES, Function, Guest, Refusal, number_at, write_at
 from placement import Layout
 from reasons import GUEST, HOST, PLACE, number, reason, words_of
 
 WORDS = {301: "misaligned", 302: "width", 303: "range", 601: "empty slot", 602: "slot taken"}
+# by its pool a window: where its base is and how many bytes that has, and where the upper bits are, if any; and a base that shuts it
+WINDOWS = [("io", 0x1C, 1, 0x30, 0xF000), ("mem", 0x20, 2, 0x100, 0xFFF00000), ("pref", 0x24, 2, 0x28, 0xFFF00000)]
 GREATEST = {b"c": 255, b"i": 0xFFFFFFFF, b"m": (1 << 64) - 1}
 
 
@@ -24,11 +27,29 @@ def check(at, width, greatest, slot=0):
         raise Refusal(303)
 
 
+def set_up(state, layout):
+    """Writes what set-up does. A window with nothing behind it has its base above its limit."""
+    for function in layout.board.functions:
+        path, cells = function.path, state.cells[function.path]
+        if not isinstance(function, Bridge):
+            for bar in function.bars:
+                write_at(cells, bar.offset, bar.width, layout.bases[path, bar.index])
+            write_at(cells, 4, 2, sum({1 if bar.space == "I/O" else 2 for bar in function.bars}))
+            continue
+        write_at(cells, 4, 2, 3)
+        write_at(cells, 0x18, 3, layout.numbers[path[:-1]] | layout.numbers[path] << 8 | layout.behind(path) << 16)
+        for pool, off, width, upper, shut in WINDOWS:
+            for n, address in enumerate(layout.windows.get((path, pool), (shut, 0))):
+                write_at(cells, off + n * width, width, address >> 8 * width)
+                write_at(cells, upper + 2 * n * width, 2 * width, address >> 16 * width)
+
+
 class World:
-    """A board that is set up, with its guests."""
+    """A board that is set up, with its guests. `left` has the registers as set-up leaves them."""
 
     def __init__(self, board):
-        self.layout = Layout(board)
+        self.layout, self.left = Layout(board), State(board)
+        set_up(self.left, self.layout)
         self.functions = {endpoint.path: Function(endpoint) for endpoint in board.endpoints()}
         self.guests = {name.encode(): Guest(name, [self.functions[path] for path in slots])
                        for name, slots in board.guests}
@@ -112,45 +133,9 @@ class World:
         function = self.numbers.get(place)
         if function is None:
             return ONES[width]
-        seen = self.seen_endpoint if isinstance(function, Endpoint) else self.seen_bridge
-        return sum(seen(function, off + n) << 8 * n for n in range(width))
+        return sum(self.seen_byte(function, off + n) << 8 * n for n in range(width))
 
-    def seen_endpoint(self, endpoint, off):
-        """A byte of an endpoint: set-up's own where a guest has copies, and else the guest's."""
-        cells = self.functions[endpoint.path].config
-        if off == 4:
-            return sum({1 if bar.space == "I/O" else 2 for bar in endpoint.bars})
-        if off == 0x0E:
-            return self.layout.board.header_type(endpoint)
-        for bar in endpoint.bars:
-            if bar.offset <= off < bar.offset + bar.width:
-                return (self.layout.bases[endpoint.path, bar.index] | bar.type_bits) >> 8 * (off - bar.offset) & 0xFF
-        return cells[off].value if off in cells and off not in OWN_COPIES else 0
-
-    def seen_bridge(self, bridge, off):
-        """A byte of a bridge as set-up left it."""
-        registers = bytearray(256)
-        registers[0:4] = (bridge.values["vendor"] | bridge.values["device"] << 16).to_bytes(4, "little")
-        registers[4], registers[8] = 3, bridge.values.get("revision", 0)
-        registers[0x0A:0x0C], registers[0x0E] = b"\x04\x06", self.layout.board.header_type(bridge)
-        registers[0x18:0x1B] = bytes([self.layout.numbers[bridge.path[:-1]], self.layout.numbers[bridge.path],
-                                      self.layout.behind(bridge.path)])
-        self.put_windows(bridge, registers)
-        return registers[off]
-
-    def put_windows(self, bridge, registers):
-        """The window registers. A window with nothing behind it has its base above its limit."""
-        windows = {pool: self.layout.windows.get((bridge.path, pool)) for pool in ["io", "mem", "pref"]}
-        first, last = windows["mem"] or (0xFFF00000, 0)
-        registers[0x20:0x24] = (first >> 16 & 0xFFF0 | (last >> 16 & 0xFFF0) << 16).to_bytes(4, "little")
-        if bridge.io != "none":
-            first, last = windows["io"] or (0xF000, 0)
-            wide = 1 if bridge.io == "32" else 0
-            registers[0x1C:0x1E] = bytes([first >> 8 & 0xF0 | wide, last >> 8 & 0xF0 | wide])
-        if bridge.pref != "none":
-            first, last = windows["pref"] or (0xFFF00000, 0)
-            wide = 1 if bridge.pref == "64" else 0
-            low = first >> 16 & 0xFFF0 | wide, last >> 16 & 0xFFF0 | wide
-            registers[0x24:0x28] = (low[0] | low[1] << 16).to_bytes(4, "little")
-            if wide:
-                registers[0x28:0x30] = (first >> 32 | last >> 32 << 32).to_bytes(8, "little")
+    def seen_byte(self, function, off):
+        """A byte of a function's registers: set-up's own of a bridge and where a guest has copies, and else the guest's."""
+        is_own = off in OWN_COPIES or isinstance(function, Bridge)
+        return number_at(self.left.cells[function.path] if is_own else self.functions[function.path].config, off, 1)

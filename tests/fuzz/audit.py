@@ -24,20 +24,16 @@ WINDOWS = [(0x1C, 1), (0x1D, 1), (0x1C, 2), (0x20, 2), (0x22, 2), (0x20, 4), (0x
 def set_up_writes(board):
     """What set-up writes, as (path, offset, width, value), bus numbers first; nothing where the board doesn't fit."""
     try:
-        world = World(board)
+        left = World(board).left
     except Refused:
         return []
-    bridges = [function for function in board.functions if isinstance(function, Bridge)]
 
-    def left(function, off, width):
-        seen = world.seen_bridge if isinstance(function, Bridge) else world.seen_endpoint
-        value = sum(seen(function, off + n) << 8 * n for n in range(width))
-        return function.path, off, width, value
+    def of(kind, offsets, width=4):
+        paths = [function.path for function in board.functions if isinstance(function, kind)]
+        return [(path, off, width, left.read_bytes(path, off, width)) for path in paths for off in offsets]
 
-    numbers = [left(bridge, 0x18, 4) for bridge in bridges]
-    windows = [left(bridge, off, 4) for bridge in bridges for off in range(0x1C, 0x34, 4)]
-    bases = [left(endpoint, off, 4) for endpoint in board.endpoints() for off in range(0x10, 0x28, 4)]
-    return numbers + windows + bases + [left(function, 4, 2) for function in board.functions]
+    return [*of(Bridge, [0x18]), *of(Bridge, range(0x1C, 0x34, 4)), *of(Endpoint, range(0x10, 0x28, 4)),
+            *of((Bridge, Endpoint), [4], 2)]
 
 
 class Firmware:

@@ -1,4 +1,4 @@
-"""Random boards, by a generator of random numbers, and their board files."""
+"""Boards, of documents or by a generator of random numbers, and their board files."""
 
 from keys import RANGES
 
@@ -75,6 +75,26 @@ def list_blocks(capabilities):
         found.append((one["off"], 2 + one["block"], cells))
         following = one["off"]
     return [(0x34, 1, {"reset": bytes([following])}), *found[::-1]] if found else []
+
+
+def path_of(text):
+    return tuple(tuple(map(int, part.split("."))) for part in text.split("/"))
+
+
+def patterns_of(table):
+    return {key: bytes.fromhex(table[key]) for key in ("reset", "rw", "w1c") if key in table}
+
+
+def board_of(document):
+    """The board of a document that is accepted."""
+    made = [Bridge(path_of(one["at"]), one, one["io"], one["pref"]) for one in document.get("bridge", [])]
+    for one in document.get("endpoint", []):
+        bars = [Bar(bar["index"], bar["kind"], bar["size"], bar.get("block", 0), patterns_of(bar))
+                for bar in sorted(one.get("bar", []), key=lambda bar: bar["index"])]
+        config = [(block["off"], block["block"], patterns_of(block)) for block in one.get("config", [])]
+        made.append(Endpoint(path_of(one["at"]), one, bars, config))
+    guests = [(guest["name"], [*map(path_of, guest["slots"])]) for guest in document.get("guest", [])]
+    return Board(document["host"], sorted(made, key=lambda function: function.path), guests)
 
 
 def bridges_above(path):

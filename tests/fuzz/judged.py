@@ -1,24 +1,10 @@
 """What a check with --all says of a board file that is accepted, by docs/board-file.md: how much of each aperture the board
 takes, what may be a mistake, and why its board can't be set up."""
-from board import Bar, Board, Bridge, Endpoint
+from board import board_of, path_of
 from placement import REFUSALS, Layout, up
 from rules import entries, of, problem
 
 POOLS = {"io": "I/O pool", "mem": "memory pool", "pref": "prefetchable pool"}
-
-
-def path_of(text):
-    return tuple(tuple(map(int, part.split("."))) for part in text.split("/"))
-
-
-def board_of(document):
-    """The board of a document that is accepted."""
-    endpoints = [Endpoint(path_of(one["at"]), one, [Bar(bar["index"], bar["kind"], bar["size"], 0, {})
-                                                    for bar in one.get("bar", [])], [])
-                 for one in document.get("endpoint", [])]
-    bridges = [Bridge(path_of(one["at"]), one, one["io"], one["pref"]) for one in document.get("bridge", [])]
-    functions = sorted(endpoints + bridges, key=lambda function: function.path)
-    return Board(document["host"], functions, [])
 
 
 def pool_line(layout, pool):

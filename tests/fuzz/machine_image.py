@@ -25,8 +25,7 @@ def text_bytes(text):
 def function_bytes(world, function):
     """A function of the board, and how it is set up."""
     is_endpoint = isinstance(function, Endpoint)
-    seen = world.seen_endpoint if is_endpoint else world.seen_bridge
-    header = bytes(0 if off in OF_NO_SET_UP[is_endpoint] else seen(function, off) for off in range(0x40))
+    header = bytes(0 if off in OF_NO_SET_UP[is_endpoint] else world.seen_byte(function, off) for off in range(0x40))
     sizes = {bar.index: bar.size for bar in function.bars} if is_endpoint else {}
     return text_bytes(path_text(function.path).encode()) + header + b"".join(le(sizes.get(bar, 0), 8) for bar in range(6))
 

@@ -19,6 +19,7 @@ from pciguest._board_file import functions, text_of
 from pciguest._driven import Library, Program
 from pciguest._judge import findings, kind_of
 from pciguest._tight import cut, with_region
+from second_hand import standing
 
 board, boot, machine, registers, rules, trees = places.modules(
     "firmware", "board", "boot", "machine", "registers", "rules", "trees")
@@ -122,8 +123,11 @@ class Count:
                     self.fail(f"tree {seed}: {line}: {reply}")
             found = findings(driven)
             ours = registers.of_all(driven, document)
+        _, bridges = standing(document, ours)
         self.compare(seed, reading.reset, cells, ours)
-        self.add_windows(document, ours)
+        for path in filter(bridges.is_bridge, bridges.functions):
+            for name, (first, last) in bridges.windows(path, "memory").items():  # how long the windows of bridges are
+                self.windows[name, max(0, last + 1 - first) >> 20] += 1
         kinds = Counter(kind_of(line) for line in found)
         self.kinds += kinds
         self.ready += not found
@@ -132,14 +136,6 @@ class Count:
         told = ", ".join(f"{kind} {count}" for kind, count in sorted(kinds.items())) or "ready"
         print(f"tree {seed}: functions {len(cells)}, bridges {len(document.get('bridge', []))}: {told}", flush=True)
         print(*(f"  {line}" for line in found), sep="\n" if found else "", end="\n" if found else "", flush=True)
-
-    def add_windows(self, document, ours):
-        """How long the windows of bridges are."""
-        for bridge in (one for one in functions(document) if one.is_bridge):
-            windows = {"memory": registers.memory_window(ours[bridge.at]),
-                       "prefetchable": registers.memory_window(ours[bridge.at], 0x24, bridge.table["pref"])}
-            for name, (first, last) in windows.items():
-                self.windows[name, max(0, last + 1 - first) >> 20] += 1
 
     def compare(self, seed, reset, cells, ours):
         known, names = len(self.comparison.unnamed), board.paths(cells)

@@ -5,10 +5,10 @@ import re
 import tomllib
 
 import places
-from pciguest._board_file import functions
 
 audited, board, placement, ready, rules, why = places.modules(
     "fuzz", "audited", "board", "placement", "ready", "rules", "why")
+board_of = board.board_of
 
 ACCESS = re.compile(r"host c([rw]) (\w\w):(\w\w)\.(\d) (\w+) ([124])(?: (\w+))?")
 LATCH = re.compile(r"host i([rw]) 0xcf8 4(?: (\w+))?")
@@ -16,24 +16,14 @@ DATA = re.compile(r"host i([rw]) (0xcf[cdef]) ([124])(?: (\w+))?")
 WHY = re.compile(r"host why (?:(mem|io) (\w+)|cfg (\w\w):(\w\w)\.(\d))")
 
 
-def patterns(table):
-    return {key: bytes.fromhex(table[key]) for key in ("reset", "rw", "w1c") if key in table}
-
-
-def board_of(document):
-    """The second hand's board of a document that is accepted."""
-    made = []
-    for one in functions(document):
-        if one.is_bridge:
-            made.append(board.Bridge(one.path, one.table, one.table["io"], one.table["pref"]))
-            continue
-        bars = [board.Bar(bar["index"], bar["kind"], bar["size"], bar.get("block", 0), patterns(bar))
-                for bar in sorted(one.table.get("bar", []), key=lambda bar: bar["index"])]
-        config = [(block["off"], block["block"], patterns(block)) for block in one.table.get("config", [])]
-        made.append(board.Endpoint(one.path, one.table, bars, config))
-    paths = {one.at: one.path for one in functions(document)}
-    guests = [(guest["name"], [paths[at] for at in guest["slots"]]) for guest in document.get("guest", [])]
-    return board.Board(document["host"], made, guests)
+def standing(document, cells):
+    """The board of a document, and its state where the registers of each function, by its path, hold these bytes."""
+    made = board_of(document)
+    state = audited.State(made)
+    for path, own in state.cells.items():
+        for offset, cell in own.items():
+            cell.value = cells[board.path_text(path)][offset]
+    return made, state
 
 
 class SecondHandBoard:

@@ -15,12 +15,12 @@ from pciguest._special import SPECIAL
 from pciguest._tight import TOO_SMALL, cut, halved, tight, too_small
 from pciguest._watch import Watch
 from pciguest._writers import story_of, why_unfound, writers
-from second_hand import SecondHand, SecondHandBoard, audited, board, board_of, placement
+from second_hand import SecondHand, SecondHandBoard, audited, board_of, placement
 
 sys.path.append(str(places.TOP / "tools"))
 import from_lspci  # noqa: E402  (the tool stands there)
 
-(registers,) = places.modules("firmware", "registers")
+(answers,), (registers,) = places.modules("fuzz", "answers"), places.modules("firmware", "registers")
 BOARDS = places.TOP / "boards"
 AUDITED = tomllib.loads((places.TOP / "examples/audit/board.toml").read_text())
 AUDITED["host"]["pref"] = [0x400000000, 0x4FFFFFFFF]
@@ -67,16 +67,12 @@ class Documents(unittest.TestCase):
 def dumped(document):
     """A board that is set up, as the lines of `lspci -vvxxx`."""
     made = board_of(document)
-    layout = placement.Layout(made)
+    layout, state = placement.Layout(made), audited.State(made)
+    answers.set_up(state, layout)
     for function in made.functions:
-        is_bridge = isinstance(function, board.Bridge)
-        cells = (audited.bridge_cells if is_bridge else audited.endpoint_cells)(function)
-        shown = bytearray(cells[at].value if at in cells else 0 for at in range(256))
-        shown[0x0E] = made.header_type(function)
-        if is_bridge:
-            shown[0x18:0x1B] = bytes([layout.numbers[function.path[:-1]], layout.numbers[function.path], layout.behind(function.path)])
+        shown = state.read_bytes(function.path, 0, 256).to_bytes(256, "little")
         yield "{:02x}:{:02x}.{} A function: of this board".format(*layout.number(function.path))
-        for bar in () if is_bridge else function.bars:
+        for bar in () if state.is_bridge(function.path) else function.bars:
             yield f"\tRegion {bar.index}: somewhere [size={bar.size >> 10}K]"
         yield from (f"{at:02x}: {shown[at:at + 16].hex(' ')}" for at in range(0, 256, 16))
         yield ""
