@@ -37,28 +37,22 @@ static void without_a_board(void)
     IS(strcmp(reply, "unchanged"), 0);
 }
 
+/* Null pointers that tests/library/refusal_rows.c doesn't try. */
 static void null_pointers(struct pciguest_board *board)
 {
     struct pciguest machine = {0};
-    struct pciguest_board_function told = {0};
-    uint32_t value = 0;
     size_t count = 0;
     char reply[PCIGUEST_REPLY] = {0};
 
     IS(pciguest_board_new(NULL, "", 0), 902);
     IS(pciguest_board_new(board, NULL, 1), 902);
     pciguest_board_free(NULL);
-    IS(pciguest_board_read(NULL, PCIGUEST_IO, 0, 0, 0, 0, 1, &value), 902);
-    IS(pciguest_board_read(board, PCIGUEST_IO, 0, 0, 0, 0, 1, NULL), 902);
-    IS(pciguest_board_write(NULL, PCIGUEST_IO, 0, 0, 0, 0, 1, 0), 902);
     IS(pciguest_board_run_line(NULL, "", 0, reply, sizeof reply, &count), 902);
     IS(pciguest_board_run_line(board, NULL, 1, reply, sizeof reply, &count), 902);
     IS(pciguest_board_run_line(board, "", 0, NULL, 0, &count), 902);
     IS(pciguest_board_run_line(board, "", 0, reply, sizeof reply, NULL), 902);
     IS(pciguest_board_count(NULL, &count), 902);
     IS(pciguest_board_count(board, NULL), 902);
-    IS(pciguest_board_function(NULL, 0, &told), 902);
-    IS(pciguest_board_function(board, 0, NULL), 902);
     IS(pciguest_board_audit(NULL, reply, sizeof reply, &count, &count), 902);
     IS(pciguest_board_audit(board, NULL, 1, &count, &count), 902);
     IS(pciguest_board_audit(board, reply, sizeof reply, NULL, &count), 902);
@@ -71,9 +65,6 @@ static void null_pointers(struct pciguest_board *board)
     IS(pciguest_board_audit_json(board, NULL, 1, &count, &count), 902);
     IS(pciguest_board_ready_json(board, reply, sizeof reply, NULL, &count), 902);
     IS(pciguest_board_ready_json(board, reply, sizeof reply, &count, NULL), 902);
-    IS(pciguest_board_why_json(NULL, PCIGUEST_IO, 0, 0, 0, 0, reply, sizeof reply, &count), 902);
-    IS(pciguest_board_why_json(board, PCIGUEST_IO, 0, 0, 0, 0, NULL, 1, &count), 902);
-    IS(pciguest_board_why_json(board, PCIGUEST_IO, 0, 0, 0, 0, reply, sizeof reply, NULL), 902);
     IS(pciguest_board_guests(NULL, &machine), 902);
     IS(pciguest_board_guests(board, NULL), 902);
     IS(pciguest_set_up(NULL, &machine), 902);

@@ -88,8 +88,6 @@ static void bus_masters(struct pciguest *machine)
     IS(pciguest_bus_master(machine, 0, 32, &is_set), 303);
     IS(pciguest_bus_master(machine, 0, UINT64_MAX, &is_set), 303);
     IS(pciguest_bus_master(machine, 2, 0, &is_set), 902);
-    IS(pciguest_bus_master(machine, 0, 0, NULL), 902);
-    IS(pciguest_bus_master(NULL, 0, 0, &is_set), 902);
     IS(is_set, true);
 }
 
@@ -151,19 +149,13 @@ static void refused(struct pciguest *machine)
     IS(pciguest_msix_message(machine, 0, 3, 0, &message), 601);
     IS(pciguest_msix_message(machine, 0, 32, 0, &message), 303);
     IS(pciguest_msix_message(machine, 2, 0, 0, &message), 902);
-    IS(pciguest_msix_message(machine, 0, 0, 0, NULL), 902);
-    IS(pciguest_msix_message(NULL, 0, 0, 0, &message), 902);
     are(message, (struct pciguest_message){7, 7, 7, 7, 7});
 }
 
 int main(void)
 {
     struct pciguest machine = PCIGUEST_INIT;
-    struct pciguest_message message = {7, 7, 7, 7, 7};
-    bool is_set = true;
 
-    IS(pciguest_bus_master(&machine, 0, 0, &is_set), 901);
-    IS(pciguest_msix_message(&machine, 0, 0, 0, &message), 901);
     IS(pciguest_new(&machine, three_functions, sizeof three_functions - 1), 0);
     bus_masters(&machine);
     messages(&machine);

@@ -1,5 +1,6 @@
-/* Makes each call of tests/library/refusals.txt, first on structs that are empty, which return 901, and then on a machine and on
- * a board at reset, which return the row's number. No call may store or change anything.
+/* Makes each call of tests/library/refusals.txt, first on structs that are empty, which return 901, then with null pointers, which
+ * are refused by 902, and then on a machine and on a board at reset, which return the row's number. No call may store or change
+ * anything.
  *
  *     refusal_rows BOARD ROWS
  *
@@ -32,61 +33,78 @@ static uint64_t number_of(const char *word)
     return strcmp(word, "configuration") ? strtoull(word, NULL, 0) : PCIGUEST_PART_CONFIG;
 }
 
+/* What calls are made on, and where they store. */
+struct given {
+    struct pciguest *m;
+    struct pciguest_board *b;
+    void *at;
+    size_t *needed;
+};
+
+/* Whether the call that was made last stores something, and how much of it there is. */
+static bool stores, tells;
+
 /* Makes the call of a row. */
-static uint32_t asked(struct pciguest *m, struct pciguest_board *b, const char *call, const char *const *words)
+static uint32_t asked(const struct given *to, const char *call, const char *const *words)
 {
+    struct pciguest *m = to->m;
+    struct pciguest_board *b = to->b;
+    void *at = to->at;
     uint64_t n[7];
     const char *text = strcmp(words[0], "-") ? words[0] : "";
     size_t length = strlen(text);
-    char *room = (char *)out.bytes;
-    size_t size = sizeof out.bytes;
+    size_t size = sizeof out.bytes, *needed = to->needed;
 
     for (size_t i = 0; i < 7; i++)
         n[i] = number_of(words[i]);
-#define CALL(name, ...) \
+    stores = tells = false;
+#define MADE(name, does_store, does_tell, ...) \
     if (!strcmp(call, #name)) \
-        return pciguest_##name(__VA_ARGS__)
-    CALL(read, m, n[0], n[1], n[2], n[3], n[4], &out.value);
+        return stores = does_store, tells = does_tell, pciguest_##name(__VA_ARGS__)
+#define CALL(name, ...) MADE(name, false, false, __VA_ARGS__)
+#define STORES(name, ...) MADE(name, true, false, __VA_ARGS__)
+#define TELLS(name, ...) MADE(name, true, true, __VA_ARGS__)
+    STORES(read, m, n[0], n[1], n[2], n[3], n[4], at);
     CALL(write, m, n[0], n[1], n[2], n[3], n[4], n[5]);
-    CALL(read_wide, m, n[0], n[1], n[2], n[3], n[4], &out.wide);
+    STORES(read_wide, m, n[0], n[1], n[2], n[3], n[4], at);
     CALL(write_wide, m, n[0], n[1], n[2], n[3], n[4], n[5]);
-    CALL(region_read, m, n[0], n[1], n[2], n[3], n[4], &out.wide);
+    STORES(region_read, m, n[0], n[1], n[2], n[3], n[4], at);
     CALL(region_write, m, n[0], n[1], n[2], n[3], n[4], n[5]);
     CALL(raise, m, n[0], n[1], n[2], n[3], n[4]);
-    CALL(device_read_wide, m, n[0], n[1], n[2], n[3], n[4], &out.wide);
+    STORES(device_read_wide, m, n[0], n[1], n[2], n[3], n[4], at);
     CALL(device_write_wide, m, n[0], n[1], n[2], n[3], n[4], n[5]);
-    CALL(region, m, n[0], n[1], n[2], &out.region);
-    CALL(changed, m, n[0], &out.wide);
-    CALL(moved, m, n[0], out.places, PCIGUEST_PLACES, &(size_t){0});
-    CALL(locate, m, n[0], n[1], n[2], n[3], &out.hit);
-    CALL(why, m, n[0], n[1], n[2], n[3], room, size, &(size_t){0});
-    CALL(why_json, m, n[0], n[1], n[2], n[3], room, size, &(size_t){0});
-    CALL(function, m, n[0], &out.function);
-    CALL(slot, m, n[0], n[1], &out.function);
-    CALL(bus_master, m, n[0], n[1], &out.is_set);
-    CALL(msix_message, m, n[0], n[1], n[2], &out.message);
-    CALL(guest, m, text, length, &out.count);
-    CALL(guest_name, m, n[0], room, size, &(size_t){0});
+    STORES(region, m, n[0], n[1], n[2], at);
+    STORES(changed, m, n[0], at);
+    TELLS(moved, m, n[0], at, PCIGUEST_PLACES, needed);
+    STORES(locate, m, n[0], n[1], n[2], n[3], at);
+    TELLS(why, m, n[0], n[1], n[2], n[3], at, size, needed);
+    TELLS(why_json, m, n[0], n[1], n[2], n[3], at, size, needed);
+    STORES(function, m, n[0], at);
+    STORES(slot, m, n[0], n[1], at);
+    STORES(bus_master, m, n[0], n[1], at);
+    STORES(msix_message, m, n[0], n[1], n[2], at);
+    STORES(guest, m, text, length, at);
+    TELLS(guest_name, m, n[0], at, size, needed);
     CALL(move, m, n[0], n[1], n[2], n[3]);
     CALL(reset, m, n[0], n[1]);
     CALL(reset_guest, m, n[0]);
     CALL(give, m, text, length, n[1], n[2]);
     CALL(take, m, n[0], n[1]);
-    CALL(save, m, n[0], room, size, &(size_t){0});
+    TELLS(save, m, n[0], at, size, needed);
     CALL(load, m, n[0], "", 0);
     CALL(load_all, m, "", 0);
-    CALL(image_fault, m, n[0], "", 0, &out.wide, &(size_t){0});
-    CALL(host_read, m, n[0], n[1], n[2], n[3], n[4], n[5], &out.value);
-    CALL(board_read, b, n[0], n[1], n[2], n[3], n[4], n[5], &out.value);
+    TELLS(image_fault, m, n[0], "", 0, at, needed);
+    STORES(host_read, m, n[0], n[1], n[2], n[3], n[4], n[5], at);
+    STORES(board_read, b, n[0], n[1], n[2], n[3], n[4], n[5], at);
     CALL(board_write, b, n[0], n[1], n[2], n[3], n[4], n[5], n[6]);
-    CALL(board_function, b, n[0], &out.driven);
-    CALL(board_why_json, b, n[0], n[1], n[2], n[3], n[4], room, size, &(size_t){0});
+    STORES(board_function, b, n[0], at);
+    TELLS(board_why_json, b, n[0], n[1], n[2], n[3], n[4], at, size, needed);
     fprintf(stderr, "%s: no such call\n", call);
     exit(2);
 }
 
 /* Makes the calls of all rows; `wanted` replaces their numbers unless it is 0. Returns how many rows there are. */
-static int all_asked(FILE *rows, struct pciguest *machine, struct pciguest_board *board, uint32_t wanted)
+static int all_asked(FILE *rows, const struct given *to, uint32_t wanted)
 {
     char line[256];
     int count = 0;
@@ -102,10 +120,10 @@ static int all_asked(FILE *rows, struct pciguest *machine, struct pciguest_board
         if (!found)
             continue;
         count++;
-        if (wanted && (!strcmp(words[1], "read_wide") || !strcmp(words[1], "write_wide")))
+        if (wanted == PCIGUEST_NO_MACHINE && (!strcmp(words[1], "read_wide") || !strcmp(words[1], "write_wide")))
             continue; /* they are split before a call is made */
-        number = wanted ? wanted : (uint32_t)number_of(words[0]);
-        answer = asked(machine, board, words[1], words + 2);
+        answer = asked(to, words[1], words + 2);
+        number = wanted ? wanted : (stores && !to->at) || (tells && !to->needed) ? PCIGUEST_ARGUMENT : (uint32_t)number_of(words[0]);
         if (answer == number && !memcmp(&out, &untouched, sizeof out))
             continue;
         fprintf(stderr, "%s %s %s %s ..: %" PRIu32 " in place of %" PRIu32 ", or something is stored\n", words[1], words[2],
@@ -122,6 +140,7 @@ int main(int argc, char **argv)
     struct pciguest machine = PCIGUEST_INIT, other = PCIGUEST_INIT;
     struct pciguest_board board = PCIGUEST_BOARD_INIT;
     uint64_t changes = 1;
+    size_t needed = 0;
     int count;
 
     begin(argc, argv, 2);
@@ -129,11 +148,14 @@ int main(int argc, char **argv)
         return 2;
     memset(&untouched, 0x5a, sizeof untouched);
     out = untouched;
-    all_asked(rows, &machine, &board, PCIGUEST_NO_MACHINE);
+    all_asked(rows, &(struct given){&machine, &board, &out, &needed}, PCIGUEST_NO_MACHINE);
+    all_asked(rows, &(struct given){NULL, NULL, &out, &needed}, PCIGUEST_ARGUMENT);
     IS(pciguest_new(&machine, file, length), 0);
     IS(pciguest_board_new(&board, file, length), 0);
     save(&machine, ALL, &before);
-    count = all_asked(rows, &machine, &board, 0);
+    all_asked(rows, &(struct given){&machine, &board, NULL, &needed}, 0);
+    all_asked(rows, &(struct given){&machine, &board, &out, NULL}, 0);
+    count = all_asked(rows, &(struct given){&machine, &board, &out, &needed}, 0);
     /* nothing has changed: neither the machine, nor where its regions are, nor the board, which is at reset */
     save(&machine, ALL, &after);
     IS(are_same(&before, &after), 1);

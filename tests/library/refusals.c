@@ -29,77 +29,33 @@ static void without_a_machine(void)
     IS(strcmp(reply, "unchanged"), 0);
 }
 
+/* Null pointers that tests/library/refusal_rows.c doesn't try. */
 static void null_pointers(struct pciguest *machine)
 {
-    uint32_t value = 0;
     size_t count = 0;
     uint64_t changes = 0;
     char reply[PCIGUEST_REPLY] = {0};
-    struct pciguest_region region = {0};
-    struct pciguest_hit hit = {0};
-    struct pciguest_function function = {0};
 
     IS(pciguest_new(NULL, "", 0), 902);
     IS(pciguest_new(machine, NULL, 1), 902);
     pciguest_free(NULL);
-    IS(pciguest_read(NULL, 0, PCIGUEST_IO, 0, 0, 1, &value), 902);
-    IS(pciguest_read(machine, 0, PCIGUEST_IO, 0, 0, 1, NULL), 902);
-    IS(pciguest_write(NULL, 0, PCIGUEST_IO, 0, 0, 1, 0), 902);
-    IS(pciguest_raise(NULL, 0, 0, 0, 0, 0), 902);
-    IS(pciguest_host_read(machine, PCIGUEST_IO, 0, 0, 0, 0, 1, NULL), 902);
-    IS(pciguest_move(NULL, 0, 0, 0, 0), 902);
-    IS(pciguest_reset(NULL, 0, 0), 902);
-    IS(pciguest_reset_guest(NULL, 0), 902);
-    IS(pciguest_save(NULL, 0, reply, sizeof reply, &count), 902);
-    IS(pciguest_save(machine, 0, NULL, 1, &count), 902);
-    IS(pciguest_save(machine, 0, reply, sizeof reply, NULL), 902);
-    IS(pciguest_load(NULL, 0, reply, sizeof reply), 902);
     IS(pciguest_load(machine, 0, NULL, 1), 902);
     IS(pciguest_load(machine, 0, NULL, 0), 905);
-    IS(pciguest_image_fault(NULL, 0, reply, sizeof reply, &changes, &count), 902);
     IS(pciguest_image_fault(machine, 0, NULL, 1, &changes, &count), 902);
-    IS(pciguest_image_fault(machine, 0, reply, sizeof reply, NULL, &count), 902);
-    IS(pciguest_image_fault(machine, 0, reply, sizeof reply, &changes, NULL), 902);
     IS(pciguest_image_size_all(NULL, &count), 902);
     IS(pciguest_image_size_all(machine, NULL), 902);
     IS(pciguest_save_all(NULL, reply, sizeof reply, &count), 902);
     IS(pciguest_save_all(machine, NULL, 1, &count), 902);
     IS(pciguest_save_all(machine, reply, sizeof reply, NULL), 902);
-    IS(pciguest_load_all(NULL, reply, sizeof reply), 902);
     IS(pciguest_load_all(machine, NULL, 1), 902);
     IS(pciguest_load_all(machine, NULL, 0), 905);
-    IS(pciguest_give(NULL, "1.0", 3, 0, 0), 902);
     IS(pciguest_give(machine, NULL, 1, 0, 0), 902);
     IS(pciguest_give(machine, NULL, 0, 0, 0), 303);
-    IS(pciguest_take(NULL, 0, 0), 902);
-    IS(pciguest_device_read_wide(NULL, 0, 0, 1, 0, 4, &changes), 902);
-    IS(pciguest_device_read_wide(machine, 0, 0, 1, 0, 4, NULL), 902);
-    IS(pciguest_device_write_wide(NULL, 0, 0, 1, 0, 4, 1), 902);
-    IS(pciguest_region_read(NULL, 0, 0, 1, 0, 4, &changes), 902);
-    IS(pciguest_region_read(machine, 0, 0, 1, 0, 4, NULL), 902);
-    IS(pciguest_region_write(NULL, 0, 0, 1, 0, 4, 1), 902);
-    IS(pciguest_region(NULL, 0, 0, 0, &region), 902);
-    IS(pciguest_region(machine, 0, 0, 0, NULL), 902);
-    IS(pciguest_changed(NULL, 0, &changes), 902);
-    IS(pciguest_changed(machine, 0, NULL), 902);
     IS(pciguest_limits(NULL), 902);
-    IS(pciguest_moved(NULL, 0, NULL, 0, &count), 902);
-    IS(pciguest_moved(machine, 0, NULL, 1, &count), 902);
-    IS(pciguest_moved(machine, 0, NULL, 0, NULL), 902);
-    IS(pciguest_locate(NULL, 0, PCIGUEST_IO, 0, 0, &hit), 902);
-    IS(pciguest_locate(machine, 0, PCIGUEST_IO, 0, 0, NULL), 902);
     IS(pciguest_count(NULL, &count), 902);
     IS(pciguest_count(machine, NULL), 902);
-    IS(pciguest_function(NULL, 0, &function), 902);
-    IS(pciguest_function(machine, 0, NULL), 902);
-    IS(pciguest_slot(NULL, 0, 0, &function), 902);
-    IS(pciguest_slot(machine, 0, 0, NULL), 902);
-    IS(pciguest_guest(machine, "a", 1, NULL), 902);
     IS(pciguest_guest_count(NULL, &count), 902);
     IS(pciguest_guest_count(machine, NULL), 902);
-    IS(pciguest_guest_name(NULL, 0, reply, sizeof reply, &count), 902);
-    IS(pciguest_guest_name(machine, 0, NULL, 1, &count), 902);
-    IS(pciguest_guest_name(machine, 0, reply, sizeof reply, NULL), 902);
     IS(pciguest_run_line(machine, "", 0, NULL, 0, &count), 902);
     IS(pciguest_run_line(machine, "", 0, reply, sizeof reply, NULL), 902);
     IS(pciguest_explain_line(NULL, "", 0, &count, reply, sizeof reply, &count), 902);
