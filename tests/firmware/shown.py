@@ -38,8 +38,7 @@ class Shown:
     def other_regions(self):
         """Regions at whose base something answers though no region claims it, or nothing does though one claims it."""
         for path, bar, base in self.state.regions():
-            claims = [one for one, other, _ in self.state.regions_at(bar.space, base) if self.state.opens(one, other.space)
-                      and all(self.state.forwards(bridge, bar.space, base) for bridge in board.bridges_above(one))]
+            claims = [board.path_text(one) for one, _, _ in self.state.claims(bar.space, base)]
             if (self.space(bar.space)[base & ~3:4] == ONES) != (not claims):
                 yield f"at the base of {board.path_text(path)} bar{bar.index}, {base:#x}, claimed by {claims}, another answers"
 

@@ -96,6 +96,11 @@ class State:
         return [(path, bar, base) for path, bar, base in self.regions()
                 if bar.space == space and base <= address < base + bar.size]
 
+    def claims(self, space, address):
+        """Those of them that are open, and to which all bridges above forward the address."""
+        return [region for region in self.regions_at(space, address) if self.opens(region[0], space)
+                and all(self.forwards(bridge, space, address) for bridge in bridges_above(region[0]))]
+
     def window(self, path, off, width, upper=None):
         """First and last address of a window, by its registers: base and limit, and where their upper bits are, if any."""
         first, last = ((self.read_bytes(path, at, width) & -0x10) << 8 * width for at in (off, off + width))

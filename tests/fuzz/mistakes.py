@@ -167,23 +167,12 @@ def with_decimal(lines, number, column, text):
 
 def differs(lines, told, problems):
     """What is wrong with the lines that a check told, if anything is."""
-    where, numbers, wanted = lines_of_keys(lines), [], {problem.text: problem for problem in problems}
-    if len(told) != len(wanted):
-        missing = wanted.keys() - {without_others(text)[0] for _, text in told}
-        return f"{len(told)} lines for {len(wanted)}: {missing or told}"
-    for number, line in told:
-        text, others = without_others(line)
-        if text not in wanted:
-            return f"not wanted: {text}"
-        problem = wanted[text]
-        if len(others) != len(problem.others):
-            return f"{len(others)} other lines, not {len(problem.others)}: {line}"
-        places = [(number, problem.table, problem.outer), *((one, *at) for one, at in zip(others, problem.others))]
-        for given, table, key in places:
-            if given != wanted_line(where, table, key):
-                return f"line {given}, not {wanted_line(where, table, key)}: {line}"
-        numbers.append((place_of(problem.number), number or 0))
-    return None if numbers == sorted(numbers) else f"order {numbers}"
+    wanted, texts = {problem.text: problem for problem in problems}, [without_others(line)[0] for _, line in told]
+    if len(told) != len(wanted) or {*texts} != wanted.keys():
+        return f"{len(told)} lines for {len(wanted)}: {wanted.keys() ^ {*texts} or told}"
+    found = [wanted[text] for text in texts]
+    numbers = [(place_of(problem.number), number or 0) for problem, (number, _) in zip(found, told)]
+    return remarks_differ(lines, told, found) or (None if numbers == sorted(numbers) else f"order {numbers}")
 
 
 def with_numbers(lines, said):
@@ -193,12 +182,6 @@ def with_numbers(lines, said):
         raise ValueError(said)
     told = [(int(line) if line else None, int(column or 0), text) for line, column, text in found]
     return [(number, with_decimal(lines, number, column, text)) for number, column, text in told]
-
-
-def told_lines(lines, out):
-    """The lines of a check with their numbers, and the last line."""
-    *said, count = out.split("\n")[:-1]
-    return with_numbers(lines, said), count
 
 
 def judged_differs(lines, text, out):
@@ -256,7 +239,8 @@ class Files(Room):
         elif number == 101 and not re.fullmatch(r"board\.toml:\d+:\d+: error: invalid TOML: .+ \(101\)\n", out):
             wrong = out
         elif number > 101:
-            told, count = told_lines(lines, out)
+            *said, count = out.split("\n")[:-1]
+            told = with_numbers(lines, said)
             is_counted = count == (f"{len(told)} errors" if len(told) != 1 else "1 error")
             wrong = differs(lines, told, problems) or (None if is_counted else count)
             self.told += len(told)

@@ -19,7 +19,7 @@ from pciguest._drawing import RandomChoices
 from pciguest._driven import Library, Program
 from pciguest._line_drawing import FirmwareLines
 from qemu import Qemu, rules, trees
-from second_hand import SecondHandBoard, board
+from second_hand import SecondHandBoard
 
 CARDS = ["e1000,romfile=", "rtl8139,romfile=", "pcnet,romfile=", "i82559er,romfile=", "ne2k_pci,romfile="]
 # the first bytes of these regions are memory in QEMU, by vendor and device and the register
@@ -41,13 +41,6 @@ LAWFUL = re.compile(r"host (c[rw] \w\w:[01]\w\.[0-7] \w+|[im][rw] \w+) \d+( \w+)
 
 class Differs(Exception):
     """A reply that no rule names."""
-
-
-def claims(state, space, address):
-    """The regions that decode an address and to which all bridges above forward it."""
-    return [(state.functions[path], bar, base) for path, bar, base in state.regions_at(space, address)
-            if state.opens(path, space)
-            and all(state.forwards(bridge, space, address) for bridge in board.bridges_above(path))]
 
 
 def is_unmapped(bar, base):
@@ -194,7 +187,7 @@ class Peer:
         space, place, width = "I/O" if kind[0] == "i" else "memory", int(words[2], 0), int(words[3])
         if place in OWN_PORTS if space == "I/O" else any(first <= place <= last for first, last in OWN_MEMORY):
             return
-        found = claims(self.state, space, place)
+        found = [(self.state.functions[path], bar, base) for path, bar, base in self.state.claims(space, place)]
         usable = len(found) == 1 and is_memory(*found[0][:2]) and place + width - found[0][2] <= 4
         if kind[1] == "w" and not usable or found and not usable and len(found) < 2:
             return
