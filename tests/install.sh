@@ -183,25 +183,10 @@ if command -v python3 > /dev/null; then
 else
   skips 'the version that the library tells' 'no Python 3' python3
 fi
-if command -v cc > /dev/null && command -v pkg-config > /dev/null; then
-  with() { outside sh -c "cc -O1 -Wall -Wextra -Werror -o $1 examples/c/device.c $2"; }
+if command -v pkg-config > /dev/null; then
   holds 'the version' same "$(sed -n 's/^pciguest //p' VERSION)" outside pkg-config --modversion pciguest
-  holds 'the example over the shared library is built' with shared '$(pkg-config --cflags --libs pciguest)'
-  holds 'it uses the shared library' sh -c 'readelf -dW shared | grep -q "NEEDED.*libpciguest.so.0"'
-  holds 'the example over the archive is built' with static \
-    '$(pkg-config --cflags pciguest) $(pkg-config --variable=libdir pciguest)/libpciguest.a'
-  holds 'the example over the archive' same "$top/tests/library/device.stdout" outside ./static examples/device.toml
-  rm -f shared static
 else
-  skips 'the library of the tarball' 'no C compiler or no pkg-config' 'gcc pkg-config'
-fi
-if command -v cc > /dev/null && python3 -c 'import tomllib' 2> /dev/null; then
-  holds 'the enumerator is built' outside cc -O1 -Wall -Wextra -Werror -Iinclude -o enumerator examples/firmware/enumerator.c
-  holds 'a test of firmware' same '42 boards: 38 ready; the firmware reports no room on 4' \
-    outside "PYTHON=$(command -v python3)" bin/pciguest-firmware-test --boards 10 -- ./enumerator
-  holds 'firmware that does nothing' sh -c '! bin/pciguest-firmware-test --save failed -- true > told && grep -q "FAILED on" told'
-else
-  skips 'the test of firmware in the tarball' 'no C compiler or no Python 3.11' 'gcc python3'
+  skips 'the version of the tarball' 'no pkg-config' pkg-config
 fi
 holds 'what the README gives to each of its readers' "$top/tests/users.sh" "$PWD"
 grep '^waited: ' "$room/told"

@@ -73,6 +73,7 @@ if has cc && has make; then
   holds 'the program in C' same "$device" outside make -s -C examples/c
   if has pkg-config; then
     holds 'cc and pkg-config' outside sh -c 'cc -Wall -Werror -o shared examples/c/device.c $(pkg-config --cflags --libs pciguest)'
+    holds 'it needs the shared library' sh -c 'readelf -dW shared | grep -q "NEEDED.*libpciguest.so.0"'
     holds 'over the shared library' same "$device" outside env LD_LIBRARY_PATH=lib ./shared examples/device.toml
   else
     skips 'the shared library of the tarball' 'no pkg-config' pkg-config
