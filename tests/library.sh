@@ -113,12 +113,13 @@ done
 
 # ---- eight threads over one struct, and under helgrind where that is, for which library/calls.c says what orders them
 holds 'the threads are built' build threads "$top/tests/library/threads.c" -pthread -Wl,--wrap=malloc
-holds 'threads' ./threads "$board" 20000
+rows=$top/tests/library/refusals.txt
+holds 'threads' ./threads "$board" 20000 "$rows"
 echo '#include <valgrind/helgrind.h>' > watched.c
 if command -v valgrind > /dev/null && "$compile" -fsyntax-only watched.c 2> /dev/null; then
   holds 'the threads are built for helgrind' build watched "$top/tests/library/threads.c" "$top/library/calls.c" \
     -include "$top/tests/library/watched.h" -pthread -Wl,--wrap=malloc
-  holds 'threads under helgrind' valgrind --quiet --tool=helgrind --error-exitcode=1 ./watched "$board" 100
+  holds 'threads under helgrind' valgrind --quiet --tool=helgrind --error-exitcode=1 ./watched "$board" 100 "$rows"
 else
   skips 'threads under helgrind' 'no valgrind' valgrind
 fi

@@ -1,11 +1,11 @@
 /* Threads on one struct. A call that finds another one running is answered by 909 and changes nothing: within an allocation
  * of a running call every call is; and eight threads that read, write, make, give and free lose nothing.
  *
- *     threads BOARD COUNT
+ *     threads BOARD COUNT ROWS
  *
- * BOARD is boards/main.toml; each thread makes so many calls of each kind. It is linked with --wrap for malloc. The exit
- * status is 1 where an answer is wrong. */
-#include "testing.h"
+ * BOARD is boards/main.toml, and ROWS tests/library/refusals.txt; each thread makes so many calls of each kind. It is linked with
+ * --wrap for malloc. The exit status is 1 where an answer is wrong. */
+#include "asked.h"
 
 #include <pthread.h>
 #include <sched.h>
@@ -17,6 +17,7 @@ void *__wrap_malloc(size_t size);
 
 static struct pciguest machine = PCIGUEST_INIT;
 static struct pciguest_board board = PCIGUEST_BOARD_INIT;
+static FILE *rows;
 
 /* ---- a call within another one */
 
@@ -36,84 +37,44 @@ void *__wrap_malloc(size_t size)
 
 static void ask_machine(void)
 {
-    struct pciguest_region region = {0};
-    struct pciguest_hit hit = {0};
-    struct pciguest_function row = {0};
-    struct pciguest_place place = {0};
-    struct pciguest_message message = {0};
-    bool is_master = false;
     char text[PCIGUEST_REPLY] = {0};
     uint64_t wide = 7;
-    uint32_t value = 7;
     size_t told = 7;
 
+    all_asked(rows, &(struct given){&machine, NULL, &out, &(size_t){0}}, PCIGUEST_BUSY);
     BUSY(pciguest_new(&machine, file, length));
     pciguest_free(&machine);
-    BUSY(pciguest_guest(&machine, "a", 1, &told));
     BUSY(pciguest_guest_count(&machine, &told));
-    BUSY(pciguest_guest_name(&machine, 0, text, sizeof text, &told));
-    BUSY(pciguest_read(&machine, 0, PCIGUEST_CONFIG, 0, 0, 4, &value));
-    BUSY(pciguest_write(&machine, 0, PCIGUEST_CONFIG, 0, 4, 2, 3));
     BUSY(pciguest_read_wide(&machine, 0, PCIGUEST_CONFIG, 0, 0, 9, &wide));
     BUSY(pciguest_write_wide(&machine, 0, PCIGUEST_CONFIG, 0, 4, 3, 3));
-    BUSY(pciguest_raise(&machine, 0, 0, PCIGUEST_PART_CONFIG, 7, 0x80));
-    BUSY(pciguest_host_read(&machine, PCIGUEST_CONFIG, 0, 1, 0, 0, 4, &value));
-    BUSY(pciguest_move(&machine, 0, 0, 1, 7));
-    BUSY(pciguest_reset(&machine, 0, 0));
-    BUSY(pciguest_reset_guest(&machine, 0));
-    BUSY(pciguest_save(&machine, 0, text, sizeof text, &told));
-    BUSY(pciguest_load(&machine, 0, text, sizeof text));
-    BUSY(pciguest_image_fault(&machine, 0, text, sizeof text, &wide, &told));
     BUSY(pciguest_image_size_all(&machine, &told));
     BUSY(pciguest_save_all(&machine, text, sizeof text, &told));
-    BUSY(pciguest_load_all(&machine, text, sizeof text));
-    BUSY(pciguest_give(&machine, "2.0/1.0", 7, 0, 7));
-    BUSY(pciguest_take(&machine, 0, 0));
-    BUSY(pciguest_device_read_wide(&machine, 0, 0, 1, 0, 8, &wide));
-    BUSY(pciguest_device_write_wide(&machine, 0, 0, 1, 0, 8, 1));
-    BUSY(pciguest_bus_master(&machine, 0, 0, &is_master));
-    BUSY(pciguest_msix_message(&machine, 0, 0, 0, &message));
-    BUSY(pciguest_region_read(&machine, 0, 0, 1, 0, 8, &wide));
-    BUSY(pciguest_region_write(&machine, 0, 0, 1, 0, 8, 1));
-    BUSY(pciguest_region(&machine, 0, 0, 1, &region));
-    BUSY(pciguest_changed(&machine, 0, &wide));
-    BUSY(pciguest_moved(&machine, 0, &place, 1, &told));
-    BUSY(pciguest_locate(&machine, 0, PCIGUEST_MEMORY, 0, 0x80000000, &hit));
-    BUSY(pciguest_why(&machine, 0, PCIGUEST_MEMORY, 0, 0x80000000, text, sizeof text, &told));
-    BUSY(pciguest_why_json(&machine, 0, PCIGUEST_MEMORY, 0, 0x80000000, text, sizeof text, &told));
     BUSY(pciguest_count(&machine, &told));
-    BUSY(pciguest_function(&machine, 0, &row));
-    BUSY(pciguest_slot(&machine, 0, 0, &row));
     BUSY(pciguest_run_line(&machine, "a cw 0 4 2 3", 12, text, sizeof text, &told));
     BUSY(pciguest_explain_line(&machine, "a cr", 4, &told, text, sizeof text, &told));
     BUSY(pciguest_set_up(&board, &machine));
     BUSY(pciguest_board_guests(&board, &machine));
-    IS(value == 7 && wide == 7 && told == 7 && text[0] == 0 && row.vendor_id == 0, 1);
+    IS(wide == 7 && told == 7 && text[0] == 0, 1);
 }
 
 static void ask_board(void)
 {
     struct pciguest other = PCIGUEST_INIT;
-    struct pciguest_board_function row = {0};
     char text[PCIGUEST_REPLY] = {0};
-    uint32_t value = 7;
     size_t told = 7;
 
+    all_asked(rows, &(struct given){NULL, &board, &out, &(size_t){0}}, PCIGUEST_BUSY);
     BUSY(pciguest_board_new(&board, file, length));
     pciguest_board_free(&board);
-    BUSY(pciguest_board_read(&board, PCIGUEST_CONFIG, 0, 1, 0, 0, 4, &value));
-    BUSY(pciguest_board_write(&board, PCIGUEST_CONFIG, 0, 1, 0, 4, 2, 3));
     BUSY(pciguest_board_run_line(&board, "host cw 00:01.0 4 2 3", 21, text, sizeof text, &told));
     BUSY(pciguest_board_count(&board, &told));
-    BUSY(pciguest_board_function(&board, 0, &row));
     BUSY(pciguest_board_audit(&board, text, sizeof text, &told, &told));
     BUSY(pciguest_board_ready(&board, text, sizeof text, &told, &told));
     BUSY(pciguest_board_audit_json(&board, text, sizeof text, &told, &told));
     BUSY(pciguest_board_ready_json(&board, text, sizeof text, &told, &told));
-    BUSY(pciguest_board_why_json(&board, PCIGUEST_CONFIG, 0, 1, 0, 0, text, sizeof text, &told));
     BUSY(pciguest_set_up(&board, &other));
     BUSY(pciguest_board_guests(&board, &other));
-    IS(value == 7 && told == 7 && text[0] == 0 && other.live == 0, 1);
+    IS(told == 7 && text[0] == 0 && other.live == 0, 1);
 }
 
 /* What a call that takes memory answers is what it answers alone, and what the struct holds stays. */
@@ -234,7 +195,10 @@ int main(int argc, char **argv)
     static struct thread threads[THREADS];
     uint64_t before = 0, after = 0;
 
-    begin(argc, argv, 2);
+    begin(argc, argv, 3);
+    rows = fopen(argv[3], "r");
+    if (!rows)
+        return 2;
     IS(pciguest_new(&machine, file, length), 0);
     IS(pciguest_board_new(&board, file, length), 0);
     one_within_another();
@@ -260,5 +224,6 @@ int main(int argc, char **argv)
     for (size_t i = 0; i < THREADS; i++)
         pciguest_free(&threads[i].machine);
     pciguest_free(&machine);
+    fclose(rows);
     return wrong != 0;
 }
