@@ -7,11 +7,6 @@
  * is lost. */
 #include "refusing.h"
 
-static uint32_t line(struct pciguest_board *board, const char *text, char *reply, size_t *written)
-{
-    return pciguest_board_run_line(board, text, strlen(text), reply, PCIGUEST_REPLY, written);
-}
-
 /* The calls that tests/library/refusals.txt lacks do nothing to a board that isn't there. */
 static void without_a_board(void)
 {
@@ -21,7 +16,7 @@ static void without_a_board(void)
     char reply[PCIGUEST_REPLY] = "unchanged";
 
     IS(sizeof none, 2 * sizeof(void *));
-    IS(line(&none, "host ir 0 1", reply, &count), 901);
+    IS(line(&none, "host ir 0 1", reply, PCIGUEST_REPLY, &count), 901);
     IS(pciguest_board_count(&none, &count), 901);
     IS(pciguest_board_audit(&none, reply, sizeof reply, &count, &count), 901);
     IS(pciguest_board_ready(&none, reply, sizeof reply, &count, &count), 901);
@@ -86,11 +81,11 @@ static void refusals(struct pciguest_board *board)
     IS(pciguest_board_run_line(board, "host ir 0 1", 11, reply, sizeof reply - 1, &count), 902);
     IS(value, 7);
     IS(count, 8);
-    IS(line(board, "# a comment", reply, &count), 0);
+    IS(line(board, "# a comment", reply, PCIGUEST_REPLY, &count), 0);
     IS(count, 0);
-    IS(line(board, "host cw 00:01.0 5 2 2", reply, &count), 0);
+    IS(line(board, "host cw 00:01.0 5 2 2", reply, PCIGUEST_REPLY, &count), 0);
     IS(memcmp(reply, "host: refused 301 misaligned\n", count), 0);
-    IS(line(board, "a cr 0 0 4\n", reply, &count), 0);
+    IS(line(board, "a cr 0 0 4\n", reply, PCIGUEST_REPLY, &count), 0);
     IS(memcmp(reply, "?: refused 402 unknown guest\n", count), 0);
     IS(config_read(board, 0, 1, 0), 0x00011234);
     IS(config_read(board, 0, 9, 0), UINT32_MAX);
@@ -122,7 +117,7 @@ static void set_ups(struct pciguest_board *board)
     IS(config_read(board, 0, 1, 4), 0x80000002);
     pciguest_board_free(board);
     IS(pciguest_board_new(board, file, length), 0);
-    IS(line(board, "host mw 0 4 0", reply, &count), 0);
+    IS(line(board, "host mw 0 4 0", reply, PCIGUEST_REPLY, &count), 0);
     IS(pciguest_set_up(board, &machine), 904);
     pciguest_free(&other);
 }
@@ -214,7 +209,7 @@ static void lacking(void)
 
     IS(pciguest_board_new(&board, file, length), 0);
     for (size_t i = 0; i < COUNT_OF(lines); i++) {
-        IS(line(&board, lines[i], reply, &written), 0);
+        IS(line(&board, lines[i], reply, PCIGUEST_REPLY, &written), 0);
         IS(written == 9 && memcmp(reply, "host: ok\n", 9) == 0, 1);
     }
     IS(pciguest_board_run_line(&board, "host ready", 10, wanted, sizeof wanted - 1, &written), 0);
@@ -283,7 +278,7 @@ static void reasons(void)
     why_is(&board, PCIGUEST_CONFIG, 1, 256, "{\"found\":{\"missing\":{\"behind\":null,\"bus\":1},\"not_found\":[],"
                                             "\"reached\":null,\"takers\":[]},\"latch\":null}\n");
     for (size_t i = 0; i < COUNT_OF(steps); i++)
-        IS(line(&board, steps[i], reply, &written), 0);
+        IS(line(&board, steps[i], reply, PCIGUEST_REPLY, &written), 0);
     why_is(&board, PCIGUEST_CONFIG, 1, 0, "{\"found\":{\"missing\":null,\"not_found\":[],\"reached\":\"2.0/1.0\",\"takers\":[\"2.0\"]},"
                                           "\"latch\":null}\n");
     why_is(&board, PCIGUEST_IO, 0, 0xcfe, "{\"found\":{\"missing\":null,\"not_found\":[],\"reached\":\"1.0\",\"takers\":[]},\"latch\":{"
@@ -383,7 +378,7 @@ static void set_up_out_of_memory(struct pciguest_board *board)
     calls_left = 1;
     IS(config_read(board, 0, 1, 0), 0x00011234);
     IS(pciguest_board_write(board, PCIGUEST_MEMORY, 0, 0, 0, 0, 4, 0), 0);
-    IS(line(board, "host ir 0xcfc 4", reply, &written), 0);
+    IS(line(board, "host ir 0xcfc 4", reply, PCIGUEST_REPLY, &written), 0);
     calls_left = -1;
 }
 
@@ -415,7 +410,7 @@ static void access(struct pciguest_board *by_calls, struct pciguest_board *by_li
     } else if (reads) {
         snprintf(wanted, sizeof wanted, "host: 0x%0*x\n", (int)width * 2, value);
     }
-    IS(line(by_lines, text, reply, &written), 0);
+    IS(line(by_lines, text, reply, PCIGUEST_REPLY, &written), 0);
     IS(written, strlen(wanted));
     IS(memcmp(reply, wanted, strlen(wanted)), 0);
 }

@@ -67,11 +67,6 @@ static void given(struct pciguest_board *board, struct pciguest *machine)
     IS(pciguest_board_read(board, PCIGUEST_IO, 0, 0, 0, 0, 1, &value), 901);
 }
 
-static uint32_t line(struct pciguest_board *board, const char *text, char *reply, size_t room, size_t *written)
-{
-    return pciguest_board_run_line(board, text, strlen(text), reply, room, written);
-}
-
 /* A line that is refused leaves the board as it is, also where its reply has too little room, and each allocation fails in
  * turn, until the board is given. */
 static void handed_over_by_a_line(struct pciguest_board *board)

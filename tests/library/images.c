@@ -173,33 +173,21 @@ static void restart(struct pciguest *machine, size_t guest)
 
 /* ---- loads */
 
-/* What both guests of a machine hold, and how often one of them was counted. */
-struct held {
-    struct image images[GUESTS];
-    uint64_t count;
-};
-
-static void hold(struct pciguest *machine, size_t guest, struct held *held)
-{
-    for (size_t each = 0; each < GUESTS; each++)
-        save(machine, each, &held->images[each]);
-    IS(pciguest_changed(machine, guest, &held->count), 0);
-}
-
-/* Loads an image, or is refused by this number. The guest's image is then this one, and it was counted, or it is as it was;
- * and so is the other guest. */
+/* Loads an image, or is refused by this number. A guest that is loaded is counted once; the other guest is as it was. */
 static uint32_t load(struct pciguest *machine, size_t guest, const struct image *image)
 {
-    static struct held before, after;
+    static struct image other, again;
+    uint64_t before = 0, after = 0;
     uint32_t number;
 
-    hold(machine, guest, &before);
-    number = pciguest_load(machine, guest, image->bytes, image->size);
+    save(machine, 1 - guest, &other);
+    IS(pciguest_changed(machine, guest, &before), 0);
+    number = load_or_keep(machine, guest, image);
     IS(number == 0 || number == 905 || number == 906 || number == 908, 1);
-    hold(machine, guest, &after);
-    IS(are_same(&after.images[guest], number ? &before.images[guest] : image), 1);
-    IS(are_same(&after.images[1 - guest], &before.images[1 - guest]), 1);
-    IS(after.count, before.count + (number == 0));
+    IS(pciguest_changed(machine, guest, &after), 0);
+    IS(after, before + (number == 0));
+    save(machine, 1 - guest, &again);
+    IS(are_same(&other, &again), 1);
     return number;
 }
 

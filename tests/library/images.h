@@ -84,4 +84,18 @@ static inline bool are_same(const struct image *one, const struct image *other)
     return one->size == other->size && memcmp(one->bytes, other->bytes, one->size) == 0;
 }
 
+/* Loads an image, or is refused by the number that is given. The guest's or the machine's image is then this one, or it is as it
+ * was. */
+static inline uint32_t load_or_keep(struct pciguest *machine, size_t guest, const struct image *image)
+{
+    static struct image before, after;
+    uint32_t number;
+
+    save(machine, guest, &before);
+    number = load_from(machine, guest, image->bytes, image->size);
+    save(machine, guest, &after);
+    IS(are_same(&after, number ? &before : image), 1);
+    return number;
+}
+
 #endif

@@ -59,12 +59,10 @@ static void arrange(struct pciguest *machine, char *const *lines, size_t count)
 /* Saves a guest or the whole of one machine, and loads it into the other. */
 static void migrate(struct pciguest *from, struct pciguest *to, size_t guest)
 {
-    static struct image image, loaded;
+    static struct image image;
 
     save(from, guest, &image);
-    IS(load_from(to, guest, image.bytes, image.size), 0);
-    save(to, guest, &loaded);
-    IS(are_same(&image, &loaded), 1);
+    IS(load_or_keep(to, guest, &image), 0);
 }
 
 static void migrate_guests(struct pciguest *from, struct pciguest *to)

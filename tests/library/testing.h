@@ -66,6 +66,11 @@ static inline uint32_t config_read(struct pciguest_board *board, uint8_t bus, ui
     return value;
 }
 
+static inline uint32_t line(struct pciguest_board *board, const char *text, char *reply, size_t room, size_t *written)
+{
+    return pciguest_board_run_line(board, text, strlen(text), reply, room, written);
+}
+
 /* The bridge of the main board is numbered and forwards what is behind it, each region has a place, and each function
  * but the last answers there. */
 static inline void set_up_by_hand(struct pciguest_board *board)
