@@ -10,7 +10,6 @@ cd "$(dirname "$0")/.."
 source tests/holds.sh
 root=$room/root
 
-same() { diff "$1" <(shift; "$@" 2>&1); }
 packages=(libpciguest0 libpciguest-dev python3-pciguest pciguest)
 files() { local one; for one in "${packages[@]}"; do ls "$folder/${one}"_*_amd64.deb; done; }
 

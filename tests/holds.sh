@@ -24,6 +24,18 @@ run() { "$@" > out 2>&1; status=$?; }
 has() { grep -qxE "$1" out; }
 ends() { [ "$(tail -n 1 out)" = "$1" ] && [ "$status" = "$2" ]; }
 
+# same WANTED COMMAND..: what the command writes is the file, or the text, WANTED
+same() {
+  local wanted=$1; shift
+  if [ -e "$wanted" ]; then diff "$wanted" <("$@" 2>&1); else diff <(echo "$wanted") <("$@" 2>&1); fi
+}
+
+# the calls of the library's header, those that they stand over, and those of earlier headers
+declared() {
+  cat "$top"/library/{pciguest.h,raw.h,machines.c,compat.c} | grep -v '^static' | grep -o '^[A-Za-z][A-Za-z0-9_ *]*pciguest_[a-z_]*(' |
+    sed 's/.*[ *]//; s/($//' | sort -u
+}
+
 # skips WHAT WHY [PACKAGE]: what is not tried here, why, and the package of Debian with which it would be
 skips() { skipped+=("$1 ($2${3:+: apt-get install $3})"); }
 

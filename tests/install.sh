@@ -8,12 +8,6 @@ if ! [ -x pciguest ] || ! [ -e library/libpciguest.a ] || ! [ -e library/libpcig
   echo 'nothing is built: make build library'; echo '0 passed, 1 failed'; exit 1
 fi
 
-# same WANTED COMMAND..: what the command writes is the file, or the text, WANTED
-same() {
-  local wanted=$1; shift
-  if [ -e "$wanted" ]; then diff "$wanted" <("$@" 2>&1); else diff <(echo "$wanted") <("$@" 2>&1); fi
-}
-
 # ---- installed below a folder of a package, by make
 installing=(make --no-print-directory PREFIX=/usr "DESTDIR=$room/package" LIBDIR=lib/x86_64-linux-gnu)
 holds 'make install' "${installing[@]}" install
@@ -125,10 +119,6 @@ holds 'nothing is left but folders' test -z "$(find "$room/package" ! -type d)"
 
 # ---- what the shared library gives and takes
 if command -v nm > /dev/null && command -v readelf > /dev/null; then
-  declared() {
-    cat library/{pciguest.h,raw.h,machines.c,compat.c} | grep -v '^static' | grep -o '^[A-Za-z][A-Za-z0-9_ *]*pciguest_[a-z_]*(' |
-      sed 's/.*[ *]//; s/($//' | sort -u
-  }
   visible() { nm -D --defined-only library/libpciguest.so.0 | awk '{ print $3 }' | sort -u; }
   holds 'the calls of the header, and those that they stand over, alone are visible' test "$(declared)" = "$(visible)"
   needed() { readelf -dW library/libpciguest.so.0 | awk '/NEEDED|SONAME/ { print $NF }'; }

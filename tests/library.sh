@@ -286,10 +286,6 @@ holds 'the ECAM of vmm-integration.md' test "$(./ecam < "$top/examples/device.to
 # ---- what the library takes from outside, and what it gives
 needs() { nm -u "$top/library/libpciguest.a" | awk 'NF == 2 && $2 !~ /^pciguest_/ { print $2 }' | sort -u | tr '\n' ' '; }
 holds 'six calls of the C library, and no more' test "$(needs)" = 'free malloc memcpy memmove memset realloc '
-declared() { # the calls of the header, those below them, and those that earlier headers call
-  cat "$top"/library/{pciguest.h,raw.h,machines.c,compat.c} | grep -v '^static' | grep -o '^[A-Za-z][A-Za-z0-9_ *]*pciguest_[a-z_]*(' |
-    sed 's/.*[ *]//; s/($//' | sort -u
-}
 exported() { nm --defined-only "$top/library/libpciguest.a" | awk '$2 ~ /[A-Z]/ { print $3 }' | sort -u; }
 holds 'the library exports the calls of the header, those that they stand over, and those of earlier headers' test "$(declared)" = "$(exported)"
 

@@ -17,7 +17,6 @@ outside() {
     PYTHONPATH="$PWD/share/pciguest/python" PYTHONDONTWRITEBYTECODE=1 "$@"
 }
 
-same() { diff "$1" <(shift; "$@" 2>&1); }
 has() { command -v "$1" > /dev/null; }
 began=$EPOCHREALTIME
 waited=()
