@@ -63,10 +63,7 @@ impl Machine {
     /// The function has to be as the device declares it, in all that it declares: identity, regions, and of each register
     /// its patterns. Of cells that belong to no register the device says nothing. The function has no other device.
     pub fn attach(
-        &mut self,
-        guest: Guest,
-        slot: u64,
-        device: impl DeviceModel + 'static,
+        &mut self, guest: Guest, slot: u64, device: impl DeviceModel + 'static,
     ) -> Result<(), NotAttached> {
         let path = self.slot_function(guest, slot)?.path;
         if self.device_at(guest, slot).is_some() {
@@ -143,9 +140,7 @@ impl Machine {
 
     /// Lets a device act whose function a guest has, while the machine waits.
     pub(crate) fn act<T>(
-        &mut self,
-        device: usize,
-        acts: impl FnOnce(&mut dyn DeviceModel, &mut Registers<'_>) -> T,
+        &mut self, device: usize, acts: impl FnOnce(&mut dyn DeviceModel, &mut Registers<'_>) -> T,
     ) -> Option<T> {
         #[cfg(feature = "std")]
         let _acting = Acting::begin(self);
@@ -157,8 +152,7 @@ impl Machine {
 
     /// Lets the devices act whose functions stand at some seats.
     pub(crate) fn tell(
-        &mut self,
-        stands: impl Fn(Seat) -> bool,
+        &mut self, stands: impl Fn(Seat) -> bool,
         acts: impl Fn(&mut dyn DeviceModel, &mut Registers<'_>),
     ) {
         for device in 0..self.devices.len() {

@@ -97,19 +97,10 @@ impl Board {
     /// # Ok::<(), pciguest::Error>(())
     /// ```
     pub fn read(&mut self, at: HostAt, width: u32) -> Result<u32, Error> {
-        let (space, bus, device, function, place) = at.parts();
+        let ((space, bus, device, function, place), board) = (at.parts(), &mut self.handle);
         // SAFETY: `value` is a place of its own.
         valued(|value| unsafe {
-            raw::pciguest_board_read(
-                &mut self.handle,
-                space,
-                bus,
-                device,
-                function,
-                place,
-                width,
-                value,
-            )
+            raw::pciguest_board_read(board, space, bus, device, function, place, width, value)
         })
     }
 
@@ -127,19 +118,10 @@ impl Board {
     /// # Ok::<(), pciguest::Error>(())
     /// ```
     pub fn write(&mut self, at: HostAt, width: u32, value: u32) -> Result<(), Error> {
-        let (space, bus, device, function, place) = at.parts();
+        let ((space, bus, device, function, place), board) = (at.parts(), &mut self.handle);
         // SAFETY: no pointer but the handle is passed.
         answered(unsafe {
-            raw::pciguest_board_write(
-                &mut self.handle,
-                space,
-                bus,
-                device,
-                function,
-                place,
-                width,
-                value,
-            )
+            raw::pciguest_board_write(board, space, bus, device, function, place, width, value)
         })
     }
 
@@ -312,19 +294,11 @@ impl Board {
     /// # Ok::<(), pciguest::Error>(())
     /// ```
     pub fn why_json(&mut self, at: HostAt) -> Result<String, Error> {
-        let (space, bus, device, function, place) = at.parts();
+        let ((space, bus, device, function, at), board) = (at.parts(), &mut self.handle);
         // SAFETY: the text has as many bytes as is said, and nothing overlaps.
         text_of(1024, |text, room, needed| unsafe {
             raw::pciguest_board_why_json(
-                &mut self.handle,
-                space,
-                bus,
-                device,
-                function,
-                place,
-                text,
-                room,
-                needed,
+                board, space, bus, device, function, at, text, room, needed,
             )
         })
     }

@@ -1,9 +1,10 @@
 //! Devices: what stands behind a function's registers, and acts when its driver writes or reads them.
 
 use crate::declared::{Declaration, Register};
+use crate::device_side::DeviceSide;
 use crate::place::Guest;
 use crate::prelude::*;
-use crate::raw::{self, Handle};
+use crate::raw::Handle;
 use core::fmt;
 #[cfg(feature = "std")]
 use std::sync::{Arc, Mutex, MutexGuard, PoisonError};
@@ -207,22 +208,10 @@ impl Registers<'_> {
     ///
     /// The device declares no such register.
     pub fn get(&mut self, register: Register) -> u64 {
-        let (guest, slot, part, offset, width) = self.place(register);
-        let mut value = 0;
-        // SAFETY: `value` is a place of its own.
-        let answer = unsafe {
-            raw::pciguest_device_read_wide(
-                self.handle,
-                guest,
-                slot,
-                part,
-                offset,
-                width,
-                &mut value,
-            )
-        };
-        debug_assert_eq!(answer, 0, "a declared register is there");
-        value
+        let Register { part, offset, width, .. } = register;
+        let value = self.side(register).read(part, offset, width as u32);
+        debug_assert!(value.is_ok(), "a declared register is there");
+        value.unwrap_or_default()
     }
 
     /// Sets a register to the low bytes of a value.
@@ -231,21 +220,17 @@ impl Registers<'_> {
     ///
     /// The device declares no such register.
     pub fn set(&mut self, register: Register, value: u64) {
-        let (guest, slot, part, offset, width) = self.place(register);
-        let value = value & register.all_ones();
-        // SAFETY: no pointer but the handle is passed.
-        let answer = unsafe {
-            raw::pciguest_device_write_wide(self.handle, guest, slot, part, offset, width, value)
-        };
-        debug_assert_eq!(answer, 0, "a declared register is there");
+        let Register { part, offset, width, .. } = register;
+        let bits = value & register.all_ones();
+        let answer = self.side(register).write(part, offset, width as u32, bits);
+        debug_assert!(answer.is_ok(), "a declared register is there");
     }
 
-    /// Guest, slot, part, offset and width of a register, as the library takes them.
-    fn place(&self, register: Register) -> (usize, u64, u32, u64, u32) {
+    /// The function that has a declared register.
+    fn side(&mut self, register: Register) -> DeviceSide<'_> {
         let is_declared = self.declared.contains(&register);
         assert!(is_declared, "the device declares no {register:x?}");
-        let Register { part, offset, width, .. } = register;
-        (self.guest.index(), self.slot, part.number(), offset, width as u32)
+        DeviceSide::of(self.handle, self.guest, self.slot)
     }
 }
 

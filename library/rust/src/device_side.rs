@@ -58,6 +58,16 @@ impl DeviceSide<'_> {
         })
     }
 
+    pub(crate) fn write(
+        &mut self, part: Part, offset: u64, width: u32, value: u64,
+    ) -> Result<(), Error> {
+        let (guest, slot, part) = (self.guest, self.slot, part.number());
+        // SAFETY: no pointer but the handle is passed.
+        answered(unsafe {
+            raw::pciguest_device_write_wide(self.handle, guest, slot, part, offset, width, value)
+        })
+    }
+
     /// Returns the offset at which the capability list begins, or a value below 40h if the function
     /// has no list.
     fn first(&mut self) -> Result<u64, Error> {

@@ -48,9 +48,7 @@ const FIELDS: [&str; 7] = [
 
 /// The first field in which the function in a slot differs, by the image of its guest.
 pub(crate) fn first_difference(
-    device: &Declaration,
-    image: &[u8],
-    slot: u64,
+    device: &Declaration, image: &[u8], slot: u64,
 ) -> Option<Difference> {
     let Some(function) = function_in(image, slot) else {
         return differs("slot", "a function".into(), "none".into());

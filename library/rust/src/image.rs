@@ -50,16 +50,10 @@ impl Machine {
     /// ```
     pub fn save(&mut self, guest: Guest) -> Result<Vec<u8>, Error> {
         let mut image = vec![0; self.image_size(guest)?];
-        let mut needed = 0;
+        let (machine, guest, mut needed) = (&mut self.handle, guest.index(), 0);
         // SAFETY: `image` has as many bytes as is said, and nothing overlaps.
         answered(unsafe {
-            raw::pciguest_save(
-                &mut self.handle,
-                guest.index(),
-                image.as_mut_ptr(),
-                image.len(),
-                &mut needed,
-            )
+            raw::pciguest_save(machine, guest, image.as_mut_ptr(), image.len(), &mut needed)
         })?;
         image.truncate(needed);
         Ok(image)
@@ -117,22 +111,14 @@ impl Machine {
     /// # Ok::<(), pciguest::Error>(())
     /// ```
     pub fn image_fault(
-        &mut self,
-        guest: Guest,
-        image: impl AsRef<[u8]>,
+        &mut self, guest: Guest, image: impl AsRef<[u8]>,
     ) -> Result<Option<ImageFault>, Error> {
         let image = image.as_ref();
-        let (mut slot, mut offset) = (0, 0);
+        let (bytes, length, mut slot, mut offset) = (image.as_ptr(), image.len(), 0, 0);
+        let (machine, guest) = (&mut self.handle, guest.index());
         // SAFETY: the image has as many bytes as is said, and nothing overlaps.
         answered(unsafe {
-            raw::pciguest_image_fault(
-                &mut self.handle,
-                guest.index(),
-                image.as_ptr(),
-                image.len(),
-                &mut slot,
-                &mut offset,
-            )
+            raw::pciguest_image_fault(machine, guest, bytes, length, &mut slot, &mut offset)
         })?;
         Ok(ImageFault::at(image, slot, offset))
     }

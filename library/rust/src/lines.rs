@@ -15,8 +15,7 @@ pub(crate) struct Asked {
 
 /// What a line asks for, if that is an access of a guest.
 pub(crate) fn asked_by(
-    line: &[u8],
-    mut guest_of: impl FnMut(&str) -> Option<Guest>,
+    line: &[u8], mut guest_of: impl FnMut(&str) -> Option<Guest>,
 ) -> Option<Asked> {
     let mut words = core::str::from_utf8(line).ok()?.split_ascii_whitespace();
     let (name, verb) = (words.next()?, words.next()?);

@@ -181,11 +181,7 @@ impl Machine {
 
     /// Writes so, and gives what it touches of a device, which is told once the whole access is done.
     pub(crate) fn write_alone(
-        &mut self,
-        guest: Guest,
-        at: At,
-        width: u32,
-        value: u32,
+        &mut self, guest: Guest, at: At, width: u32, value: u32,
     ) -> Result<Option<Touch>, Error> {
         let (space, slot, place) = at.parts();
         let touch = self.touch(guest, at, width, value);
@@ -218,12 +214,7 @@ impl Machine {
     /// # Ok::<(), pciguest::Error>(())
     /// ```
     pub fn raise(
-        &mut self,
-        guest: Guest,
-        slot: u64,
-        part: Part,
-        offset: u64,
-        mask: u8,
+        &mut self, guest: Guest, slot: u64, part: Part, offset: u64, mask: u8,
     ) -> Result<(), Error> {
         // SAFETY: no pointer but the handle is passed.
         answered(unsafe {
@@ -246,19 +237,10 @@ impl Machine {
     /// # Ok::<(), pciguest::Error>(())
     /// ```
     pub fn host_read(&mut self, at: HostAt, width: u32) -> Result<u32, Error> {
-        let (space, bus, device, function, place) = at.parts();
+        let ((space, bus, device, function, place), machine) = (at.parts(), &mut self.handle);
         // SAFETY: `value` is a place of its own.
         valued(|value| unsafe {
-            raw::pciguest_host_read(
-                &mut self.handle,
-                space,
-                bus,
-                device,
-                function,
-                place,
-                width,
-                value,
-            )
+            raw::pciguest_host_read(machine, space, bus, device, function, place, width, value)
         })
     }
 
@@ -282,11 +264,7 @@ impl Machine {
     /// # Ok::<(), pciguest::Error>(())
     /// ```
     pub fn move_function(
-        &mut self,
-        from: Guest,
-        slot: u64,
-        to: Guest,
-        target: u64,
+        &mut self, from: Guest, slot: u64, to: Guest, target: u64,
     ) -> Result<(), Error> {
         // SAFETY: no pointer but the handle is passed.
         answered(unsafe {
@@ -389,11 +367,7 @@ impl Machine {
     /// # Ok::<(), pciguest::Error>(())
     /// ```
     pub fn device_read(
-        &mut self,
-        guest: Guest,
-        slot: u64,
-        part: Part,
-        offset: u64,
+        &mut self, guest: Guest, slot: u64, part: Part, offset: u64,
     ) -> Result<u8, Error> {
         self.device_read_wide(guest, slot, part, offset, 1).map(|value| value as u8)
     }
@@ -412,12 +386,7 @@ impl Machine {
     /// # Ok::<(), pciguest::Error>(())
     /// ```
     pub fn device_write(
-        &mut self,
-        guest: Guest,
-        slot: u64,
-        part: Part,
-        offset: u64,
-        value: u8,
+        &mut self, guest: Guest, slot: u64, part: Part, offset: u64, value: u8,
     ) -> Result<(), Error> {
         self.device_write_wide(guest, slot, part, offset, 1, value.into())
     }
@@ -442,12 +411,7 @@ impl Machine {
     /// # Ok::<(), pciguest::Error>(())
     /// ```
     pub fn device_read_wide(
-        &mut self,
-        guest: Guest,
-        slot: u64,
-        part: Part,
-        offset: u64,
-        width: u32,
+        &mut self, guest: Guest, slot: u64, part: Part, offset: u64, width: u32,
     ) -> Result<u64, Error> {
         DeviceSide::of(&mut self.handle, guest, slot).read(part, offset, width)
     }
@@ -466,26 +430,9 @@ impl Machine {
     /// # Ok::<(), pciguest::Error>(())
     /// ```
     pub fn device_write_wide(
-        &mut self,
-        guest: Guest,
-        slot: u64,
-        part: Part,
-        offset: u64,
-        width: u32,
-        value: u64,
+        &mut self, guest: Guest, slot: u64, part: Part, offset: u64, width: u32, value: u64,
     ) -> Result<(), Error> {
-        // SAFETY: no pointer but the handle is passed.
-        answered(unsafe {
-            raw::pciguest_device_write_wide(
-                &mut self.handle,
-                guest.index(),
-                slot,
-                part.number(),
-                offset,
-                width,
-                value,
-            )
-        })
+        DeviceSide::of(&mut self.handle, guest, slot).write(part, offset, width, value)
     }
 
     /// Returns the capability list of the function in a guest's slot (PCI Local Bus 3.0, 6.7), in the order of the list.

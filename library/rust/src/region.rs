@@ -30,12 +30,7 @@ impl Machine {
     /// # Ok::<(), pciguest::Error>(())
     /// ```
     pub fn region_read(
-        &mut self,
-        guest: Guest,
-        slot: u64,
-        register: u8,
-        offset: u64,
-        width: u32,
+        &mut self, guest: Guest, slot: u64, register: u8, offset: u64, width: u32,
     ) -> Result<u64, Error> {
         let part = Part::Region(register);
         let hit = Hit { slot, part, offset };
@@ -49,43 +44,22 @@ impl Machine {
 
     /// Reads so, and tells no device.
     fn region_read_alone(&mut self, guest: Guest, hit: Hit, width: u32) -> Result<u64, Error> {
+        let (machine, guest, Hit { slot, part, offset }) = (&mut self.handle, guest.index(), hit);
         // SAFETY: `value` is a place of its own.
         valued(|value| unsafe {
-            raw::pciguest_region_read(
-                &mut self.handle,
-                guest.index(),
-                hit.slot,
-                hit.part.number(),
-                hit.offset,
-                width,
-                value,
-            )
+            raw::pciguest_region_read(machine, guest, slot, part.number(), offset, width, value)
         })
     }
 
     /// Writes so the low 1 to 8 bytes of a value: each takes what a guest may change of it, and a closed region drops them.
     /// Refused as a read is; then none of them is written.
     pub fn region_write(
-        &mut self,
-        guest: Guest,
-        slot: u64,
-        register: u8,
-        offset: u64,
-        width: u32,
-        value: u64,
+        &mut self, guest: Guest, slot: u64, register: u8, offset: u64, width: u32, value: u64,
     ) -> Result<(), Error> {
-        let part = Part::Region(register);
+        let (machine, index, part) = (&mut self.handle, guest.index(), Part::Region(register));
         // SAFETY: no pointer but the handle is passed.
         answered(unsafe {
-            raw::pciguest_region_write(
-                &mut self.handle,
-                guest.index(),
-                slot,
-                part.number(),
-                offset,
-                width,
-                value,
-            )
+            raw::pciguest_region_write(machine, index, slot, part.number(), offset, width, value)
         })?;
         let touched = self.region_touch(guest, Hit { slot, part, offset }, width, value);
         self.tell_written(touched);

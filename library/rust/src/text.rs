@@ -115,8 +115,7 @@ fn told(room: usize, mut call: impl FnMut(*mut u8, usize, &mut usize) -> u32) ->
 
 /// The text of such a call.
 pub(crate) fn text_of(
-    room: usize,
-    call: impl FnMut(*mut u8, usize, &mut usize) -> u32,
+    room: usize, call: impl FnMut(*mut u8, usize, &mut usize) -> u32,
 ) -> Result<String, Error> {
     let (number, text) = told(room, call);
     answered(number).map(|()| text)
@@ -125,8 +124,7 @@ pub(crate) fn text_of(
 /// Runs a line by a call, which takes it with its line feed or without; where its reply needs more room, nothing happened,
 /// and it runs once more. The reply stands without its line feed, and a blank line or a comment has none.
 pub(crate) fn reply_to(
-    line: &[u8],
-    mut call: impl FnMut(*const u8, usize, *mut u8, usize, &mut usize) -> u32,
+    line: &[u8], mut call: impl FnMut(*const u8, usize, *mut u8, usize, &mut usize) -> u32,
 ) -> Result<Option<String>, Error> {
     let text =
         text_of(REPLY, |text, room, needed| call(line.as_ptr(), line.len(), text, room, needed))?;

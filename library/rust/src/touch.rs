@@ -19,8 +19,7 @@ impl Machine {
     /// Makes a read of a guest. Devices that it touches are told of it once it is known not to be refused, and then it reads
     /// what they made of their registers.
     pub(crate) fn read_and_tell<T>(
-        &mut self,
-        (guest, at, width): (Guest, At, u32),
+        &mut self, (guest, at, width): (Guest, At, u32),
         read: impl Fn(&mut Machine) -> Result<T, Error>,
     ) -> Result<T, Error> {
         let value = read(self)?;
@@ -64,11 +63,7 @@ impl Machine {
 
     /// What an access of a region that isn't refused touches of a device, if the region is open and one is there.
     pub(crate) fn region_touch(
-        &mut self,
-        guest: Guest,
-        hit: Hit,
-        width: u32,
-        value: u64,
+        &mut self, guest: Guest, hit: Hit, width: u32, value: u64,
     ) -> Option<Touch> {
         let device = self.device_at(guest, hit.slot)?;
         let Part::Region(register) = hit.part else {

@@ -53,11 +53,7 @@ impl Machine {
     /// # Ok::<(), pciguest::Error>(())
     /// ```
     pub fn write_wide(
-        &mut self,
-        guest: Guest,
-        at: At,
-        width: u32,
-        value: u64,
+        &mut self, guest: Guest, at: At, width: u32, value: u64,
     ) -> Result<(), Error> {
         may_be_split(at, width)?;
         let mut touched = Vec::new();

@@ -31,8 +31,7 @@ fn what_is_not_attached() {
 
 /// The device's regions and registers over another identity.
 fn with_registers(
-    identity: Declaration,
-    registers: impl IntoIterator<Item = Register>,
+    identity: Declaration, registers: impl IntoIterator<Item = Register>,
 ) -> Declaration {
     let regions = identity.region(0, Kind::Mem32, 0x1000).region(1, Kind::Io, 32).region(
         2,

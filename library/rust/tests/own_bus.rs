@@ -26,8 +26,7 @@ impl<F: FnMut() + Send> DeviceModel for Calls<F> {
 
 /// A machine whose device calls what it is given, behind a lock, and its guest.
 fn calling(
-    call: impl FnMut() + Send + 'static,
-    machine: &Arc<Mutex<Machine>>,
+    call: impl FnMut() + Send + 'static, machine: &Arc<Mutex<Machine>>,
 ) -> Result<Guest, Error> {
     let mut held = machine.lock().unwrap();
     let a = held.guest("a")?;
