@@ -77,7 +77,7 @@ for kind in "${kinds[@]}"; do
   seeded tests/library/driven.c "$board" 5000 'functions of a board of firmware'
 
   built tests/library/messages.c
-  holds "$kind: Bus Master and messages of MSI-X" "./messages.$kind"
+  holds "$kind: Bus Master and messages of MSI-X" "./messages.$kind" "$top/tests/library/messages.toml"
   built tests/library/given.c "${wraps[@]}"
   holds "$kind: guests over a board of one's own" "./given.$kind" "$board"
   built tests/library/firmware.c

@@ -1,31 +1,13 @@
 /* Whether a device may access its guest's memory (pciguest_bus_master), and the messages of MSI-X
  * vectors (pciguest_msix_message): in each state of the four bits that decide, and out of range.
  *
- *     messages
+ *     messages BOARD
  *
- * The exit status is 1 if a result is wrong. */
+ * BOARD is tests/library/messages.toml. The exit status is 1 if a result is wrong. */
 #include "testing.h"
 
 enum { COMMAND = 4, CONTROL = 0x60 + 2, TABLE = 0x60 + 4 };
 enum { MASTER = 4, ENABLE = 0x8000, FUNCTION_MASK = 0x4000, VECTORS = 4 };
-
-/* The function in slot 0 of guest a has MSI-X, second in its list, with a table at 800h of BAR 2.
- * The one in slot 1 has a list without MSI-X, and the one in slot 2 has no list. */
-static const char three_functions[] =
-    "host = { io = [0x1000, 0xffff], mem = [0xc0000000, 0xdfffffff] }\n"
-    "guest = [ { name = \"a\", slots = [\"1.0\", \"2.0\", \"3.0\"] }, "
-    "{ name = \"b\", slots = [] } ]\n"
-    "[[endpoint]]\nat = \"1.0\"\nvendor = 0x1234\ndevice = 1\nclass = 0xff0000\n"
-    "config = [ { off = 0xfc, block = 4 } ]\n"
-    "bar = [\n"
-    "{ index = 0, kind = \"mem32\", size = 0x1000, block = 16, reset = \"5a\" },\n"
-    "{ index = 2, kind = \"mem64\", size = 0x1000, block = 0x840, "
-    "reset = \"00000000000000000000000001000000\", rw = \"fcffffffffffffffffffffff01000000\" } ]\n"
-    "capability = [ { id = 9, off = 0x40, block = 14 }, { id = 0x11, off = 0x60, block = 10, "
-    "reset = \"03000208000002000000\", rw = \"00c00000000000000000\" } ]\n"
-    "[[endpoint]]\nat = \"2.0\"\nvendor = 0x1234\ndevice = 2\nclass = 0xff0000\n"
-    "capability = [ { id = 9, off = 0x40, block = 14 } ]\n"
-    "[[endpoint]]\nat = \"3.0\"\nvendor = 0x1234\ndevice = 3\nclass = 0xff0000\n";
 
 static struct pciguest_message message_of(struct pciguest *machine, uint64_t slot, uint32_t vector)
 {
@@ -88,6 +70,8 @@ static void bus_masters(struct pciguest *machine)
     IS(pciguest_bus_master(machine, 0, 32, &is_set), 303);
     IS(pciguest_bus_master(machine, 0, UINT64_MAX, &is_set), 303);
     IS(pciguest_bus_master(machine, 2, 0, &is_set), 902);
+    IS(pciguest_bus_master(machine, 0, 0, NULL), 902);
+    IS(pciguest_bus_master(NULL, 0, 0, &is_set), 902);
     IS(is_set, true);
 }
 
@@ -149,14 +133,17 @@ static void refused(struct pciguest *machine)
     IS(pciguest_msix_message(machine, 0, 3, 0, &message), 601);
     IS(pciguest_msix_message(machine, 0, 32, 0, &message), 303);
     IS(pciguest_msix_message(machine, 2, 0, 0, &message), 902);
+    IS(pciguest_msix_message(machine, 0, 0, 0, NULL), 902);
+    IS(pciguest_msix_message(NULL, 0, 0, 0, &message), 902);
     are(message, (struct pciguest_message){7, 7, 7, 7, 7});
 }
 
-int main(void)
+int main(int argc, char **argv)
 {
     struct pciguest machine = PCIGUEST_INIT;
 
-    IS(pciguest_new(&machine, three_functions, sizeof three_functions - 1), 0);
+    begin(argc, argv, 1);
+    IS(pciguest_new(&machine, file, length), 0);
     bus_masters(&machine);
     messages(&machine);
     set_config(&machine, CONTROL, 2, ENABLE);

@@ -2,62 +2,10 @@
 state of the four bits that decide and with arguments out of range. `tests/library/messages.c` tests
 the same in C."""
 
-from boards import Case
+from boards import TOP, Case
 from pciguest import Device, Machine, Message, Register
 
-# The function in slot 0 has MSI-X, second in its list, with a table at 800h of BAR 2. The one in slot
-# 1 has a list without MSI-X, and the one in slot 2 has no list.
-BOARD = """
-host = { io = [0x1000, 0xffff], mem = [0xc0000000, 0xdfffffff] }
-guest = [ { name = "a", slots = ["1.0", "2.0", "3.0"] }, { name = "b", slots = [] } ]
-
-[[endpoint]]
-at = "1.0"
-vendor = 0x1234
-device = 1
-class = 0xff0000
-config = [ { off = 0xfc, block = 4 } ]
-
-[[endpoint.bar]]
-index = 0
-kind = "mem32"
-size = 0x1000
-block = 16
-reset = "5a"
-
-[[endpoint.bar]]
-index = 2
-kind = "mem64"
-size = 0x1000
-block = 0x840
-reset = "00000000000000000000000001000000"
-rw = "fcffffffffffffffffffffff01000000"
-
-[[endpoint.capability]]
-id = 9
-off = 0x40
-block = 14
-
-[[endpoint.capability]]
-id = 0x11
-off = 0x60
-block = 10
-reset = "03000208000002000000"
-rw = "00c00000000000000000"
-
-[[endpoint]]
-at = "2.0"
-vendor = 0x1234
-device = 2
-class = 0xff0000
-capability = [ { id = 9, off = 0x40, block = 14 } ]
-
-[[endpoint]]
-at = "3.0"
-vendor = 0x1234
-device = 3
-class = 0xff0000
-"""
+BOARD = (TOP / "tests/library/messages.toml").read_text()
 COMMAND, CONTROL, TABLE = 4, 0x62, 0x64
 NONE = Message(0, 0, False, False, False)
 

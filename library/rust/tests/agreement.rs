@@ -1,8 +1,10 @@
 //! Random accesses, each asked by a call of its own and, on a second machine, by a line of a script.
 
-use pciguest::{At, Error, Guest, HostAt, Machine, Part};
+mod shared;
 
-const BOARD: &str = include_str!("../../../boards/main.toml");
+use pciguest::{At, Error, Guest, HostAt, Machine, Part};
+use shared::BOARD;
+
 const NAMES: [&str; 2] = ["a", "b"];
 
 /// xorshift64

@@ -1,19 +1,16 @@
 //! Firmware on `boards/main.toml`, by calls. `refusal_rows.rs` has most of what is refused.
 
+mod shared;
+
 use pciguest::{Board, Error, HostAt, Machine, Ranges};
+use shared::{number, BOARD};
 use std::thread;
 
-const BOARD: &str = include_str!("../../../boards/main.toml");
 const LARGEST: &str = include_str!("../../../boards/largest.toml");
 const IO_POOL: &str = include_str!("../../../boards/refused/io_pool.toml");
 
 fn config(bus: u8, device: u8, offset: u64) -> HostAt {
     HostAt::Config { bus, device, function: 0, offset }
-}
-
-/// The number by which a call is refused.
-fn number<T>(answer: Result<T, Error>) -> u32 {
-    answer.err().expect("a refusal").number()
 }
 
 #[test]

@@ -1,8 +1,9 @@
 //! What is dropped is freed. The test is alone in its process, so that no other one takes memory beside it.
 
-use pciguest::{Board, Error, Machine};
+mod shared;
 
-const BOARD: &str = include_str!("../../../boards/main.toml");
+use pciguest::{Board, Error, Machine};
+use shared::BOARD;
 
 /// The memory of this process that is resident, in bytes, on pages of 4 KB.
 fn resident() -> u64 {

@@ -1,9 +1,11 @@
 //! Guests that are saved, loaded and put to reset, and whole machines. Each script of the folder `boards` goes on over another
 //! board, or in another machine over an equal one, wherever it is cut.
 
-use pciguest::{Error, Guest, Machine};
+mod shared;
 
-const BOARD: &str = include_str!("../../../boards/main.toml");
+use pciguest::{Error, Guest, Machine};
+use shared::{number, start, BOARD};
+
 const SERVER: &str = include_str!("../../../boards/server.toml");
 const SCRIPTS: [(&str, &str); 7] = [
     (BOARD, include_str!("../../../boards/guest.script")),
@@ -17,18 +19,6 @@ const SCRIPTS: [(&str, &str); 7] = [
 /// What stands beside the functions of a board that are moved behind two bridges.
 const BESIDE: &str = include_str!("../../../tests/library/beside.toml");
 
-/// The machine of the main board, and its guests.
-fn start() -> Result<(Machine, Guest, Guest), Error> {
-    let mut machine = Machine::new(BOARD)?;
-    let (a, b) = (machine.guest("a")?, machine.guest("b")?);
-    Ok((machine, a, b))
-}
-
-/// The number by which a call is refused.
-fn number<T>(answer: Result<T, Error>) -> u32 {
-    answer.err().expect("a refusal").number()
-}
-
 /// Where two images of one guest differ.
 fn differences(one: &[u8], other: &[u8]) -> Vec<usize> {
     assert_eq!(one.len(), other.len());
@@ -37,7 +27,7 @@ fn differences(one: &[u8], other: &[u8]) -> Vec<usize> {
 
 #[test]
 fn an_image_tells_what_its_guest_holds() -> Result<(), Error> {
-    let (mut machine, a, b) = start()?;
+    let (mut machine, a, b) = start(BOARD)?;
     let (first, other) = (machine.save(a)?, machine.save(b)?);
     assert_eq!(machine.image_size(a)?, first.len());
     machine.run_line("a cw 0 4 2 2")?;
@@ -53,7 +43,7 @@ fn an_image_tells_what_its_guest_holds() -> Result<(), Error> {
 
 #[test]
 fn a_guest_is_put_to_reset() -> Result<(), Error> {
-    let (mut machine, a, b) = start()?;
+    let (mut machine, a, b) = start(BOARD)?;
     let first = machine.save(a)?;
     for line in ["a cw 0 4 2 2", "a raise 1 cfg 7 0x80", "b cw 0 4 2 2"] {
         let reply = machine.run_line(line)?.expect("a reply");
@@ -70,7 +60,7 @@ fn a_guest_is_put_to_reset() -> Result<(), Error> {
 
 #[test]
 fn an_image_is_as_long_as_its_functions_are_many() -> Result<(), Error> {
-    let (mut machine, a, b) = start()?;
+    let (mut machine, a, b) = start(BOARD)?;
     let (one, other) = (machine.image_size(a)?, machine.image_size(b)?);
     machine.move_function(a, 1, b, 9)?;
     assert_eq!(machine.image_size(a)? + machine.image_size(b)?, one + other);
@@ -168,7 +158,7 @@ fn guests_go_on_over_another_board() -> Result<(), Error> {
 
 #[test]
 fn a_guest_is_loaded_where_it_was_saved() -> Result<(), Error> {
-    let (mut machine, a, _) = start()?;
+    let (mut machine, a, _) = start(BOARD)?;
     replies(
         &mut machine,
         &["a cw 0 0x14 4 0xe0000000", "a cw 0 4 2 2", "a mw 0xe0000010 4 0x12345678"],
@@ -185,7 +175,7 @@ fn a_guest_is_loaded_where_it_was_saved() -> Result<(), Error> {
 
 #[test]
 fn bytes_that_are_no_image_for_a_guest_are_refused() -> Result<(), Error> {
-    let (mut machine, a, b) = start()?;
+    let (mut machine, a, b) = start(BOARD)?;
     let (image, other) = (machine.save(a)?, machine.save(b)?);
     machine.run_line("a cw 0 4 2 2")?;
     let held = machine.save(a)?;
@@ -251,7 +241,7 @@ fn machines_go_on_over_an_equal_board() -> Result<(), Error> {
 
 #[test]
 fn functions_come_back_to_their_slots() -> Result<(), Error> {
-    let (mut machine, a, b) = start()?;
+    let (mut machine, a, b) = start(BOARD)?;
     machine.move_function(a, 1, b, 9)?;
     machine.run_line("b cw 9 4 2 2")?;
     let (image, counts) = (machine.save_all()?, [machine.changed(a)?, machine.changed(b)?]);
@@ -270,7 +260,7 @@ fn functions_come_back_to_their_slots() -> Result<(), Error> {
 
 #[test]
 fn bytes_that_are_no_image_for_a_machine_are_refused() -> Result<(), Error> {
-    let (mut machine, a, b) = start()?;
+    let (mut machine, a, b) = start(BOARD)?;
     let (image, own) = (machine.save_all()?, machine.save(a)?);
     machine.move_function(a, 0, b, 7)?;
     let held = machine.save_all()?;

@@ -1,35 +1,16 @@
 //! Each call on `boards/main.toml`. `refusal_rows.rs` has most of what is refused.
 
+mod shared;
+
 use pciguest::{
     At, Bar, Capability, Error, Guest, Hit, HostAt, Interrupt, Machine, Part, Places, Ranges,
     Space, Window,
 };
-
-const BOARD: &str = include_str!("../../../boards/main.toml");
-
-fn config(slot: u64, offset: u64) -> At {
-    At::Config { slot, offset }
-}
-
-fn memory(address: u64) -> At {
-    At::Memory { address }
-}
-
-/// The machine of the board, and its guests.
-fn start() -> Result<(Machine, Guest, Guest), Error> {
-    let mut machine = Machine::new(BOARD)?;
-    let (a, b) = (machine.guest("a")?, machine.guest("b")?);
-    Ok((machine, a, b))
-}
-
-/// The number by which a call is refused.
-fn number<T>(answer: Result<T, Error>) -> u32 {
-    answer.err().expect("a refusal").number()
-}
+use shared::{config, memory, number, start, BOARD};
 
 #[test]
 fn a_guest_uses_its_function() -> Result<(), Error> {
-    let (mut machine, a, b) = start()?;
+    let (mut machine, a, b) = start(BOARD)?;
     assert_eq!((a.index(), b.index()), (0, 1));
     assert_eq!(machine.read(a, config(0, 0), 4)?, 0x0001_1234);
     assert_eq!(machine.read(b, config(0, 2), 2)?, 0x0003);
@@ -52,7 +33,7 @@ fn the_guests_have_names() -> Result<(), Error> {
 
 #[test]
 fn a_device_has_wide_registers() -> Result<(), Error> {
-    let (mut machine, a, _) = start()?;
+    let (mut machine, a, _) = start(BOARD)?;
     machine.device_write_wide(a, 0, Part::Config, 6, 2, 0x12_5aa5)?;
     assert_eq!(machine.read(a, config(0, 6), 2)?, 0x5aa5);
     assert_eq!(machine.device_read_wide(a, 0, Part::Config, 6, 2)?, 0x5aa5);
@@ -69,7 +50,7 @@ fn a_device_has_wide_registers() -> Result<(), Error> {
 
 #[test]
 fn a_region_is_reached_wherever_it_stands() -> Result<(), Error> {
-    let (mut machine, a, _) = start()?;
+    let (mut machine, a, _) = start(BOARD)?;
     assert_eq!(machine.region_read(a, 0, 1, 0, 3)?, 0xff_ffff); // closed
     machine.region_write(a, 0, 1, 0, 8, 0)?;
     machine.write(a, config(0, 4), 2, 3)?;
@@ -84,7 +65,7 @@ fn a_region_is_reached_wherever_it_stands() -> Result<(), Error> {
 
 #[test]
 fn a_guest_finds_its_function_by_ports() -> Result<(), Error> {
-    let (mut machine, a, _) = start()?;
+    let (mut machine, a, _) = start(BOARD)?;
     machine.write(a, At::Io { port: 0xcf8 }, 4, 0x8000_0800)?;
     assert_eq!(machine.read(a, At::Io { port: 0xcfc }, 4)?, 0x0004_1234);
     Ok(())
@@ -104,7 +85,7 @@ fn the_host_sees_the_board() -> Result<(), Error> {
 
 #[test]
 fn a_device_raises_a_bit() -> Result<(), Error> {
-    let (mut machine, a, _) = start()?;
+    let (mut machine, a, _) = start(BOARD)?;
     machine.raise(a, 0, Part::Config, 7, 0x80)?;
     assert_eq!(machine.read(a, config(0, 6), 2)? & 0x8000, 0x8000);
     machine.write(a, config(0, 6), 2, 0x8000)?;
@@ -118,7 +99,7 @@ fn a_device_raises_a_bit() -> Result<(), Error> {
 
 #[test]
 fn regions_stand_where_their_guest_put_them() -> Result<(), Error> {
-    let (mut machine, a, b) = start()?;
+    let (mut machine, a, b) = start(BOARD)?;
     let ports = machine.region(a, 0, 0)?;
     assert_eq!((ports.space, ports.size, ports.is_open), (Space::Io, 32, false));
     machine.write(a, config(1, 0x10), 4, 0)?;
@@ -144,7 +125,7 @@ fn regions_stand_where_their_guest_put_them() -> Result<(), Error> {
 
 #[test]
 fn a_guest_is_told_why() -> Result<(), Error> {
-    let (mut machine, a, b) = start()?;
+    let (mut machine, a, b) = start(BOARD)?;
     let bell = memory(0xd000_0010);
     machine.write(a, config(0, 0x14), 4, 0xd000_0000)?;
     assert_eq!(
@@ -175,7 +156,7 @@ fn a_guest_is_told_why() -> Result<(), Error> {
 
 #[test]
 fn a_function_moves() -> Result<(), Error> {
-    let (mut machine, a, b) = start()?;
+    let (mut machine, a, b) = start(BOARD)?;
     machine.write(a, config(0, 4), 2, 2)?;
     machine.move_function(a, 0, b, 5)?;
     assert_eq!((machine.changed(a)?, machine.changed(b)?), (2, 1));
@@ -187,7 +168,7 @@ fn a_function_moves() -> Result<(), Error> {
 
 #[test]
 fn a_device_reads_and_writes_its_own() -> Result<(), Error> {
-    let (mut machine, a, _) = start()?;
+    let (mut machine, a, _) = start(BOARD)?;
     machine.device_write(a, 0, Part::Config, 7, 0xa5)?;
     assert_eq!(machine.device_read(a, 0, Part::Config, 7)?, 0xa5);
     assert_eq!(machine.read(a, config(0, 7), 1)?, 0xa5);
@@ -231,7 +212,7 @@ fn a_capability_list_is_read() -> Result<(), Error> {
 
 #[test]
 fn a_function_is_reset() -> Result<(), Error> {
-    let (mut machine, a, _) = start()?;
+    let (mut machine, a, _) = start(BOARD)?;
     machine.write(a, config(0, 4), 2, 2)?;
     machine.write(a, config(0, 0x3c), 1, 0x5a)?;
     machine.write(a, config(1, 4), 2, 2)?;
@@ -245,7 +226,7 @@ fn a_function_is_reset() -> Result<(), Error> {
 
 #[test]
 fn a_function_is_taken_and_given() -> Result<(), Error> {
-    let (mut machine, a, b) = start()?;
+    let (mut machine, a, b) = start(BOARD)?;
     machine.write(a, config(0, 0x3c), 1, 0x5a)?;
     machine.take(a, 0)?;
     assert_eq!(machine.read(a, config(0, 0), 4)?, 0xffff_ffff);
@@ -272,7 +253,7 @@ fn lines_have_replies() -> Result<(), Error> {
 
 #[test]
 fn accesses_are_refused() -> Result<(), Error> {
-    let (mut machine, a, _) = start()?;
+    let (mut machine, a, _) = start(BOARD)?;
     let memory = memory(0xd000_0001);
     assert_eq!(
         machine.read(a, memory, 4).unwrap_err().to_string(),
@@ -330,7 +311,7 @@ fn errors_go_where_errors_go() {
 
 #[test]
 fn functions_of_the_board_are_told() -> Result<(), Error> {
-    let (mut machine, a, b) = start()?;
+    let (mut machine, a, b) = start(BOARD)?;
     assert_eq!(machine.count()?, 4);
     let all: Vec<_> = machine.functions().collect();
     let paths: Vec<&str> = all.iter().map(|function| function.path.as_str()).collect();
@@ -361,7 +342,7 @@ fn functions_of_the_board_are_told() -> Result<(), Error> {
 
 #[test]
 fn a_function_is_told_by_its_slot() -> Result<(), Error> {
-    let (mut machine, a, b) = start()?;
+    let (mut machine, a, b) = start(BOARD)?;
     machine.move_function(a, 1, b, 7)?;
     let moved = machine.slot_function(b, 7)?;
     assert_eq!((moved.path.as_str(), moved.seat), ("2.0/1.0", Some((b, 7))));
@@ -371,7 +352,7 @@ fn a_function_is_told_by_its_slot() -> Result<(), Error> {
 
 #[test]
 fn regions_that_move_are_told() -> Result<(), Error> {
-    let (mut machine, a, b) = start()?;
+    let (mut machine, a, b) = start(BOARD)?;
     let mut places = Places::new();
     let seats = |moved: &[pciguest::Moved]| -> Vec<(u64, u32)> {
         moved.iter().map(|it| (it.slot, it.register)).collect()
@@ -398,7 +379,7 @@ fn regions_that_move_are_told() -> Result<(), Error> {
 
 #[test]
 fn an_interrupt_is_told() -> Result<(), Error> {
-    let (mut machine, a, _) = start()?;
+    let (mut machine, a, _) = start(BOARD)?;
     machine.write(a, config(1, 4), 2, 0x0400)?;
     let interrupt = Interrupt { pin: 1, root_device: 2, root_pin: 2, is_disabled: true };
     assert_eq!(machine.slot_function(a, 1)?.interrupt, interrupt);

@@ -3,82 +3,19 @@
 //! `tests/library/messages.c` tests the same in C.
 
 mod doorbell;
+mod shared;
 
 use doorbell::{Doorbell, TOP};
 use pciguest::{At, DeviceModel, Error, Guest, Machine, Message, Part};
+use shared::{number, start};
 
-/// The function in slot 0 of guest a has MSI-X, second in its list, with a table at 800h of BAR 2.
-/// The one in slot 1 has a list without MSI-X, and the one in slot 2 has no list.
-const BOARD: &str = r#"
-host = { io = [0x1000, 0xffff], mem = [0xc0000000, 0xdfffffff] }
-guest = [ { name = "a", slots = ["1.0", "2.0", "3.0"] }, { name = "b", slots = [] } ]
-
-[[endpoint]]
-at = "1.0"
-vendor = 0x1234
-device = 1
-class = 0xff0000
-config = [ { off = 0xfc, block = 4 } ]
-
-[[endpoint.bar]]
-index = 0
-kind = "mem32"
-size = 0x1000
-block = 16
-reset = "5a"
-
-[[endpoint.bar]]
-index = 2
-kind = "mem64"
-size = 0x1000
-block = 0x840
-reset = "00000000000000000000000001000000"
-rw = "fcffffffffffffffffffffff01000000"
-
-[[endpoint.capability]]
-id = 9
-off = 0x40
-block = 14
-
-[[endpoint.capability]]
-id = 0x11
-off = 0x60
-block = 10
-reset = "03000208000002000000"
-rw = "00c00000000000000000"
-
-[[endpoint]]
-at = "2.0"
-vendor = 0x1234
-device = 2
-class = 0xff0000
-capability = [ { id = 9, off = 0x40, block = 14 } ]
-
-[[endpoint]]
-at = "3.0"
-vendor = 0x1234
-device = 3
-class = 0xff0000
-"#;
-
+const BOARD: &str = include_str!("../../../tests/library/messages.toml");
 const COMMAND: u64 = 4;
 const CONTROL: u64 = 0x62;
 const TABLE: u64 = 0x64;
 
-/// The machine of the board, and its guests.
-fn start() -> Result<(Machine, Guest, Guest), Error> {
-    let mut machine = Machine::new(BOARD)?;
-    let (a, b) = (machine.guest("a")?, machine.guest("b")?);
-    Ok((machine, a, b))
-}
-
 fn config(offset: u64) -> At {
     At::Config { slot: 0, offset }
-}
-
-/// The number by which a call is refused.
-fn number<T>(answer: Result<T, Error>) -> u32 {
-    answer.err().expect("a refusal").number()
 }
 
 /// Writes 4 bytes of the table as the driver does.
@@ -89,7 +26,7 @@ fn set_table(machine: &mut Machine, a: Guest, offset: u64, value: u64) -> Result
 
 #[test]
 fn bus_master_is_that_of_the_guest() -> Result<(), Error> {
-    let (mut machine, a, b) = start()?;
+    let (mut machine, a, b) = start(BOARD)?;
     assert!(!machine.bus_master(a, 0)?);
     machine.write(a, config(COMMAND), 2, 0x543)?; // all but Bus Master
     assert!(!machine.bus_master(a, 0)?);
@@ -106,7 +43,7 @@ fn bus_master_is_that_of_the_guest() -> Result<(), Error> {
 
 #[test]
 fn a_message_can_be_sent_in_one_of_sixteen_states() -> Result<(), Error> {
-    let (mut machine, a, _) = start()?;
+    let (mut machine, a, _) = start(BOARD)?;
     let masked = Message { is_masked: true, ..Message::default() };
     assert_eq!(machine.msix_message(a, 0, 3)?, masked); // as at reset
     for (offset, value) in [(0x20, 0xfee0_1003), (0x24, 1), (0x28, 0x4321)] {
@@ -131,7 +68,7 @@ fn a_message_can_be_sent_in_one_of_sixteen_states() -> Result<(), Error> {
 
 #[test]
 fn vectors_out_of_range() -> Result<(), Error> {
-    let (mut machine, a, _) = start()?;
+    let (mut machine, a, _) = start(BOARD)?;
     for vector in [4, u32::MAX] {
         assert_eq!(number(machine.msix_message(a, 0, vector)), 303);
     }

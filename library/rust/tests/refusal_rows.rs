@@ -1,8 +1,10 @@
 //! The calls of `tests/library/refusals.txt`, which are also made in C and Python.
 
-use pciguest::{At, Board, Error, Guest, HostAt, Machine, Part, Places};
+mod shared;
 
-const BOARD: &str = include_str!("../../../boards/main.toml");
+use pciguest::{At, Board, Error, Guest, HostAt, Machine, Part, Places};
+use shared::BOARD;
+
 const ROWS: &str = include_str!("../../../tests/library/refusals.txt");
 
 /// The arguments of a call.
@@ -69,59 +71,50 @@ impl Row<'_> {
 
 /// Makes the call of a row.
 fn asked(call: &str, r: &Row, m: &mut Machine, b: &mut Board) -> Result<(), Error> {
+    let (wide, short) = (|nth| r.number(nth), |nth| r.short(nth));
     match call {
-        "read" => m.read(r.guest(0), r.at(), r.short(4)).map(drop),
-        "write" => m.write(r.guest(0), r.at(), r.short(4), r.short(5)),
-        "read_wide" => m.read_wide(r.guest(0), r.at(), r.short(4)).map(drop),
-        "write_wide" => m.write_wide(r.guest(0), r.at(), r.short(4), r.number(5)),
+        "read" => m.read(r.guest(0), r.at(), short(4)).map(drop),
+        "write" => m.write(r.guest(0), r.at(), short(4), short(5)),
+        "read_wide" => m.read_wide(r.guest(0), r.at(), short(4)).map(drop),
+        "write_wide" => m.write_wide(r.guest(0), r.at(), short(4), wide(5)),
         "region_read" => {
-            m.region_read(r.guest(0), r.number(1), r.small(2), r.number(3), r.short(4)).map(drop)
+            m.region_read(r.guest(0), wide(1), r.small(2), wide(3), short(4)).map(drop)
         }
-        "region_write" => m.region_write(
-            r.guest(0),
-            r.number(1),
-            r.small(2),
-            r.number(3),
-            r.short(4),
-            r.number(5),
-        ),
-        "raise" => m.raise(r.guest(0), r.number(1), r.part(), r.number(3), r.small(4)),
+        "region_write" => {
+            m.region_write(r.guest(0), wide(1), r.small(2), wide(3), short(4), wide(5))
+        }
+        "raise" => m.raise(r.guest(0), wide(1), r.part(), wide(3), r.small(4)),
         "device_read_wide" => {
-            m.device_read_wide(r.guest(0), r.number(1), r.part(), r.number(3), r.short(4)).map(drop)
+            m.device_read_wide(r.guest(0), wide(1), r.part(), wide(3), short(4)).map(drop)
         }
-        "device_write_wide" => m.device_write_wide(
-            r.guest(0),
-            r.number(1),
-            r.part(),
-            r.number(3),
-            r.short(4),
-            r.number(5),
-        ),
-        "region" => m.region(r.guest(0), r.number(1), r.short(2)).map(drop),
+        "device_write_wide" => {
+            m.device_write_wide(r.guest(0), wide(1), r.part(), wide(3), short(4), wide(5))
+        }
+        "region" => m.region(r.guest(0), wide(1), short(2)).map(drop),
         "changed" => m.changed(r.guest(0)).map(drop),
         "moved" => m.moved(r.guest(0), &mut Places::new()).map(drop),
         "locate" => m.locate(r.guest(0), r.at()).map(drop),
         "why" => m.why(r.guest(0), r.at()).map(drop),
         "why_json" => m.why_json(r.guest(0), r.at()).map(drop),
-        "function" => m.function(r.number(0) as usize).map(drop),
-        "slot" => m.slot_function(r.guest(0), r.number(1)).map(drop),
-        "bus_master" => m.bus_master(r.guest(0), r.number(1)).map(drop),
-        "msix_message" => m.msix_message(r.guest(0), r.number(1), r.short(2)).map(drop),
+        "function" => m.function(wide(0) as usize).map(drop),
+        "slot" => m.slot_function(r.guest(0), wide(1)).map(drop),
+        "bus_master" => m.bus_master(r.guest(0), wide(1)).map(drop),
+        "msix_message" => m.msix_message(r.guest(0), wide(1), short(2)).map(drop),
         "guest" => m.guest(r.text()).map(drop),
         "guest_name" => m.guest_name(r.guest(0)).map(drop),
-        "move" => m.move_function(r.guest(0), r.number(1), r.guest(2), r.number(3)),
-        "reset" => m.reset(r.guest(0), r.number(1)),
+        "move" => m.move_function(r.guest(0), wide(1), r.guest(2), wide(3)),
+        "reset" => m.reset(r.guest(0), wide(1)),
         "reset_guest" => m.reset_guest(r.guest(0)),
-        "give" => m.give(r.text(), r.guest(1), r.number(2)),
-        "take" => m.take(r.guest(0), r.number(1)),
+        "give" => m.give(r.text(), r.guest(1), wide(2)),
+        "take" => m.take(r.guest(0), wide(1)),
         "save" => m.save(r.guest(0)).map(drop),
         "load" => m.load_image(r.guest(0), b""),
         "load_all" => m.load_all(b""),
         "image_fault" => m.image_fault(r.guest(0), b"").map(drop),
-        "host_read" => m.host_read(r.host_at(), r.short(5)).map(drop),
-        "board_read" => b.read(r.host_at(), r.short(5)).map(drop),
-        "board_write" => b.write(r.host_at(), r.short(5), r.short(6)),
-        "board_function" => b.function(r.number(0) as usize).map(drop),
+        "host_read" => m.host_read(r.host_at(), short(5)).map(drop),
+        "board_read" => b.read(r.host_at(), short(5)).map(drop),
+        "board_write" => b.write(r.host_at(), short(5), short(6)),
+        "board_function" => b.function(wide(0) as usize).map(drop),
         "board_why_json" => b.why_json(r.host_at()).map(drop),
         _ => panic!("{call}: no such call"),
     }
