@@ -7,65 +7,6 @@
  * is lost. */
 #include "refusing.h"
 
-/* The calls that tests/library/refusals.txt lacks do nothing to a board that isn't there. */
-static void without_a_board(void)
-{
-    struct pciguest_board none = {0};
-    struct pciguest machine = {0};
-    size_t count = 8;
-    char reply[PCIGUEST_REPLY] = "unchanged";
-
-    IS(sizeof none, 2 * sizeof(void *));
-    IS(line(&none, "host ir 0 1", reply, PCIGUEST_REPLY, &count), 901);
-    IS(pciguest_board_count(&none, &count), 901);
-    IS(pciguest_board_audit(&none, reply, sizeof reply, &count, &count), 901);
-    IS(pciguest_board_ready(&none, reply, sizeof reply, &count, &count), 901);
-    IS(pciguest_board_audit_json(&none, reply, sizeof reply, &count, &count), 901);
-    IS(pciguest_board_ready_json(&none, reply, sizeof reply, &count, &count), 901);
-    IS(pciguest_set_up(&none, &machine), 901);
-    IS(pciguest_board_guests(&none, &machine), 901);
-    pciguest_board_free(&none);
-    pciguest_board_free(&none);
-    IS(none.live, 0);
-    IS(machine.live, 0);
-    IS(count, 8);
-    IS(strcmp(reply, "unchanged"), 0);
-}
-
-/* Null pointers that tests/library/refusal_rows.c doesn't try. */
-static void null_pointers(struct pciguest_board *board)
-{
-    struct pciguest machine = {0};
-    size_t count = 0;
-    char reply[PCIGUEST_REPLY] = {0};
-
-    IS(pciguest_board_new(NULL, "", 0), 902);
-    IS(pciguest_board_new(board, NULL, 1), 902);
-    pciguest_board_free(NULL);
-    IS(pciguest_board_run_line(NULL, "", 0, reply, sizeof reply, &count), 902);
-    IS(pciguest_board_run_line(board, NULL, 1, reply, sizeof reply, &count), 902);
-    IS(pciguest_board_run_line(board, "", 0, NULL, 0, &count), 902);
-    IS(pciguest_board_run_line(board, "", 0, reply, sizeof reply, NULL), 902);
-    IS(pciguest_board_count(NULL, &count), 902);
-    IS(pciguest_board_count(board, NULL), 902);
-    IS(pciguest_board_audit(NULL, reply, sizeof reply, &count, &count), 902);
-    IS(pciguest_board_audit(board, NULL, 1, &count, &count), 902);
-    IS(pciguest_board_audit(board, reply, sizeof reply, NULL, &count), 902);
-    IS(pciguest_board_audit(board, reply, sizeof reply, &count, NULL), 902);
-    IS(pciguest_board_ready(NULL, reply, sizeof reply, &count, &count), 902);
-    IS(pciguest_board_ready(board, NULL, 1, &count, &count), 902);
-    IS(pciguest_board_ready(board, reply, sizeof reply, NULL, &count), 902);
-    IS(pciguest_board_ready(board, reply, sizeof reply, &count, NULL), 902);
-    IS(pciguest_board_audit_json(NULL, reply, sizeof reply, &count, &count), 902);
-    IS(pciguest_board_audit_json(board, NULL, 1, &count, &count), 902);
-    IS(pciguest_board_ready_json(board, reply, sizeof reply, NULL, &count), 902);
-    IS(pciguest_board_ready_json(board, reply, sizeof reply, &count, NULL), 902);
-    IS(pciguest_board_guests(NULL, &machine), 902);
-    IS(pciguest_board_guests(board, NULL), 902);
-    IS(pciguest_set_up(NULL, &machine), 902);
-    IS(pciguest_set_up(board, NULL), 902);
-}
-
 /* What is refused beside tests/library/refusals.txt; none of it is a write, so the board is at reset afterwards. */
 static void refusals(struct pciguest_board *board)
 {
@@ -79,6 +20,7 @@ static void refusals(struct pciguest_board *board)
     IS(pciguest_board_write(board, 3, 0, 0, 0, 0, 4, 0), 902);
     IS(pciguest_board_why_json(board, 3, 0, 0, 0, 0, reply, sizeof reply, &count), 902);
     IS(pciguest_board_run_line(board, "host ir 0 1", 11, reply, sizeof reply - 1, &count), 902);
+    IS(pciguest_board_run_line(board, "", 0, NULL, 0, &count), 902);
     IS(value, 7);
     IS(count, 8);
     IS(line(board, "# a comment", reply, PCIGUEST_REPLY, &count), 0);
@@ -420,11 +362,10 @@ int main(int argc, char **argv)
     struct pciguest_board board = {0}, other = {0};
 
     begin(argc, argv, 3);
-    without_a_board();
+    pciguest_board_free(&board);
     IS(pciguest_board_new(&board, "x", 1), 101);
     IS(board.live, 0);
     IS(pciguest_board_new(&board, file, length), 0);
-    null_pointers(&board);
     refusals(&board);
     set_ups(&board);
     pciguest_board_free(&board);

@@ -8,68 +8,10 @@
 #include "images.h"
 #include "refusing.h"
 
-/* The calls that tests/library/refusals.txt lacks do nothing to a machine that isn't there. */
-static void without_a_machine(void)
-{
-    struct pciguest none = {0};
-    size_t count = 8;
-    char reply[PCIGUEST_REPLY] = "unchanged";
-
-    IS(sizeof none, 2 * sizeof(void *));
-    IS(pciguest_image_size_all(&none, &count), 901);
-    IS(pciguest_save_all(&none, reply, sizeof reply, &count), 901);
-    IS(pciguest_count(&none, &count), 901);
-    IS(pciguest_guest_count(&none, &count), 901);
-    IS(pciguest_run_line(&none, "a cr 0 0 4", 10, reply, sizeof reply, &count), 901);
-    IS(pciguest_explain_line(&none, "a cr", 4, &count, reply, sizeof reply, &count), 901);
-    pciguest_free(&none);
-    pciguest_free(&none);
-    IS(none.live, 0);
-    IS(count, 8);
-    IS(strcmp(reply, "unchanged"), 0);
-}
-
-/* Null pointers that tests/library/refusal_rows.c doesn't try. */
-static void null_pointers(struct pciguest *machine)
-{
-    size_t count = 0;
-    uint64_t changes = 0;
-    char reply[PCIGUEST_REPLY] = {0};
-
-    IS(pciguest_new(NULL, "", 0), 902);
-    IS(pciguest_new(machine, NULL, 1), 902);
-    pciguest_free(NULL);
-    IS(pciguest_load(machine, 0, NULL, 1), 902);
-    IS(pciguest_load(machine, 0, NULL, 0), 905);
-    IS(pciguest_image_fault(machine, 0, NULL, 1, &changes, &count), 902);
-    IS(pciguest_image_size_all(NULL, &count), 902);
-    IS(pciguest_image_size_all(machine, NULL), 902);
-    IS(pciguest_save_all(NULL, reply, sizeof reply, &count), 902);
-    IS(pciguest_save_all(machine, NULL, 1, &count), 902);
-    IS(pciguest_save_all(machine, reply, sizeof reply, NULL), 902);
-    IS(pciguest_load_all(machine, NULL, 1), 902);
-    IS(pciguest_load_all(machine, NULL, 0), 905);
-    IS(pciguest_give(machine, NULL, 1, 0, 0), 902);
-    IS(pciguest_give(machine, NULL, 0, 0, 0), 303);
-    IS(pciguest_limits(NULL), 902);
-    IS(pciguest_count(NULL, &count), 902);
-    IS(pciguest_count(machine, NULL), 902);
-    IS(pciguest_guest_count(NULL, &count), 902);
-    IS(pciguest_guest_count(machine, NULL), 902);
-    IS(pciguest_run_line(machine, "", 0, NULL, 0, &count), 902);
-    IS(pciguest_run_line(machine, "", 0, reply, sizeof reply, NULL), 902);
-    IS(pciguest_explain_line(NULL, "", 0, &count, reply, sizeof reply, &count), 902);
-    IS(pciguest_explain_line(machine, NULL, 1, &count, reply, sizeof reply, &count), 902);
-    IS(pciguest_explain_line(machine, "", 0, NULL, reply, sizeof reply, &count), 902);
-    IS(pciguest_explain_line(machine, "", 0, &count, NULL, 1, &count), 902);
-    IS(pciguest_explain_line(machine, "", 0, &count, reply, sizeof reply, NULL), 902);
-    IS(pciguest_report(NULL, 1, NULL, 0, &count), 902);
-    IS(pciguest_report_json(NULL, 1, NULL, 0, &count), 902);
-}
-
 #define WRONG_OFFSET "invalid offset '0x' (expected a decimal or 0x-prefixed number below 2^64)"
 
-/* What Rust and Python can't ask; tests/library/refusals.txt has what they can. */
+/* What Rust and Python can't ask; tests/library/refusals.txt has what they can, and library/python/tests/test_header.py null
+ * pointers in general. An empty text or image may be null. */
 static void bad_arguments(struct pciguest *machine)
 {
     uint32_t value = 7;
@@ -82,6 +24,11 @@ static void bad_arguments(struct pciguest *machine)
     IS(pciguest_read(machine, 0, 3, 0, 0, 4, &value), 902);
     IS(pciguest_load(machine, 0, reply, sizeof reply), 905);
     IS(pciguest_load_all(machine, reply, sizeof reply), 905);
+    IS(pciguest_load(machine, 0, NULL, 0), 905);
+    IS(pciguest_load_all(machine, NULL, 0), 905);
+    IS(pciguest_give(machine, NULL, 0, 0, 0), 303);
+    IS(pciguest_guest(machine, "a", 1, NULL), 902); /* that test names no guest there, which is refused too */
+    IS(pciguest_run_line(machine, "", 0, NULL, 0, &count), 902);
     IS(pciguest_region_read(machine, 0, 0, PCIGUEST_PART_CONFIG, 0x40, 4, &wide), 303);
     IS(pciguest_run_line(machine, "a cr 0 0 4", 10, reply, sizeof reply - 1, &count), 902);
     IS(value, 7);
@@ -453,8 +400,6 @@ static void checks(void)
     char text[1024] = {0};
     size_t needed = 0;
 
-    IS(pciguest_check(NULL, 1, NULL, 0, &needed), 902);
-    IS(pciguest_check(file, length, NULL, 0, NULL), 902);
     IS(pciguest_check(file, length, text, sizeof text, &needed), 0);
     IS(strncmp(text, "ok\n", 3), 0);
     memset(text, '?', sizeof text);
@@ -573,11 +518,10 @@ int main(int argc, char **argv)
     struct pciguest machine = {0};
 
     begin(argc, argv, 1);
-    without_a_machine();
+    pciguest_free(&machine);
     IS(pciguest_new(&machine, "x", 1), 101);
     IS(machine.live, 0);
     IS(pciguest_new(&machine, file, length), 0);
-    null_pointers(&machine);
     bad_arguments(&machine);
     guests(&machine);
     resets(&machine);

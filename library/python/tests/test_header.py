@@ -8,8 +8,8 @@ import subprocess
 import unittest
 
 import pciguest
-from boards import TOP
-from pciguest import _calls
+from boards import MAIN, TOP
+from pciguest import Board, Machine, _calls
 from pciguest._library import CALLS
 
 HEADER = (TOP / "library" / "pciguest.h").read_text()
@@ -66,6 +66,23 @@ def judged():
         yield f"{in_c(answer)} (*const like_{name})({given}) = pciguest_{name};"
 
 
+def is_pointer(kind):
+    return kind in (ctypes.c_char_p, ctypes.c_void_p) or hasattr(kind, "contents")
+
+
+class Given:
+    """Arguments: pointers to two structs and to room, 4096 where a length of the room follows, and 1 for any other number."""
+
+    def __init__(self, machine, board):
+        self.structs = {ctypes.POINTER(type(it)): ctypes.pointer(it) for it in (machine, board)}
+        self.room = ctypes.create_string_buffer(b"?" * (1 << 19))
+
+    def to(self, kinds):
+        for before, kind in zip([None, *kinds], kinds):
+            has_room = is_pointer(before) and before not in self.structs
+            yield self.structs.get(kind) or (ctypes.cast(self.room, kind) if is_pointer(kind) else 4096 if has_room else 1)
+
+
 class Header(unittest.TestCase):
     def test_calls(self):
         named = re.findall(r"^(?!static)[A-Za-z][\w *]* \*?pciguest_(\w+)\(", HEADER, re.MULTILINE)
@@ -79,6 +96,22 @@ class Header(unittest.TestCase):
         words = ["cc", "-std=c11", "-Wall", "-Wextra", "-Werror", "-fsyntax-only", "-x", "c", "-"]
         asked = subprocess.run(words, input="\n".join(judged()), capture_output=True, text=True)
         self.assertEqual(asked.stderr, "")
+
+    def test_null_pointers(self):
+        with Machine(MAIN) as machine, Board(MAIN) as board:
+            given = Given(machine._handle, board._handle)
+            for name, (answer, kinds) in _calls.DECLARED.items():
+                for at in (at for at, kind in enumerate(kinds) if is_pointer(kind)):
+                    words = [None if nth == at else word for nth, word in enumerate(given.to(kinds))]
+                    self.assertEqual(CALLS[name](*words), answer and _calls.ARGUMENT, (name, at))
+        self.assertEqual(given.room.raw.strip(b"?"), b"\0")
+
+    def test_empty_structs(self):
+        given = Given(_calls.Handle(), _calls.BoardHandle())
+        for name, (answer, kinds) in _calls.DECLARED.items():
+            if kinds[:1] and kinds[0] in given.structs and not name.endswith("new"):
+                self.assertEqual(CALLS[name](*given.to(kinds)), answer and _calls.NO_MACHINE, name)
+        self.assertEqual(given.room.raw.strip(b"?"), b"\0")
 
     def test_version(self):
         version = re.search(r'^#define PCIGUEST_VERSION "(.*)"', HEADER, re.MULTILINE).group(1)
