@@ -1,139 +1,12 @@
-/* Random events of two guests, over two machines of one board. After each, what a guest's image tells by docs/image-format.md is
- * compared with what the guest and its devices read. Guests are put to reset, and images are loaded: into a guest of the
- * other machine, which then answers alike, and after a byte was changed, when they are refused or saved again as they are.
+/* Random events of two guests, over two machines of one board. Guests are put to reset, and images are loaded: into a guest of the
+ * other machine, which then answers alike, and after a byte was changed, when they are refused or saved again as they are. What
+ * the bytes of an image tell is compared by tests/fuzz/images.py.
  *
  *     images BOARD COUNT SEED
  */
 #include "images.h"
 
 enum { GUESTS = 2, SLOTS = 32 };
-
-/* The next bytes of an image, as a number. */
-static uint64_t number(const struct image *image, size_t *at, size_t bytes)
-{
-    uint64_t value = 0;
-
-    IS(*at + bytes <= image->size, 1);
-    for (size_t i = 0; i < bytes && *at + i < ROOM; i++)
-        value |= (uint64_t)image->bytes[*at + i] << 8 * i;
-    *at += bytes;
-    return value;
-}
-
-/* ---- an image as the guest and its devices read */
-
-struct at_slot {
-    struct pciguest *machine;
-    size_t guest;
-    uint64_t slot;
-};
-
-static uint64_t shown(const struct at_slot *of, uint64_t offset, uint32_t width)
-{
-    uint64_t value = 0;
-
-    IS(pciguest_read_wide(of->machine, of->guest, PCIGUEST_CONFIG, of->slot, offset, width, &value), 0);
-    return value;
-}
-
-static void compare_identity(const struct at_slot *of, const struct image *image, size_t *at)
-{
-    IS(number(image, at, 2), shown(of, 0x00, 2));
-    IS(number(image, at, 2), shown(of, 0x02, 2));
-    IS(number(image, at, 1), shown(of, 0x08, 1));
-    IS(number(image, at, 3), shown(of, 0x09, 3));
-    IS(number(image, at, 2), shown(of, 0x2c, 2));
-    IS(number(image, at, 2), shown(of, 0x2e, 2));
-    for (uint64_t offset = 0x3d; offset <= 0x3f; offset++)
-        IS(number(image, at, 1), shown(of, offset, 1));
-    (void)number(image, at, 2); /* Status at reset */
-}
-
-/* Values of configuration space, one after the other. */
-static void compare_config(const struct at_slot *of, const struct image *image, size_t *at, uint64_t first, uint64_t count)
-{
-    for (uint64_t offset = first; offset < first + count; offset++)
-        IS(number(image, at, 1), shown(of, offset, 1));
-}
-
-struct region {
-    uint32_t index, kind;
-    uint64_t cells;
-};
-
-/* A region's declaration, whose cells are passed over. */
-static struct region region(const struct at_slot *of, const struct image *image, size_t *at)
-{
-    struct pciguest_region told = {0};
-    struct region found;
-
-    found.index = (uint32_t)number(image, at, 1);
-    found.kind = (uint32_t)number(image, at, 1);
-    IS(pciguest_region(of->machine, of->guest, of->slot, found.index, &told), 0);
-    IS(told.space, found.kind == 0 ? PCIGUEST_IO : PCIGUEST_MEMORY);
-    IS(told.prefetchable, found.kind == 2 || found.kind == 4);
-    IS(number(image, at, 8), told.size);
-    found.cells = number(image, at, 2);
-    *at += 3 * found.cells;
-    return found;
-}
-
-/* The values of a region: its base address register, and the cells at its beginning. */
-static void compare_region(const struct at_slot *of, const struct image *image, size_t *at, const struct region *it)
-{
-    uint64_t value = 0;
-
-    compare_config(of, image, at, 0x10 + 4 * it->index, it->kind < 3 ? 4 : 8);
-    for (uint64_t offset = 0; offset < it->cells; offset++) {
-        IS(pciguest_device_read_wide(of->machine, of->guest, of->slot, it->index, offset, 1, &value), 0);
-        IS(number(image, at, 1), value);
-    }
-}
-
-static void compare_function(const struct at_slot *of, const struct image *image, size_t *at)
-{
-    struct region regions[PCIGUEST_BARS];
-    uint64_t offsets[192], counts[192], count, blocks;
-
-    compare_identity(of, image, at);
-    count = number(image, at, 1);
-    for (uint64_t n = 0; n < count && n < PCIGUEST_BARS; n++)
-        regions[n] = region(of, image, at);
-    blocks = number(image, at, 1);
-    for (uint64_t n = 0; n < blocks && n < 192; n++) {
-        offsets[n] = number(image, at, 1);
-        counts[n] = number(image, at, 1);
-        *at += 3 * counts[n];
-    }
-    compare_config(of, image, at, 0x00, 0x0f);
-    compare_config(of, image, at, 0x2c, 4);
-    compare_config(of, image, at, 0x3c, 4);
-    for (uint64_t n = 0; n < blocks && n < 192; n++)
-        compare_config(of, image, at, offsets[n], counts[n]);
-    for (uint64_t n = 0; n < count && n < PCIGUEST_BARS; n++)
-        compare_region(of, image, at, &regions[n]);
-}
-
-/* An image of a guest as it is now. */
-static void compare(struct pciguest *machine, size_t guest, const struct image *image)
-{
-    uint32_t latch = 0;
-    size_t at = 0;
-
-    IS(number(image, &at, 4), 0x47494350);
-    IS(number(image, &at, 4), 1);
-    IS(pciguest_read(machine, guest, PCIGUEST_IO, 0, 0xcf8, 4, &latch), 0);
-    IS(number(image, &at, 4), latch);
-    for (uint64_t slot = 0; slot < SLOTS; slot++) {
-        struct at_slot of = {machine, guest, slot};
-        uint64_t is_filled = number(image, &at, 1);
-
-        IS(is_filled, shown(&of, 0, 4) != UINT32_MAX);
-        if (is_filled)
-            compare_function(&of, image, &at);
-    }
-    IS(at, image->size);
-}
 
 /* ---- events */
 
@@ -259,7 +132,6 @@ static void spoil(struct pciguest *machine, size_t guest)
 
 int main(int argc, char **argv)
 {
-    static struct image image;
     struct pciguest machines[2] = {PCIGUEST_INIT, PCIGUEST_INIT};
 
     begin(argc, argv, 3);
@@ -276,8 +148,6 @@ int main(int argc, char **argv)
             carry(machine, machine == machines ? machines + 1 : machines, guest);
         if (below(10) == 0)
             spoil(machine, guest);
-        save(machine, guest, &image);
-        compare(machine, guest, &image);
     }
     for (int n = 0; n < 2; n++)
         pciguest_free(&machines[n]);
