@@ -5,7 +5,7 @@
  *
  * BOARD is boards/main.toml.
  */
-#include "told.h"
+#include "functions.h"
 
 enum { BRIDGE = 1 };
 
