@@ -23,8 +23,7 @@ void expect(uint32_t number, const char *what)
     exit(1);
 }
 
-uint64_t machine_cells(struct machine *machine, uint64_t slot, uint32_t part, uint64_t offset,
-                       uint32_t width)
+uint64_t machine_cells(struct machine *machine, uint64_t slot, uint32_t part, uint64_t offset, uint32_t width)
 {
     uint64_t value = 0;
 
@@ -44,8 +43,7 @@ void machine_set_cells(struct machine *machine, uint64_t slot, uint32_t part, ui
 
 /* Attaches the virtio device of a function, if there is one: a disk if it has a file, or a network
  * card. */
-static bool find_virtio(struct machine *machine, uint64_t slot,
-                        const struct pciguest_function *function)
+static bool find_virtio(struct machine *machine, uint64_t slot, const struct pciguest_function *function)
 {
     struct virtio device = {.machine = machine, .slot = slot};
 
@@ -204,8 +202,7 @@ static void act(struct machine *machine, const struct access *access, const stru
         for (uint64_t offset = hit->offset; offset < end; offset++)
             uart_touched(&machine->ports[hit->slot], (unsigned)offset, access->is_write);
     } else if (device == VIRTIO) {
-        virtio_touched(&machine->virtio[hit->slot], hit->part, hit->offset, access->width,
-                       access->is_write);
+        virtio_touched(&machine->virtio[hit->slot], hit->part, hit->offset, access->width, access->is_write);
     } else if (device == BELL && access->is_write && hit->offset < BELL_RING + 4 && end > BELL_RING) {
         ring(machine, hit);
     }

@@ -78,8 +78,7 @@ void machine_interrupt(struct machine *machine, uint64_t slot, bool is_asking);
 void expect(uint32_t number, const char *what); /* ends the program if a call failed */
 
 /* Reads and writes cells of a function as its device does, 1 to 8 bytes. */
-uint64_t machine_cells(struct machine *machine, uint64_t slot, uint32_t part, uint64_t offset,
-                       uint32_t width);
+uint64_t machine_cells(struct machine *machine, uint64_t slot, uint32_t part, uint64_t offset, uint32_t width);
 void machine_set_cells(struct machine *machine, uint64_t slot, uint32_t part, uint64_t offset,
                        uint32_t width, uint64_t value);
 

@@ -30,8 +30,7 @@ static uint64_t get(struct virtio *device, uint32_t region, uint64_t offset, uin
     return machine_cells(device->machine, device->slot, region, offset, width);
 }
 
-static void set(struct virtio *device, uint32_t region, uint64_t offset, uint32_t width,
-                uint64_t value)
+static void set(struct virtio *device, uint32_t region, uint64_t offset, uint32_t width, uint64_t value)
 {
     machine_set_cells(device->machine, device->slot, region, offset, width, value);
 }
@@ -41,9 +40,7 @@ static struct pciguest_message message_of(struct virtio *device, uint32_t vector
     struct machine *machine = device->machine;
     struct pciguest_message message = {0};
 
-    expect(pciguest_msix_message(&machine->board->guests, machine->guest, device->slot, vector,
-                                 &message),
-           "a vector");
+    expect(pciguest_msix_message(&machine->board->guests, machine->guest, device->slot, vector, &message), "a vector");
     return message;
 }
 
@@ -137,11 +134,9 @@ static void select_features(struct virtio *device, bool is_written)
     uint64_t half = get(device, VIRTIO_COMMON, VIRTIO_PCI_COMMON_GFSELECT, 4);
 
     if (is_written && half < 2)
-        set(device, VIRTIO_OWN, OWN_FEATURES + 4 * half, 4,
-            get(device, VIRTIO_COMMON, VIRTIO_PCI_COMMON_GF, 4));
+        set(device, VIRTIO_OWN, OWN_FEATURES + 4 * half, 4, get(device, VIRTIO_COMMON, VIRTIO_PCI_COMMON_GF, 4));
     set(device, VIRTIO_COMMON, VIRTIO_PCI_COMMON_DF, 4, half_of(offered(device), device_half));
-    set(device, VIRTIO_COMMON, VIRTIO_PCI_COMMON_GF, 4,
-        half_of(get(device, VIRTIO_OWN, OWN_FEATURES, 8), half));
+    set(device, VIRTIO_COMMON, VIRTIO_PCI_COMMON_GF, 4, half_of(get(device, VIRTIO_OWN, OWN_FEATURES, 8), half));
 }
 
 void virtio_reset(struct virtio *device)
@@ -179,8 +174,7 @@ static void take_status(struct virtio *device)
     if (status == 0)
         virtio_reset(device);
     else if (status & VIRTIO_CONFIG_S_FEATURES_OK && !is_accepted)
-        set(device, VIRTIO_COMMON, VIRTIO_PCI_COMMON_STATUS, 1,
-            status & ~VIRTIO_CONFIG_S_FEATURES_OK);
+        set(device, VIRTIO_COMMON, VIRTIO_PCI_COMMON_STATUS, 1, status & ~VIRTIO_CONFIG_S_FEATURES_OK);
 }
 
 /* The driver wrote to the common configuration, the bytes from `offset` up to `end`. */
@@ -200,8 +194,7 @@ static void take_common(struct virtio *device, uint64_t offset, uint64_t end)
         keep_queue(device);
 }
 
-void virtio_touched(struct virtio *device, uint32_t region, uint64_t offset, uint32_t width,
-                    bool is_write)
+void virtio_touched(struct virtio *device, uint32_t region, uint64_t offset, uint32_t width, bool is_write)
 {
     if (region == VIRTIO_COMMON && is_write) {
         take_common(device, offset, offset + width);
@@ -245,12 +238,10 @@ static bool open_queue(struct virtio *device, unsigned index, struct queue *queu
     for (unsigned word = 0; word <= COUNT_WORD; word++)
         queue->words[word] = get(device, VIRTIO_OWN, cells_of(index) + 8 * word, 8);
     size = queue->size;
-    queue->descriptors = memory_at(device, queue->descriptors_at,
-                                   size * sizeof *queue->descriptors);
+    queue->descriptors = memory_at(device, queue->descriptors_at, size * sizeof *queue->descriptors);
     queue->available = memory_at(device, queue->available_at,
                                  sizeof *queue->available + size * sizeof *queue->available->ring);
-    queue->used = memory_at(device, queue->used_at,
-                            sizeof *queue->used + size * sizeof *queue->used->ring);
+    queue->used = memory_at(device, queue->used_at, sizeof *queue->used + size * sizeof *queue->used->ring);
     return queue->is_enabled && size > 0 && size <= VIRTIO_QUEUE_SIZE && queue->descriptors &&
            queue->available && queue->used;
 }
@@ -287,8 +278,7 @@ bool virtio_take(struct virtio *device, unsigned index, struct virtio_chain *cha
 {
     struct queue queue;
 
-    if (!open_queue(device, index, &queue) ||
-        __atomic_load_n(&queue.available->idx, __ATOMIC_ACQUIRE) == queue.taken)
+    if (!open_queue(device, index, &queue) || __atomic_load_n(&queue.available->idx, __ATOMIC_ACQUIRE) == queue.taken)
         return false;
     chain->head = queue.available->ring[queue.taken++ % queue.size];
     chain->out = chain->in = 0;
@@ -298,8 +288,7 @@ bool virtio_take(struct virtio *device, unsigned index, struct virtio_chain *cha
     return true;
 }
 
-void virtio_return(struct virtio *device, unsigned index, const struct virtio_chain *chain,
-                   uint32_t written)
+void virtio_return(struct virtio *device, unsigned index, const struct virtio_chain *chain, uint32_t written)
 {
     struct queue queue;
 
@@ -329,8 +318,7 @@ size_t virtio_length(const struct iovec *parts, unsigned count)
     return length;
 }
 
-unsigned virtio_cut(const struct iovec *parts, unsigned count, size_t from, size_t length,
-                    struct iovec *pieces)
+unsigned virtio_cut(const struct iovec *parts, unsigned count, size_t from, size_t length, struct iovec *pieces)
 {
     unsigned made = 0;
 

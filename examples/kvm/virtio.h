@@ -57,8 +57,7 @@ struct virtio_chain {
 void virtio_reset(struct virtio *device);
 
 /* Acts after the driver's access to the region of a base address register. */
-void virtio_touched(struct virtio *device, uint32_t region, uint64_t offset, uint32_t width,
-                    bool is_write);
+void virtio_touched(struct virtio *device, uint32_t region, uint64_t offset, uint32_t width, bool is_write);
 
 /* Drives the interrupt pin, and sends the messages that were pending and may be sent now: after a
  * write to configuration space or to the MSI-X table, and after a load. */
@@ -70,8 +69,7 @@ void virtio_settle(struct virtio *device);
 bool virtio_take(struct virtio *device, unsigned queue, struct virtio_chain *chain);
 
 /* Returns a chain to the driver, with the number of bytes that were written to it. */
-void virtio_return(struct virtio *device, unsigned queue, const struct virtio_chain *chain,
-                   uint32_t written);
+void virtio_return(struct virtio *device, unsigned queue, const struct virtio_chain *chain, uint32_t written);
 
 /* Interrupts the driver because chains were returned, unless it asked for no interrupts. */
 void virtio_interrupt(struct virtio *device, unsigned queue);
@@ -80,8 +78,7 @@ void virtio_interrupt(struct virtio *device, unsigned queue);
  * the number of pieces); and a copy of up to `length` bytes out of the parts, or into them
  * (returns the number of bytes). */
 size_t virtio_length(const struct iovec *parts, unsigned count);
-unsigned virtio_cut(const struct iovec *parts, unsigned count, size_t from, size_t length,
-                    struct iovec *pieces);
+unsigned virtio_cut(const struct iovec *parts, unsigned count, size_t from, size_t length, struct iovec *pieces);
 size_t virtio_copy(const struct iovec *parts, unsigned count, size_t from, void *bytes,
                    size_t length, bool is_into_parts);
 

@@ -98,8 +98,7 @@ static uint32_t serve(const struct disk *disk, const struct virtio_chain *chain)
     struct iovec in[VIRTIO_QUEUE_SIZE];
     uint8_t status;
 
-    if (room == 0 || virtio_copy(chain->parts, chain->out, 0, &header, sizeof header, false) <
-                         sizeof header)
+    if (room == 0 || virtio_copy(chain->parts, chain->out, 0, &header, sizeof header, false) < sizeof header)
         return 0;
     status = perform(disk, chain, &header, in, virtio_cut(parts, chain->in, 0, room - 1, in));
     virtio_copy(parts, chain->in, room - 1, &status, 1, true);

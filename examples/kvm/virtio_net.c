@@ -22,8 +22,7 @@ static void configure(struct virtio *device)
     const struct cable *cable = device->behind;
     uint64_t end = device == cable->ends[1];
 
-    machine_set_cells(device->machine, device->slot, VIRTIO_OWN, OWN_CONFIG, 6,
-                      0x02 | (end + 1) << 40);
+    machine_set_cells(device->machine, device->slot, VIRTIO_OWN, OWN_CONFIG, 6, 0x02 | (end + 1) << 40);
 }
 
 /* Whether no card is at an end of the cable. */

@@ -25,9 +25,7 @@ static inline uint32_t configuration(uint32_t slot, uint32_t offset)
 {
     uint32_t value;
 
-    __asm__ volatile("outl %0, %1"
-                     :
-                     : "a"(0x80000000u | slot << 11 | offset), "d"((uint16_t)0xcf8));
+    __asm__ volatile("outl %0, %1" : : "a"(0x80000000u | slot << 11 | offset), "d"((uint16_t)0xcf8));
     __asm__ volatile("inl %1, %0" : "=a"(value) : "d"((uint16_t)0xcfc));
     return value;
 }
