@@ -111,6 +111,7 @@ class Header(unittest.TestCase):
         for name, (answer, kinds) in _calls.DECLARED.items():
             if kinds[:1] and kinds[0] in given.structs and not name.endswith("new"):
                 self.assertEqual(CALLS[name](*given.to(kinds)), answer and _calls.NO_MACHINE, name)
+        self.assertFalse(any(it.contents.live for it in given.structs.values()))
         self.assertEqual(given.room.raw.strip(b"?"), b"\0")
 
     def test_version(self):
