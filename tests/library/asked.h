@@ -1,4 +1,4 @@
-/* The calls of tests/library/refusals.txt, and what each stores. */
+/* The calls of tests/library/refusals.txt, none of which stores anything. */
 #ifndef ASKED_H
 #define ASKED_H
 
@@ -30,79 +30,62 @@ static uint64_t number_of(const char *word)
     return strcmp(word, "configuration") ? strtoull(word, NULL, 0) : PCIGUEST_PART_CONFIG;
 }
 
-/* What calls are made on, and where they store. */
-struct given {
-    struct pciguest *m;
-    struct pciguest_board *b;
-    void *at;
-    size_t *needed;
-};
-
-/* Whether the call that was made last stores something, and how much of it there is. */
-static bool stores, tells;
-
 /* Makes the call of a row. */
-static uint32_t asked(const struct given *to, const char *call, const char *const *words)
+static uint32_t asked(struct pciguest *m, struct pciguest_board *b, const char *call, const char *const *words)
 {
-    struct pciguest *m = to->m;
-    struct pciguest_board *b = to->b;
-    void *at = to->at;
     uint64_t n[7];
     const char *text = strcmp(words[0], "-") ? words[0] : "";
     size_t length = strlen(text);
-    size_t size = sizeof out.bytes, *needed = to->needed;
+    char *room = (char *)out.bytes;
+    size_t size = sizeof out.bytes;
 
     for (size_t i = 0; i < 7; i++)
         n[i] = number_of(words[i]);
-    stores = tells = false;
-#define MADE(name, does_store, does_tell, ...) \
+#define CALL(name, ...) \
     if (!strcmp(call, #name)) \
-        return stores = does_store, tells = does_tell, pciguest_##name(__VA_ARGS__)
-#define CALL(name, ...) MADE(name, false, false, __VA_ARGS__)
-#define STORES(name, ...) MADE(name, true, false, __VA_ARGS__)
-#define TELLS(name, ...) MADE(name, true, true, __VA_ARGS__)
-    STORES(read, m, n[0], n[1], n[2], n[3], n[4], at);
+        return pciguest_##name(__VA_ARGS__)
+    CALL(read, m, n[0], n[1], n[2], n[3], n[4], &out.value);
     CALL(write, m, n[0], n[1], n[2], n[3], n[4], n[5]);
-    STORES(read_wide, m, n[0], n[1], n[2], n[3], n[4], at);
+    CALL(read_wide, m, n[0], n[1], n[2], n[3], n[4], &out.wide);
     CALL(write_wide, m, n[0], n[1], n[2], n[3], n[4], n[5]);
-    STORES(region_read, m, n[0], n[1], n[2], n[3], n[4], at);
+    CALL(region_read, m, n[0], n[1], n[2], n[3], n[4], &out.wide);
     CALL(region_write, m, n[0], n[1], n[2], n[3], n[4], n[5]);
     CALL(raise, m, n[0], n[1], n[2], n[3], n[4]);
-    STORES(device_read_wide, m, n[0], n[1], n[2], n[3], n[4], at);
+    CALL(device_read_wide, m, n[0], n[1], n[2], n[3], n[4], &out.wide);
     CALL(device_write_wide, m, n[0], n[1], n[2], n[3], n[4], n[5]);
-    STORES(region, m, n[0], n[1], n[2], at);
-    STORES(changed, m, n[0], at);
-    TELLS(moved, m, n[0], at, PCIGUEST_PLACES, needed);
-    STORES(locate, m, n[0], n[1], n[2], n[3], at);
-    TELLS(why, m, n[0], n[1], n[2], n[3], at, size, needed);
-    TELLS(why_json, m, n[0], n[1], n[2], n[3], at, size, needed);
-    STORES(function, m, n[0], at);
-    STORES(slot, m, n[0], n[1], at);
-    STORES(bus_master, m, n[0], n[1], at);
-    STORES(msix_message, m, n[0], n[1], n[2], at);
-    STORES(guest, m, text, length, at);
-    TELLS(guest_name, m, n[0], at, size, needed);
+    CALL(region, m, n[0], n[1], n[2], &out.region);
+    CALL(changed, m, n[0], &out.wide);
+    CALL(moved, m, n[0], out.places, PCIGUEST_PLACES, &(size_t){0});
+    CALL(locate, m, n[0], n[1], n[2], n[3], &out.hit);
+    CALL(why, m, n[0], n[1], n[2], n[3], room, size, &(size_t){0});
+    CALL(why_json, m, n[0], n[1], n[2], n[3], room, size, &(size_t){0});
+    CALL(function, m, n[0], &out.function);
+    CALL(slot, m, n[0], n[1], &out.function);
+    CALL(bus_master, m, n[0], n[1], &out.is_set);
+    CALL(msix_message, m, n[0], n[1], n[2], &out.message);
+    CALL(guest, m, text, length, &out.count);
+    CALL(guest_name, m, n[0], room, size, &(size_t){0});
     CALL(move, m, n[0], n[1], n[2], n[3]);
     CALL(reset, m, n[0], n[1]);
     CALL(reset_guest, m, n[0]);
     CALL(give, m, text, length, n[1], n[2]);
     CALL(take, m, n[0], n[1]);
-    TELLS(save, m, n[0], at, size, needed);
+    CALL(save, m, n[0], room, size, &(size_t){0});
     CALL(load, m, n[0], "", 0);
     CALL(load_all, m, "", 0);
-    TELLS(image_fault, m, n[0], "", 0, at, needed);
-    STORES(host_read, m, n[0], n[1], n[2], n[3], n[4], n[5], at);
-    STORES(board_read, b, n[0], n[1], n[2], n[3], n[4], n[5], at);
+    CALL(image_fault, m, n[0], "", 0, &out.wide, &(size_t){0});
+    CALL(host_read, m, n[0], n[1], n[2], n[3], n[4], n[5], &out.value);
+    CALL(board_read, b, n[0], n[1], n[2], n[3], n[4], n[5], &out.value);
     CALL(board_write, b, n[0], n[1], n[2], n[3], n[4], n[5], n[6]);
-    STORES(board_function, b, n[0], at);
-    TELLS(board_why_json, b, n[0], n[1], n[2], n[3], n[4], at, size, needed);
+    CALL(board_function, b, n[0], &out.driven);
+    CALL(board_why_json, b, n[0], n[1], n[2], n[3], n[4], room, size, &(size_t){0});
     fprintf(stderr, "%s: no such call\n", call);
     exit(2);
 }
 
-/* Makes the calls of all rows; `wanted` replaces their numbers unless it is 0. Returns how many rows there are. Where the calls find
- * another one running, those on the struct that isn't there are passed over. */
-static int all_asked(FILE *rows, const struct given *to, uint32_t wanted)
+/* Makes the calls of all rows except those whose struct is null here; `wanted` replaces their numbers unless it is 0. Returns how
+ * many rows there are. */
+static int all_asked(FILE *rows, struct pciguest *machine, struct pciguest_board *board, uint32_t wanted)
 {
     char line[256];
     int count = 0;
@@ -120,12 +103,12 @@ static int all_asked(FILE *rows, const struct given *to, uint32_t wanted)
         if (!found)
             continue;
         count++;
-        if (wanted == PCIGUEST_BUSY && !(strncmp(words[1], "board_", 6) ? (void *)to->m : (void *)to->b))
+        if (!(strncmp(words[1], "board_", 6) ? (void *)machine : (void *)board))
             continue;
-        if (wanted && wanted != PCIGUEST_ARGUMENT && (!strcmp(words[1], "read_wide") || !strcmp(words[1], "write_wide")))
+        if (wanted && (!strcmp(words[1], "read_wide") || !strcmp(words[1], "write_wide")))
             continue; /* they are split before a call is made */
-        answer = asked(to, words[1], words + 2);
-        number = wanted ? wanted : (stores && !to->at) || (tells && !to->needed) ? PCIGUEST_ARGUMENT : (uint32_t)number_of(words[0]);
+        number = wanted ? wanted : (uint32_t)number_of(words[0]);
+        answer = asked(machine, board, words[1], words + 2);
         if (answer == number && !memcmp(&out, &untouched, sizeof out))
             continue;
         fprintf(stderr, "%s %s %s %s ..: %" PRIu32 " in place of %" PRIu32 ", or something is stored\n", words[1], words[2],

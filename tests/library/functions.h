@@ -1,14 +1,18 @@
-/* What is told of a function, as its registers have it, for the programs that compare the two. */
+/* What is told of a function of boards/main.toml, compared with its registers, for the programs that include this. */
 #ifndef FUNCTIONS_H
 #define FUNCTIONS_H
 
 #include "testing.h"
 
-/* What is read of a function by its number. */
-typedef uint64_t header_reader(const struct pciguest_function *row, uint64_t offset, uint32_t width);
+enum { FUNCTIONS = 4 };
 
-/* Regions by the base address registers, but for their sizes. A bridge has none. */
-static inline void compare_bars(header_reader *header, const struct pciguest_function *row)
+static const char *const paths[FUNCTIONS] = {"1.0", "2.0", "2.0/0.0", "2.0/1.0"};
+
+/* What is read of a function's registers, by the number that is told. Each program has its own. */
+static uint64_t header(const struct pciguest_function *row, uint64_t offset, uint32_t width);
+
+/* Regions by the base address registers, but for their sizes. One that is placed has a base that isn't 0; a bridge has none. */
+static void compare_bars(const struct pciguest_function *row, bool are_placed)
 {
     for (uint32_t n = 0; n < PCIGUEST_BARS; n++) {
         const struct pciguest_bar *bar = &row->regions[n];
@@ -26,35 +30,31 @@ static inline void compare_bars(header_reader *header, const struct pciguest_fun
         IS(bar->is_64_bit, is_64_bit);
         IS(bar->size & (bar->size - 1), 0);
         IS(bar->first % bar->size, 0);
-        if (is_64_bit) {
-            n++;
-            IS(row->regions[n].size, 0);
-        }
+        IS(are_placed && low == 0, 0);
+        if (is_64_bit)
+            IS(row->regions[++n].size, 0);
     }
 }
 
-/* A window by its base and limit, each of which has bits that count units. */
-static inline void compare_window(const struct pciguest_window *window, uint64_t base, uint64_t limit, uint64_t unit,
-                                  bool is_bridge)
+/* A window by its base and limit, each of which has bits that count units. An endpoint has none, whatever stands there. */
+static void compare_window(const struct pciguest_function *row, int n, uint64_t base, uint64_t limit, uint64_t unit)
 {
     uint64_t first = base * unit, last = limit * unit + unit - 1;
-    bool is_there = is_bridge && first <= last;
+    bool is_there = row->is_bridge && first <= last;
 
-    IS(window->is_there, is_there);
-    IS(window->first, is_there ? first : 0);
-    IS(window->last, is_there ? last : 0);
+    IS(row->windows[n].is_there, is_there);
+    IS(row->windows[n].first, is_there ? first : 0);
+    IS(row->windows[n].last, is_there ? last : 0);
 }
 
-/* Windows by the registers of a bridge, whose windows are those of the main board: I/O of 16 bits, memory, and
- * prefetchable memory of 64 bits. An endpoint has none, whatever stands at these offsets. */
-static inline void compare_windows(header_reader *header, const struct pciguest_function *row)
+/* The bridge of the board has windows for I/O of 16 bits, for memory, and for prefetchable memory of 64 bits. */
+static void compare_windows(const struct pciguest_function *row)
 {
     uint64_t high = header(row, 0x28, 4) << 12, top = header(row, 0x2c, 4) << 12;
 
-    compare_window(&row->windows[0], header(row, 0x1c, 1) >> 4, header(row, 0x1d, 1) >> 4, 0x1000, row->is_bridge);
-    compare_window(&row->windows[1], header(row, 0x20, 2) >> 4, header(row, 0x22, 2) >> 4, 0x100000, row->is_bridge);
-    compare_window(&row->windows[2], high | header(row, 0x24, 2) >> 4, top | header(row, 0x26, 2) >> 4, 0x100000,
-                   row->is_bridge);
+    compare_window(row, 0, header(row, 0x1c, 1) >> 4, header(row, 0x1d, 1) >> 4, 0x1000);
+    compare_window(row, 1, header(row, 0x20, 2) >> 4, header(row, 0x22, 2) >> 4, 0x100000);
+    compare_window(row, 2, high | header(row, 0x24, 2) >> 4, top | header(row, 0x26, 2) >> 4, 0x100000);
 }
 
 #endif

@@ -1,6 +1,5 @@
-/* Makes each call of tests/library/refusals.txt, first on structs that are empty, which return 901, then with null pointers, which
- * are refused by 902, and then on a machine and on a board at reset, which return the row's number. No call may store or change
- * anything.
+/* Makes each call of tests/library/refusals.txt, first on structs that are empty, which return 901, and then on a machine and on
+ * a board at reset, which return the row's number. No call may store or change anything.
  *
  *     refusal_rows BOARD ROWS
  *
@@ -15,20 +14,16 @@ int main(int argc, char **argv)
     struct pciguest machine = PCIGUEST_INIT, other = PCIGUEST_INIT;
     struct pciguest_board board = PCIGUEST_BOARD_INIT;
     uint64_t changes = 1;
-    size_t needed = 0;
     int count;
 
     begin(argc, argv, 2);
     if (!rows)
         return 2;
-    all_asked(rows, &(struct given){&machine, &board, &out, &needed}, PCIGUEST_NO_MACHINE);
-    all_asked(rows, &(struct given){NULL, NULL, &out, &needed}, PCIGUEST_ARGUMENT);
+    all_asked(rows, &machine, &board, PCIGUEST_NO_MACHINE);
     IS(pciguest_new(&machine, file, length), 0);
     IS(pciguest_board_new(&board, file, length), 0);
     save(&machine, ALL, &before);
-    all_asked(rows, &(struct given){&machine, &board, NULL, &needed}, 0);
-    all_asked(rows, &(struct given){&machine, &board, &out, NULL}, 0);
-    count = all_asked(rows, &(struct given){&machine, &board, &out, &needed}, 0);
+    count = all_asked(rows, &machine, &board, 0);
     /* nothing has changed: neither the machine, nor where its regions are, nor the board, which is at reset */
     save(&machine, ALL, &after);
     IS(are_same(&before, &after), 1);

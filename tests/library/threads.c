@@ -41,7 +41,7 @@ static void ask_machine(void)
     uint64_t wide = 7;
     size_t told = 7;
 
-    all_asked(rows, &(struct given){&machine, NULL, &out, &(size_t){0}}, PCIGUEST_BUSY);
+    all_asked(rows, &machine, NULL, PCIGUEST_BUSY);
     BUSY(pciguest_new(&machine, file, length));
     pciguest_free(&machine);
     BUSY(pciguest_guest_count(&machine, &told));
@@ -63,7 +63,7 @@ static void ask_board(void)
     char text[PCIGUEST_REPLY] = {0};
     size_t told = 7;
 
-    all_asked(rows, &(struct given){NULL, &board, &out, &(size_t){0}}, PCIGUEST_BUSY);
+    all_asked(rows, NULL, &board, PCIGUEST_BUSY);
     BUSY(pciguest_board_new(&board, file, length));
     pciguest_board_free(&board);
     BUSY(pciguest_board_run_line(&board, "host cw 00:01.0 4 2 3", 21, text, sizeof text, &told));
