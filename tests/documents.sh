@@ -185,6 +185,7 @@ other_kit_crates() {
 none 'crates of the kit that the README names' other_kit_crates
 
 # ---- edits that the gate doesn't try, and mistakes of the examples: each text that one replaces stands once in its file
+make -s -C examples/kvm other.toml
 lost_edits() {
   local edit file line
   for edit in tests/edits/*/*.edit examples/*/mistakes/*.edit; do
