@@ -50,9 +50,9 @@ written_value x w v low mask same =
 fixed_same : (e : PlacedCell) (v : ℕ) → is_device_byte e.place ≡ false → can_hold e v ≡ true → fixed_bits e.cell v ≡ fixed_bits e.cell e.cell.value
 fixed_same e v none holds = grind (arith, eqb-true)
 
-pub kept_field : (a n x : ℕ) → AreNoDeviceBytes (config a) n → Each (Settles keeps) (field (config a) n x 0 0)
-kept_field a zero x none = tt
-kept_field a (suc n) x none = grind (arith, in_byte, fixed_same, kept_field (a + 1) n (x / 256) none.1)
+-- a byte of a register that nothing changes
+pub kept_byte : (a x : ℕ) → is_device_byte (config a) ≡ false → Settles keeps (record { place = config a; cell = record { value = x % 256; writable = 0; clearable = 0 } })
+kept_byte a x none v low holds = grind (arith, in_byte, fixed_same)
 
 pub written_field : (a n x w : ℕ) → AreNoDeviceBytes (config a) n → Each (Settles writes) (field (config a) n x w 0)
 written_field a zero x w none = tt

@@ -1,37 +1,21 @@
 -- The steps by which a function is loaded, as segments of its file.
 use Rattle.std.{proofs.{Common.{◌≡◌, ℕ, zero, suc, ◌≤◌, List, [], ◌∷◌, ◌++◌, length, refl, sym, ap, ◌∙◌, subst, arith}, lemmas.List.{append_assoc, drop-drop}}, specs.Prelude.{take, drop, flat_map, true, false}}
 use Rattle.lists.{specs.Elements.{Each, EachPair}, proofs.Tests.right_true}
-use Rattle.model_registers.specs.{Cell.Cell, Registers.{Place, config, block, after, File, field, cells_from}, Declarations.{Region, ConfigBlock, Endpoint, IsLawfulRegion}, EndpointTable.{base_register, base_cells, region_cells, block_cells, header_type, header_cells, endpoint_reset, command_mask}, CopiedFiles.places_of}
+use Rattle.model_registers.specs.{Cell.Cell, Registers.{Place, config, block, after, File, field, cells_from}, Declarations.{Region, ConfigBlock, Endpoint, IsLawfulRegion}, EndpointTable.{base_register, base_cells, region_cells, block_cells, header_cells, endpoint_reset, command_mask}, CopiedFiles.places_of}
 use Rattle.model_guests.proofs.DistinctPlaces.{Apart, distinct_places}
-use Rattle.model_images.{specs.{Images.{with_values, can_hold, fit_cells}, StepLaws.{put_run, header_steps, blocks_steps, blocks_size, base_size, region_steps, regions_steps, steps, LoadsBySteps}}, proofs.{Settling.{keeps, writes, puts, from, AreNoDeviceBytes, kept_field, written_field, put_cells, no_device_bytes}, Runs.{Segment, IsSegment, cells_of, segment_steps, steps_settle}}}
+use Rattle.model_images.{specs.{Images.{with_values, can_hold, fit_cells}, StepLaws.{put_run, header_values, header_steps, blocks_steps, blocks_size, base_size, region_steps, regions_steps, steps, LoadsBySteps}}, proofs.{Settling.{keeps, writes, puts, from, Way, kept_byte, written_field, put_cells, no_device_bytes}, Runs.{Segment, IsSegment, cells_of, segment_steps, steps_settle}}}
 
 -- ---- the segments
 
--- a register that no step reaches
-abbrev kept : ℕ → ℕ → ℕ → Segment
-kept a n v = record { way = keeps; first = config a; count = n; file = field (config a) n v 0 0 }
+-- n bytes of the header from an offset on, with `before` bytes of it in front of them
+abbrev part : Way → ℕ → ℕ → ℕ → Endpoint → Segment
+part way before a n d = record { way = way; first = config a; count = n; file = take n (drop before (header_cells d false 0)) }
 
-abbrev settable : ℕ → ℕ → ℕ → Segment
-settable a n rw = record { way = writes; first = config a; count = n; file = field (config a) n 0 rw 0 }
-
-abbrev status : Endpoint → Segment
-status d = record { way = puts; first = config 0x06; count = 2; file = field (config 0x06) 2 d.status 0 0xf900 }
-
--- 00h to 07h
-abbrev first_segments : Endpoint → List Segment → List Segment
-first_segments d more = kept 0x00 2 d.vendor ∷ kept 0x02 2 d.device ∷ settable 0x04 2 command_mask ∷ status d ∷ more
-
--- 08h to 0Eh
-abbrev class_segments : Endpoint → List Segment → List Segment
-class_segments d more = kept 0x08 1 d.revision ∷ kept 0x09 3 d.class ∷ settable 0x0c 2 0xffff ∷ kept 0x0e 1 (header_type 0 false) ∷ more
-
--- 2Ch to 3Fh
-abbrev last_segments : Endpoint → List Segment → List Segment
-last_segments d more =
-    kept 0x2c 2 d.subvendor ∷ kept 0x2e 2 d.subsystem ∷ settable 0x3c 1 0xff ∷ kept 0x3d 1 d.pin ∷ kept 0x3e 1 d.min_gnt ∷ kept 0x3f 1 d.max_lat ∷ more
-
+-- a guest writes Command, Cache Line Size, Latency Timer and Interrupt Line, and its device puts Status
 abbrev header_segments : Endpoint → List Segment → List Segment
-header_segments d more = first_segments d (class_segments d (last_segments d more))
+header_segments d more =
+    part keeps 0 0x00 4 d ∷ part writes 4 0x04 2 d ∷ part puts 6 0x06 2 d ∷ part keeps 8 0x08 4 d ∷ part writes 12 0x0c 2 d ∷ part keeps 14 0x0e 1 d
+    ∷ part keeps 15 0x2c 4 d ∷ part writes 19 0x3c 1 d ∷ part keeps 20 0x3d 3 d ∷ more
 
 abbrev block_segment : ConfigBlock → Segment
 block_segment b = record { way = puts; first = config b.offset; count = length b.cells; file = block_cells b }
@@ -79,12 +63,6 @@ cells_places : (p : Place) (cs : List Cell) → places_of (cells_from p cs) ≡ 
 cells_places p [] = refl
 cells_places p (c ∷ cs) = ap (λ (ps : List Place). p ∷ ps) (cells_places (after p) cs)
 
-kept_is : (a n v : ℕ) → AreNoDeviceBytes (config a) n → IsSegment (kept a n v)
-kept_is a n v none = record { places = field_places (config a) n v 0 0; settles = kept_field a n v none }
-
-settable_is : (a n rw : ℕ) → AreNoDeviceBytes (config a) n → IsSegment (settable a n rw)
-settable_is a n rw none = record { places = field_places (config a) n 0 rw 0; settles = written_field a n 0 rw none }
-
 block_is : (b : ConfigBlock) → IsSegment (block_segment b)
 block_is b = record { places = cells_places (config b.offset) b.cells; settles = put_cells (block_cells b) }
 
@@ -102,26 +80,35 @@ blocks_settle : (bs : List ConfigBlock) (more : List Segment) → Each IsSegment
 blocks_settle [] more are = are
 blocks_settle (b ∷ bs) more are = (block_is b, blocks_settle bs more are)
 
-status_is : (d : Endpoint) → IsSegment (status d)
-status_is d = record { places = refl; settles = put_cells (status d).file }
-
-first_settle : (d : Endpoint) (more : List Segment) → Each IsSegment more → Each IsSegment (first_segments d more)
-first_settle d more are =
-    (kept_is 0x00 2 d.vendor (refl, (refl, tt)), (kept_is 0x02 2 d.device (refl, (refl, tt)), (settable_is 0x04 2 command_mask (refl, (refl, tt)), (status_is d, are))))
-
-class_settle : (d : Endpoint) (more : List Segment) → Each IsSegment more → Each IsSegment (class_segments d more)
-class_settle d more are =
-    let end : Each IsSegment (kept 0x0e 1 (header_type 0 false) ∷ more) = (kept_is 0x0e 1 (header_type 0 false) (refl, tt), are) in
-    (kept_is 0x08 1 d.revision (refl, tt), (kept_is 0x09 3 d.class (refl, (refl, (refl, tt))), (settable_is 0x0c 2 0xffff (refl, (refl, tt)), end)))
-
-last_settle : (d : Endpoint) (more : List Segment) → Each IsSegment more → Each IsSegment (last_segments d more)
-last_settle d more are =
-    let end : Each IsSegment (kept 0x3d 1 d.pin ∷ kept 0x3e 1 d.min_gnt ∷ kept 0x3f 1 d.max_lat ∷ more) =
-    (kept_is 0x3d 1 d.pin (refl, tt), (kept_is 0x3e 1 d.min_gnt (refl, tt), (kept_is 0x3f 1 d.max_lat (refl, tt), are))) in
-    (kept_is 0x2c 2 d.subvendor (refl, (refl, tt)), (kept_is 0x2e 2 d.subsystem (refl, (refl, tt)), (settable_is 0x3c 1 0xff (refl, tt), end)))
-
 header_settles : (d : Endpoint) (more : List Segment) → Each IsSegment more → Each IsSegment (header_segments d more)
-header_settles d more are = first_settle d (class_segments d (last_segments d more)) (class_settle d (last_segments d more) (last_settle d more are))
+header_settles d more are = (ids, (command, (status, (class, (timers, (type, (subsystem, (line, (pin, are)))))))))
+  where
+    ids : IsSegment (part keeps 0 0x00 4 d)
+    ids = record { places = refl; settles = (kept_byte 0x00 _ refl, (kept_byte 0x01 _ refl, (kept_byte 0x02 _ refl, (kept_byte 0x03 _ refl, tt)))) }
+
+    command : IsSegment (part writes 4 0x04 2 d)
+    command = record { places = refl; settles = written_field 0x04 2 0 command_mask (refl, (refl, tt)) }
+
+    status : IsSegment (part puts 6 0x06 2 d)
+    status = record { places = refl; settles = put_cells (part puts 6 0x06 2 d).file }
+
+    class : IsSegment (part keeps 8 0x08 4 d)
+    class = record { places = refl; settles = (kept_byte 0x08 _ refl, (kept_byte 0x09 _ refl, (kept_byte 0x0a _ refl, (kept_byte 0x0b _ refl, tt)))) }
+
+    timers : IsSegment (part writes 12 0x0c 2 d)
+    timers = record { places = refl; settles = written_field 0x0c 2 0 0xffff (refl, (refl, tt)) }
+
+    type : IsSegment (part keeps 14 0x0e 1 d)
+    type = record { places = refl; settles = (kept_byte 0x0e 0 refl, tt) }
+
+    subsystem : IsSegment (part keeps 15 0x2c 4 d)
+    subsystem = record { places = refl; settles = (kept_byte 0x2c _ refl, (kept_byte 0x2d _ refl, (kept_byte 0x2e _ refl, (kept_byte 0x2f _ refl, tt)))) }
+
+    line : IsSegment (part writes 19 0x3c 1 d)
+    line = record { places = refl; settles = written_field 0x3c 1 0 0xff (refl, tt) }
+
+    pin : IsSegment (part keeps 20 0x3d 3 d)
+    pin = record { places = refl; settles = (kept_byte 0x3d _ refl, (kept_byte 0x3e _ refl, (kept_byte 0x3f _ refl, tt))) }
 
 -- ---- their steps are the steps
 
@@ -152,14 +139,14 @@ spelled_is zero vs long = refl
 spelled_is (suc n) [] long = absurd (omega (arith, long))
 spelled_is (suc n) (v ∷ vs) long = ap (λ (x : List ℕ). v ∷ x) (spelled_is n vs (omega arith))
 
-steps_are : (d : Endpoint) (vs : List ℕ) (file : File) → 23 ≤ length vs → segment_steps (segments d) vs file ≡ steps d vs file
+steps_are : (d : Endpoint) (vs : List ℕ) (file : File) → header_values ≤ length vs → segment_steps (segments d) vs file ≡ steps d vs file
 steps_are d vs file long =
-    subst (λ (x : List ℕ). segment_steps (segments d) x file ≡ steps d x file) (spelled_is 23 vs long)
-    (block_steps_are d.blocks d.regions (drop 23 xs) (header_steps xs file)
-    ∙ ap (λ (x : List ℕ). regions_steps d.regions x (blocks_steps d.blocks (drop 23 xs) (header_steps xs file))) (drop-drop (blocks_size d.blocks) 23 xs))
+    subst (λ (x : List ℕ). segment_steps (segments d) x file ≡ steps d x file) (spelled_is header_values vs long)
+    (block_steps_are d.blocks d.regions (drop header_values xs) (header_steps xs file)
+    ∙ ap (λ (x : List ℕ). regions_steps d.regions x (blocks_steps d.blocks (drop header_values xs) (header_steps xs file))) (drop-drop (blocks_size d.blocks) header_values xs))
   where
     xs : List ℕ
-    xs = spelled 23 vs
+    xs = spelled header_values vs
 
 -- ---- so what is loaded comes about by them
 
@@ -171,7 +158,7 @@ fits_length file vs h = cc
 pub loads_by_steps : LoadsBySteps
 loads_by_steps s lawful low fits =
     let d : Endpoint = s.decl in
-    let long : 23 ≤ length s.values = omega (arith, fits_length (endpoint_reset d false) s.values fits) in
+    let long : header_values ≤ length s.values = omega (arith, fits_length (endpoint_reset d false) s.values fits) in
     let is = cells_are d in
     let settled : Each IsSegment (segments d) = header_settles d (block_segments d.blocks (region_segments d.regions)) (blocks_settle d.blocks (region_segments d.regions) (regions_settle d.regions lawful.regions.each)) in
     let apart : EachPair Apart (places_of (cells_of (segments d))) = subst (λ (x : File). EachPair Apart (places_of x)) (sym is) (distinct_places d lawful false 0 (λ r. 0)) in
