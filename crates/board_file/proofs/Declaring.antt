@@ -1,7 +1,7 @@
 -- A judged endpoint breaks no rule of declarations but that of blocks that overlap, and it breaks that one where two blocks of its
 -- tables overlap.
 use Rattle.std.{proofs.{Common.{◌≡◌, inl, inr, ℕ, ◌+◌, ◌<◌, ◌≤◌, ◌^◌, ◌==◌, ℤ, pos, ◌+ℤ◌, nat_abs, Bool, true, false, cond, ◌&&◌, ◌||◌, List, [], ◌∷◌, ◌++◌, map, length, nat_le, drop, bit_and, bit_or, None, refl, ◌∙◌, sym, ap, ap₂, arith, leb-true, le-leb, lt-ltb, append-nil}, lemmas.{Bool.{and_parts, eqb-true, eq-eqb, ne_eqb}, List.{map-append, FromFn.length-map-range_with_len, Folds.{list_all-map, list_all-append}}}}, specs.{Prelude.{int_le, is_none}, Int.Bits.or_zero_r, List.{list_all, list_any}}}
-use Rattle.lists.{specs.Elements.all_pairs, proofs.Tests.{left_true, right_true, asked_true}}
+use Rattle.lists.{specs.Elements.{Each, all_pairs}, proofs.{EachLemmas.each_test, Tests.{left_true, right_true, asked_true}}}
 use Rattle.model_registers.{specs.{Cell.{Cell, constant}, Declarations.ConfigBlock, DeclarationRules.{first_broken, endpoint_rules, blocks_apart, is_read_only, is_pointer, status_with}, Capabilities.{first_offset, structure, structures, pointer, with_capabilities}}, proofs.Capabilities.status_with_list}
 use Rattle.board_file.{specs.{Bars.{Bar, region, bar_rules, is_region}, Configs.{Config, config_block, config_extent, is_config_block}, Capabilities.{Capability, declared_capability as capability, capability_extent, is_capability}, Endpoints.{Endpoint, plain_values, endpoint_values, extents, endpoint_numbers, value_rules, keeps, is_declarable, HasSmallNumbers}, Values.Patterns, Entries.File, Blocks.block_cells, Rules.{is_between, has_only_bits, is_size, are_apart, kept}, Judged.{is_lawful_bridge, is_judged}, declared.{rule.Rule.Rule, functions.blocks.ByteRange.ByteRange}}, proofs.{Asked.{unbroken, numbers, registers, sizes}, Tests.{first_three, imply_all, all-both, pairs-map, pairs-swap}}}
 use Rattle.model_registers.specs.DeclarationRules as rules
@@ -45,20 +45,14 @@ module _ (e : Endpoint) (h : is_declarable e ≡ true) where
       four_parts (kept (endpoint_numbers e)) (keep_all (bar_rules fault.Number 0)) (list_all is_config_block e.configs)
       (list_all is_capability e.capabilities) parts_of.0
 
-  identity_of : (is_between 0 0xfffe e.vendor ≡ true) × (is_between 0 0xffff e.device ≡ true) × (is_between 0 0xff e.revision ≡ true) × (kept (value_rules e) ≡ true)
-  identity_of = first_three _ _ _ _ numbers_of.0
-
-  described_of : (is_between 0 0xffffff e.class ≡ true) × (is_between 0 0xffff e.subvendor ≡ true) × (is_between 0 0xffff e.subsystem ≡ true) × (kept (drop 3 (value_rules e)) ≡ true)
-  described_of = first_three _ _ _ _ identity_of.3
-
-  needs_of : (is_between 0 4 e.pin ≡ true) × (is_between 0 0xff e.min_gnt ≡ true) × (is_between 0 0xff e.max_lat ≡ true) × (kept (drop 6 (value_rules e)) ≡ true)
-  needs_of = first_three _ _ _ _ described_of.3
+  numbers_kept : Each (λ (r : Rule × Bool). r.1 ≡ true) (endpoint_numbers e)
+  numbers_kept = each_test (λ r. r.1) (endpoint_numbers e) numbers_of.0
 
   status_of : (is_between 0 0xffff e.status ≡ true) × ((bit_and (nat_abs e.status) 0xf900 == nat_abs e.status) ≡ true)
-  status_of = and_parts _ _ (left_true (has_only_bits 0xf900 e.status) true needs_of.3)
+  status_of = grind (arith, and_parts, numbers_kept)
 
   pub small : HasSmallNumbers e
-  small = grind (arith, below, within_le, identity_of, described_of, needs_of, status_of)
+  small = grind (arith, below, within_le, numbers_kept, status_of)
 
   registers_of : (kept (asked.endpoint_rules fault.Register e) ≡ true) × (keep_all (bar_rules fault.Register 0) ≡ true)
   registers_of = and_parts _ _ (left_true (kept (asked.endpoint_rules fault.Register e) && keep_all (bar_rules fault.Register 0)) _ (left_true _ _ parts_of.1))
