@@ -2,6 +2,7 @@
 --     row_of      the fault of a file in which a rule is broken, and the key at which it is
 --     fault_of, key_of      each of these. A rule of keys is broken at any key, and a slot has none
 use Rattle.std.specs.Prelude.{ℕ, List, [], codes}
+use Rattle.board_file.specs.{Schema.register_key}
 use Rattle.board_file.specs.declared.{fault.BoardFault.{BoardFault, TheVariants.{Key, UnknownKey, Number, TooMany, Place, Register, Size, GuestName, Slot, Aperture, CellMasks}}, rule.Rule.Rule}
 use Rattle.board_file.specs.declared.rule.Rule.TheVariants as rule
 
@@ -10,14 +11,10 @@ row_of rule.Needed = (Key, [])
 row_of rule.Form = (Key, [])
 row_of rule.Known = (UnknownKey, [])
 row_of rule.Vendor = (Number, codes "vendor")
-row_of rule.Device = (Number, codes "device")
-row_of rule.Revision = (Number, codes "revision")
+row_of (rule.Byte k) = (Number, register_key k)
+row_of (rule.HalfWord k) = (Number, register_key k)
 row_of rule.Class = (Number, codes "class")
-row_of rule.Subvendor = (Number, codes "subvendor")
-row_of rule.Subsystem = (Number, codes "subsystem")
 row_of rule.Pin = (Number, codes "pin")
-row_of rule.MinGnt = (Number, codes "min_gnt")
-row_of rule.MaxLat = (Number, codes "max_lat")
 row_of rule.Status = (Number, codes "status")
 row_of rule.BarBlock = (Number, codes "block")
 row_of rule.ConfigOff = (Number, codes "off")

@@ -3,13 +3,15 @@
 --     has_few_slashes      a text has at most 15 slashes
 --     is_root, is_endpoint, names_endpoint      bus 0; there is an endpoint at a path; a text is the path of an endpoint
 --     is_size      a power of two within the limits of a region's kind
+--     fits_byte, fits_half_word      the rule that a number fits in its register, and whether it is kept
 --     identity_rules, kept      the rules of what identifies a function; all rules of a list are kept
 --     is_natural, are_natural      both addresses of an aperture are 0 or more
 --     are_apart      two ranges of offsets don't overlap
 use Rattle.std.specs.{Prelude.{ℕ, ℤ, ◌+◌, pos, nat_abs, int_le, Bool, true, false, not, ◌&&◌, ◌||◌, List, [], ◌∷◌, ◌==◌, nat_le, Option, Some, None, bit_and, count_by}, List.list_all, Int.is_power_of_two}
 use Rattle.model_registers.specs.Declarations.{Kind, least_size, greatest_size}
 use Rattle.model_board.specs.{Paths.Path, Places.{Standing, has_path, has_bridge}}
-use Rattle.board_file.specs.{PathTexts.{is_path_text, path_at}, declared.{entries.Bounds.Bounds, functions.blocks.ByteRange.ByteRange, rule.Rule.Rule}}
+use Rattle.board_file.specs.{PathTexts.{is_path_text, path_at}, declared.{document.keys.RegisterKey.RegisterKey, entries.Bounds.Bounds, functions.blocks.ByteRange.ByteRange, rule.Rule.Rule}}
+use Rattle.board_file.specs.declared.document.keys.RegisterKey.TheVariants as register
 use Rattle.board_file.specs.declared.rule.Rule.TheVariants as rule
 
 -- ---- numbers
@@ -23,12 +25,19 @@ has_only_bits mask n = is_between 0 0xffff n && (bit_and (nat_abs n) mask == nat
 abbrev pub is_size : Kind → ℤ → Bool
 is_size kind n = is_between (least_size kind) (greatest_size kind) n && is_power_of_two (nat_abs n)
 
+-- a number fits in its register of one byte, or of two
+abbrev pub fits_byte : RegisterKey → ℤ → Rule × Bool
+fits_byte k n = (rule.Byte k, is_between 0 0xff n)
+
+abbrev pub fits_half_word : RegisterKey → ℤ → Rule × Bool
+fits_half_word k n = (rule.HalfWord k, is_between 0 0xffff n)
+
 -- of an endpoint or a bridge
 abbrev pub identity_rules : ℤ → ℤ → ℤ → List (Rule × Bool)
 identity_rules vendor device revision =
     (rule.Vendor, is_between 0 0xfffe vendor)
-    ∷ (rule.Device, is_between 0 0xffff device)
-    ∷ (rule.Revision, is_between 0 0xff revision) ∷ []
+    ∷ fits_half_word register.Device device
+    ∷ fits_byte register.Revision revision ∷ []
 
 abbrev pub kept : List (Rule × Bool) → Bool
 kept rules = list_all (λ r. r.1) rules

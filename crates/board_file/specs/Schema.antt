@@ -1,13 +1,15 @@
 -- The keys of a board file, and the form of the value at each key.
 --     parts, part_key      the kinds of tables inside an endpoint, in the order in which they are checked; their keys
+--     register_key      the key of a register whose number may have any value that fits
 --     fields      the keys of a table, whether each is required, and the form of its value
 --     has_form      a value has the type, or is one of the words, that stands at its key
 --     form_at      what stands at a key
 use Rattle.std.specs.{Prelude.{ℕ, codes, Bool, true, false, ◌&&◌, List, [], ◌∷◌, length, ◌==◌, Option, Some, None, is_some, if◌then◌else◌}, List.list_all}
 use Rattle.toml.specs.Data.{Data, string, array, Items, no_items, item, as_integer, as_str, as_table}
-use Rattle.board_file.specs.{Texts.{same_text, region_kind, io_decode, pref_decode}, declared.{entry.EndpointPart.EndpointPart, document.schema.{TableKind.TableKind, Keyword.{Keyword, TheVariants.{RegionKind, IoDecode, PrefDecode}}, ValueType.{ValueType, TheVariants.{Integer, Text, Word, Pair, Texts, Table, Tables}}, Field.Field as FieldInCode}}}
+use Rattle.board_file.specs.{Texts.{same_text, region_kind, io_decode, pref_decode}, declared.{entry.EndpointPart.EndpointPart, document.{keys.RegisterKey.RegisterKey, schema.{TableKind.TableKind, Keyword.{Keyword, TheVariants.{RegionKind, IoDecode, PrefDecode}}, ValueType.{ValueType, TheVariants.{Integer, Text, Word, Pair, Texts, Table, Tables}}, Field.Field as FieldInCode}}}}
 use Rattle.board_file.specs.declared.document.schema.TableKind.TheVariants as level
 use Rattle.board_file.specs.declared.entry.EndpointPart.TheVariants as part
+use Rattle.board_file.specs.declared.document.keys.RegisterKey.TheVariants as register
 
 abbrev pub parts : List EndpointPart
 parts = part.Bar ∷ part.Config ∷ part.Capability ∷ []
@@ -16,6 +18,14 @@ abbrev pub part_key : EndpointPart → List ℕ
 part_key part.Bar = codes "bar"
 part_key part.Config = codes "config"
 part_key part.Capability = codes "capability"
+
+abbrev pub register_key : RegisterKey → List ℕ
+register_key register.Device = codes "device"
+register_key register.Revision = codes "revision"
+register_key register.Subvendor = codes "subvendor"
+register_key register.Subsystem = codes "subsystem"
+register_key register.MinGnt = codes "min_gnt"
+register_key register.MaxLat = codes "max_lat"
 
 pub record Field : Type 0 where
   pub key : List ℕ

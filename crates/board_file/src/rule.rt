@@ -2,6 +2,7 @@
 ghost use Rattle.std.specs.Prelude.{◌≡◌};
 ghost use Rattle.board_file.specs.RuleFaults.{row_of, fault_of, key_of};
 
+use crate::document::keys::RegisterKey;
 use crate::fault::BoardFault;
 
 /// A rule that the entries of a board file have to keep.
@@ -15,22 +16,14 @@ pub enum Rule {
     Known,
     /// The Vendor ID is at most FFFEh.
     Vendor,
-    /// The Device ID fits in its register.
-    Device,
-    /// The Revision ID fits in its register.
-    Revision,
+    /// A number fits in its register of one byte.
+    Byte(RegisterKey),
+    /// A number fits in its register of two bytes.
+    HalfWord(RegisterKey),
     /// The Class Code fits in its register.
     Class,
-    /// The Subsystem Vendor ID fits in its register.
-    Subvendor,
-    /// The Subsystem ID fits in its register.
-    Subsystem,
     /// The Interrupt Pin is 0 (none) or 1 to 4.
     Pin,
-    /// Min_Gnt fits in its register.
-    MinGnt,
-    /// Max_Lat fits in its register.
-    MaxLat,
     /// Status has only bits of F900h, the error bits that a device can report.
     Status,
     /// The register block of a BAR has at most 4096 bytes.
@@ -106,14 +99,10 @@ impl Rule {
             Rule::Form => (BoardFault::Key, ""),
             Rule::Known => (BoardFault::UnknownKey, ""),
             Rule::Vendor => (BoardFault::Number, "vendor"),
-            Rule::Device => (BoardFault::Number, "device"),
-            Rule::Revision => (BoardFault::Number, "revision"),
+            Rule::Byte(key) => (BoardFault::Number, key.text()),
+            Rule::HalfWord(key) => (BoardFault::Number, key.text()),
             Rule::Class => (BoardFault::Number, "class"),
-            Rule::Subvendor => (BoardFault::Number, "subvendor"),
-            Rule::Subsystem => (BoardFault::Number, "subsystem"),
             Rule::Pin => (BoardFault::Number, "pin"),
-            Rule::MinGnt => (BoardFault::Number, "min_gnt"),
-            Rule::MaxLat => (BoardFault::Number, "max_lat"),
             Rule::Status => (BoardFault::Number, "status"),
             Rule::BarBlock => (BoardFault::Number, "block"),
             Rule::ConfigOff => (BoardFault::Number, "off"),

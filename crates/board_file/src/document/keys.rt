@@ -1,9 +1,36 @@
 //! The keys that are defined for each kind of table in a board file.
 ghost use Rattle.std.specs.Prelude.{◌≡◌, map};
-ghost use Rattle.board_file.specs.Schema.{fields, field_of};
+ghost use Rattle.board_file.specs.Schema.{fields, field_of, register_key};
 
 use crate::document::schema::{Field, Keyword, TableKind, ValueType};
 use crate::entry::EndpointPart;
+
+/// The key of a register whose number may have any value that fits.
+#[derive(Clone, Copy, Debug)]
+pub enum RegisterKey {
+    Device,
+    Revision,
+    Subvendor,
+    Subsystem,
+    MinGnt,
+    MaxLat,
+}
+
+impl RegisterKey {
+    /// Returns the key as it stands in a board file.
+    pub fn text(self) -> &'static str
+        ensures { result.now ≡ register_key self }
+    {
+        match self {
+            RegisterKey::Device => "device",
+            RegisterKey::Revision => "revision",
+            RegisterKey::Subvendor => "subvendor",
+            RegisterKey::Subsystem => "subsystem",
+            RegisterKey::MinGnt => "min_gnt",
+            RegisterKey::MaxLat => "max_lat",
+        }
+    }
+}
 
 // Defines a required key.
 macro_rules! needed {

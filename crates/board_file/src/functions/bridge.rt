@@ -5,13 +5,16 @@ ghost use Rattle.headers.specs.Decodes.{io_decode_of, pref_decode_of};
 ghost use Rattle.board_file.specs.{Entries.bridge, Functions.{bridge as declared_bridge}, Problems.{Adds, of_bridge}};
 ghost use Rattle.board_file.specs.Entries as said;
 
+use crate::document::keys::RegisterKey;
 use crate::document::keywords::{io_decode, pref_decode};
 use crate::document::reading::{FromTable, number, text};
 use crate::entries::FileEntries;
 use crate::entry::Entry;
 use crate::fault::BoardFault;
 use crate::finding::{Violation, push_broken};
-use crate::functions::numbers::{byte, half_word, has_few_slashes, is_between};
+use crate::functions::numbers::{
+    byte, fits_byte, fits_half_word, half_word, has_few_slashes, is_between,
+};
 use crate::path::text::PathText;
 use crate::rule::Rule;
 use headers::{BridgeDecl, IoDecode, PrefDecode};
@@ -95,8 +98,8 @@ fn push_bridge(
             entry,
             &[
                 (Rule::Vendor, is_between(0, 0xfffe, bridge.vendor)),
-                (Rule::Device, is_between(0, 0xffff, bridge.device)),
-                (Rule::Revision, is_between(0, 0xff, bridge.revision)),
+                fits_half_word(RegisterKey::Device, bridge.device),
+                fits_byte(RegisterKey::Revision, bridge.revision),
             ],
         ),
         BoardFault::TooMany => {

@@ -4,6 +4,7 @@ ghost use Rattle.model_registers.specs.DeclarationRules.{first_broken, endpoint_
 ghost use Rattle.board_file.specs.{Bars.region, Blocks.Gives, Endpoints.{endpoint, part_count, has_indices, endpoint_numbers, endpoint_rules, is_declarable, masks_hold, declared_endpoint, HasSmallNumbers}, Problems.{Adds, broken, of_bars, of_configs, of_capabilities, of_endpoint}};
 ghost use Rattle.board_file.specs.Endpoints as said;
 
+use crate::document::keys::RegisterKey;
 use crate::document::reading::{FromTable, entries, number, text};
 use crate::entries::{BarEntry, CapabilityEntry, ConfigEntry, FileEntries};
 use crate::entry::{EndpointPart, Entry};
@@ -11,7 +12,7 @@ use crate::fault::BoardFault;
 use crate::finding::{Violation, push_broken};
 use crate::functions::bar::is_index;
 use crate::functions::numbers::{
-    byte, half_word, has_few_slashes, has_only_bits, is_between, natural,
+    byte, fits_byte, fits_half_word, half_word, has_few_slashes, has_only_bits, is_between, natural,
 };
 use crate::functions::part::{declare_all, push_parts};
 use crate::path::text::PathText;
@@ -148,14 +149,14 @@ fn push_numbers(
         entry,
         &[
             (Rule::Vendor, is_between(0, 0xfffe, endpoint.vendor)),
-            (Rule::Device, is_between(0, 0xffff, endpoint.device)),
-            (Rule::Revision, is_between(0, 0xff, endpoint.revision)),
+            fits_half_word(RegisterKey::Device, endpoint.device),
+            fits_byte(RegisterKey::Revision, endpoint.revision),
             (Rule::Class, is_between(0, 0xff_ffff, endpoint.class)),
-            (Rule::Subvendor, is_between(0, 0xffff, endpoint.subvendor)),
-            (Rule::Subsystem, is_between(0, 0xffff, endpoint.subsystem)),
+            fits_half_word(RegisterKey::Subvendor, endpoint.subvendor),
+            fits_half_word(RegisterKey::Subsystem, endpoint.subsystem),
             (Rule::Pin, is_between(0, 4, endpoint.pin)),
-            (Rule::MinGnt, is_between(0, 0xff, endpoint.min_gnt)),
-            (Rule::MaxLat, is_between(0, 0xff, endpoint.max_lat)),
+            fits_byte(RegisterKey::MinGnt, endpoint.min_gnt),
+            fits_byte(RegisterKey::MaxLat, endpoint.max_lat),
             (Rule::Status, has_only_bits(0xf900, endpoint.status)),
         ],
     )

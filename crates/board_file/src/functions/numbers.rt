@@ -1,9 +1,11 @@
 //! Ranges and conversions of integers, and limits on the number of entries.
 ghost use Rattle.std.specs.Prelude.{◌≡◌, ◌<◌, ◌+◌, ◌^◌, ◌+ℤ◌, int_le, nat_abs, nat_le, pos, length};
-ghost use Rattle.board_file.specs.Rules.{is_between, has_only_bits, has_few_slashes};
+ghost use Rattle.board_file.specs.Rules.{is_between, fits_byte, fits_half_word, has_only_bits, has_few_slashes};
 
+use crate::document::keys::RegisterKey;
 use crate::entries::FileEntries;
 use crate::path::text::PathText;
+use crate::rule::Rule;
 
 /// Returns whether the number is between `first` and `last`, both inclusive.
 pub(crate) fn is_between(first: u16, last: u32, number: i64) -> bool
@@ -20,6 +22,20 @@ pub(crate) fn has_only_bits(mask: u16, number: i64) -> bool
         Ok(bits) => bits & mask == bits,
         Err(_) => false,
     }
+}
+
+/// Returns the rule that a number fits in its register of one byte, and whether it is kept.
+pub(crate) fn fits_byte(key: RegisterKey, number: i64) -> (Rule, bool)
+    ensures { result ≡ fits_byte key number }
+{
+    (Rule::Byte(key), is_between(0, 0xff, number))
+}
+
+/// Returns the rule that a number fits in its register of two bytes, and whether it is kept.
+pub(crate) fn fits_half_word(key: RegisterKey, number: i64) -> (Rule, bool)
+    ensures { result ≡ fits_half_word key number }
+{
+    (Rule::HalfWord(key), is_between(0, 0xffff, number))
 }
 
 /// Returns whether the sum of `off` and `block` is at most `end`.
