@@ -18,7 +18,7 @@ use Rattle.std.{proofs.{Common.{◌≡◌, ◌⊎◌, inl, inr, ◌≤◌, ◌<�
 use Rattle.lists.proofs.{Indices.{at_below, each_at}, Tests.right_true}
 use Rattle.model_registers.proofs.LawfulDeclarations.{byte_in_place}
 use Rattle.model_registers.specs.{Registers.{config, block, File}, Declarations.{ConfigBlock, Endpoint, IsLawfulRegion, Region, registers_of}, DeclarationRules.IsConfigBlock, DeviceBytes.is_device_byte, EndpointTable.{block_cells, endpoint_reset, region_cells}, Decoding.Function}
-use Rattle.model_images.specs.{Images.{can_hold, fit_cells}, StepLaws.{base_size, blocks_size, blocks_steps, header_steps, put_run, region_steps, regions_steps, steps, written_run}}
+use Rattle.model_images.specs.{Images.{can_hold, fit_cells}, StepLaws.{base_size, blocks_size, blocks_steps, header_steps, header_values, put_run, region_steps, regions_steps, steps, written_run}}
 use Rattle.model_images.proofs.BlockCounts.{many_cells}
 use Rattle.images.proofs.Lengths.{cells_count, few_registers, region_cell_count}
 use Rattle.headers.specs.{declared.place.Place.TheVariants.{Cfg, Bar}, Places.place_of}
@@ -274,7 +274,7 @@ regions_count : (rs : List Region) → length (flat_map (region_cells (λ r. 0))
 regions_count [] = refl
 regions_count (r ∷ rs) = grind (arith, length-append, region_cell_count, regions_count rs)
 
-many_values : (f : Function) (vs : List ℕ) → fit_cells (endpoint_reset f.decl false) vs ≡ true → length vs ≡ 23 + blocks_size f.decl.blocks + regions_size f.decl.regions
+many_values : (f : Function) (vs : List ℕ) → fit_cells (endpoint_reset f.decl false) vs ≡ true → length vs ≡ header_values + blocks_size f.decl.blocks + regions_size f.decl.regions
 many_values f vs fits =
     let all = cells_count f.decl f.decl.regions f.decl.blocks refl refl in
     let a = blocks_count f.decl.blocks in
@@ -283,10 +283,10 @@ many_values f vs fits =
 
 -- how many are left after the header, and after the blocks
 module _ {h : HostState} {gs : List Guest} {i n : ℕ} (k : KeepsFunction h gs i n) {values : List ℕ} (l : IsLoadable k values) where
-  pub enough_header : 23 ≤ length values
+  pub enough_header : header_values ≤ length values
   enough_header = let many = many_values k.f values l.fits in omega arith
 
-  module _ (rest : List ℕ) (back : length rest + 23 ≡ length values) where
+  module _ (rest : List ℕ) (back : length rest + header_values ≡ length values) where
     pub enough_blocks : blocks_size k.f.decl.blocks ≤ length rest
     enough_blocks = let many = many_values k.f values l.fits in omega arith
 
@@ -298,11 +298,11 @@ module _ {h : HostState} {gs : List Guest} {i n : ℕ} (k : KeepsFunction h gs i
 pub all_parts : {h : HostState} {gs : List Guest} {i n : ℕ} (k : KeepsFunction h gs i n) (values rest left : List ℕ) {first second last : HostState} {one two three : List Guest}
     → (header : Becomes k (header_steps values k.f.file) first one) → (blocks : Becomes (go_on k header) (blocks_steps k.f.decl.blocks rest (header_steps values k.f.file)) second two)
     → Becomes (go_on (go_on k header) blocks) (regions_steps k.f.decl.regions left (blocks_steps k.f.decl.blocks rest (header_steps values k.f.file))) last three
-    → rest ≡ drop 23 values → left ≡ drop (blocks_size k.f.decl.blocks) rest → Becomes k (steps k.f.decl values k.f.file) last three
+    → rest ≡ drop header_values values → left ≡ drop (blocks_size k.f.decl.blocks) rest → Becomes k (steps k.f.decl values k.f.file) last three
 all_parts k values rest left {first} {second} {last} {one} {two} {three} header blocks regions rest_is left_is =
     let d : Endpoint = k.f.decl in
     let file : File = header_steps values k.f.file in
     let all = chained k header (chained (go_on k header) blocks regions) in
-    let left_over : left ≡ drop (23 + blocks_size d.blocks) values = left_is ∙ ap (drop (blocks_size d.blocks)) rest_is ∙ drop-drop (blocks_size d.blocks) 23 values in
-    subst (λ (vs : List ℕ). Becomes k (regions_steps d.regions (drop (23 + blocks_size d.blocks) values) (blocks_steps d.blocks vs file)) last three) rest_is
+    let left_over : left ≡ drop (header_values + blocks_size d.blocks) values = left_is ∙ ap (drop (blocks_size d.blocks)) rest_is ∙ drop-drop (blocks_size d.blocks) header_values values in
+    subst (λ (vs : List ℕ). Becomes k (regions_steps d.regions (drop (header_values + blocks_size d.blocks) values) (blocks_steps d.blocks vs file)) last three) rest_is
     (subst (λ (vs : List ℕ). Becomes k (regions_steps d.regions vs (blocks_steps d.blocks rest file)) last three) left_over all)
