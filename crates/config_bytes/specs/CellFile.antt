@@ -1,32 +1,12 @@
 -- A register file stored as cells by configuration offset.
 --     CellFile      the current cells, and the cells given at creation
 --     file_of cs      the register file of a list of offsets with cells
---     HasDistinctOffsets cs, differ c d      all offsets are distinct; a test of two cells
+--     HasDistinctOffsets cs      all offsets are distinct
 --     KeepsPlaces f      the current cells have the same offsets as the cells given at creation
 --     reset_outside first last initial now      the cells of `now`, with those outside a range of offsets replaced by those of `initial`
 --     offsets_from a cs      cells at consecutive offsets, starting at a
 --     IsTable      a table indexed by offset holds the cells of a file, so that no access searches them
-use Rattle.std.specs.Prelude.{
-  ◌≡◌,
-  ◌≢◌,
-  ◌<◌,
-  ℕ,
-  ◌+◌,
-  nat_le,
-  ◌==◌,
-  not,
-  Bool,
-  false,
-  ◌&&◌,
-  if◌then◌else◌,
-  List,
-  [],
-  ◌∷◌,
-  map,
-  length,
-  slice_set,
-  slice_index_or,
-}
+use Rattle.std.specs.Prelude.{◌≡◌, ◌≢◌, ◌<◌, ℕ, ◌+◌, nat_le, Bool, false, ◌&&◌, if◌then◌else◌, List, [], ◌∷◌, map, length, slice_set, slice_index_or}
 use Rattle.lists.specs.Elements.{Each, EachPair}
 use Rattle.model_registers.specs.{Cell.{Cell, no_cell}, Registers.{Place, config, block, PlacedCell, File, cell_at}}
 pub use Rattle.model_registers.specs.CopiedFiles.{places_of}
@@ -56,10 +36,6 @@ file_of (c ∷ cs) = record { place = config c.0; cell = c.1 } ∷ file_of cs
 
 abbrev pub HasDistinctOffsets : List (ℕ × Cell) → Type 0
 HasDistinctOffsets cs = EachPair (λ c d. c.0 ≢ d.0) cs
-
--- two cells have different offsets
-abbrev pub differ : ℕ × Cell → ℕ × Cell → Bool
-differ c d = not (c.0 == d.0)
 
 -- cells at consecutive offsets
 abbrev pub offsets_from : ℕ → List Cell → List (ℕ × Cell)

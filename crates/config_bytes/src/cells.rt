@@ -1,8 +1,8 @@
 //! The register bytes of a function's configuration space, or of one region's block.
-ghost use Rattle.std.specs.{Prelude.{◌≡◌, ◌==◌, ◌<◌, ◌%◌, ◌^◌, ◌↔◌, All, IfOk, IsTrue, not, length, if◌then◌else◌}, List.list_all};
+ghost use Rattle.std.specs.{Prelude.{◌≡◌, ◌==◌, ◌<◌, ◌%◌, ◌^◌, All, IfOk, not, length, if◌then◌else◌}, List.list_all};
 ghost use Rattle.model_registers.specs.{Cell.written, Registers.{config, changed, read, write, raise, cell_at}, DeviceBytes.set_value, ByteEnables.{enabled_bytes, is_enabled, lanes}, FileLaws.IsConfigFile};
-ghost use Rattle.lists.specs.Elements.{Each, all_pairs};
-ghost use Rattle.config_bytes.specs.CellFile.{HasDistinctOffsets, differ, KeepsPlaces, file_of, placed, placed_outside, reset_outside};
+ghost use Rattle.lists.specs.Elements.{Each};
+ghost use Rattle.config_bytes.specs.CellFile.{HasDistinctOffsets, KeepsPlaces, file_of, placed, placed_outside, reset_outside};
 
 use crate::cell::{Cell, are_cells};
 use byteorder::{ByteOrder, LittleEndian};
@@ -97,20 +97,6 @@ fn is_gap(off: u16, cells: &[(u16, Cell)]) -> bool
         }
     }
     is_free(off, cells)
-}
-
-/// Returns whether all offsets are distinct.
-fn offsets_differ(cells: &[(u16, Cell)]) -> bool
-    ensures { result ≡ all_pairs differ cells.now }
-{
-    let mut left = cells;
-    while let Some((first, rest)) = left.split_first() {
-        if !is_free(first.0, rest) {
-            return false;
-        }
-        left = rest;
-    }
-    true
 }
 
 impl Cells {
