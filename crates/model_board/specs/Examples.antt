@@ -1,7 +1,7 @@
 -- The boards and apertures of the worked examples.
 --     main_board, main_apertures      two endpoints behind a bridge, and one endpoint on bus 0
 --     many_bridges      255 bridges
-use Rattle.std.specs.Prelude.{List, [], ◌∷◌, ℕ, zero, suc, ◌/◌, ◌%◌, true, false, replicate, ◌^◌, ◌++◌, Some}
+use Rattle.std.specs.Prelude.{List, [], ◌∷◌, ℕ, zero, suc, ◌/◌, ◌%◌, true, false, replicate, ◌++◌, Some}
 use Rattle.model_registers.specs.{Cell.Cell, Declarations.{Kind, io_kind, mem32, mem64, Region, Endpoint, plain_endpoint, no_io, io16, no_pref, pref64, Bridge}, Apertures.{Aperture, Apertures}}
 use Rattle.model_board.specs.{Paths.{Part, Path}, Board.{Decl, endpoint, bridge, Row, Board}}
 

@@ -1,11 +1,10 @@
 -- Boards with guests, for worked examples.
 --     main_world      the main board with two guests
 --     second_world      the functions of the first guest at other places, with other functions around them
---     demo_world      one endpoint without regions, and one guest
 --     wide_world      an endpoint with a region of each kind and each field of the header declared, and one guest
-use Rattle.std.specs.Prelude.{List, [], ◌∷◌, ℕ, true, false, ◌^◌, ◌++◌, Some, None, codes}
+use Rattle.std.specs.Prelude.{List, [], ◌∷◌, ℕ, true, false, ◌^◌, Some, codes}
 use Rattle.model_registers.specs.{Cell.{Cell, constant}, Declarations.{io_kind, mem32, mem64, Endpoint, plain_endpoint, Bridge}, Apertures.Apertures}
-use Rattle.model_board.specs.{Paths.Path, Board.{endpoint, bridge, Board}, Examples.{part, function_at, aperture, plain, first_endpoint, third_endpoint, main_bridge, main_board, main_board_with, main_apertures}}
+use Rattle.model_board.specs.{Paths.Path, Board.{endpoint, bridge, Board}, Examples.{part, function_at, aperture, plain, first_endpoint, third_endpoint, main_bridge, main_board_with, main_apertures}}
 use Rattle.model_guests.specs.World.{Guest, World}
 
 abbrev pub on_bus_0 : ℕ → Path
@@ -41,13 +40,6 @@ second_world = record {
 }
 
 -- ---- one endpoint
-
-abbrev pub demo_world : World
-demo_world = record {
-  board = function_at (on_bus_0 1) (endpoint (plain 1 0x8000 1 [])) ∷ [];
-  apertures = record main_apertures { pref = None };
-  guests = record { name = codes "a"; slots = on_bus_0 1 ∷ [] } ∷ [];
-}
 
 abbrev pub writable_byte : Cell
 writable_byte = record { value = 0; writable = 0xff; clearable = 0 }

@@ -4,7 +4,7 @@ use Rattle.lists.{specs.Elements.{Each, IsIn}, proofs.{EachLemmas.{each_map, eac
 use Rattle.model_board.{specs.{Board.Row, Cycles.{secondary_register, covers, taker, takes, is_route, ends_in, reached_type1, BusAddress, reached}, Paths.{Part, Path, path_eq, parent, last_part, IsPath}, State.{BoardFunction, row_at}}, proofs.{PathEnds.{path_self, snoc, length_snoc}, PathOrder.path_same}}
 use Rattle.model_set_up.proofs.Routes.{ends_is_last, ends_last}
 use Rattle.model_findings.specs.Orderly.{IsStateOfBoard}
-use Rattle.model_lines.{specs.{Ways.{way_by, way, takers, takers_by, takers_down, WayEnd, on_bus, no_taker, end_by, way_end, bridges_on_way, takers_on_way, end_of, reached_at, missing_at, missing}, WhyLaws.{IsWay, bus_after, IsPassed, IsTaking, IsMissing, NumbersExplained}}, proofs.Unfound.{unfound, all_unfound}}
+use Rattle.model_lines.{specs.{Ways.{way_by, way, takers, takers_by, takers_down, WayEnd, on_bus, no_taker, end_by, way_end, bridges_on_way, takers_on_way, end_of, reached_at, missing_at}, WhyLaws.{IsWay, bus_after, IsPassed, IsTaking, IsMissing, NumbersExplained}}, proofs.Unfound.{unfound, all_unfound}}
 
 -- ---- what find finds
 

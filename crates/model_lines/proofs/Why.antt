@@ -1,5 +1,5 @@
 -- What is told of an address is so, and each region that holds it is told.
-use Rattle.std.{proofs.{Common.{◌≡◌, ℕ, ◌-◌, ◌⊎◌, inl, inr, Bool, true, false, ◌&&◌, not, cond, List, [], ◌∷◌, ◌++◌, Option, Some, None, refl, sym, ap, ◌∙◌, subst, arith}, lemmas.{List.{reverse-append, reverse-reverse}, Bool.{Decides.nat_tests, and_from, not-true, not_from_false, or_parts}}}, specs.{Prelude.{map, filter, flat_map, reverse, slice_get}, Option.option_to_list}}
+use Rattle.std.{proofs.{Common.{◌≡◌, ℕ, ◌-◌, ◌⊎◌, inl, inr, Bool, true, false, ◌&&◌, not, cond, List, [], ◌∷◌, ◌++◌, Option, Some, None, refl, sym, ap, ◌∙◌, subst, arith}, lemmas.{List.{reverse-append, reverse-reverse}, Bool.{Decides.nat_tests, and_from, and_parts, not-true, not_from_false, or_parts}}}, specs.{Prelude.{map, filter, flat_map, reverse, slice_get}, Option.option_to_list}}
 use Rattle.lists.{specs.Elements.{Each, IsIn}, proofs.{Members.{each_from, in_front, in_back, front_or_back, in_map, from_map, in_filter, from_filter, in_flat_map, from_flat_map, all_from, from_option}, Indices.index_in}}
 use Rattle.model_registers.specs.{Declarations.Bridge, Decoding.{Space, io, memory, opens_space, is_open, command_word, Hit, hit_at}, EndpointTable.BaseAddress, Registers.File}
 use Rattle.model_board.{specs.{Board.{Decl, endpoint, bridge}, Paths.{Path, is_ancestor_of}, State.BoardFunction, Windows.{is_in, mem_window, pref_window, is_in_window, forwards}, Claims.{Claim, claim_at, is_forwarded, claims, first_claim}, Routing.{Ranges, regions, windows, RoutingRow, ranges_of, row_of, routing, row_forwards, is_routed, row_claims}}, proofs.Routing.{forwarded_by_routing, claims_by_routing, first_of_claims}}
@@ -40,9 +40,6 @@ module _ (fs : List BoardFunction) (space : Space) (n : ℕ) where
 windows_outside : (space : Space) (n : ℕ) (d : Bridge) (file : File) → is_in_window d file space n ≡ false → Each (LiesOutside n) (windows_now d file space)
 windows_outside io n d file h = grind arith
 windows_outside memory n d file h = grind (arith, or_parts (is_in n (mem_window file)) (is_in n (pref_window d.pref file)) h)
-
-and_parts : (s t : Bool) → (s && t) ≡ true → (s ≡ true) × (t ≡ true)
-and_parts s t h = grind arith
 
 hindrance_by : (space : Space) (n : ℕ) (p : Path) (d : Decl) (file : File) → forwards space n (record { path = p; decl = d; file = file }) ≡ false → IsTrueHindrance space n (record { path = p; decl = d; file = file }) (hindrance space (record { path = p; decl = d; file = file }))
 hindrance_by space n p (endpoint d) file h = (refl, tt)
