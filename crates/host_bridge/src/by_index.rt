@@ -1,6 +1,5 @@
 //! Reads and changes of a function identified by its index. None of these calls allocates.
 ghost use Rattle.std.specs.{Prelude.{◌≡◌, ◌%◌, IsSome, IsTrue, length, option_map, slice_get}, Option.option_copied};
-ghost use Rattle.lists.specs.Elements.{Each};
 ghost use Rattle.model_registers.specs.{Registers.{cell_at, config, number, raise, read, write}, ByteEnables.{LiesInWord, lanes}, DeviceBytes.{is_device_byte, set_value}};
 ghost use Rattle.model_board.specs.State.{BoardFunction};
 ghost use Rattle.headers.specs.Places.{place_of};
