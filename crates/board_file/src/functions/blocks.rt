@@ -28,7 +28,8 @@ impl<'a> Model for PatternTexts<'a> {
 
 /// Decodes hexadecimal text of 1 to `max_len` bytes. Returns `None` for any other text.
 pub fn decode_hex(alloc: Global, text: &str, max_len: usize) -> Result<Option<Vec<u8>>, AllocError>
-    ensures { IfOk result (λ found. option_map (λ v. v.items) found ≡ decode_hex max_len text.now) }
+    ensures { IfOk result (λ found.
+        option_map (λ v. v.items) found ≡ decode_hex max_len text.now) }
 {
     match hex::decode(alloc, text.as_bytes()) {
         Ok(bytes) => {

@@ -1,5 +1,4 @@
 //! The `config` tables of an endpoint: blocks of device-specific configuration registers.
-ghost use Rattle.std.specs.Prelude.{◌≡◌};
 ghost use Rattle.board_file.specs.Configs.{config, config_extent, config_rules, config_holds, config_block, is_config_block};
 ghost use Rattle.board_file.specs.Configs as said;
 
