@@ -1,18 +1,13 @@
 -- What is known of a document by its checks.
 --     judged      where all hold but that of cell masks
---     refused, accepted, refused_last      what a document means by them
---     judged_file, refused_first, means_world, means_masks      the same by the first of them that fails, if one does
-use Rattle.std.{proofs.{Common.{◌≡◌, ℕ, Bool, true, false, List, [], ◌∷◌, ◌++◌, map, Option, None, Some, Ok, Err, refl, sym, ap, ◌∙◌, arith}, lemmas.Bool.and_parts}, specs.{Prelude.option_map, List.list_all}}
+--     accepted, refused_last      what a document means by them
+--     judged_file, means_world, means_masks      the same by the first of them that fails, if one does
+use Rattle.std.{proofs.{Common.{◌≡◌, ℕ, Bool, true, false, List, [], ◌∷◌, ◌++◌, map, Option, None, Ok, Err, refl, sym, ap, ◌∙◌, arith}, lemmas.Bool.and_parts}, specs.{Prelude.option_map, List.list_all}}
 use Rattle.toml.specs.Data.{Members}
 use Rattle.lists.proofs.Tests.{right_true}
 use Rattle.model_registers.specs.DeclarationRules.{first_broken}
 use Rattle.board_file.{specs.{Entries.{File, file}, Faults.number_of, Judged.is_judged, KeyProblems.problems_of, Meaning.{file_checks, order, check, early_checks, checks, unless, world_of, meaning}, Problems.none, Endpoints.masks_hold, declared.fault.BoardFault.BoardFault}, proofs.Asked.masks}
 use Rattle.board_file.specs.declared.fault.BoardFault.TheVariants as fault
-
--- with one check more
-pub broken_before : (cs : List (ℕ × Bool)) (last : ℕ × Bool) (n : ℕ) → first_broken cs ≡ Some n → first_broken (cs ++ last ∷ []) ≡ Some n
-broken_before [] last n h = cc
-broken_before ((m, b) ∷ cs) last n h = grind (arith, broken_before cs last n)
 
 pub broken_last : (cs : List (ℕ × Bool)) (last : ℕ × Bool) → first_broken cs ≡ None → first_broken (cs ++ last ∷ []) ≡ first_broken (last ∷ [])
 broken_last [] last h = refl
@@ -42,9 +37,6 @@ module _ (ms : Members) where
     pub refused_last : list_all masks_hold (file ms).endpoints ≡ false → meaning ms ≡ Err 112
     refused_last h = ap (λ (o : Option ℕ). unless o (world_of (file ms))) (by_masks false h)
 
-  pub refused : (n : ℕ) → first_broken (early_checks ms) ≡ Some n → meaning ms ≡ Err n
-  refused n h = ap (λ (o : Option ℕ). unless o (world_of (file ms))) (broken_before (early_checks ms) (check ms fault.CellMasks) n h)
-
 -- ---- by the first check that fails
 
 module _ (ms : Members) (f : File) (said : f ≡ file ms) (found : Option BoardFault) (first : option_map number_of found ≡ first_broken (early_checks ms)) where
@@ -53,9 +45,6 @@ module _ (ms : Members) (f : File) (said : f ≡ file ms) (found : Option BoardF
 
   pub judged_file : found ≡ None → is_judged f ≡ true
   judged_file none = ap is_judged said ∙ judged ms (none_failed none)
-
-  pub refused_first : (e : BoardFault) → found ≡ Some e → meaning ms ≡ Err (number_of e)
-  refused_first e some = refused ms (number_of e) (sym first ∙ ap (option_map number_of) some)
 
   pub means_world : found ≡ None → list_all masks_hold f.endpoints ≡ true → meaning ms ≡ Ok (world_of f)
   means_world none masks = grind (arith, accepted, none_failed)

@@ -3,7 +3,7 @@
 --     slot_told      those of a slot, by the registers that are told of it
 --     slot_holds      the same where Command doesn't open the space
 --     step      one slot more
-use Rattle.std.{proofs.Common.{◌≡◌, ℕ, zero, suc, ◌+◌, ◌-◌, ◌<◌, Bool, false, List, [], ◌∷◌, ◌++◌, length, drop, Some, None, Option, refl, sym, ap, ◌∙◌, append_assoc, arith}, specs.{Prelude.{map, filter, option_map, is_some, if◌then◌else◌}, Option.option_map_or}}
+use Rattle.std.{proofs.Common.{◌≡◌, ℕ, zero, suc, ◌+◌, ◌<◌, Bool, false, List, [], ◌∷◌, ◌++◌, length, drop, Some, None, Option, refl, sym, ap, ◌∙◌, append_assoc, arith}, specs.{Prelude.{map, filter, option_map, is_some, if◌then◌else◌}, Option.option_map_or}}
 use Rattle.model_registers.specs.{Declarations.Region, OwnCopies.OwnCopies, Decoding.{Space, Function, opens_space, command_word, base_address}}
 use Rattle.model_guests.specs.Slots.{Slots, slot_at}
 use Rattle.model_lines.specs.WhyGuests.{closed_region, region_holds, closed_from, ClosedRegion}

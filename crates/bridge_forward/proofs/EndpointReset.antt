@@ -71,9 +71,6 @@ reset_away d multifunction h = join (header_away d multifunction) (record { plac
 
 -- ---- regions by register
 
-abbrev bar_of : Region → Bar
-bar_of r = record { kind = r.kind; size = r.size }
-
 abbrev Rising : Region → Region → Type 0
 Rising r s = r.index < s.index
 

@@ -18,4 +18,3 @@ pub mod BlocksReset
 pub mod RoutingRows
 pub mod Devices
 pub mod Known
-mod HeldBytes

@@ -2,7 +2,7 @@
 ghost use Rattle.std.specs.{Prelude.{◌≡◌, ◌<◌, IfOk, length, map}, BTreeSet.IsFromIterResult};
 ghost use Rattle.model_board.specs.{Board.{IsBoard, is_multifunction}, Lawful.{IsLawfulDecl, HasLawfulDecls}, Places.board_of};
 ghost use Rattle.paths.specs.PathOrders.{path_cmp};
-ghost use Rattle.bridge_forward.specs.{Devices.shared_devices, Layout.{function_of, functions_of, paths_of, AreInOrder, EndsAt, IsLaidOut}, Skips.IsTree, Functions.reset_cells, Resets.{reset_function, reset_functions}};
+ghost use Rattle.bridge_forward.specs.{Devices.shared_devices, Layout.{function_of, functions_of, paths_of, AreInOrder, EndsAt, IsLaidOut}, Skips.IsTree, Functions.reset_cells, Resets.reset_functions};
 
 use crate::bus::Node;
 use crate::decl::Decl;

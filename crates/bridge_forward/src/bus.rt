@@ -1,6 +1,6 @@
 //! The functions of a board as a tree of buses.
 ghost use Rattle.std.specs.{Prelude.{◌≡◌, ◌%◌, ◌<◌, IfOk, IfSome, IsSome, IsTrue, find, length, slice_get}, Borrow.sem, Option.{option_and_then, option_copied_mut}};
-ghost use Rattle.lists.specs.Elements.{Each, EachPair};
+ghost use Rattle.lists.specs.Elements.{EachPair};
 ghost use Rattle.model_board.specs.{Routing.routing, Paths.{path_before, path_eq}, Board.IsBoard, Places.board_of, State.row_at, Claims.first_claim, AtReset.{board_at, reset_state, IsAtReset}};
 ghost use Rattle.bars.specs.{Slots.bases_from, Kinds.named_space};
 ghost use Rattle.bridge_forward.specs.{BasesNow.bases_nth, Cycled.reached_by, Layout.{function_of, functions_of}, RoutingRows.{primary_nth, secondary_nth}};

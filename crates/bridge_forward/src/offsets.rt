@@ -1,7 +1,7 @@
 //! Register accesses at 64-bit offsets. Offsets above FFFFh, which no register file contains, read
 //! 0 and ignore writes.
 ghost use Rattle.std.specs.Prelude.{◌≡◌, ◌%◌};
-ghost use Rattle.model_registers.specs.{Registers.{config, cell_at, read, write, raise}, DeviceBytes.set_value, ByteEnables.lanes, FileLaws.IsConfigFile};
+ghost use Rattle.model_registers.specs.{Registers.{config, cell_at, read, write, raise}, DeviceBytes.set_value, ByteEnables.lanes};
 ghost use Rattle.bridge_forward.specs.EndpointParts.{IsShort};
 
 use config_bytes::Cells;

@@ -1,7 +1,7 @@
 //! The rules for the paths of the functions of a board.
-ghost use Rattle.std.specs.Prelude.{◌≡◌, ◌<◌, ◌↔◌, ◌⊎◌, [], IsTrue, IsFalse, map, drop, length};
+ghost use Rattle.std.specs.Prelude.{◌≡◌, ◌<◌, ◌↔◌, ◌⊎◌, [], IsTrue, IsFalse, map};
 ghost use Rattle.lists.specs.Elements.{Each, EachPair};
-ghost use Rattle.model_board.specs.{Paths.{IsPath, path_eq, parent, function_zero}, Places.{Standing, IsFounded, AreLawfulPlaces, has_path, has_bridge}};
+ghost use Rattle.model_board.specs.{Paths.{path_eq, parent, function_zero}, Places.{Standing, IsFounded, AreLawfulPlaces, has_path, has_bridge}};
 
 use paths::{Part, Path};
 

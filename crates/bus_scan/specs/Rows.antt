@@ -2,7 +2,7 @@
 --     regions_of      the regions at base address registers, without their cells
 --     decl_of      the parts of a declaration that were found
 --     range_of, ended      the buses behind a bridge; the same with another last number
-use Rattle.std.specs.Prelude.{List, [], ℕ, Option, Some, None, map}
+use Rattle.std.specs.Prelude.{List, ℕ, Option, Some, None, map}
 use Rattle.model_registers.specs.{Declarations.{Bar, Region, Endpoint, plain_endpoint}, EndpointTable.opened}
 use Rattle.model_board.specs.Board.{Decl, endpoint, bridge}
 use Rattle.model_set_up.specs.FunctionTable.{BusRange}

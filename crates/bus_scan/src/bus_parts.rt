@@ -1,6 +1,6 @@
 //! The device and function numbers on a bus, in scan order: devices 0 to 15, and functions 0 to 7
 //! of each device.
-ghost use Rattle.std.specs.Prelude.{◌≡◌, ◌<◌, ◌+◌, ◌%◌, ◌==◌, ◌&&◌, not, if◌then◌else◌, [], ◌∷◌, ◌++◌, length};
+ghost use Rattle.std.specs.Prelude.{◌≡◌, ◌<◌, ◌+◌, ◌%◌, ◌==◌, ◌&&◌, not, if◌then◌else◌, [], length};
 ghost use Rattle.model_set_up.specs.ScanOrder.{on, nth_part};
 ghost use Rattle.paths.specs.BusAddresses.{bus_address_of};
 

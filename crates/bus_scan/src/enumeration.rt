@@ -2,7 +2,7 @@
 //! 3.2.5).
 ghost use Rattle.std.specs.Prelude.{◌≡◌, ◌⊎◌, ◌<◌, ◌+◌, [], ◌∷◌, ◌++◌, length, IfOk, IfErr, MatchResult, IsTrue, Some, find, ℕ, ◌≤◌};
 ghost use Rattle.model_board.specs.{Paths.{Path as PathValue, path_eq}, Board.{Board, Row, is_bridge_at, is_multifunction, IsBoard}, BusNumbers.{Enumerates, secondary}, State.state_of, Cycles.reached, AtReset.{board_at, IsAtReset}};
-ghost use Rattle.model_set_up.specs.{Scanning.{BusNumbers, numbered_file, numbered_state, IsNumbered, HasOwnNumbers}, ScanOrder.{on, nth_part, next_part, met}, FunctionTable.{TableRow, scanned_table}};
+ghost use Rattle.model_set_up.specs.{Scanning.{BusNumbers, numbered_file, numbered_state, IsNumbered, HasOwnNumbers}, ScanOrder.{on, next_part, met}, FunctionTable.{TableRow, scanned_table}};
 ghost use Rattle.paths.specs.BusAddresses.{bus_address_of};
 ghost use Rattle.bus_scan.specs.{declared.fault.Fault.TheVariants.{Buses, Memory}, Scans.{given, ComesTo, OnBus, IsBridgeThere, IsRefused}, Sights.seen_of, Rows.{decl_of, range_of}};
 

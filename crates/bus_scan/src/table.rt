@@ -50,9 +50,8 @@ impl Model for EnumeratedFunction {
 }
 
 impl EnumeratedFunction {
-    ghost use Rattle.std.specs.Prelude.{Option, Some, IsSome};
+    ghost use Rattle.std.specs.Prelude.{Option};
     ghost use Rattle.model_board.specs.Paths.{last_part};
-    ghost use Rattle.model_set_up.specs.FunctionTable.{BusRange};
     ghost use Rattle.paths.specs.BusAddresses.{bus_address_of};
     ghost use Rattle.bus_scan.specs.Rows.{ended};
 

@@ -1,6 +1,5 @@
 //! Lists the enabled regions of a board in one address space, sorted by address.
 ghost use Rattle.std.specs.{Prelude.{◌≡◌, ◌++◌, map, IfOk, OnOk}, List.Sorted.{IsPermutation, IsNonDecreasingBy}};
-ghost use Rattle.lists.specs.Texts.{Adds};
 ghost use Rattle.bars.specs.Kinds.{named_space};
 ghost use Rattle.model_registers.specs.Decoding.{opens_space};
 ghost use Rattle.bridge_forward.specs.RoutingRows.{base_of};

@@ -1,8 +1,6 @@
 //! The command that the program's arguments select.
 ghost use Rattle.std.specs.Prelude.{◌≡◌, Some, [], true, map, option_map, IfOk, IfSome, IfNone, Err, MatchResult};
 ghost use Rattle.clap.specs.{Faults.fault_of, Matches.{first_value, found_of}, Values.kind_of};
-ghost use Rattle.model_lines.specs.Reports.{report_named};
-ghost use Rattle.lines.specs.Requests.{report_of};
 ghost use Rattle.command_line.specs.{Words.{pciguest_app, is_taken}, Choices.{is_true, board_path, IsAsked, IsAskedBy, IsNoCommand, IsWork, IsHelp}};
 
 use crate::commands::command;

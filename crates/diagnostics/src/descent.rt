@@ -63,7 +63,7 @@ pub(crate) fn push_descent<'v>(way: &mut Vec<Step<'v>>, marked: &'v Value) -> Re
 fn push_in_items<'v>(way: &mut Vec<Step<'v>>, items: &'v [Value]) -> Result<(), AllocError>
     ensures { OnOk result (GoesOn way.old.items way.new.items) }
 {
-    'items: for (index, inner) in items.iter().enumerate() {
+    for (index, inner) in items.iter().enumerate() {
         if start_in(inner).is_some() {
             way.push(Step::Index(index))?;
             return push_descent(way, inner);
@@ -77,7 +77,7 @@ fn push_in_table<'v>(way: &mut Vec<Step<'v>>, table: &'v Table) -> Result<(), Al
     ensures { OnOk result (GoesOn way.old.items way.new.items) }
 {
     let first = start_in_table(table);
-    'members: for (key, inner) in table.iter() {
+    for (key, inner) in table.iter() {
         if first.is_some() && start_in(inner) == first {
             way.push(Step::Key(key.as_str()))?;
             return push_descent(way, inner);

@@ -1,6 +1,6 @@
 //! Scans a TOML text for its scalars. The scanner is only a heuristic: each place is confirmed
 //! before a message refers to it.
-ghost use Rattle.std.specs.{Prelude.{◌≡◌, ◌<◌, ◌≤◌, ◌+◌, ◌^◌, length, unwrap_or}, List.slice_get};
+ghost use Rattle.std.specs.{Prelude.{◌≡◌, ◌<◌, ◌≤◌, ◌+◌, length, unwrap_or}, List.slice_get};
 
 use std::alloc::{AllocError, Global};
 
@@ -74,7 +74,7 @@ fn is_closed(text: &[u8], at: usize, quotes: Quotes) -> bool
 /// opening quotes.
 fn text_end(text: &[u8], from: usize, quotes: Quotes) -> usize {
     let mut is_escaped = false;
-    'bytes: for at in from..text.len() {
+    for at in from..text.len() {
         if is_escaped {
             is_escaped = false;
         } else if text[at] == b'\\' && quotes.byte == b'"' {
@@ -88,7 +88,7 @@ fn text_end(text: &[u8], from: usize, quotes: Quotes) -> usize {
 
 /// Returns the end offset of a comment.
 fn comment_end(text: &[u8], from: usize) -> usize {
-    'bytes: for at in from..text.len() {
+    for at in from..text.len() {
         if text[at] == b'\n' {
             return at;
         }
@@ -99,7 +99,7 @@ fn comment_end(text: &[u8], from: usize) -> usize {
 /// Returns the end offset of a scalar without quotes. Trailing blanks aren't part of the scalar.
 fn bare_end(text: &[u8], from: usize) -> usize {
     let mut end = from;
-    'bytes: for at in from..text.len() {
+    for at in from..text.len() {
         match text[at] {
             b',' | b']' | b'}' | b'#' | b'\n' => return end,
             b' ' | b'\t' | b'\r' => {}
@@ -212,7 +212,7 @@ impl ScalarScanner {
 /// Returns the scalars of a TOML document in the order of the text.
 pub(crate) fn scalars(alloc: Global, text: &[u8]) -> Result<Vec<Extent>, AllocError> {
     let mut scanner = ScalarScanner::new(alloc);
-    'bytes: for at in 0..text.len() {
+    for at in 0..text.len() {
         if at >= scanner.next {
             scanner.take_byte(text, at)?;
         }

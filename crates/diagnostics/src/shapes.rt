@@ -11,7 +11,7 @@ pub(crate) fn members_have_one_shape(table: &Table, other: &Table) -> bool
     ensures { result ≡ members_have_one_shape (table_view table.now) (table_view other.now) }
 {
     let mut others = other.iter();
-    'members: for (key, value) in table.iter() {
+    for (key, value) in table.iter() {
         match others.next() {
             Some((other_key, other_value)) => {
                 if key.as_str() != other_key.as_str() {
@@ -34,7 +34,7 @@ fn items_have_one_shape(array: &Array, other: &Array) -> bool
     if array.len() != other.len() {
         return false;
     }
-    'items: for i in 0..array.len() {
+    for i in 0..array.len() {
         if !have_one_shape(&array[i], &other[i]) {
             return false;
         }

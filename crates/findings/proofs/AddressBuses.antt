@@ -1,5 +1,5 @@
 -- The bridge above a bus is what stands at its path, if that is a bridge.
-use Rattle.std.{proofs.Common.{◌≡◌, ℕ, Bool, true, false, ◌&&◌, List, [], ◌∷◌, Some, None, Option, refl, sym, ap, ◌∙◌, eqb, length, arith}, specs.{Prelude.{find, slice_get, unwrap_or}, Option.option_map_or}}
+use Rattle.std.{proofs.{Common.{◌≡◌, ℕ, Bool, true, false, List, [], ◌∷◌, Some, None, Option, refl, sym, ap, ◌∙◌, eqb, length, arith}, lemmas.Bool.and_parts}, specs.{Prelude.{find, slice_get, unwrap_or}, Option.option_map_or}}
 use Rattle.lists.{specs.Elements.IsIn, proofs.{EachLemmas.pairs_from_map, FirstFound.found_in, Members.pair_in}}
 use Rattle.model_board.{specs.{Paths.{Path, path_eq}, Board.{Decl, endpoint, bridge, is_bridge}, State.BoardFunction, Cycles.secondary_register}, proofs.{PathOrder.path_same, PathEnds.not_before_itself}}
 use Rattle.model_findings.{specs.{Orderly.IsStateOfBoard, Found.{is_bridge_at, bus_now}}, proofs.Found.is_found_at}
@@ -11,9 +11,6 @@ stands_at p f = path_eq f.path p
 -- the number that a search for the bridge gives
 abbrev held : Option BoardFunction → ℕ
 held o = option_map_or (λ (f : BoardFunction). secondary_register f.file) o 0
-
-parts : (a b : Bool) → (a && b) ≡ true → (a ≡ true) × (b ≡ true)
-parts a b h = grind arith
 
 none_at : (p : Path) (fs : List BoardFunction) → find (stands_at p) fs ≡ None → find (is_bridge_at p) fs ≡ None
 none_at p [] h = refl
@@ -34,7 +31,7 @@ module _ (fs : List BoardFunction) (state : IsStateOfBoard fs) (p : Path) where
       by (Some g) e =
           let m = found_in (is_bridge_at p) fs g e in
           let k = found_in (stands_at p) fs f at in
-          let both = parts (is_bridge g.decl) (path_eq g.path p) m.1 in
+          let both = and_parts (is_bridge g.decl) (path_eq g.path p) m.1 in
           let same : g ≡ f = one_function g f m.0 k.0 (path_same g.path p both.1 ∙ sym (path_same f.path p k.1)) in
           let no : is_bridge g.decl ≡ false = ap (λ (x : BoardFunction). is_bridge x.decl) same ∙ other in
           let yes : is_bridge g.decl ≡ true = both.0 in

@@ -1,11 +1,11 @@
 -- What is told of regions that are held is what is told of the address.
-use Rattle.std.{proofs.{Common.{◌≡◌, ℕ, ◌==◌, Bool, true, false, ◌&&◌, not, cond, ◌⊎◌, inl, List, [], ◌∷◌, ◌++◌, Option, Some, None, refl, ap, subst, ◌∙◌, append-nil, arith}, lemmas.List.{map-append, reverse-append, Folds.fold-map}}, specs.Prelude.{map, filter, count_by, flat_map, reverse}}
+use Rattle.std.{proofs.{Common.{◌≡◌, ℕ, ◌==◌, Bool, true, false, ◌&&◌, not, cond, inl, List, [], ◌∷◌, ◌++◌, Option, Some, None, refl, ap, subst, ◌∙◌, append-nil, arith}, lemmas.List.{map-append, reverse-append, Folds.fold-map}}, specs.Prelude.{map, filter, count_by, flat_map, reverse}}
 use Rattle.lists.{specs.Elements.IsIn, proofs.Members.{from_flat_map, from_option}}
 use Rattle.model_registers.specs.{EndpointTable.BaseAddress, Decoding.{Space, command_word, base_address, opens_space}}
 use Rattle.model_board.specs.{Board.{Decl, endpoint, bridge}, Paths.Path, Claims.{Claim, first_claim}, State.BoardFunction, Routing.{ranges_of, row_of, routing}}
 use Rattle.model_set_up.specs.PlacedRegions.{PlacedRegion, holds}
 use Rattle.model_findings.specs.OpenRegions.{region_now, regions_of}
-use Rattle.model_lines.{specs.Why.{BlockReason, Cause, closed_by, stopped_at, stops, is_answer, causes_of, UnansweredRegion, told_of, is_closed, is_as_at_reset, apart, at_reset, Forwarder, forwarders, Why, told, why}, proofs.Why.from_reverse}
+use Rattle.model_lines.{specs.Why.{BlockReason, Cause, closed_by, stopped_at, stops, is_answer, causes_of, UnansweredRegion, told_of, is_closed, is_as_at_reset, apart, at_reset, Forwarder, forwarders, told, why}, proofs.Why.from_reverse}
 use Rattle.findings.specs.{WhyByRows.{is_held, held_in, held_of, all_held, told_from, is_held_as_at_reset, held_apart}, declared.holding.RegionWithCommand.RegionWithCommand}
 
 filter_both : {A : Type 0} (s t : A → Bool) (xs : List A) → filter (λ x. s x && t x) xs ≡ filter t (filter s xs)

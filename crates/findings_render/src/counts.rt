@@ -1,5 +1,5 @@
 //! Displays counts.
-ghost use Rattle.std.specs.Prelude.{◌≡◌, ◌++◌, ◌==◌, Some, if◌then◌else◌, decimal};
+ghost use Rattle.std.specs.Prelude.{◌++◌, ◌==◌, Some, if◌then◌else◌, decimal};
 
 use std::fmt;
 

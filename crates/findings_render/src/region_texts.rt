@@ -1,5 +1,5 @@
 //! Displays BARs, spaces, BDFs and paths.
-ghost use Rattle.std.specs.{Prelude.{◌≡◌, Some, codes, option_map}, Option.option_map_or};
+ghost use Rattle.std.specs.{Prelude.{◌≡◌, Some, codes}, Option.option_map_or};
 ghost use Rattle.bars.specs.Kinds.{named_space};
 ghost use Rattle.model_guests.specs.PathTexts.{hexadecimal, path_text};
 ghost use Rattle.model_findings.specs.AuditText.{region_text, space_text};

@@ -1,7 +1,7 @@
 -- Values that are taken one after the other.
-use Rattle.std.{proofs.{Common.{◌≡◌, ℕ, suc, ◌+◌, ◌-◌, ◌/◌, ◌%◌, ◌<◌, ◌≤◌, ◌⊎◌, inl, inr, true, false, List, [], ◌∷◌, ◌++◌, length, drop, Ok, Err, refl, ap, ◌∙◌, subst, arith}, lemmas.Bool.Decides.nat_tests}, specs.Prelude.flat_map}
+use Rattle.std.{proofs.{Common.{◌≡◌, ℕ, ◌+◌, ◌-◌, ◌/◌, ◌%◌, ◌<◌, ◌≤◌, inl, inr, true, false, List, [], ◌∷◌, ◌++◌, length, drop, Ok, Err, refl, ap, ◌∙◌, subst, arith}, lemmas.Bool.Decides.nat_tests}, specs.Prelude.flat_map}
 use Rattle.lists.specs.Elements.{Each}
-use Rattle.model_registers.specs.{Cell.Cell, Registers.{Place, config, block, PlacedCell, File, field, cells_from}, Declarations.{Region, ConfigBlock, Endpoint}, DeclarationRules.{IsInPlace, IsConfigBlock}, EndpointTable.{base_cells, block_cells, header_cells, endpoint_reset}, DeviceBytes.is_device_byte}
+use Rattle.model_registers.specs.{Cell.Cell, Registers.{config, block, PlacedCell, File, field, cells_from}, Declarations.{Region, ConfigBlock, Endpoint}, DeclarationRules.{IsInPlace, IsConfigBlock}, EndpointTable.{base_cells, block_cells, header_cells, endpoint_reset}, DeviceBytes.is_device_byte}
 use Rattle.model_images.{specs.{Images.can_hold, LoadedBytes.{then_read, after_values}}, proofs.BlockCounts.many_cells}
 use Rattle.model_registers.specs.EndpointTable as table
 

@@ -1,5 +1,5 @@
 //! Serialization of declarations into a buffer.
-ghost use Rattle.std.specs.Prelude.{◌≡◌, ◌≤◌, ◌+◌, ◌<◌, length, flat_map};
+ghost use Rattle.std.specs.Prelude.{◌≡◌, ◌≤◌, ◌+◌, length, flat_map};
 ghost use Rattle.lists.specs.Elements.{Each};
 ghost use Rattle.model_registers.specs.{Declarations.IsLawfulRegion, DeclarationRules.IsConfigBlock};
 ghost use Rattle.model_images.specs.ImageBytes.{declaration_bytes};

@@ -7,7 +7,7 @@ use Rattle.model_board.specs.{Paths.Path, Board.{Decl, endpoint, bridge, is_brid
 use Rattle.model_set_up.{specs.{Reach.address_of, Pools.{Pool, io_pool, mem_pool, pref_pool, unit_of}, Placement.{PlacementItem, items_on, bus_first}, SetUp.{windows_of, window_of, set_up_window}, SetUpWrites.{to_bridge, placed_base, writes_of, settings}, FunctionTable.{found_decl, range_behind, table_row, sized_table}}, proofs.FoundBoards.found_is_bridge}
 use Rattle.model_guests.specs.World.{World}
 use Rattle.model_handoff.{specs.{FoundReport.{SetUpBoard, set_up_board, IsSetUpOf}, ReportLaws.{is_closed, is_empty, AreClosedWithoutItems}}, proofs.ReportLaws.closed_without_items}
-use Rattle.bridge_forward.specs.Lending.{as_endpoint, endpoint_nth}
+use Rattle.bridge_forward.specs.Lending.{as_endpoint}
 use Rattle.json_texts.specs.{ReportValue.{region_value, capability_value, interrupt_value, windows_value, items_window, pool_window, bridge_windows, buses_value, endpoint_value, bridge_value, row_value, board_value, report_value, value_line, report_json_text}, FoundValue.{known_interrupt, named_window, written_windows, capabilities_nth, decl_value, function_values, found_value}}
 
 window_is : (unit closed first : ℕ) (is : List PlacementItem) → is_closed (window_of unit closed first is) ≡ is_empty is

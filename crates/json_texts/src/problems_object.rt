@@ -2,7 +2,7 @@
 ghost use Rattle.std.specs.Prelude.{◌≡◌, ◌++◌, ◌∷◌, [], false, IfOk, map, string_bytes};
 ghost use Rattle.serde_json.specs.{View.view, Written.{compact_text, has_float}};
 ghost use Rattle.findings.specs.Findings.{problem_of, issue_of};
-ghost use Rattle.json_texts.specs.AuditValue.{problem_value, problems_value, problems_json, issue_value, issues_value, lacks_json};
+ghost use Rattle.json_texts.specs.AuditValue.{problems_value, problems_json, issues_value, lacks_json};
 
 use crate::has_value::values;
 use findings::{Problem, ReadinessIssue};

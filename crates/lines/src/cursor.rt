@@ -1,5 +1,5 @@
 //! Parsing of a line word by word, in one pass over its bytes.
-ghost use Rattle.std.specs.Prelude.{◌≡◌, ◌≤◌, ◌<◌, ◌^◌, ◌∷◌, [], None, Some, length, MatchOption, IfSome, IsTrue, IsFalse};
+ghost use Rattle.std.specs.Prelude.{◌≡◌, ◌≤◌, ◌<◌, ◌^◌, ◌∷◌, [], None, Some, MatchOption, IfSome, IsTrue, IsFalse};
 ghost use Rattle.model_guests.specs.{Text.words, Numbers.{below, digits_from, digits_in, is_hexadecimal}};
 ghost use Rattle.lines.specs.Cursors.{before_blank, after_blank, IsRead, IsAtWord, numbered};
 

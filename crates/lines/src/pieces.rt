@@ -1,5 +1,5 @@
 //! Execution of the lines in a piece of a script.
-ghost use Rattle.std.specs.{Prelude.{◌≡◌, ℕ, ◌≤◌, ◌<◌, ◌+◌, ◌-◌, ◌^◌, ◌++◌, ◌∷◌, [], length, OnOk, OnErr, IfOk, IsErrOf, MatchOption, IsTrue, IsFalse, ◌⊎◌, option_map, string_bytes}, Io.KnownBytes.{Appends, Keeps}};
+ghost use Rattle.std.specs.{Prelude.{◌≡◌, ◌≤◌, ◌<◌, ◌+◌, ◌-◌, ◌^◌, ◌++◌, ◌∷◌, [], length, OnOk, OnErr, IfOk, IsErrOf, MatchOption, IsTrue, IsFalse, ◌⊎◌, option_map, string_bytes}, Io.KnownBytes.{Appends, Keeps}};
 ghost use Rattle.streams.specs.Ends.{failures_of, AppendsPart};
 ghost use Rattle.model_guests.specs.{Text.{Text, lines}, LineRuns.{output, after_lines, HasNoEnd, IsStopped}};
 ghost use Rattle.lines.specs.{Faults.stop_failures_of, Pieces.{IsBefore, rest_of, with_more, Reaches, StopsWithin, LacksWithin}};

@@ -1,5 +1,5 @@
 //! Runs that record whether a line was refused, and why lines were malformed.
-ghost use Rattle.std.specs.Prelude.{◌≡◌, ◌+◌, ◌-◌, ◌%◌, ◌^◌, ◌<◌, ◌⊎◌, ◌++◌, IsErrOf};
+ghost use Rattle.std.specs.Prelude.{◌≡◌, ◌+◌, ◌-◌, ◌^◌, ◌<◌, ◌⊎◌, ◌++◌, IsErrOf};
 ghost use Rattle.model_guests.specs.Text.{Text};
 ghost use Rattle.lines.specs.{Faults.{read_failures_of, write_failures_of}, Pieces.IsBefore, Refusals.{none_seen, with_bad, with_refused, with_line, watched, IsWatched}, Runs.ends};
 

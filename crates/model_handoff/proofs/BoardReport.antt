@@ -1,11 +1,11 @@
 -- The text that is made of what set-up finds and writes is the report of the board, function by function.
-use Rattle.std.{proofs.Common.{◌≡◌, ℕ, List, [], ◌∷◌, ◌++◌, refl, sym, ap, ap₂, ◌∙◌, append_assoc}, specs.Prelude.{codes, if◌then◌else◌, map, flat_map}}
+use Rattle.std.{proofs.Common.{◌≡◌, ℕ, List, [], ◌∷◌, ◌++◌, refl, sym, ap, ap₂, ◌∙◌, append_assoc}, specs.Prelude.{codes, map, flat_map}}
 use Rattle.lists.{specs.Elements.Each, proofs.Members.flat_map_flat}
-use Rattle.model_registers.specs.{Declarations.{Endpoint, Bridge}, DeclarationRules.IsLawfulEndpoint, Apertures.Apertures, Declarations.Region}
+use Rattle.model_registers.specs.{Apertures.Apertures, Declarations.Region}
 use Rattle.model_board.specs.{Paths.Path, Board.{Decl, endpoint, bridge, Board}, BusNumbers.{bus_of, secondary, subordinate}, Lawful.{IsLawfulDecl, HasLawfulDecls}}
 use Rattle.model_set_up.specs.{Reach.address_of, Pools.{Pool, io_pool, mem_pool, pref_pool, unit_of}, Placement.{PlacementItem, items_on, bus_first}, SetUp.{windows_of, window_of, set_up_window}, SetUpWrites.{to_bridge, placed_base, writes_of, settings}, FunctionTable.{found_decl, range_behind, table_row, sized_table}}
 use Rattle.model_guests.{specs.{Text.{Text, text_of_lines, ended}, World.Guest}, proofs.WrittenLines.text_of_lines-append}
-use Rattle.model_handoff.{specs.{Report.{identity_text, range_text, head_text, base_line, region_lines, interrupt_lines, items_lines, pool_lines, window_lines, endpoint_lines, bridge_lines, function_lines, guest_lines}, FoundReport.{named_window_lines, written_windows, decl_text, functions_text, guests_text, count_line}, ReportLaws.{is_closed, is_empty, AreClosedWithoutItems, ReportOfBoard}}, proofs.ReportLaws.{closed_without_items, counts_of_board, pin_lines}}
+use Rattle.model_handoff.{specs.{Report.{identity_text, range_text, head_text, base_line, region_lines, interrupt_lines, items_lines, pool_lines, window_lines, function_lines, guest_lines}, FoundReport.{named_window_lines, written_windows, decl_text, functions_text, guests_text, count_line}, ReportLaws.{is_closed, is_empty, AreClosedWithoutItems, ReportOfBoard}}, proofs.ReportLaws.{closed_without_items, counts_of_board, pin_lines}}
 
 window_is : (name : Text) (unit closed first : ℕ) (is : List PlacementItem) → is_closed (window_of unit closed first is) ≡ is_empty is
     → named_window_lines name (window_of unit closed first is) ≡ items_lines name unit first is

@@ -5,7 +5,7 @@
 --     scanned_table, sized_table      the table of a board's functions after a scan, and after sizing
 --     board_in      a table read as a board that contains only what was found
 --     PlacedAsFound      placement uses nothing else of a board
-use Rattle.std.specs.Prelude.{List, [], ◌≡◌, ℕ, Option, Some, None, map}
+use Rattle.std.specs.Prelude.{List, ◌≡◌, ℕ, Option, Some, None, map}
 use Rattle.model_registers.specs.{Declarations.{Endpoint, plain_endpoint, no_io, no_pref, Bridge}, OwnCopies.bare, Apertures.Apertures}
 use Rattle.model_board.specs.{Paths.Path, Board.{Decl, endpoint, bridge, Row, Board, IsBoard}, BusNumbers.{secondary, subordinate, bus_of, Enumerates}, Lawful.HasLawfulDecls}
 use Rattle.model_set_up.specs.SetUpWrites.{planned, placement_rules}

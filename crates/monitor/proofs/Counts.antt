@@ -4,7 +4,7 @@
 --     set_counted      guests of whom one has another count
 use Rattle.std.{proofs.{Common.{◌≡◌, ◌≢◌, ℕ, zero, suc, Bool, true, false, not, ◌&&◌, ◌||◌, ◌==◌, List, [], ◌∷◌, Some, slice_get, slice_set, refl, sym, ap, ap₂, ◌∙◌, subst, arith}, lemmas.Bool.Decides.nat_tests}, specs.{Prelude.IsFalse, Str.bytes_eq}}
 use Rattle.lists.{specs.Elements.{Each, EachPair}, proofs.{Indices.{each_at, map_at, map_set, pair_at, set_same}, Tests.{and_true, and_false}}}
-use Rattle.model_guests.{specs.{Text.Text, Guests.{GuestNow, GuestsNow}, WorldNow.names_of}, proofs.Names.{equal_texts, same_text}}
+use Rattle.model_guests.{specs.{Text.Text, Guests.{GuestNow, GuestsNow}, WorldNow.names_of}, proofs.{GuestFiles.other_name, Names.{equal_texts, same_text}}}
 use Rattle.model_handoff.specs.Changes.{after_change, counts_where}
 use Rattle.monitor.specs.{declared.guest.Guest.Guest, Counts.{counts_of, counted_nth, counted_both}}
 
@@ -23,14 +23,6 @@ counts_alike p q same (t ∷ ts) (n ∷ ns) = ap₂ (λ (u : Bool) (xs : List �
 abbrev AreApart : GuestsNow → Type 0
 AreApart gs = EachPair (λ (g h : GuestNow). IsFalse (bytes_eq g.name h.name)) gs
 
--- texts that differ do so either way round
-apart_too : (a b : Text) → bytes_eq a b ≡ false → bytes_eq b a ≡ false
-apart_too a b apart = cases (bytes_eq b a) refl
-  where
-    cases : (t : Bool) → bytes_eq b a ≡ t → t ≡ false
-    cases false e = refl
-    cases true e = sym (same_text b) ∙ ap (λ (x : Text). bytes_eq x b) (equal_texts b a e) ∙ apart
-
 others_stay : (name : Text) (gs : GuestsNow) (ns : List ℕ) → Each (λ (g : GuestNow). IsFalse (bytes_eq name g.name)) gs → counts_where (bytes_eq name) (names_of gs) ns ≡ ns
 others_stay name [] ns apart = refl
 others_stay name (g ∷ gs) [] apart = refl
@@ -43,7 +35,7 @@ one_of (k ∷ gs) (n ∷ ns) zero g apart at =
     let same : k ≡ g = cc in
     subst (λ (x : GuestNow). counted_nth 0 true (n ∷ ns) ≡ counts_where (bytes_eq x.name) (names_of (k ∷ gs)) (n ∷ ns)) same
     (ap₂ (λ (u : Bool) (xs : List ℕ). after_change u n ∷ xs) (sym (same_text k.name)) (sym (others_stay k.name gs ns apart.0)))
-one_of (k ∷ gs) (n ∷ ns) (suc i) g apart at = grind (arith, apart_too, each_at, one_of gs ns i g apart.1 at)
+one_of (k ∷ gs) (n ∷ ns) (suc i) g apart at = grind (arith, other_name, each_at, one_of gs ns i g apart.1 at)
 
 both_of : (p q : Text → Bool) → ((x : Text) → p x ≡ true → q x ≡ false) → (ts : List Text) (ns : List ℕ)
     → counts_where q ts (counts_where p ts ns) ≡ counts_where (λ x. p x || q x) ts ns
@@ -52,7 +44,7 @@ both_of p q apart (t ∷ ts) [] = refl
 both_of p q apart (t ∷ ts) (n ∷ ns) = grind (arith, both_of p q apart ts ns)
 
 names_differ : (gs : GuestsNow) → AreApart gs → (i j : ℕ) → j ≢ i → (g k : GuestNow) → slice_get gs i ≡ Some g → slice_get gs j ≡ Some k → bytes_eq g.name k.name ≡ false
-names_differ gs apart i j other g k at_i at_j = grind (arith, nat_tests, pair_at, apart_too)
+names_differ gs apart i j other g k at_i at_j = grind (arith, nat_tests, pair_at, other_name)
 
 -- one guest is counted, or none
 pub counted_one : (gs : GuestsNow) → AreApart gs → (i : ℕ) (g : GuestNow) → slice_get gs i ≡ Some g → (t : Bool) (ns : List ℕ) → counted_nth i t ns ≡ counts_where (λ x. bytes_eq g.name x && t) (names_of gs) ns
@@ -65,7 +57,7 @@ pub counted_two : (gs : GuestsNow) → AreApart gs → (i j : ℕ) (g k : GuestN
 counted_two gs apart i j g k at_i at_j ns = cases (j == i) refl
   where
     never : j ≢ i → (x : Text) → bytes_eq g.name x ≡ true → bytes_eq k.name x ≡ false
-    never other x e = ap (bytes_eq k.name) (sym (equal_texts g.name x e)) ∙ apart_too g.name k.name (names_differ gs apart i j other g k at_i at_j)
+    never other x e = ap (bytes_eq k.name) (sym (equal_texts g.name x e)) ∙ other_name g.name k.name (names_differ gs apart i j other g k at_i at_j)
 
     twice : (u : Bool) → u ≡ (u || u)
     twice true = refl

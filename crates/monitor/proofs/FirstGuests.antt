@@ -5,7 +5,8 @@ use Rattle.model_registers.specs.{Decoding.Function, Declarations.Endpoint}
 use Rattle.model_board.specs.{Paths.Path, Board.Board, State.State}
 use Rattle.model_guests.specs.{Text.Text, Slots.{Slots, reset_function}, World.{Guest as Declared, World, declared, HasLawfulGuests}, Guests.{GuestNow, GuestsNow, guest_at_first}}
 use Rattle.host_bridge.specs.HostState.{HostState}
-use Rattle.window_packing.{specs.Readies.board_below, proofs.BarLists.take_at}
+use Rattle.bridge_forward.proofs.RoutingRows.{take_at}
+use Rattle.window_packing.specs.Readies.{board_below}
 use Rattle.monitor.specs.{declared.guest.{AssignedFunction.AssignedFunction, Guest.Guest}, Keeping.{IsSlot, AreSlots, IsGuest, AreGuests}, Beginnings.AreSlotsAtFirst, Counts.counts_of}
 
 -- ---- one more

@@ -1,7 +1,7 @@
 -- Which accesses of a guest land on Command or on a base address register: those of configuration space alone.
 use Rattle.std.{proofs.{Common.{◌≡◌, ℕ, zero, suc, ◌+◌, Bool, false, ◌&&◌, not, [], ◌∷◌, Some, None, Option, refl, sym, ap, ◌∙◌, arith}, lemmas.Bool.Decides.nat_tests}, specs.{Prelude.is_some, Option.option_map_or}}
 use Rattle.lists.proofs.Tests.{and_false}
-use Rattle.model_registers.specs.{Registers.block, Decoding.{Space, io, memory, Hit}}
+use Rattle.model_registers.specs.{Registers.block, Decoding.{Space, io, memory}}
 use Rattle.model_guests.specs.{Accesses.{Target, access, configuration, port, address, Op, reads, writes}, Slots.{Slots, Landing, landing_from, fault_of}, Lone.{LoneGuest, Destination, own_latch, no_function, at_target, destination}}
 use Rattle.model_handoff.specs.{Located.landing_at, StayLaws.any_tells, Changes.{MachineNow, lands_own, moves_own}}
 use Rattle.monitor.specs.{ByIndex.lone_nth, Counts.{changes_at, after_access_nth, after_event_nth}, Reaches.target_in}
@@ -13,9 +13,6 @@ tells w o = option_map_or (λ (l : Landing). any_tells w l.place) o false
 in_block : (w n off : ℕ) → any_tells w (block n off) ≡ false
 in_block zero n off = refl
 in_block (suc w) n off = in_block w n (off + 1)
-
-abbrev hit_at : ℕ → Hit → Landing
-hit_at n h = record { slot = n; place = block h.index h.offset }
 
 in_regions : (w n : ℕ) (space : Space) (a : ℕ) (fs : Slots) → tells w (landing_from n space a fs) ≡ false
 in_regions w n space a [] = refl

@@ -5,7 +5,7 @@
 --     places_kept, few_slots      each function has the places that it declares, and there are 32 slots
 --     filled_bytes, empty_bytes, slot_size_is      the bytes of a slot with a function, and of one without
 --     filled_after, empty_after      bytes that are compared with such a slot
---     slots_go_on, slots_end, slots_done      with slots, one after the other
+--     slots_go_on, slots_end      with slots, one after the other
 --     header_ends, slots_decide      with a whole image
 --     fault_told      what is told of that
 --     image_put      an image that is put into a buffer, part by part
@@ -15,7 +15,7 @@ use Rattle.lists.{specs.Elements.Each, proofs.{EachLemmas.each_from_map, Members
 use Rattle.model_registers.specs.{Registers.{File, Place, PlacedCell}, EndpointTable.endpoint_reset, OwnCopies.{OwnCopies, own_file}, CopiedFiles.{copied, places_of, with_copies}, Decoding.Function}
 use Rattle.model_board.specs.{Paths.Path, Board.Board, AtReset.board_at, State.BoardFunction}
 use Rattle.model_guests.{specs.{Slots.Slots, Text.Text, Lone.LoneGuest, Guests.{GuestNow, lone_of}, WorldNow.WorldNow, Seated.AreSeats}, proofs.FoundFiles.same_places}
-use Rattle.model_images.specs.{Images.{Image, image_of_lone, image_of_guest}, Layouts.le_bytes, ImageBytes.{image_bytes, magic, version}, LoadedBytes.{Left, after_beginning, after_bytes, after_image, after_latch, after_slot, after_slots, at_end, fault_of, header, load_fault, then_read}}
+use Rattle.model_images.specs.{Images.{Image, image_of_lone, image_of_guest}, Layouts.le_bytes, ImageBytes.{image_bytes, magic, version}, LoadedBytes.{Left, after_beginning, after_bytes, after_image, after_latch, after_slot, after_slots, fault_of, header, load_fault, then_read}}
 use Rattle.images.{specs.{declared.fault.ImageFault.ImageFault, Faults.number_of, Puts.put, Shown.{HasDeclaredPlaces, after_filled, function_bytes, seen, slot_bytes}}, proofs.{Puts.next, ComparedFunctions.filled_is, ShownValues.guest_bytes}}
 use Rattle.host_bridge.specs.HostState.{HostState}
 use Rattle.monitor.{specs.{declared.guest.{AssignedFunction.AssignedFunction, Guest.Guest}, Views.{guests_shown, slot_shown}, ByIndex.{guest_nth, lone_nth, name_nth}, ShownImages.{HasPlaces, HavePlaces, lone_shown, slots_image}}, proofs.{Shown.is_shown, Steps.{GuestAt, lone_named, slots_count}, Reached.seated}}
@@ -103,9 +103,6 @@ module _ (fs : List BoardFunction) where
   pub slots_end : (o : Option AssignedFunction) (left others : List (Option AssignedFunction)) (bytes : List ℕ) (n : ℕ) → left ≡ o ∷ others → after_slot (slot_shown fs o) bytes ≡ Err n
       → after_slots (map (slot_shown fs) left) bytes ≡ Err n
   slots_end o left others bytes n first h = grind arith
-
-  pub slots_done : (left : List (Option AssignedFunction)) (bytes : List ℕ) → left ≡ [] → at_end bytes ≡ after_slots (map (slot_shown fs) left) bytes
-  slots_done left bytes none = sym (ap (λ (xs : List (Option AssignedFunction)). after_slots (map (slot_shown fs) xs) bytes) none)
 
 module _ (g : LoneGuest) (bytes : List ℕ) where
   pub header_ends : (n : ℕ) → after_beginning magic version bytes ≡ Err n → after_image g bytes ≡ Err n

@@ -1,16 +1,7 @@
 -- Where bytes that are refused stop to fit: slot after slot, and byte by byte.
-use Rattle.std.{proofs.{Common.{arith, ◌≡◌, ◌<◌, ◌≤◌, ◌+◌, ◌-◌, ◌/◌, ℕ, suc, true, false, List, [], ◌∷◌, Option, Some, None, Ok, Err, length, take, le_refl, sym, take_all, ap, ◌∙◌}, lemmas.{Bool.{eq-eqb, eqb-true}, Option.same_Some}}, specs.{Prelude.{map, ◌==◌}, Option.option_map_or}}
-use Rattle.model_board.specs.State.{BoardFunction}
+use Rattle.std.{proofs.{Common.{arith, ◌≡◌, ◌<◌, ◌≤◌, ◌+◌, ◌-◌, ◌/◌, ℕ, suc, true, false, List, [], ◌∷◌, Option, Some, None, length, take, le_refl, sym, take_all, ap, ◌∙◌}, lemmas.{Bool.{eq-eqb, eqb-true}, Option.same_Some}}, specs.{Prelude.{◌==◌}, Option.option_map_or}}
 use Rattle.model_guests.specs.Lone.{LoneGuest}
-use Rattle.model_images.specs.{LoadedBytes.{after_slot, load_fault}, Stops.{StopsAt, slots_read}}
-use Rattle.monitor.specs.{declared.guest.AssignedFunction.AssignedFunction, Views.slot_shown}
-
-module _ (fs : List BoardFunction) (o : Option AssignedFunction) (left others : List (Option AssignedFunction)) (bytes : List ℕ) (first : left ≡ o ∷ others) where
-  pub slots_go_on : (rest : List ℕ) → after_slot (slot_shown fs o) bytes ≡ Ok rest → slots_read (map (slot_shown fs) left) bytes ≡ suc (slots_read (map (slot_shown fs) others) rest)
-  slots_go_on rest h = grind arith
-
-  pub slots_stop : (k : ℕ) → after_slot (slot_shown fs o) bytes ≡ Err k → slots_read (map (slot_shown fs) left) bytes ≡ 0
-  slots_stop k h = grind arith
+use Rattle.model_images.specs.{LoadedBytes.load_fault, Stops.StopsAt}
 
 -- ---- halves
 

@@ -1,18 +1,15 @@
 -- A board that a monitor takes over: given functions at reset, one after the other.
-use Rattle.std.{proofs.{Common.{◌≡◌, ℕ, ◌+◌, Bool, List, [], ◌∷◌, ◌++◌, take, Option, Some, None, refl, sym, ap, ◌∙◌, rules, arith}, lemmas.List.{append-nil, Concat.flat_map-append, Folds.list_any-append}}, specs.{Prelude.{map, flat_map, find, option_map, slice_get}, List.list_any, Option.option_map_or}}
+use Rattle.std.{proofs.{Common.{◌≡◌, ℕ, ◌+◌, List, [], ◌∷◌, ◌++◌, take, Option, Some, None, refl, sym, ap, ◌∙◌, rules, arith}, lemmas.List.{append-nil, Concat.flat_map-append, Folds.list_any-append}}, specs.{Prelude.{map, flat_map, find, option_map, slice_get}, Option.option_map_or}}
 use Rattle.lists.proofs.{FirstFound.found_passes, Indices.at_map}
 use Rattle.model_registers.specs.{Declarations.Endpoint, Decoding.Function, CopiedFiles.after_reset}
 use Rattle.model_board.{specs.{Paths.{Path, path_eq}, Board.{endpoint, Board}, AtReset.board_at, State.{BoardFunction, with_file}}, proofs.PathOrder.path_same}
 use Rattle.model_guests.{specs.{World.{Guest, declared}, AgreedBoard.agreed_function}, proofs.Changes.agreed_twice}
 use Rattle.model_handoff.{specs.Handoffs.files_given, proofs.{First.one_given, Functions.path_stays, Keeping.rows_stay}}
-use Rattle.bridge_forward.specs.Lending.{as_endpoint, endpoint_at, with_endpoint_reset}
+use Rattle.bridge_forward.{specs.Lending.{as_endpoint, endpoint_at, with_endpoint_reset}, proofs.RoutingRows.take_at}
 use Rattle.host_bridge.specs.{ByIndex.with_reset_nth, HostState.{HostState, with_functions}}
-use Rattle.window_packing.{specs.Readies.board_below, proofs.BarLists.take_at}
+use Rattle.window_packing.specs.Readies.{board_below}
 
 -- ---- some paths, and then others
-
-abbrev among : List Path → Path → Bool
-among ps p = list_any (λ q. path_eq q p) ps
 
 pub files_joined : (b : Board) (ps qs : List Path) (fs : List BoardFunction) → map (agreed_function (files_given b qs)) (map (agreed_function (files_given b ps)) fs) ≡ map (agreed_function (files_given b (ps ++ qs))) fs
 files_joined b ps qs [] = refl

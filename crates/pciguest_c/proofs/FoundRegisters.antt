@@ -1,10 +1,8 @@
 -- Registers of a function that is found by its path.
 --     number_found      the number of some bytes, by the index at which it is found
---     own_value      Command among a guest's own copies
 use Rattle.std.{proofs.Common.{◌≡◌, ℕ, [], None, Some, Option, slice_get, refl, sym, arith}, specs.{Prelude.{find, option_and_then, option_map, unwrap_or}, Option.option_map_or}}
-use Rattle.model_registers.{specs.{Registers.{config, number, all_bytes}, OwnCopies.OwnCopies, Decoding.{Function, command_word}}, proofs.Parts.read_none}
+use Rattle.model_registers.{specs.{Registers.{config, number, all_bytes}}, proofs.Parts.read_none}
 use Rattle.model_board.specs.{Paths.{Path, path_eq}, Ports.file_at, State.{BoardFunction, State}}
-use Rattle.monitor.specs.OwnTold.{own_now}
 
 module _ (s t : State) (p : Path) (i : Option ℕ) (off w : ℕ) where
   abbrev held : Option BoardFunction → ℕ
@@ -17,7 +15,3 @@ module _ (s t : State) (p : Path) (i : Option ℕ) (off w : ℕ) where
   pub number_found : option_and_then (slice_get s.functions) i ≡ find (λ (f : BoardFunction). path_eq f.path p) s.functions → s ≡ t
       → held (option_and_then (slice_get s.functions) i) ≡ number (file_at t.functions p) (config off) w
   number_found found same = grind (arith, number_held)
-
-pub own_value : (o : Option Function) → option_map_or (λ (x : OwnCopies). x.command) (option_map own_now o) 0 ≡ option_map_or (λ (f : Function). command_word f.file) o 0
-own_value None = refl
-own_value (Some f) = refl

@@ -1,7 +1,7 @@
 -- A line of a session whose text is longer than a reply may be.
 --     otherwise      what is not false
 --     longer_told      the answer, where such a text was told
-use Rattle.std.{proofs.{Common.{◌≡◌, ◌-◌, ℕ, ◌≤◌, ◌<◌, Bool, true, false, length, drop, ap, ◌∙◌, refl, arith, inl, inr, Some, length-append, length-drop}, lemmas.Bool.Decides.nat_tests}, specs.Prelude.{nat_lt, nat_le, if◌then◌else◌}}
+use Rattle.std.{proofs.{Common.{◌≡◌, ◌-◌, ℕ, ◌≤◌, ◌<◌, Bool, true, false, length, ap, ◌∙◌, refl, arith, inl, inr, Some, length-append, length-drop}, lemmas.Bool.Decides.nat_tests}, specs.Prelude.{nat_lt, nat_le, if◌then◌else◌}}
 use Rattle.model_guests.specs.Text.{Text}
 use Rattle.model_lines.specs.Sessions.{SessionNow}
 use Rattle.pciguest_c.specs.{TextsTold.{IsTold, at_front}, Calls.{IsAnswer, settled, refusal, tells, text, reply, buffer, unless_out}}

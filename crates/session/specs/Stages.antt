@@ -2,7 +2,7 @@
 --     session_now stage      the session
 --     IsAtLine stage      what holds of it between lines: it is not within a handover
 --     board_in x, machine_in x      the board, where firmware drives it, and the guests, where they have it
---     IsDriven x, IsGiven x      which of the two it is
+--     IsDriven x      firmware drives the board
 --     asks_for_more x line      it asks something beside an access, while firmware drives the board
 use Rattle.std.specs.Prelude.{Bool, false, [], Option, None, Some, is_some, IsSome, ⊤}
 use Rattle.model_handoff.specs.Changes.{MachineNow}
@@ -32,9 +32,6 @@ machine_in (given m) = Some m
 
 abbrev pub IsDriven : SessionNow → Type 0
 IsDriven x = IsSome (board_in x)
-
-abbrev pub IsGiven : SessionNow → Type 0
-IsGiven x = IsSome (machine_in x)
 
 -- all other lines take no memory
 abbrev pub asks_for_more : SessionNow → Text → Bool

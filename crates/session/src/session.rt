@@ -1,10 +1,10 @@
 //! A session over a board.
-ghost use Rattle.std.specs.{Prelude.{◌≡◌, ◌≢◌, ◌++◌, [], ⊤, length, option_map, string_bytes, is_some, Ok, None, IsOk, IfOk, IfErr, IfSome, OnOk, OnErr, MatchResult, IsFalse}, Borrow.sem, Option.option_copied_mut};
+ghost use Rattle.std.specs.{Prelude.{◌≡◌, ◌≢◌, ◌++◌, [], ⊤, option_map, string_bytes, is_some, Ok, None, IsOk, IfOk, IfErr, IfSome, OnOk, OnErr, MatchResult, IsFalse}, Borrow.sem, Option.option_copied_mut};
 ghost use Rattle.model_guests.specs.{Text.Text, World.{World, IsLawfulWorld}};
 ghost use Rattle.model_lines.specs.Sessions.{driven, given, at_reset, session_functions, session_protocol, session_output, after_session_line};
 ghost use Rattle.lines.specs.Pieces.{IsBefore, with_more};
 ghost use Rattle.board_file.specs.{declared.fault.BoardFault.TheVariants.Memory, Faults.number_of as file_number};
-ghost use Rattle.session.specs.{Files.{Declares, Refuses}, Boards.{IsHandedOverAs, IsRefusalOf}, Questions.{told_by, counted_by}, Refusals.refusal_in, Stages.{board_in, machine_in, asks_for_more, IsDriven, IsGiven}};
+ghost use Rattle.session.specs.{Files.{Declares, Refuses}, Boards.{IsHandedOverAs, IsRefusalOf}, Questions.{told_by, counted_by}, Refusals.refusal_in, Stages.{board_in, machine_in, asks_for_more}};
 
 use crate::asking::meant;
 use crate::board::Board;

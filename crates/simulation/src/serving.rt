@@ -1,6 +1,6 @@
 //! The `firmware`, `audit` and `ready` commands: a session on the board of a board file, and the
 //! report after its lines.
-ghost use Rattle.std.specs.{Prelude.{◌≡◌, ◌+◌, ◌-◌, ◌^◌, ◌<◌, ◌⊎◌, string_bytes, is_some, IfOk, IfErr, IsErrOf, IsTrue, OnOk}, Io.KnownBytes.Appends};
+ghost use Rattle.std.specs.{Prelude.{◌≡◌, ◌+◌, ◌-◌, ◌^◌, ◌<◌, ◌⊎◌, is_some, IfOk, IfErr, IsErrOf, IsTrue, OnOk}, Io.KnownBytes.Appends};
 ghost use Rattle.model_lines.specs.Sessions.{session_functions};
 ghost use Rattle.streams.specs.Ends.{AppendsPart};
 ghost use Rattle.lines.specs.Runs.{ends};

@@ -1,9 +1,10 @@
 -- The regions of base address registers, register by register.
-use Rattle.std.{proofs.{Common.{◌≡◌, ℕ, zero, suc, ◌+◌, ◌||◌, List, [], ◌∷◌, ◌++◌, length, map, take, Option, Some, None, refl, sym, ap, ◌∙◌, subst, arith, inr, ◌<◌, ap₂}, lemmas.{Option.{get_or_from_slice_get, slice_get_within}, List.{take_more, length-take-le, take_more_set, map-append}}}, specs.List.{list_any, slice_get, slice_set}}
+use Rattle.std.{proofs.{Common.{◌≡◌, ℕ, zero, suc, ◌+◌, ◌||◌, List, [], ◌∷◌, ◌++◌, length, map, take, Option, Some, None, refl, sym, ap, ◌∙◌, subst, arith, inr, ◌<◌, ap₂}, lemmas.{Option.slice_get_within, List.{length-take-le, take_more_set, map-append}}}, specs.List.{list_any, slice_get, slice_set}}
 use Rattle.model_registers.specs.{Declarations.{Bar, Region}, Decoding.{Space, same_space, space_of}, EndpointTable.BaseAddress}
 use Rattle.lists.specs.Elements.{IsIn}
 use Rattle.model_set_up.specs.Pools.{is_io}
 use Rattle.bars.specs.{declared.region.BarWithBase.BarWithBase, Slots.bases_from}
+use Rattle.bridge_forward.proofs.RoutingRows.{bases_push, take_at}
 use Rattle.window_packing.specs.{Packs.regions_from, Placed.{is_bar_in, is_port}}
 
 pub any_in_space : (space : Space) (n : ℕ) (bars : List (Option Bar)) → list_any (is_bar_in space) bars ≡ list_any (λ (r : Region). same_space (space_of r.kind) space) (regions_from n bars)
@@ -24,11 +25,6 @@ regions_push n [] o = let z : n ≡ n + 0 = omega arith in ap (λ m. regions_fro
 regions_push n (None ∷ bars) o = regions_push (n + 1) bars o ∙ ap (λ m. regions_from (n + 1) bars ++ regions_from m (o ∷ [])) (step n (length bars))
 regions_push n (Some bar ∷ bars) o = ap (λ rs. record { index = n; kind = bar.kind; size = bar.size; cells = [] } ∷ rs) (regions_push (n + 1) bars o ∙ ap (λ m. regions_from (n + 1) bars ++ regions_from m (o ∷ [])) (step n (length bars)))
 
-pub bases_push : (n : ℕ) (slots : List (Option BarWithBase)) (o : Option BarWithBase) → bases_from n (slots ++ o ∷ []) ≡ bases_from n slots ++ bases_from (n + length slots) (o ∷ [])
-bases_push n [] o = let z : n ≡ n + 0 = omega arith in ap (λ m. bases_from m (o ∷ [])) z
-bases_push n (None ∷ slots) o = bases_push (n + 1) slots o ∙ ap (λ m. bases_from (n + 1) slots ++ bases_from m (o ∷ [])) (step n (length slots))
-bases_push n (Some x ∷ slots) o = ap (λ rs. record { index = n; kind = x.decl.kind; size = x.decl.size; base = x.base } ∷ rs) (bases_push (n + 1) slots o ∙ ap (λ m. bases_from (n + 1) slots ++ bases_from m (o ∷ [])) (step n (length slots)))
-
 -- the region of one register is among all
 pub region_among : (n : ℕ) (bars : List (Option Bar)) (k : ℕ) (o : Option Bar) → slice_get bars k ≡ Some o → (r : Region) → IsIn r (regions_from (n + k) (o ∷ [])) → IsIn r (regions_from n bars)
 region_among n [] k o e r m = absurd (cc)
@@ -37,9 +33,6 @@ region_among n (None ∷ bars) (suc k) o e r m = region_among (n + 1) bars k o e
 region_among n (Some b ∷ bars) (suc k) o e r m = inr (region_among (n + 1) bars k o e r (subst (λ j. IsIn r (regions_from j (o ∷ []))) (sym (step n k)) m))
 
 -- ---- one more
-
-pub take_at : {A : Type 0} (xs : List A) (i : ℕ) (x : A) → slice_get xs i ≡ Some x → take (i + 1) xs ≡ take i xs ++ x ∷ []
-take_at xs i x e = take_more xs i x (slice_get_within xs i x e) ∙ ap (λ z. take i xs ++ z ∷ []) (get_or_from_slice_get xs i x x e)
 
 pub push_told : (f : Region → BaseAddress) (bars : List (Option Bar)) (bases : List (Option BarWithBase)) (i : ℕ) (y : Option BarWithBase) (o : Option Bar) → length bases ≡ length bars → slice_get bars i ≡ Some o
     → bases_from 0 (take i bases) ≡ map f (regions_from 0 (take i bars)) → bases_from i (y ∷ []) ≡ map f (regions_from i (o ∷ [])) → bases_from 0 (take (i + 1) (slice_set bases i y)) ≡ map f (regions_from 0 (take (i + 1) bars))

@@ -16,9 +16,6 @@ strict_from : (n : ℕ) (is : List PlacementItem) → EachPair Strictly is → A
 strict_from n [] h = tt
 strict_from n (i ∷ is) h = (strict_each i (round_up i.align n + i.size) is h.0, strict_from (round_up i.align n + i.size) is h.1)
 
-abbrev Cases : ℕ → List PlacedItem → Type 0
-Cases n ts = (n ≡ 0) ⊎ ((t : PlacedItem) × IsIn t ts × (n ≡ t.first))
-
 -- what is found, or 0
 offset_cases : (ss : List PlacedItem) (p : Part) (w : Placed) → (offset_in ss p w ≡ 0) ⊎ ((s : PlacedItem) × IsIn s ss × (offset_in ss p w ≡ s.first))
 offset_cases [] p w = inl refl

@@ -1,6 +1,5 @@
 //! The regions and windows that the functions of a bus need on that bus.
 ghost use Rattle.std.specs.Prelude.{◌≡◌, ◌++◌, ◌≤◌, ◌^◌, List, [], ◌∷◌, IfOk};
-ghost use Rattle.lists.specs.Texts.{Adds};
 ghost use Rattle.model_registers.specs.Declarations.{Bridge};
 ghost use Rattle.window_packing.specs.{Plans.named_pool, Packs.{IsOver, pool_items, regions_from, window_of, own_items}};
 ghost use Rattle.model_set_up.specs.Pools.{unit_of};

@@ -4,7 +4,7 @@ ghost use Rattle.model_registers.specs.Apertures.{Aperture as ApertureValue, IsL
 ghost use Rattle.lists.specs.Elements.{Each, EachPair};
 ghost use Rattle.model_board.specs.{Board.{Board, IsBoard}, Lawful.HasLawfulDecls};
 ghost use Rattle.model_set_up.specs.{FunctionTable.board_in, Pools.aperture_of, Placement.{a_window, stands_before, is_item, offset_in, round_up, aperture_end, fits, bus_first}};
-ghost use Rattle.bus_scan.specs.declared.fault.Fault.{TheVariants.Memory, Fault as FaultValue};
+ghost use Rattle.bus_scan.specs.declared.fault.Fault.TheVariants.{Memory};
 ghost use Rattle.window_packing.specs.{Plans.{named_pool, fault_of}, Buses.AreAbove, Packs.{pack_of, packs_of, IsBounded}, Placed.{bus_paths, IsPlaced, pool_in}};
 
 use crate::bus_packs::pack_pool;

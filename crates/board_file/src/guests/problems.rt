@@ -1,5 +1,5 @@
 //! Checks of guests.
-ghost use Rattle.std.specs.{Prelude.{◌≡◌, OnOk, flat_map}, List.enumerate_from};
+ghost use Rattle.std.specs.{Prelude.{OnOk, flat_map}, List.enumerate_from};
 ghost use Rattle.board_file.specs.{EntryRules.guest_rules, Problems.{Adds, broken, of_guest}};
 
 use crate::entries::{FileEntries, GuestEntry};

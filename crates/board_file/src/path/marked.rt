@@ -133,7 +133,8 @@ pub(crate) fn marked_paths<'f, 'a>(
     file: &'f FileEntries<'a>,
     fault: BoardFault,
 ) -> Result<Vec<MarkedPath<'f, 'a>>, AllocError>
-    ensures { IfOk result (λ v. v.items ≡ said.mark_duplicates (said.path_texts fault file.now)) }
+    ensures { IfOk result (λ v.
+        v.items ≡ said.mark_duplicates (said.path_texts fault file.now)) }
 {
     mark_duplicates(alloc, path_texts(alloc, file, fault)?)
 }

@@ -55,8 +55,6 @@ fn byte_at(held: &AssignedFunction, place: Place, off: u64) -> BarOffset
 }
 
 impl<R: Route> Engine<R> {
-    ghost use Rattle.monitor.specs.{Views.{texts, machine_shown}, Keeping.IsSound};
-
     /// Reads or writes one byte of a region of a guest's function, as the guest does through the
     /// byte's address. While Command disables the region, a read returns all ones and a write is
     /// dropped. Each byte can be reached, even if the guest's regions overlap. Refuses with 303 if

@@ -57,8 +57,6 @@ fn reached(
 }
 
 impl<R: Route> Engine<R> {
-    ghost use Rattle.monitor.specs.{Views.{texts, machine_shown}, Keeping.IsSound};
-
     /// Returns a byte of a guest's function as its device reads it. An undeclared byte reads as 0.
     /// Refuses with 303 if the slot is above 31, else with 601 if it is empty, else with 303 for a
     /// configuration offset that is neither 6, 7, 34h nor 40h to FFh, a base address register at

@@ -1,5 +1,5 @@
 //! Disabled regions, which prevent a handover of their functions.
-ghost use Rattle.std.specs.{Prelude.{◌≡◌, not, map, filter, find, flat_map, option_map, slice_get, IfOk}, List.list_any};
+ghost use Rattle.std.specs.{Prelude.{◌≡◌, not, map, filter, flat_map, slice_get, IfOk}, List.list_any};
 ghost use Rattle.model_registers.specs.Decoding.{opens_space};
 ghost use Rattle.model_board.specs.{Paths.path_eq, Routing.routing};
 ghost use Rattle.model_guests.specs.World.{Guest as GuestValue};

@@ -1,5 +1,5 @@
 //! Reasons to refuse a handover, and the checks before it.
-ghost use Rattle.std.specs.Prelude.{◌≡◌, None, IfOk, IfNone, IfSome, map, option_map, slice_get};
+ghost use Rattle.std.specs.Prelude.{◌≡◌, None, IfOk, IfNone, IfSome, option_map, slice_get};
 ghost use Rattle.model_findings.specs.Problems.{problems};
 ghost use Rattle.model_handoff.specs.Regions.{first_fault};
 ghost use Rattle.findings.specs.Findings.{problem_of};

@@ -5,7 +5,7 @@ ghost use Rattle.model_registers.specs.{Declarations.HasLawfulRegions, EndpointT
 ghost use Rattle.model_board.specs.Paths.{Path as PathValue};
 ghost use Rattle.model_findings.specs.Orderly.{IsStateOfBoard};
 ghost use Rattle.model_guests.specs.{World.{Guest as GuestValue, names, HasLawfulGuests, declared}, Slots.reset_function, Guests.guests_at_first};
-ghost use Rattle.bars.specs.Resets.{at_reset, with_no_base};
+ghost use Rattle.bars.specs.Resets.{with_no_base};
 ghost use Rattle.bridge_forward.specs.BasesNow.{bases_nth};
 ghost use Rattle.window_packing.specs.Readies.{board_below};
 ghost use Rattle.monitor.specs.{Views.texts, Counts.counts_of, Keeping.{IsHeld, IsSlot, AreGuests}, Beginnings.{world_on, declared_in, IsStanding, AreSlotsAtFirst}};

@@ -14,8 +14,6 @@ use host_bridge::Route;
 use paths::Path;
 
 impl<R: Route> Engine<R> {
-    ghost use Rattle.monitor.specs.{Views.{texts, machine_shown}, Keeping.IsSound};
-
     /// Assigns the unassigned function at a path to an empty slot of a guest, and resets it. On the
     /// board, the registers that guests have copies of aren't reset. Refuses with 303 if the slot
     /// is above 31, else with 303 if there is no endpoint at the path, else with 602 if the

@@ -12,8 +12,6 @@ use accesses::Reply;
 use host_bridge::Route;
 
 impl<R: Route> Engine<R> {
-    ghost use Rattle.monitor.specs.{Views.{texts, machine_shown}, Keeping.IsSound};
-
     /// Resets all registers of the function in a guest's slot. Refuses with 303 if the slot is
     /// above 31, else with 601 if it is empty. A refusal changes nothing. Allocates no memory.
     pub fn reset(&mut self, guest: usize, slot: u64) -> Reply

@@ -67,8 +67,6 @@ pub(crate) fn restart(host: &mut Host, guests: &mut [Guest], guest: usize)
 }
 
 impl<R: Route> Engine<R> {
-    ghost use Rattle.monitor.specs.{Views.{texts, machine_shown}, Keeping.IsSound};
-
     /// Resets all functions in a guest's slots, and clears the guest's CONFIG_ADDRESS. Adds one to
     /// the guest's change count. Allocates no memory.
     pub fn reset_guest(&mut self, guest: usize)

@@ -1,4 +1,4 @@
-use Rattle.std.{proofs.Common.{◌≡◌, Ordering, Less, Equal, arith, ap, sym, ◌∙◌}, specs.Ordering.{is_eq, is_lt}}
+use Rattle.std.{proofs.Common.{◌≡◌, Ordering, Equal, arith, ap, sym, ◌∙◌}, specs.Ordering.{is_eq, is_lt}}
 use Rattle.model_board.specs.Paths.{Path, path_eq, path_before}
 use Rattle.paths.specs.{PathOrders.path_cmp, PathLaws.{paths_tied, paths_before}}
 use Rattle.bridge_forward.proofs.Halving.{here, below_here, above_here, nowhere}

@@ -1,4 +1,4 @@
-use Rattle.std.proofs.Common.{◌≡◌, ap, ◌∙◌, arith}
+use Rattle.std.proofs.Common.{arith}
 use Rattle.bars.specs.Kinds.{named_space}
 use Rattle.findings.proofs.HeldRegions.{why_by_rows}
 use Rattle.findings.proofs.address_why.why_address.Goals as goal

@@ -2,7 +2,8 @@ use Rattle.std.{proofs.Common.{◌≡◌, ℕ, List, [], ◌∷◌, ◌++◌, So
 use Rattle.model_board.specs.{Paths.last_part, Board.Row, Cycles.BusAddress}
 use Rattle.model_set_up.specs.{Reach.address_of, SetUpWrites.{RegisterValues, FunctionProgram, writes_of, settings}, FunctionTable.{TableRow, found_decl, table_row, board_in, sized_table}}
 use Rattle.lists.proofs.Indices.{read_at, same_at, map_at}
-use Rattle.window_packing.proofs.{BarLists.take_at, BusIndex.row_in}
+use Rattle.bridge_forward.proofs.RoutingRows.{take_at}
+use Rattle.window_packing.proofs.BusIndex.{row_in}
 use Rattle.window_packing.proofs.settings.all_settings.Goals as goal
 
 pub loop-i-preserved : goal.loop-i-preserved

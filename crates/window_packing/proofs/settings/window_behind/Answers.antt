@@ -1,5 +1,5 @@
 use Rattle.std.proofs.Common.{rules, ◌≡◌, ◌+◌, get_or, ap, ◌∙◌, arith}
-use Rattle.model_set_up.specs.{SetUp.window_of, FunctionTable.board_in}
+use Rattle.model_set_up.specs.FunctionTable.{board_in}
 use Rattle.lists.proofs.Indices.{at_below}
 use Rattle.window_packing.{specs.Placed.PlacedPool, proofs.{AboveRows.length_board, PlacedFunctions.{behind_first_is, behind_pack, window_some, window_room}}}
 use Rattle.window_packing.proofs.settings.window_behind.Goals as goal
