@@ -10,7 +10,7 @@ use config_bytes::{Op, all_ones};
 
 /// Returns the first failed check: the width is 1, 2 or 4, the offset, port or address is a
 /// multiple of the width, and it is in range.
-fn first_fault(width: u64, number: u64, is_out_of_range: bool) -> Option<Refusal>
+fn first_failed_check(width: u64, number: u64, is_out_of_range: bool) -> Option<Refusal>
     ensures { option_map number_of result ≡ access_fault width number is_out_of_range }
 {
     // One arm for each width: a remainder by a constant compiles to a mask, by a variable to a slow
@@ -61,7 +61,7 @@ impl Access {
     pub fn fault(&self) -> Option<Refusal>
         ensures { option_map number_of result ≡ fault_of (access_of self.now) }
     {
-        first_fault(self.width, self.at.number(), self.at.is_out_of_range())
+        first_failed_check(self.width, self.at.number(), self.at.is_out_of_range())
     }
 }
 
@@ -94,13 +94,13 @@ impl HostAccess {
     pub fn fault(&self) -> Option<Refusal>
         ensures { option_map number_of result ≡ host_fault (host_access_of self.now) }
     {
-        first_fault(self.width, self.at.number(), self.at.is_out_of_range())
+        first_failed_check(self.width, self.at.number(), self.at.is_out_of_range())
     }
 }
 
 /// Returns the reply to an unclaimed access, as after a master abort: a read returns all ones, and
 /// a write is dropped.
-pub fn master_abort(op: Op, width: u64) -> Reply
+pub fn master_abort_reply(op: Op, width: u64) -> Reply
     requires { IsWidth width }
     ensures reply { reply_of result ≡ perform (op_of op) width [] None }
     ensures shown { IsShown result }

@@ -9,7 +9,7 @@ mod guest;
 mod refusal;
 
 pub use access::{Access, At, HostAccess, HostAt, Reply};
-pub use checks::master_abort;
+pub use checks::master_abort_reply;
 pub use config_bytes::Op;
 pub use guest::{GuestDecl, Names};
 pub use headers::Place;

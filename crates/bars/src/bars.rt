@@ -58,8 +58,8 @@ impl Bars {
         ensures word { result ≡ read (base_file self.now) (base_register reg) (lanes enables) }
         ensures lawful { HasLawfulBases self.now }
     {
-        match self.slots.part_at(reg) {
-            Some(part) => (part.region.shown() >> part.shift
+        match self.slots.find_bar_of_register(reg) {
+            Some(part) => (part.region.register_value() >> part.shift
                 & u64::from(enabled_bits(enables))) as u32,
             None => 0,
         }
@@ -73,13 +73,13 @@ impl Bars {
             ≡ write (lanes enables) value (base_register reg) (base_file self.old) }
         ensures regions { map opened self.new ≡ map opened self.old }
     {
-        if let Some(part) = self.slots.part_at(reg) {
+        if let Some(part) = self.slots.find_bar_of_register(reg) {
             let value = u64::from(value) << part.shift;
             let enabled = u64::from(enabled_bits(enables)) << part.shift;
             let region = part.region.written(value, enabled);
             // The extents only change if the region's base does.
             if region.base != part.region.base {
-                self.slots.put(part.slot, region);
+                self.slots.store_region(part.slot, region);
             }
         }
     }
@@ -91,7 +91,7 @@ impl Bars {
             ≡ first_hit (command_cells command
             ++ base_file self.now) (map opened self.now) (named_space space) addr }
     {
-        if self.slots.is_outside(space, addr) {
+        if self.slots.is_outside_extents(space, addr) {
             return None;
         }
         if command & space.command_bit() == 0 {

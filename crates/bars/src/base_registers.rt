@@ -79,13 +79,18 @@ fn first_hit(regions: &[Option<BarWithBase>; 6], space: Space, addr: u64) -> Opt
 }
 
 /// Returns the extent of the regions in `space` that overlap addresses `first` to `last`.
-fn extent_in(regions: &[Option<BarWithBase>; 6], space: Space, first: u64, last: u64) -> Extent
+fn extent_of_overlapping(
+    regions: &[Option<BarWithBase>; 6],
+    space: Space,
+    first: u64,
+    last: u64,
+) -> Extent
     ensures { IsExtent (named_space space) first last regions.now result }
 {
     let mut extent = Extent::empty();
     for reg in 0..6 {
         if let Some(region) = regions[reg] {
-            extent = extent.with(space, first, last, region);
+            extent = extent.widened_by_overlapping(space, first, last, region);
         }
     }
     extent
@@ -97,10 +102,10 @@ fn extents_of(regions: &[Option<BarWithBase>; 6]) -> Extents
 {
     let below_4_gb = u64::from(u32::MAX);
     Extents {
-        io: extent_in(regions, Space::Io, 0, u64::MAX),
-        mem: extent_in(regions, Space::Mem, 0, u64::MAX),
-        low: extent_in(regions, Space::Mem, 0, below_4_gb),
-        high: extent_in(regions, Space::Mem, below_4_gb + 1, u64::MAX),
+        io: extent_of_overlapping(regions, Space::Io, 0, u64::MAX),
+        mem: extent_of_overlapping(regions, Space::Mem, 0, u64::MAX),
+        low: extent_of_overlapping(regions, Space::Mem, 0, below_4_gb),
+        high: extent_of_overlapping(regions, Space::Mem, below_4_gb + 1, u64::MAX),
     }
 }
 
@@ -126,7 +131,7 @@ impl BaseRegisters {
     /// Returns the part of a BAR that register `reg` reads: the lower half or the only register of
     /// the region at this index, or the upper half of the 64-bit region one index below. Returns
     /// `None` if the register is unused.
-    pub fn part_at(&self, reg: u8) -> Option<ShownPart>
+    pub fn find_bar_of_register(&self, reg: u8) -> Option<ShownPart>
         requires { reg < 6 }
         ensures used { IfSome result (IsPartAt self.now reg) }
         ensures unused { IfNone result (IsUnused self.now reg) }
@@ -141,7 +146,7 @@ impl BaseRegisters {
         }
         if slot > 0
             && let Some(region) = self.regions[slot - 1]
-            && region.decl.kind().is_wide()
+            && region.decl.kind().uses_two_registers()
         {
             return Some(ShownPart {
                 slot: slot - 1,
@@ -153,7 +158,7 @@ impl BaseRegisters {
     }
 
     /// Stores a region at the index of its first register, and updates the extents.
-    pub fn put(&mut self, slot: usize, region: BarWithBase)
+    pub fn store_region(&mut self, slot: usize, region: BarWithBase)
         requires { slot < 6 }
         ensures { self.new ≡ slice_set self.old slot (Some region) }
     {
@@ -162,7 +167,7 @@ impl BaseRegisters {
     }
 
     /// Returns whether `addr` is outside the extent of its space, and so in no region.
-    pub fn is_outside(&self, space: Space, addr: u64) -> bool
+    pub fn is_outside_extents(&self, space: Space, addr: u64) -> bool
         ensures { IsTrue result → hit_from (named_space space) addr 0 self.now ≡ None }
     {
         self.extents.is_outside(space, addr)

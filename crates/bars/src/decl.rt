@@ -65,17 +65,17 @@ impl Kind {
     }
 
     /// Returns whether the BAR uses two registers.
-    pub fn is_wide(self) -> bool
+    pub fn uses_two_registers(self) -> bool
         ensures { result ≡ (registers_of (kind_of self) == 2) }
     {
         matches!(self, Kind::Mem64 { pref: _ })
     }
 
     /// Returns a mask that covers the whole BAR: the low 32 bits, or all 64 bits for a 64-bit BAR.
-    pub fn base_bits(self) -> u64
+    pub fn bar_width_mask(self) -> u64
         ensures { result ≡ 2 ^ base_width (kind_of self) - 1 }
     {
-        if self.is_wide() {
+        if self.uses_two_registers() {
             u64::MAX
         } else {
             0xffff_ffff
@@ -95,7 +95,7 @@ impl Kind {
     }
 
     /// Returns the minimum and maximum region size of this kind, in bytes.
-    pub fn limits(self) -> (u64, u64)
+    pub fn size_limits(self) -> (u64, u64)
         ensures least { result.0 ≡ least_size (kind_of self) }
         ensures greatest { result.1 ≡ greatest_size (kind_of self) }
     {
@@ -134,7 +134,7 @@ impl BarDecl {
         ensures taken { IsOk result ↔ IsLawfulSize (kind_of kind) size }
         ensures declared { IfOk result (λ b. b ≡ record { kind = kind_of kind; size = size }) }
     {
-        let (least, greatest) = kind.limits();
+        let (least, greatest) = kind.size_limits();
         if size < least {
             return Err(BarFault::TooSmall);
         }

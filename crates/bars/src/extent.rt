@@ -44,7 +44,13 @@ impl Extent {
 
     /// Returns the extent widened by `region`, if the region is in `space` and overlaps addresses
     /// `first` to `last`.
-    pub fn with(self, space: Space, first: u64, last: u64, region: BarWithBase) -> Extent
+    pub fn widened_by_overlapping(
+        self,
+        space: Space,
+        first: u64,
+        last: u64,
+        region: BarWithBase,
+    ) -> Extent
         ensures wider { (a : ℕ) → IsOutside result a → IsOutside self a }
         ensures holds { (a : ℕ) → first ≤ a → a ≤ last → IsOutside result a →
             offset_in (named_space space) a region ≡ None }

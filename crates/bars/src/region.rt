@@ -14,7 +14,7 @@ pub struct BarWithBase {
 
 impl BarWithBase {
     /// Returns the value that the BAR reads, as one integer: the base address and the type bits.
-    pub fn shown(&self) -> u64
+    pub fn register_value(&self) -> u64
         requires { IsLawfulBase (placed 0 self.now) }
         ensures { result ≡ shown (placed 0 self.now) }
     {
@@ -27,7 +27,7 @@ impl BarWithBase {
         requires { IsLawfulBase (placed 0 self) }
         ensures { result ≡ record self { base = rebased (placed 0 self) value enabled } }
     {
-        let writable = self.decl.kind().base_bits() - (self.decl.size() - 1);
+        let writable = self.decl.kind().bar_width_mask() - (self.decl.size() - 1);
         let mask = writable & enabled;
         BarWithBase {
             base: (self.base & !mask) | (value & mask),

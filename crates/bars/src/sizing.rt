@@ -6,7 +6,7 @@ ghost use Rattle.bars.specs.Kinds.{kind_of, named_bar};
 use crate::decl::{BarDecl, Kind};
 
 /// Decodes the type bits of a region's first register. Returns `None` for reserved types.
-fn kind_shown(low: u32) -> Option<Kind>
+fn kind_of_type_bits(low: u32) -> Option<Kind>
     ensures shown { IfSome result (λ k. low % least_size (kind_of k) ≡ type_bits (kind_of k)) }
     ensures found { (k : model_kind) → low % least_size k ≡ type_bits k →
         option_map kind_of result ≡ Some k }
@@ -24,10 +24,10 @@ fn kind_shown(low: u32) -> Option<Kind>
 }
 
 /// Joins the values of a BAR's registers into one integer.
-fn joined(kind: Kind, low: u32, high: u32) -> u64
+fn join_registers(kind: Kind, low: u32, high: u32) -> u64
     ensures { result ≡ (if registers_of (kind_of kind) == 2 then high * 2 ^ 32 + low else low) }
 {
-    if kind.is_wide() {
+    if kind.uses_two_registers() {
         (u64::from(high) << 32) | u64::from(low)
     } else {
         u64::from(low)
@@ -43,10 +43,10 @@ pub fn size_of_mask(low: u32, high: u32) -> Option<(Kind, u64)>
     ensures found { (b : Bar) → IsLawfulSize b.kind b.size → ShowsSize b low high
         → option_map named_bar result ≡ Some b }
 {
-    let kind = kind_shown(low)?;
-    let base = joined(kind, low, high) - u64::from(kind.type_bits());
+    let kind = kind_of_type_bits(low)?;
+    let base = join_registers(kind, low, high) - u64::from(kind.type_bits());
     // The two's complement, which is 0 if no base bit is set. No kind allows size 0.
-    let size = (kind.base_bits() - base).wrapping_add(1);
+    let size = (kind.bar_width_mask() - base).wrapping_add(1);
     match BarDecl::new(kind, size) {
         Ok(_) => Some((kind, size)),
         Err(_) => None,

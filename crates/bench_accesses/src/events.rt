@@ -1,7 +1,7 @@
 //! Timing of a guest's accesses.
 ghost use Rattle.std.specs.Prelude.{◌≡◌, ◌<◌, ◌≤◌, length};
 
-use crate::row::{CALLS, show};
+use crate::row::{CALLS, print_ns_per_call_and_sum};
 use monitor::{Access, At, Monitor, Op, Reply};
 use std::io;
 use std::rt::Clock;
@@ -9,7 +9,7 @@ use std::time::Instant;
 
 /// Performs a 4-byte access of the first guest. Returns the value read, or 0 for a write or a
 /// refusal.
-fn ask(monitor: &mut Monitor, at: At, op: Op) -> u32
+fn access_first_guest(monitor: &mut Monitor, at: At, op: Op) -> u32
     requires { 0 < length monitor.old.world.guests }
     ensures { length monitor.new.world.guests ≡ length monitor.old.world.guests }
 {
@@ -22,18 +22,18 @@ fn ask(monitor: &mut Monitor, at: At, op: Op) -> u32
 
 /// Returns whether a memory region begins at a base address register, by writing all ones and
 /// reading the register.
-fn is_of_memory(monitor: &mut Monitor, register: At) -> bool
+fn is_memory_bar(monitor: &mut Monitor, register: At) -> bool
     requires { 0 < length monitor.old.world.guests }
     ensures { length monitor.new.world.guests ≡ length monitor.old.world.guests }
 {
-    ask(monitor, register, Op::Write(u32::MAX));
-    let shown = ask(monitor, register, Op::Read);
+    access_first_guest(monitor, register, Op::Write(u32::MAX));
+    let shown = access_first_guest(monitor, register, Op::Read);
     shown != 0 && shown % 2 == 0
 }
 
 /// Programs the first memory region of the function in a slot with an address and enables it, as a
 /// guest's driver does.
-fn open_region(monitor: &mut Monitor, slot: u64, base: u32)
+fn enable_first_memory_bar(monitor: &mut Monitor, slot: u64, base: u32)
     requires { 0 < length monitor.old.world.guests }
     ensures { length monitor.new.world.guests ≡ length monitor.old.world.guests }
 {
@@ -42,10 +42,10 @@ fn open_region(monitor: &mut Monitor, slot: u64, base: u32)
             slot,
             off: 0x10 + 4 * register,
         };
-        if is_of_memory(monitor, at) {
-            ask(monitor, at, Op::Write(base));
+        if is_memory_bar(monitor, at) {
+            access_first_guest(monitor, at, Op::Write(base));
             let command = At::Config { slot, off: 0x04 };
-            ask(monitor, command, Op::Write(0b10));
+            access_first_guest(monitor, command, Op::Write(0b10));
             return;
         }
     }
@@ -53,30 +53,30 @@ fn open_region(monitor: &mut Monitor, slot: u64, base: u32)
 
 /// Returns the address for the region of a slot: 64 MB for slot 0, and 64 MB more for each further
 /// slot.
-fn base_of(slot: u8) -> u32
+fn region_base_of_slot(slot: u8) -> u32
     requires { slot < 32 }
 {
     (1 + u32::from(slot)) << 26
 }
 
 /// Enables a region for each slot below a count, and writes to its first sixteen words.
-fn open_all(monitor: &mut Monitor, slots: u8)
+fn enable_and_fill_regions(monitor: &mut Monitor, slot_count: u8)
     requires guest { 0 < length monitor.old.world.guests }
-    requires slots { slots ≤ 32 }
+    requires slot_count { slot_count ≤ 32 }
     ensures { length monitor.new.world.guests ≡ length monitor.old.world.guests }
 {
-    for slot in 0..slots {
-        let base = base_of(slot);
-        open_region(monitor, u64::from(slot), base);
+    for slot in 0..slot_count {
+        let base = region_base_of_slot(slot);
+        enable_first_memory_bar(monitor, u64::from(slot), base);
         for word in 0..16 {
             let addr = u64::from(base) + 4 * word;
-            ask(monitor, At::Mem { addr }, Op::Write(0x0101_0101));
+            access_first_guest(monitor, At::Mem { addr }, Op::Write(0x0101_0101));
         }
     }
 }
 
 /// Reads configuration words of the function in a slot, and returns their sum.
-fn read_configuration(monitor: &mut Monitor, slot: u8) -> u64
+fn sum_config_reads(monitor: &mut Monitor, slot: u8) -> u64
     requires { 0 < length monitor.old.world.guests }
     ensures { length monitor.new.world.guests ≡ length monitor.old.world.guests }
 {
@@ -86,62 +86,62 @@ fn read_configuration(monitor: &mut Monitor, slot: u8) -> u64
             slot: u64::from(slot),
             off: call % 4 * 4,
         };
-        sum = sum.wrapping_add(u64::from(ask(monitor, at, Op::Read)));
+        sum = sum.wrapping_add(u64::from(access_first_guest(monitor, at, Op::Read)));
     }
     sum
 }
 
 /// Reads memory words in the region of a slot, and returns their sum.
-fn read_memory(monitor: &mut Monitor, slot: u8) -> u64
+fn sum_memory_reads(monitor: &mut Monitor, slot: u8) -> u64
     requires guest { 0 < length monitor.old.world.guests }
     requires slot { slot < 32 }
     ensures { length monitor.new.world.guests ≡ length monitor.old.world.guests }
 {
-    let base = u64::from(base_of(slot));
+    let base = u64::from(region_base_of_slot(slot));
     let mut sum: u64 = 0;
     for call in 0..CALLS {
         let addr = base + call % 16 * 4;
-        sum = sum.wrapping_add(u64::from(ask(monitor, At::Mem { addr }, Op::Read)));
+        sum = sum.wrapping_add(u64::from(access_first_guest(monitor, At::Mem { addr }, Op::Read)));
     }
     sum
 }
 
 /// Writes memory words in the region of a slot, and returns the first word of the region.
-fn write_memory(monitor: &mut Monitor, slot: u8) -> u64
+fn write_and_read_first_word(monitor: &mut Monitor, slot: u8) -> u64
     requires guest { 0 < length monitor.old.world.guests }
     requires slot { slot < 32 }
     ensures { length monitor.new.world.guests ≡ length monitor.old.world.guests }
 {
-    let base = u64::from(base_of(slot));
+    let base = u64::from(region_base_of_slot(slot));
     for call in 0..CALLS {
         let addr = base + call % 16 * 4;
-        ask(monitor, At::Mem { addr }, Op::Write(call as u32));
+        access_first_guest(monitor, At::Mem { addr }, Op::Write(call as u32));
     }
-    u64::from(ask(monitor, At::Mem { addr: base }, Op::Read))
+    u64::from(access_first_guest(monitor, At::Mem { addr: base }, Op::Read))
 }
 
 /// Prints the time per access and the sum for a guest's configuration reads, for memory reads and
 /// writes in its first slot, and for memory reads in its last slot.
-pub(crate) fn measure_events(
+pub(crate) fn measure_guest_accesses(
     rt: &(impl Clock + Print),
     monitor: &mut Monitor,
-    slots: u8,
+    slot_count: u8,
 ) -> io::Result<()>
     requires guest { 0 < length monitor.old.world.guests }
-    requires some { 0 < slots }
-    requires slots { slots ≤ 32 }
+    requires some { 0 < slot_count }
+    requires slot_count { slot_count ≤ 32 }
 {
-    open_all(monitor, slots);
+    enable_and_fill_regions(monitor, slot_count);
     let start = Instant::now(rt)?;
-    let sum = read_configuration(monitor, 0);
-    show(rt, &start, sum)?;
+    let sum = sum_config_reads(monitor, 0);
+    print_ns_per_call_and_sum(rt, &start, sum)?;
     let start = Instant::now(rt)?;
-    let sum = read_memory(monitor, 0);
-    show(rt, &start, sum)?;
+    let sum = sum_memory_reads(monitor, 0);
+    print_ns_per_call_and_sum(rt, &start, sum)?;
     let start = Instant::now(rt)?;
-    let sum = write_memory(monitor, 0);
-    show(rt, &start, sum)?;
+    let sum = write_and_read_first_word(monitor, 0);
+    print_ns_per_call_and_sum(rt, &start, sum)?;
     let start = Instant::now(rt)?;
-    let sum = read_memory(monitor, slots - 1);
-    show(rt, &start, sum)
+    let sum = sum_memory_reads(monitor, slot_count - 1);
+    print_ns_per_call_and_sum(rt, &start, sum)
 }

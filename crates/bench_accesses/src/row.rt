@@ -15,7 +15,7 @@ pub(crate) const CALLS: u64 = 400_000;
 
 /// Reads configuration words, and returns their sum, so that the compiler can't remove a call.
 /// Changes only CONFIG_ADDRESS of the host.
-fn read_configuration(host: &mut Host, target: Target) -> u64
+fn sum_config_reads(host: &mut Host, target: Target) -> u64
     ensures { host.new.state.functions ≡ host.old.state.functions }
 {
     let mut sum: u64 = 0;
@@ -27,13 +27,13 @@ fn read_configuration(host: &mut Host, target: Target) -> u64
 }
 
 /// Looks up the claims of addresses by a route, and returns the sum of their offsets.
-fn find_claims<R: Route>(host: &Host, route: &R, target: Target) -> u64
+fn sum_claim_offsets<R: Route>(host: &Host, route: &R, target: Target) -> u64
     requires { R.fits route.now host.now }
 {
     let mut sum: u64 = 0;
     for call in 0..CALLS {
         let addr = target.addr + call % 16 * 4;
-        if let Some(claim) = route.located(host, Space::Mem, addr) {
+        if let Some(claim) = route.claimed_bar_offset(host, Space::Mem, addr) {
             sum = sum.wrapping_add(claim.offset);
         }
     }
@@ -41,7 +41,7 @@ fn find_claims<R: Route>(host: &Host, route: &R, target: Target) -> u64
 }
 
 /// Reads memory words by a route, and returns their sum. The host isn't changed.
-fn read_memory<R: Route>(host: &mut Host, route: &R, target: Target) -> u64
+fn sum_memory_reads<R: Route>(host: &mut Host, route: &R, target: Target) -> u64
     requires { R.fits route.now host.old }
     ensures { host.new ≡ host.old }
 {
@@ -54,14 +54,18 @@ fn read_memory<R: Route>(host: &mut Host, route: &R, target: Target) -> u64
 }
 
 /// Prints the time per call since `since`, in nanoseconds, and the sum of the results.
-pub(crate) fn show(rt: &(impl Clock + Print), since: &Instant, sum: u64) -> io::Result<()> {
+pub(crate) fn print_ns_per_call_and_sum(
+    rt: &(impl Clock + Print),
+    since: &Instant,
+    sum: u64,
+) -> io::Result<()> {
     let passed = since.elapsed(rt)?.as_nanos() / u128::from(CALLS);
     print!(rt; "{passed} {sum} ")
 }
 
 /// Prints the times and the sums for claims and memory reads by each route, and for configuration
 /// reads.
-pub(crate) fn measure(
+pub(crate) fn measure_accesses(
     rt: &(impl Clock + Print),
     host: &mut Host,
     table: &Table,
@@ -70,18 +74,18 @@ pub(crate) fn measure(
     requires { FitsTable table.now host.old }
 {
     let start = Instant::now(rt)?;
-    let sum = find_claims(host, &TreeWalk, target);
-    show(rt, &start, sum)?;
+    let sum = sum_claim_offsets(host, &TreeWalk, target);
+    print_ns_per_call_and_sum(rt, &start, sum)?;
     let start = Instant::now(rt)?;
-    let sum = read_memory(host, &TreeWalk, target);
-    show(rt, &start, sum)?;
+    let sum = sum_memory_reads(host, &TreeWalk, target);
+    print_ns_per_call_and_sum(rt, &start, sum)?;
     let start = Instant::now(rt)?;
-    let sum = find_claims(host, table, target);
-    show(rt, &start, sum)?;
+    let sum = sum_claim_offsets(host, table, target);
+    print_ns_per_call_and_sum(rt, &start, sum)?;
     let start = Instant::now(rt)?;
-    let sum = read_memory(host, table, target);
-    show(rt, &start, sum)?;
+    let sum = sum_memory_reads(host, table, target);
+    print_ns_per_call_and_sum(rt, &start, sum)?;
     let start = Instant::now(rt)?;
-    let sum = read_configuration(host, target);
-    show(rt, &start, sum)
+    let sum = sum_config_reads(host, target);
+    print_ns_per_call_and_sum(rt, &start, sum)
 }

@@ -15,7 +15,7 @@ pub(crate) struct Target {
 }
 
 /// Returns the target in a region, if it is a memory region.
-fn target_at(at: Bdf, placed: Option<BarWithBase>) -> Option<Target> {
+fn target_if_memory(at: Bdf, placed: Option<BarWithBase>) -> Option<Target> {
     let region = placed?;
     let addr = region.base;
     if region.decl.kind().space() == Space::Mem && addr % 4 == 0 && addr < 1 << 63 {
@@ -26,11 +26,11 @@ fn target_at(at: Bdf, placed: Option<BarWithBase>) -> Option<Target> {
 }
 
 /// Returns the target in a function after set-up, if it has a memory region.
-fn target_in(setting: &FunctionProgram) -> Option<Target> {
+fn first_memory_target(setting: &FunctionProgram) -> Option<Target> {
     match &setting.writes {
         RegisterValues::Endpoint { command: _, bases } => {
             for region in bases.iter() {
-                if let Some(target) = target_at(setting.at, *region) {
+                if let Some(target) = target_if_memory(setting.at, *region) {
                     return Some(target);
                 }
             }
@@ -45,10 +45,10 @@ fn target_in(setting: &FunctionProgram) -> Option<Target> {
 }
 
 /// Returns the last target of a board in path order, which a walk over the board reaches last.
-pub(crate) fn last_target(ready: &Ready) -> Option<Target> {
+pub(crate) fn last_memory_target(ready: &Ready) -> Option<Target> {
     let mut last = None;
     for setting in ready.plan().settings() {
-        if let Some(target) = target_in(setting) {
+        if let Some(target) = first_memory_target(setting) {
             last = Some(target);
         }
     }

@@ -1,9 +1,9 @@
 -- A judged endpoint breaks no rule of declarations but that of blocks that overlap, and it breaks that one where two blocks of its
 -- tables overlap.
-use Rattle.std.{proofs.{Common.{◌≡◌, inl, inr, ℕ, ◌+◌, ◌<◌, ◌≤◌, ◌^◌, ◌==◌, ℤ, pos, ◌+ℤ◌, nat_abs, Bool, true, false, cond, ◌&&◌, ◌||◌, List, [], ◌∷◌, ◌++◌, map, length, nat_le, drop, bit_and, bit_or, None, refl, ◌∙◌, sym, ap, ap₂, arith, leb-true, le-leb, lt-ltb, append-nil}, lemmas.{Bool.{and_parts, eqb-true, eq-eqb, ne_eqb}, List.{map-append, FromFn.length-map-range_with_len, Folds.{list_all-map, list_all-append}}}}, specs.{Prelude.{int_le, is_none}, Int.Bits.or_zero_r, List.{list_all, list_any}}}
+use Rattle.std.{proofs.{Common.{◌≡◌, inl, inr, ℕ, ◌+◌, ◌<◌, ◌≤◌, ◌^◌, ◌==◌, ℤ, pos, ◌+ℤ◌, nat_abs, Bool, true, false, cond, ◌&&◌, ◌||◌, List, [], ◌∷◌, ◌++◌, map, length, nat_le, drop, bit_and, bit_or, refl, ◌∙◌, sym, ap, ap₂, arith, leb-true, le-leb, lt-ltb, append-nil}, lemmas.{Bool.{and_parts, eqb-true, eq-eqb, ne_eqb}, List.{map-append, FromFn.length-map-range_with_len, Folds.{list_all-map, list_all-append}}}}, specs.{Prelude.{int_le, is_none}, Int.Bits.or_zero_r, List.{list_all, list_any}}}
 use Rattle.lists.{specs.Elements.{Each, all_pairs}, proofs.{EachLemmas.each_test, Tests.{left_true, right_true, asked_true}}}
-use Rattle.model_registers.{specs.{Cell.{Cell, constant}, Declarations.ConfigBlock, DeclarationRules.{first_broken, endpoint_rules, blocks_apart, is_read_only, is_pointer, status_with}, Capabilities.{first_offset, structure, structures, pointer, with_capabilities}}, proofs.Capabilities.status_with_list}
-use Rattle.board_file.{specs.{Bars.{Bar, region, bar_rules, is_region}, Configs.{Config, config_block, config_extent, is_config_block}, Capabilities.{Capability, declared_capability as capability, capability_extent, is_capability}, Endpoints.{Endpoint, plain_values, endpoint_values, extents, endpoint_numbers, value_rules, keeps, is_declarable, HasSmallNumbers}, Values.Patterns, Entries.File, Blocks.block_cells, Rules.{is_between, has_only_bits, is_size, are_apart, kept}, Judged.{is_lawful_bridge, is_judged}, declared.{rule.Rule.Rule, functions.blocks.ByteRange.ByteRange}}, proofs.{Asked.{unbroken, numbers, registers, sizes}, Tests.{first_three, imply_all, all-both, pairs-map, pairs-swap}}}
+use Rattle.model_registers.{specs.{Cell.Cell, Declarations.ConfigBlock, DeclarationRules.{first_broken, endpoint_rules, blocks_apart, is_read_only, is_capabilities_pointer, status_with}, Capabilities.{first_offset_or_zero, structure, structures, pointer, with_capabilities}}, proofs.Capabilities.status_with_list}
+use Rattle.board_file.{specs.{Bars.{Bar, region, bar_rules, is_region}, Configs.{Config, config_block, config_extent, is_config_block}, Capabilities.{Capability, declared_capability as capability, capability_extent, is_capability}, Endpoints.{Endpoint, plain_values, endpoint_values, extents, endpoint_numbers, value_rules, keeps, is_declarable, HasSmallNumbers}, Values.Patterns, Entries.File, Blocks.block_cells, Rules.{is_between, has_only_bits, is_valid_bar_size, are_apart, kept}, Judged.{is_lawful_bridge, is_judged}, declared.{rule.Rule.Rule, functions.blocks.ByteRange.ByteRange}}, proofs.{Asked.{unbroken, numbers, registers, sizes}, Tests.{first_three, imply_all, all-both, pairs-map, pairs-swap}}}
 use Rattle.model_registers.specs.DeclarationRules as rules
 use Rattle.model_registers.specs.Capabilities as listed
 use Rattle.board_file.specs.Endpoints as asked
@@ -73,7 +73,7 @@ module _ (e : Endpoint) (h : is_declarable e ≡ true) where
 
 -- ---- regions and own registers
 
-pub region_parts : (b : Bar) → is_region b ≡ true → (nat_abs b.block ≤ 4096) × (nat_abs b.index ≤ 5) × (is_size b.kind b.size ≡ true)
+pub region_parts : (b : Bar) → is_region b ≡ true → (nat_abs b.block ≤ 4096) × (nat_abs b.index ≤ 5) × (is_valid_bar_size b.kind b.size ≡ true)
 region_parts b h = grind (arith, three_parts, left_true, within_le)
 
 pub config_off : (c : Config) → is_config_block c ≡ true → nat_abs c.off < 2 ^ 16
@@ -136,7 +136,7 @@ lawful_structures : (cs : List Capability) → list_all is_capability cs ≡ tru
 lawful_structures [] h = refl
 lawful_structures (c ∷ cs) h =
     let (here, more) = and_parts (is_capability c) (list_all is_capability cs) h in
-    ap₂ (λ (a b : Bool). a && b) (lawful_structure c (first_offset (map capability cs)) here) (lawful_structures cs more)
+    ap₂ (λ (a b : Bool). a && b) (lawful_structure c (first_offset_or_zero (map capability cs)) here) (lawful_structures cs more)
 
 -- ---- where blocks are
 
@@ -154,7 +154,7 @@ config_extents (c ∷ cs) =
 structure_extents : (cs : List Capability) → map extent_of (structures (map capability cs)) ≡ map capability_extent cs
 structure_extents [] = refl
 structure_extents (c ∷ cs) =
-    ap₂ (λ (x : ByteRange) (xs : List ByteRange). x ∷ xs) (ap (range (nat_abs c.config.off)) (structure_length c (first_offset (map capability cs))))
+    ap₂ (λ (x : ByteRange) (xs : List ByteRange). x ∷ xs) (ap (range (nat_abs c.config.off)) (structure_length c (first_offset_or_zero (map capability cs))))
     (structure_extents cs)
 
 -- a range that is behind the Capabilities Pointer
@@ -224,13 +224,13 @@ lawful_blocks cs ds h k =
     ∙ ap₂ (λ (a b : Bool). a && b) (lawful_structures ds k) (lawful_configs cs h)
 
 -- a block at 40h or above isn't the pointer
-no_pointer : (c : Config) → is_config_block c ≡ true → is_pointer (config_block c) ≡ false
+no_pointer : (c : Config) → is_config_block c ≡ true → is_capabilities_pointer (config_block c) ≡ false
 no_pointer c h =
     let (off, block, ends) = config_parts c h in
     let begins = within_ge 0x40 0xff c.off off in
     ap (λ t. t && length (config_block c).cells == 1 && list_all is_read_only (config_block c).cells) (ne_eqb (nat_abs c.off) 0x34 (λ at. omega (arith, begins, at)))
 
-no_list : (cs : List Config) → list_all is_config_block cs ≡ true → list_any is_pointer (map config_block cs) ≡ false
+no_list : (cs : List Config) → list_all is_config_block cs ≡ true → list_any is_capabilities_pointer (map config_block cs) ≡ false
 no_list [] h = refl
 no_list (c ∷ cs) h =
     let (here, more) = and_parts (is_config_block c) (list_all is_config_block cs) h in

@@ -3,7 +3,7 @@ use Rattle.std.{proofs.{Common.{◌≡◌, ◌⊎◌, inl, inr, ℕ, ◌+◌, �
 use Rattle.lists.{specs.Elements.{IsIn, Each, EachPair, all_pairs}, proofs.{EachLemmas.{each_map, each_of_map, each_from_map, each_test, pairs_map, pairs_from_map, pairs_test}, Members.{all_in, each_from, pairs_of_map, pairs_weaker}, Tests.{left_true, right_true}}}
 use Rattle.model_board.{specs.{Paths.{Path, IsPath, path_eq, parent, function_zero}, Board.{Decl, Row, Board, IsBoard, is_bridge, stands_at, is_bridge_at}, Places.{Standing, standing, has_path, has_bridge, board_of, IsFounded, AreLawfulPlaces}, Lawful.{HasLawfulDecls, IsLawfulDecl}, State.{row_at, State}, AtReset.{reset_state, reset_file, board_at, IsAtReset}}, proofs.PlacesLaw.{any_board, apart_turn, each_to_board, lawful_places_are_boards}}
 use Rattle.model_guests.specs.World.{is_name, declared, HasLawfulGuests, IsLawfulWorld}
-use Rattle.board_file.{specs.{Endpoints.Endpoint, Entries.{Bridge, Guest, File}, Functions.{rows, standings, guest}, PathTexts.{is_path_text, path_at}, Rules.{is_root, is_endpoint, names_endpoint}, EntryRules.{are_same_place, is_behind_bridge}, MarkedPaths.{guest_texts, place_texts, slot_texts}, Problems.{none, problems_in}, Judged.{is_judged, IsShortGuest}, Meaning.world_of, declared.entry.Entry.Entry}, proofs.{Asked.{others, unbroken, counts, names, places, slots}, ListTests.pairs_of_test, PathParts.path_at_is_path, Tests.{first_three, imply_all}}}
+use Rattle.board_file.{specs.{Endpoints.Endpoint, Entries.{Bridge, Guest, File}, Functions.{rows, standings, guest}, PathTexts.{is_path_text, path_at}, Rules.{is_root, is_endpoint, names_endpoint}, EntryRules.{are_same_valid_path, is_existing_bus}, MarkedPaths.{guest_texts, function_texts, slot_texts}, Problems.{none, problems_in}, Judged.{is_judged, IsShortGuest}, Meaning.world_of, declared.entry.Entry.Entry}, proofs.{Asked.{others, unbroken, counts, names, places, slots}, ListTests.pairs_of_test, PathParts.path_at_is_path, Tests.{first_three, imply_all}}}
 use Rattle.model_registers.specs.Registers as registers
 use Rattle.model_guests.specs.World as world
 use Rattle.board_file.specs.declared.fault.BoardFault.TheVariants as fault
@@ -18,7 +18,7 @@ unnumbered g n (x ∷ xs) = ap (λ ys. g x ∷ ys) (unnumbered g (n + 1) xs)
 abbrev path_in : Entry × List ℕ → Path
 path_in s = path_at s.1
 
-differ : (s t : List ℕ) → is_path_text s ≡ true → is_path_text t ≡ true → not (are_same_place s t) ≡ true → path_eq (path_at s) (path_at t) ≡ false
+differ : (s t : List ℕ) → is_path_text s ≡ true → is_path_text t ≡ true → not (are_same_valid_path s t) ≡ true → path_eq (path_at s) (path_at t) ≡ false
 differ s t a b h = grind arith
 
 apart : (texts : List (Entry × List ℕ)) → list_all (λ s. is_path_text s.1) texts ≡ true → all_pairs others texts ≡ true
@@ -30,7 +30,7 @@ apart texts paths own =
 
 -- ---- the board
 
-place_paths : (f : File) → map path_in (place_texts f) ≡ map (λ (s : Standing). s.path) (standings f)
+place_paths : (f : File) → map path_in (function_texts f) ≡ map (λ (s : Standing). s.path) (standings f)
 place_paths f = simp (map-append, map-map, unnumbered (λ (e : Endpoint). path_at e.at) 0 f.endpoints, unnumbered (λ (b : Bridge). path_at b.at) 0 f.bridges)
 
 root_of_test : (p : Path) → is_root p ≡ true → p ≡ []
@@ -39,17 +39,17 @@ root_of_test p h = grind arith
 abbrev Founded : List Standing → Path → Type 0
 Founded ss p = IsPath p × ((parent p ≡ []) ⊎ IsTrue (has_bridge ss (parent p))) × IsTrue (has_path ss (function_zero p))
 
-behind : (ss : List Standing) (p : Path) → is_behind_bridge ss p ≡ true → (p ≡ []) ⊎ IsTrue (has_bridge ss p)
+behind : (ss : List Standing) (p : Path) → is_existing_bus ss p ≡ true → (p ≡ []) ⊎ IsTrue (has_bridge ss p)
 behind ss p h = grind (arith, or_cases, root_of_test)
 
 lawful_places : (f : File) → none (problems_in f fault.Place) ≡ true → AreLawfulPlaces (standings f)
 lawful_places f h =
-    let ss = standings f in let texts = place_texts f in
+    let ss = standings f in let texts = function_texts f in
     let (paths, own, bridges, zeros) = first_three _ _ _ _ (sym (places f) ∙ h) in
     let each = each_from (λ t. Founded ss (path_in t)) texts
     (λ t m. (
       path_at_is_path t.1,
-      behind ss (parent (path_in t)) (all_in (λ u. is_behind_bridge ss (parent (path_in u))) t texts bridges m),
+      behind ss (parent (path_in t)) (all_in (λ u. is_existing_bus ss (parent (path_in u))) t texts bridges m),
       all_in (λ u. has_path ss (function_zero (path_in u))) t texts zeros m,
     )) in
     let there = each_from_map (Founded ss) (λ (s : Standing). s.path) ss (subst (Each (Founded ss)) (place_paths f) (each_of_map (Founded ss) path_in texts each)) in

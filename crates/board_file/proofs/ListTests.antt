@@ -3,7 +3,7 @@ use Rattle.std.{proofs.{Common.{◌≡◌, ℕ, ℤ, pos, nat_abs, Bool, true, n
 use Rattle.lists.{specs.Elements.{EachPair, all_pairs}, proofs.{EachLemmas.{pairs_map, pairs_test}, Tests.same_test}}
 use Rattle.model_registers.specs.Declarations.{Kind, IsLawfulSize}
 use Rattle.bars.proofs.Powers.{power_of_test, test_of_power}
-use Rattle.board_file.specs.Rules.{is_size}
+use Rattle.board_file.specs.Rules.{is_valid_bar_size}
 
 -- ---- lists
 
@@ -13,11 +13,11 @@ pairs_of_test r xs h =
 
 -- ---- sizes
 
-pub lawful_size : (kind : Kind) (n : ℤ) → is_size kind n ≡ true → IsLawfulSize kind (nat_abs n)
+pub lawful_size : (kind : Kind) (n : ℤ) → is_valid_bar_size kind n ≡ true → IsLawfulSize kind (nat_abs n)
 lawful_size kind n h = grind (arith, and_parts, power_of_test, leb-true)
 
-size_of_lawful : (kind : Kind) (n : ℕ) → IsLawfulSize kind n → is_size kind (pos n) ≡ true
+size_of_lawful : (kind : Kind) (n : ℕ) → IsLawfulSize kind n → is_valid_bar_size kind (pos n) ≡ true
 size_of_lawful kind n h = grind (arith, test_of_power, le-leb)
 
-pub size_test : (kind : Kind) (n : ℤ) (t : Bool) → int_le (pos 0) n ≡ true → (t ≡ true → IsLawfulSize kind (nat_abs n)) → (IsLawfulSize kind (nat_abs n) → t ≡ true) → t ≡ is_size kind n
+pub size_test : (kind : Kind) (n : ℤ) (t : Bool) → int_le (pos 0) n ≡ true → (t ≡ true → IsLawfulSize kind (nat_abs n)) → (IsLawfulSize kind (nat_abs n) → t ≡ true) → t ≡ is_valid_bar_size kind n
 size_test kind n t h f g = grind (arith, same_test, size_of_lawful, lawful_size)

@@ -2,7 +2,7 @@
 use Rattle.std.{proofs.Common.{◌≡◌, ℕ, zero, suc, ◌+◌, ◌-◌, ◌≤◌, ◌==◌, Bool, true, false, ◌&&◌, cond, List, [], ◌∷◌, length, Option, Some, None, option_map, unwrap_or, arith, leb-true}, specs.Prelude.option_and_then}
 use Rattle.lists.{specs.Elements.Each, proofs.Tests.{left_true, right_true}}
 use Rattle.model_board.specs.Paths.{Part, Path, IsPart, IsPath}
-use Rattle.board_file.specs.PathTexts.{is_byte_between, one_digit_part, part_at_front, parts_after, path_at}
+use Rattle.board_file.specs.PathTexts.{is_byte_between, parse_one_digit_part, parse_leading_part, parts_after, path_at}
 
 ruleset byte_tests = (left_true, right_true, leb-true)
 
@@ -18,7 +18,7 @@ Within n (Some ps) = (length ps ≤ n) × Each IsPart ps
 front_of : (t : Bool) (p : Part) (rest : List ℕ) → (t ≡ true → IsPart p) → Front (cond t (Some (p, rest)) None)
 front_of t p rest h = grind arith
 
-short_front : (text : List ℕ) → Front (one_digit_part text)
+short_front : (text : List ℕ) → Front (parse_one_digit_part text)
 short_front (d ∷ dot ∷ f ∷ rest) = grind (arith, front_of, byte_tests)
 short_front _ = tt
 
@@ -26,11 +26,11 @@ long_fits : (one d dot f : ℕ) → ((one == 49) && is_byte_between 48 53 d && (
     → IsPart (record { device = 10 + (d - 48); function = f - 48 })
 long_fits one d dot f h = record { device_fits = search (byte_tests, arith) depth 6; function_fits = search (byte_tests, arith) depth 6 }
 
-front : (text : List ℕ) → Front (part_at_front text)
+front : (text : List ℕ) → Front (parse_leading_part text)
 front text = grind (arith, short_front, front_of, long_fits)
 
 after_slash : (room : ℕ) (bs : List ℕ) (t : Bool) → ((text : List ℕ) → Within room (parts_after room text))
-    → Within (suc room) (cond t (option_and_then (λ found. option_map (λ ps. found.0 ∷ ps) (parts_after room found.1)) (part_at_front bs)) None)
+    → Within (suc room) (cond t (option_and_then (λ found. option_map (λ ps. found.0 ∷ ps) (parts_after room found.1)) (parse_leading_part bs)) None)
 after_slash room bs true k = grind (arith, front, option_map)
 after_slash room bs false k = tt
 
@@ -53,4 +53,4 @@ some_parts None h = zero_is_path
 some_parts (Some found) h = longer found.0 h (parts_after 15 found.1) (within 15 found.1)
 
 pub path_at_is_path : (text : List ℕ) → IsPath (path_at text)
-path_at_is_path text = some_parts (part_at_front text) (front text)
+path_at_is_path text = some_parts (parse_leading_part text) (front text)

@@ -1,9 +1,9 @@
 -- One more part of a path.
 use Rattle.std.proofs.Common.{◌≡◌, ℕ, suc, ◌≤◌, length, get_or, drop, arith, ◌∷◌, List, Option, Some, is_some, option_map, IfSome, ◌++◌, [], append_assoc}
 use Rattle.model_board.specs.Paths.{Part, Path}
-use Rattle.board_file.specs.PathTexts.{part_at_front, parts_after}
+use Rattle.board_file.specs.PathTexts.{parse_leading_part, parts_after}
 
-pub one_more : (room r : ℕ) (text : List ℕ) (found : Part × List ℕ) → 1 ≤ length text → room ≡ suc r → get_or text 0 0 ≡ 47 → part_at_front (drop 1 text) ≡ Some found
+pub one_more : (room r : ℕ) (text : List ℕ) (found : Part × List ℕ) → 1 ≤ length text → room ≡ suc r → get_or text 0 0 ≡ 47 → parse_leading_part (drop 1 text) ≡ Some found
     → parts_after room text ≡ option_map (λ ps. found.0 ∷ ps) (parts_after r found.1)
 one_more room r text found some h k e = grind arith
 

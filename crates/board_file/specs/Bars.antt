@@ -5,7 +5,7 @@
 use Rattle.std.specs.Prelude.{ℕ, ℤ, nat_abs, int_le, codes, Bool, ◌&&◌, List, [], ◌∷◌, unwrap_or}
 use Rattle.toml.specs.Data.{Members}
 use Rattle.model_registers.specs.Declarations.{Kind, io_kind, Region}
-use Rattle.board_file.specs.{Texts.region_kind, Values.{number, text, Patterns, patterns}, Blocks.{is_block, block_cells}, Rules.{is_between, is_size, kept}, declared.{rule.Rule.Rule, fault.BoardFault.BoardFault}}
+use Rattle.board_file.specs.{Texts.parse_region_kind, Values.{number, text, Patterns, patterns}, Blocks.{are_patterns_valid, block_cells}, Rules.{is_between, is_valid_bar_size, kept}, declared.{rule.Rule.Rule, fault.BoardFault.BoardFault}}
 use Rattle.board_file.specs.declared.fault.BoardFault.TheVariants as fault
 use Rattle.board_file.specs.declared.rule.Rule.TheVariants as rule
 
@@ -19,19 +19,19 @@ pub record Bar : Type 0 where
 abbrev pub bar : Members → Bar
 bar ms = record {
   index = number (codes "index") ms;
-  kind = unwrap_or (region_kind (text (codes "kind") ms)) io_kind;
+  kind = unwrap_or (parse_region_kind (text (codes "kind") ms)) io_kind;
   size = number (codes "size") ms;
   block = number (codes "block") ms;
   patterns = patterns ms;
 }
 
 abbrev pub bar_holds : Bar → Bool
-bar_holds b = is_block (nat_abs b.block) b.patterns
+bar_holds b = are_patterns_valid (nat_abs b.block) b.patterns
 
 abbrev pub bar_rules : BoardFault → ℕ → Bar → List (Rule × Bool)
 bar_rules fault.Number n b = (rule.BarBlock, is_between 0 4096 b.block) ∷ []
 bar_rules fault.Register n b = (rule.Index, is_between 0 5 b.index) ∷ []
-bar_rules fault.Size n b = (rule.Size, is_size b.kind b.size) ∷ (rule.BlockFits, int_le b.block b.size) ∷ []
+bar_rules fault.Size n b = (rule.Size, is_valid_bar_size b.kind b.size) ∷ (rule.BlockFits, int_le b.block b.size) ∷ []
 bar_rules fault.CellMasks n b = (rule.BarMasks, bar_holds b) ∷ []
 bar_rules _ n b = []
 

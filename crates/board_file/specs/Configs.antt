@@ -7,7 +7,7 @@
 use Rattle.std.specs.{Prelude.{ℕ, ℤ, pos, nat_abs, int_le, ◌+ℤ◌, codes, Bool, List, [], ◌∷◌, take}, List.list_all}
 use Rattle.toml.specs.Data.{Members}
 use Rattle.model_registers.specs.Declarations.{ConfigBlock}
-use Rattle.board_file.specs.{Values.{number, Patterns, patterns}, Blocks.{is_block, block_cells}, Rules.{is_between, are_apart, kept}, declared.{functions.blocks.ByteRange.ByteRange, rule.Rule.Rule, fault.BoardFault.BoardFault}}
+use Rattle.board_file.specs.{Values.{number, Patterns, patterns}, Blocks.{are_patterns_valid, block_cells}, Rules.{is_between, are_apart, kept}, declared.{functions.blocks.ByteRange.ByteRange, rule.Rule.Rule, fault.BoardFault.BoardFault}}
 use Rattle.board_file.specs.declared.fault.BoardFault.TheVariants as fault
 use Rattle.board_file.specs.declared.rule.Rule.TheVariants as rule
 
@@ -23,7 +23,7 @@ abbrev pub config_extent : Config → ByteRange
 config_extent c = record { off = nat_abs c.off; len = nat_abs c.block }
 
 abbrev pub config_holds : Config → Bool
-config_holds c = is_block (nat_abs c.block) c.patterns
+config_holds c = are_patterns_valid (nat_abs c.block) c.patterns
 
 -- of a block of own registers that comes after n others of a device
 abbrev pub config_rules : BoardFault → List Config → ℕ → Config → List (Rule × Bool)

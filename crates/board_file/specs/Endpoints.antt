@@ -11,7 +11,7 @@ use Rattle.std.specs.{Prelude.{ℕ, ℤ, ◌<◌, ◌≤◌, ◌^◌, nat_abs, c
 use Rattle.toml.specs.Data.{Members}
 use Rattle.lists.specs.Elements.{all_pairs}
 use Rattle.model_registers.specs.{DeclarationRules.{has_own_registers, with_ordered_regions}, Capabilities.with_capabilities}
-use Rattle.board_file.specs.{Values.{number, text, tables}, Bars.{Bar, bar, bar_holds, bar_rules, region}, Configs.{Config, config, config_extent, config_holds, config_rules, config_block}, Capabilities.{Capability, capability, capability_extent, capability_holds, capability_rules, declared_capability}, Rules.{is_between, fits_byte, fits_half_word, has_only_bits, has_few_slashes, identity_rules, are_apart, kept}, declared.{functions.blocks.ByteRange.ByteRange, entry.EndpointPart.EndpointPart, rule.Rule.Rule, fault.BoardFault.BoardFault}}
+use Rattle.board_file.specs.{Values.{number, text, tables}, Bars.{Bar, bar, bar_holds, bar_rules, region}, Configs.{Config, config, config_extent, config_holds, config_rules, config_block}, Capabilities.{Capability, capability, capability_extent, capability_holds, capability_rules, declared_capability}, Rules.{is_between, fits_byte, fits_half_word, has_only_bits, has_at_most_15_slashes, identity_rules, are_apart, kept}, declared.{functions.blocks.ByteRange.ByteRange, entry.EndpointPart.EndpointPart, rule.Rule.Rule, fault.BoardFault.BoardFault}}
 use Rattle.model_registers.specs.Declarations as declared
 use Rattle.board_file.specs.declared.entry.EndpointPart.TheVariants as part
 use Rattle.board_file.specs.declared.fault.BoardFault.TheVariants as fault
@@ -61,8 +61,8 @@ part_count part.Capability e = length e.capabilities
 
 -- ---- rules
 
-abbrev pub has_indices : Endpoint → Bool
-has_indices e = list_all (λ b. is_between 0 5 b.index) e.bars
+abbrev pub has_valid_bar_indices : Endpoint → Bool
+has_valid_bar_indices e = list_all (λ b. is_between 0 5 b.index) e.bars
 
 abbrev pub value_rules : Endpoint → List (Rule × Bool)
 value_rules e =
@@ -79,9 +79,9 @@ endpoint_numbers e = identity_rules e.vendor e.device e.revision ++ value_rules 
 
 abbrev pub endpoint_rules : BoardFault → Endpoint → List (Rule × Bool)
 endpoint_rules fault.Number e = endpoint_numbers e
-endpoint_rules fault.TooMany e = (rule.Slashes, has_few_slashes e.at) ∷ []
+endpoint_rules fault.TooMany e = (rule.Slashes, has_at_most_15_slashes e.at) ∷ []
 endpoint_rules fault.Register e =
-    (rule.OwnRegisters, not (has_indices e) || has_own_registers (map region e.bars)) ∷ []
+    (rule.OwnRegisters, not (has_valid_bar_indices e) || has_own_registers (map region e.bars)) ∷ []
 endpoint_rules _ e = []
 
 -- these rules of own registers and structures don't look at others

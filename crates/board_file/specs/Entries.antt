@@ -4,7 +4,7 @@
 use Rattle.std.specs.{Prelude.{ℕ, ℤ, pos, codes, List, [], ◌∷◌, map, Option, unwrap_or, option_map}, List.filter_map}
 use Rattle.toml.specs.Data.{Data, Members, get_member, as_integer, as_str}
 use Rattle.model_registers.specs.Declarations.{IoDecode, no_io, PrefDecode, no_pref}
-use Rattle.board_file.specs.{Texts.{io_decode, pref_decode}, Values.{number, text, values, tables, table_at}, Endpoints.{Endpoint, endpoint}, declared.entries.Bounds.Bounds}
+use Rattle.board_file.specs.{Texts.{parse_io_decode, parse_pref_decode}, Values.{number, text, values, tables, table_at}, Endpoints.{Endpoint, endpoint}, declared.entries.Bounds.Bounds}
 
 -- ---- tables
 
@@ -22,8 +22,8 @@ bridge ms = record {
   vendor = number (codes "vendor") ms;
   device = number (codes "device") ms;
   revision = number (codes "revision") ms;
-  io = unwrap_or (io_decode (text (codes "io") ms)) no_io;
-  pref = unwrap_or (pref_decode (text (codes "pref") ms)) no_pref;
+  io = unwrap_or (parse_io_decode (text (codes "io") ms)) no_io;
+  pref = unwrap_or (parse_pref_decode (text (codes "pref") ms)) no_pref;
 }
 
 pub record Guest : Type 0 where
@@ -35,16 +35,16 @@ guest ms = record { name = text (codes "name") ms; slots = filter_map as_str (va
 
 -- ---- the file
 
-abbrev pub integer_of : Data → ℤ
-integer_of d = unwrap_or (as_integer d) (pos 0)
+abbrev pub as_integer_or_zero : Data → ℤ
+as_integer_or_zero d = unwrap_or (as_integer d) (pos 0)
 
 -- an array of two integers
-abbrev pub range_of : List Data → Bounds
-range_of (a ∷ b ∷ []) = record { first = integer_of a; last = integer_of b }
-range_of _ = record { first = pos 0; last = pos 0 }
+abbrev pub bounds_or_zeros : List Data → Bounds
+bounds_or_zeros (a ∷ b ∷ []) = record { first = as_integer_or_zero a; last = as_integer_or_zero b }
+bounds_or_zeros _ = record { first = pos 0; last = pos 0 }
 
 abbrev pub range : List ℕ → Members → Bounds
-range k ms = range_of (values k ms)
+range k ms = bounds_or_zeros (values k ms)
 
 pub record File : Type 0 where
   pub io : Bounds

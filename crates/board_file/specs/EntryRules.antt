@@ -5,7 +5,7 @@ use Rattle.std.specs.{Prelude.{ℕ, ◌+◌, Bool, not, ◌&&◌, ◌||◌, leng
 use Rattle.model_registers.specs.Apertures.{is_io_aperture, is_mem_aperture, has_lawful_pref}
 use Rattle.model_board.specs.{Paths.{Path, path_eq, parent, function_zero}, Places.{Standing, has_path, has_bridge}}
 use Rattle.model_guests.specs.World.{is_name}
-use Rattle.board_file.specs.{Entries.{Bridge, Guest, File}, PathTexts.{is_path_text, path_at}, Functions.aperture, Rules.{has_few_slashes, identity_rules, is_root, is_natural, are_natural, names_endpoint}, declared.{rule.Rule.Rule, fault.BoardFault.BoardFault}}
+use Rattle.board_file.specs.{Entries.{Bridge, Guest, File}, PathTexts.{is_path_text, path_at}, Functions.aperture, Rules.{has_at_most_15_slashes, identity_rules, is_root, is_non_negative, is_none_or_non_negative, names_endpoint}, declared.{rule.Rule.Rule, fault.BoardFault.BoardFault}}
 use Rattle.board_file.specs.declared.rule.Rule.TheVariants as rule
 use Rattle.board_file.specs.declared.fault.BoardFault.TheVariants as fault
 
@@ -18,11 +18,11 @@ file_rules _ f = []
 
 abbrev pub host_rules : BoardFault → File → List (Rule × Bool)
 host_rules fault.Aperture f =
-    (rule.IoAperture, is_natural f.io && is_io_aperture (aperture f.io))
-    ∷ (rule.MemAperture, is_natural f.mem && is_mem_aperture (aperture f.mem))
+    (rule.IoAperture, is_non_negative f.io && is_io_aperture (aperture f.io))
+    ∷ (rule.MemAperture, is_non_negative f.mem && is_mem_aperture (aperture f.mem))
     ∷ (
       rule.PrefAperture,
-      are_natural f.pref
+      is_none_or_non_negative f.pref
           && (not (is_mem_aperture (aperture f.mem)) || has_lawful_pref (aperture f.mem) (option_map aperture f.pref)),
     ) ∷ []
 host_rules _ f = []
@@ -30,18 +30,18 @@ host_rules _ f = []
 -- ---- paths
 
 -- two texts that are one path
-abbrev pub are_same_place : List ℕ → List ℕ → Bool
-are_same_place a b = is_path_text a && is_path_text b && path_eq (path_at a) (path_at b)
+abbrev pub are_same_valid_path : List ℕ → List ℕ → Bool
+are_same_valid_path a b = is_path_text a && is_path_text b && path_eq (path_at a) (path_at b)
 
-abbrev pub is_behind_bridge : List Standing → Path → Bool
-is_behind_bridge ss bus = is_root bus || has_bridge ss bus
+abbrev pub is_existing_bus : List Standing → Path → Bool
+is_existing_bus ss bus = is_root bus || has_bridge ss bus
 
 -- of a function or a slot, by the functions that stand so, and whether it has its own path
 abbrev pub path_rules : BoardFault → List Standing → List ℕ → Bool → List (Rule × Bool)
 path_rules fault.Place ss at is_first =
     (rule.Path, is_path_text at)
     ∷ (rule.OwnPlace, is_first)
-    ∷ (rule.BehindBridge, is_behind_bridge ss (parent (path_at at)))
+    ∷ (rule.BehindBridge, is_existing_bus ss (parent (path_at at)))
     ∷ (rule.FunctionZero, has_path ss (function_zero (path_at at))) ∷ []
 path_rules fault.Slot ss at is_first = (rule.NamesEndpoint, names_endpoint ss at) ∷ (rule.OwnSlot, is_first) ∷ []
 path_rules _ ss at is_first = []
@@ -50,7 +50,7 @@ path_rules _ ss at is_first = []
 
 abbrev pub bridge_rules : BoardFault → Bridge → List (Rule × Bool)
 bridge_rules fault.Number b = identity_rules b.vendor b.device b.revision
-bridge_rules fault.TooMany b = (rule.Slashes, has_few_slashes b.at) ∷ []
+bridge_rules fault.TooMany b = (rule.Slashes, has_at_most_15_slashes b.at) ∷ []
 bridge_rules _ b = []
 
 -- ---- guests

@@ -6,7 +6,7 @@
 --     problems_of ms fault      all entries that break a rule of this fault
 use Rattle.std.specs.{Prelude.{ℕ, Bool, true, not, ◌||◌, List, [], ◌∷◌, ◌++◌, length, map, flat_map, is_some, if◌then◌else◌}, List.{enumerate_from, range_with_len}, Option.option_map_or}
 use Rattle.toml.specs.Data.{Members, no_members, member, get_member}
-use Rattle.board_file.specs.{Endpoints.{Endpoint, part_count}, Entries.{File, file}, Schema.{parts, Field, fields, form_at, has_form}, Tables.{level_of, table_at}, Problems.{Found, problems_in}, declared.{document.schema.TableKind.TableKind, fault.BoardFault.BoardFault, rule.Rule.Rule, entry.{Entry.Entry, EndpointPart.EndpointPart}}}
+use Rattle.board_file.specs.{Endpoints.{Endpoint, part_count}, Entries.{File, file}, Schema.{parts, Field, fields, form_at, has_form}, Tables.{table_kind_of_entry, table_at}, Problems.{Found, problems_in}, declared.{document.schema.TableKind.TableKind, fault.BoardFault.BoardFault, rule.Rule.Rule, entry.{Entry.Entry, EndpointPart.EndpointPart}}}
 use Rattle.board_file.specs.declared.fault.BoardFault.TheVariants as fault
 use Rattle.board_file.specs.declared.rule.Rule.TheVariants as rule
 use Rattle.board_file.specs.declared.entry.Entry.TheVariants as entry
@@ -62,7 +62,7 @@ of_table _ e l ms = []
 
 -- a table that isn't there breaks no rule
 abbrev pub of_entry : BoardFault → Members → Entry → List Found
-of_entry fault ms e = option_map_or (λ l. option_map_or (of_table fault e l) (table_at ms e) []) (level_of e) []
+of_entry fault ms e = option_map_or (λ l. option_map_or (of_table fault e l) (table_at ms e) []) (table_kind_of_entry e) []
 
 abbrev pub key_problems : Members → BoardFault → List Found
 key_problems ms fault = flat_map (of_entry fault ms) (tables_of (file ms))

@@ -1,11 +1,11 @@
 -- Entries with the texts of paths: functions, each with its `at`, and slots.
 --     MarkedPath      an entry, its text, and whether no entry before it has the same path
---     place_texts, slot_texts      the texts of all functions, endpoints first, and of all slots, guest after guest
---     path_texts      those that a check asks
+--     function_texts, slot_texts      the texts of all functions, endpoints first, and of all slots, guest after guest
+--     path_texts_for_check      those that a check asks
 --     mark_duplicates      the texts of a list, each with whether no text before it has the same path
 use Rattle.std.specs.{Prelude.{ℕ, Bool, not, ◌&&◌, List, [], ◌++◌, map, flat_map, take}, List.{enumerate_from, list_all}}
 use Rattle.model_board.specs.Paths.{Path, path_eq}
-use Rattle.board_file.specs.{PathTexts.{is_path_text, path_at}, Endpoints.Endpoint, Entries.{Bridge, Guest, File}, EntryRules.are_same_place, declared.{fault.BoardFault.BoardFault, entry.Entry.Entry}}
+use Rattle.board_file.specs.{PathTexts.{is_path_text, path_at}, Endpoints.Endpoint, Entries.{Bridge, Guest, File}, EntryRules.are_same_valid_path, declared.{fault.BoardFault.BoardFault, entry.Entry.Entry}}
 use Rattle.board_file.specs.declared.fault.BoardFault.TheVariants as fault
 use Rattle.board_file.specs.declared.entry.Entry.TheVariants as entry
 
@@ -28,17 +28,17 @@ slot_text i (j, t) = (entry.Slot i j, t)
 abbrev pub guest_texts : ℕ × Guest → List (Entry × List ℕ)
 guest_texts (i, g) = map (slot_text i) (enumerate_from 0 g.slots)
 
-abbrev pub place_texts : File → List (Entry × List ℕ)
-place_texts f = map endpoint_text (enumerate_from 0 f.endpoints) ++ map bridge_text (enumerate_from 0 f.bridges)
+abbrev pub function_texts : File → List (Entry × List ℕ)
+function_texts f = map endpoint_text (enumerate_from 0 f.endpoints) ++ map bridge_text (enumerate_from 0 f.bridges)
 
 abbrev pub slot_texts : File → List (Entry × List ℕ)
 slot_texts f = flat_map guest_texts (enumerate_from 0 f.guests)
 
 -- those that a check asks
-abbrev pub path_texts : BoardFault → File → List (Entry × List ℕ)
-path_texts fault.Place f = place_texts f
-path_texts fault.Slot f = slot_texts f
-path_texts _ f = []
+abbrev pub path_texts_for_check : BoardFault → File → List (Entry × List ℕ)
+path_texts_for_check fault.Place f = function_texts f
+path_texts_for_check fault.Slot f = slot_texts f
+path_texts_for_check _ f = []
 
 -- ---- entries
 
@@ -48,7 +48,7 @@ has_path p t = is_path_text t && path_eq (path_at t) p
 
 -- no text has the same path
 abbrev pub is_free : List (Entry × List ℕ) → List ℕ → Bool
-is_free texts t = list_all (λ s. not (are_same_place s.1 t)) texts
+is_free texts t = list_all (λ s. not (are_same_valid_path s.1 t)) texts
 
 abbrev pub marked_path : List (Entry × List ℕ) → ℕ × (Entry × List ℕ) → MarkedPath
 marked_path texts (i, (e, t)) = record { entry = e; text = t; is_first = is_free (take i texts) t }

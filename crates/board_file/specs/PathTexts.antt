@@ -1,7 +1,7 @@
 -- Paths as texts: parts with slashes between them, each a device from 0 to 15, a dot and a function from 0 to 7,
 -- without leading zeros.
---     part_at_front      the part with which a text begins, and what comes after it
---     path_of, is_path_text      the path of 1 to 16 parts that a text is
+--     parse_leading_part      the part with which a text begins, and what comes after it
+--     parse_path, is_path_text      the path of 1 to 16 parts that a text is
 --     path_at      that path, or 0.0 for any other text
 use Rattle.std.specs.Prelude.{ℕ, zero, suc, ◌+◌, ◌-◌, Bool, ◌&&◌, List, [], ◌∷◌, ◌==◌, nat_le, Option, Some, None, is_some, unwrap_or, option_map, option_and_then, if◌then◌else◌}
 use Rattle.lists.specs.Elements.{first_of_two}
@@ -11,23 +11,23 @@ abbrev pub is_byte_between : ℕ → ℕ → ℕ → Bool
 is_byte_between low high b = nat_le low b && nat_le b high
 
 -- a device of one digit: 48 is '0', 46 is a dot
-abbrev pub one_digit_part : List ℕ → Option (Part × List ℕ)
-one_digit_part (d ∷ dot ∷ f ∷ rest) =
+abbrev pub parse_one_digit_part : List ℕ → Option (Part × List ℕ)
+parse_one_digit_part (d ∷ dot ∷ f ∷ rest) =
     if is_byte_between 48 57 d && (dot == 46) && is_byte_between 48 55 f
     then Some (record { device = d - 48; function = f - 48 }, rest)
     else None
-one_digit_part _ = None
+parse_one_digit_part _ = None
 
 -- a device from 10 to 15: 49 is '1'
-abbrev pub two_digit_part : List ℕ → Option (Part × List ℕ)
-two_digit_part (one ∷ d ∷ dot ∷ f ∷ rest) =
+abbrev pub parse_two_digit_part : List ℕ → Option (Part × List ℕ)
+parse_two_digit_part (one ∷ d ∷ dot ∷ f ∷ rest) =
     if (one == 49) && is_byte_between 48 53 d && (dot == 46) && is_byte_between 48 55 f
     then Some (record { device = 10 + (d - 48); function = f - 48 }, rest)
     else None
-two_digit_part _ = None
+parse_two_digit_part _ = None
 
-abbrev pub part_at_front : List ℕ → Option (Part × List ℕ)
-part_at_front text = first_of_two (one_digit_part text) (two_digit_part text)
+abbrev pub parse_leading_part : List ℕ → Option (Part × List ℕ)
+parse_leading_part text = first_of_two (parse_one_digit_part text) (parse_two_digit_part text)
 
 -- at most so many parts, each after a slash, which is 47
 abbrev pub parts_after : ℕ → List ℕ → Option Path
@@ -35,14 +35,14 @@ parts_after room [] = Some []
 parts_after zero (b ∷ bs) = None
 parts_after (suc room) (b ∷ bs) =
     if b == 47
-    then option_and_then (λ found. option_map (λ ps. found.0 ∷ ps) (parts_after room found.1)) (part_at_front bs)
+    then option_and_then (λ found. option_map (λ ps. found.0 ∷ ps) (parts_after room found.1)) (parse_leading_part bs)
     else None
 
-abbrev pub path_of : List ℕ → Option Path
-path_of text = option_and_then (λ found. option_map (λ ps. found.0 ∷ ps) (parts_after 15 found.1)) (part_at_front text)
+abbrev pub parse_path : List ℕ → Option Path
+parse_path text = option_and_then (λ found. option_map (λ ps. found.0 ∷ ps) (parts_after 15 found.1)) (parse_leading_part text)
 
 abbrev pub is_path_text : List ℕ → Bool
-is_path_text text = is_some (path_of text)
+is_path_text text = is_some (parse_path text)
 
 abbrev pub path_at : List ℕ → Path
-path_at text = unwrap_or (path_of text) (record { device = 0; function = 0 } ∷ [])
+path_at text = unwrap_or (parse_path text) (record { device = 0; function = 0 } ∷ [])

@@ -1,11 +1,11 @@
 -- The rules for the values of a board file.
 --     is_between, has_only_bits      a number in a range; one of 16 bits with none outside a mask
---     has_few_slashes      a text has at most 15 slashes
+--     has_at_most_15_slashes      a text has at most 15 slashes
 --     is_root, is_endpoint, names_endpoint      bus 0; there is an endpoint at a path; a text is the path of an endpoint
 --     is_size      a power of two within the limits of a region's kind
 --     fits_byte, fits_half_word      the rule that a number fits in its register, and whether it is kept
 --     identity_rules, kept      the rules of what identifies a function; all rules of a list are kept
---     is_natural, are_natural      both addresses of an aperture are 0 or more
+--     is_non_negative, is_none_or_non_negative      both addresses of an aperture are 0 or more
 --     are_apart      two ranges of offsets don't overlap
 use Rattle.std.specs.{Prelude.{ℕ, ℤ, ◌+◌, pos, nat_abs, int_le, Bool, true, false, not, ◌&&◌, ◌||◌, List, [], ◌∷◌, ◌==◌, nat_le, Option, Some, None, bit_and, count_by}, List.list_all, Int.is_power_of_two}
 use Rattle.model_registers.specs.Declarations.{Kind, least_size, greatest_size}
@@ -22,8 +22,8 @@ is_between first last n = int_le (pos first) n && int_le n (pos last)
 abbrev pub has_only_bits : ℕ → ℤ → Bool
 has_only_bits mask n = is_between 0 0xffff n && (bit_and (nat_abs n) mask == nat_abs n)
 
-abbrev pub is_size : Kind → ℤ → Bool
-is_size kind n = is_between (least_size kind) (greatest_size kind) n && is_power_of_two (nat_abs n)
+abbrev pub is_valid_bar_size : Kind → ℤ → Bool
+is_valid_bar_size kind n = is_between (least_size kind) (greatest_size kind) n && is_power_of_two (nat_abs n)
 
 -- a number fits in its register of one byte, or of two
 abbrev pub fits_byte : RegisterKey → ℤ → Rule × Bool
@@ -45,8 +45,8 @@ kept rules = list_all (λ r. r.1) rules
 -- ---- paths
 
 -- 47 is a slash
-abbrev pub has_few_slashes : List ℕ → Bool
-has_few_slashes at = nat_le (count_by (λ b. b == 47) at) 15
+abbrev pub has_at_most_15_slashes : List ℕ → Bool
+has_at_most_15_slashes at = nat_le (count_by (λ b. b == 47) at) 15
 
 abbrev pub is_root : Path → Bool
 is_root [] = true
@@ -61,12 +61,12 @@ names_endpoint ss t = is_path_text t && is_endpoint ss (path_at t)
 
 -- ---- apertures
 
-abbrev pub is_natural : Bounds → Bool
-is_natural b = int_le (pos 0) b.first && int_le (pos 0) b.last
+abbrev pub is_non_negative : Bounds → Bool
+is_non_negative b = int_le (pos 0) b.first && int_le (pos 0) b.last
 
-abbrev pub are_natural : Option Bounds → Bool
-are_natural None = true
-are_natural (Some b) = is_natural b
+abbrev pub is_none_or_non_negative : Option Bounds → Bool
+is_none_or_non_negative None = true
+is_none_or_non_negative (Some b) = is_non_negative b
 
 -- ---- offsets
 

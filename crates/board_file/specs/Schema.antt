@@ -6,7 +6,7 @@
 --     form_at      what stands at a key
 use Rattle.std.specs.{Prelude.{ℕ, codes, Bool, true, false, ◌&&◌, List, [], ◌∷◌, length, ◌==◌, Option, Some, None, is_some, if◌then◌else◌}, List.list_all}
 use Rattle.toml.specs.Data.{Data, string, array, Items, no_items, item, as_integer, as_str, as_table}
-use Rattle.board_file.specs.{Texts.{same_text, region_kind, io_decode, pref_decode}, declared.{entry.EndpointPart.EndpointPart, document.{keys.RegisterKey.RegisterKey, schema.{TableKind.TableKind, Keyword.{Keyword, TheVariants.{RegionKind, IoDecode, PrefDecode}}, ValueType.{ValueType, TheVariants.{Integer, Text, Word, Pair, Texts, Table, Tables}}, Field.Field as FieldInCode}}}}
+use Rattle.board_file.specs.{Texts.{same_text, parse_region_kind, parse_io_decode, parse_pref_decode}, declared.{entry.EndpointPart.EndpointPart, document.{keys.RegisterKey.RegisterKey, schema.{TableKind.TableKind, Keyword.{Keyword, TheVariants.{RegionKind, IoDecode, PrefDecode}}, ValueType.{ValueType, TheVariants.{Integer, Text, Word, Pair, Texts, Table, Tables}}, Field.Field as FieldInCode}}}}
 use Rattle.board_file.specs.declared.document.schema.TableKind.TheVariants as level
 use Rattle.board_file.specs.declared.entry.EndpointPart.TheVariants as part
 use Rattle.board_file.specs.declared.document.keys.RegisterKey.TheVariants as register
@@ -105,16 +105,16 @@ list_of no_items = []
 list_of (item d ds) = d ∷ list_of ds
 
 -- the word is one of those for its key
-abbrev pub is_listed : Keyword → List ℕ → Bool
-is_listed RegionKind t = is_some (region_kind t)
-is_listed IoDecode t = is_some (io_decode t)
-is_listed PrefDecode t = is_some (pref_decode t)
+abbrev pub is_allowed_word : Keyword → List ℕ → Bool
+is_allowed_word RegionKind t = is_some (parse_region_kind t)
+is_allowed_word IoDecode t = is_some (parse_io_decode t)
+is_allowed_word PrefDecode t = is_some (parse_pref_decode t)
 
 -- the value has the type, or is one of the words, that stands at its key
 abbrev pub has_form : ValueType → Data → Bool
 has_form Integer d = is_some (as_integer d)
 has_form Text d = is_some (as_str d)
-has_form (Word words) (string t) = is_listed words t
+has_form (Word words) (string t) = is_allowed_word words t
 has_form (Word words) _ = false
 has_form Pair (array ds) = (length (list_of ds) == 2) && list_all (λ d. is_some (as_integer d)) (list_of ds)
 has_form Pair _ = false

@@ -1,13 +1,13 @@
 //! The address apertures of a board file.
 ghost use Rattle.std.specs.Prelude.{◌≡◌, ◌&&◌, ◌||◌, not, option_map, is_ok, IfOk};
 ghost use Rattle.model_registers.specs.Apertures.{are_lawful, is_io_aperture, is_mem_aperture, has_lawful_pref};
-ghost use Rattle.board_file.specs.{Functions.{aperture, apertures}, Rules.{is_natural, are_natural}};
+ghost use Rattle.board_file.specs.{Functions.{aperture, apertures}, Rules.{is_non_negative, is_none_or_non_negative}};
 
 use crate::entries::{Bounds, FileEntries};
 use headers::{Aperture, ApertureFault, Apertures};
 
 /// Returns the aperture from `bounds.first` to `bounds.last`, both inclusive. Callers check
-/// `is_natural` first, because a negative bound is replaced by its absolute value.
+/// `is_non_negative` first, because a negative bound is replaced by its absolute value.
 fn aperture(bounds: Bounds) -> Aperture
     ensures { result ≡ aperture bounds }
 {
@@ -37,18 +37,18 @@ pub(crate) fn apertures(file: &FileEntries<'_>) -> Result<Apertures, ApertureFau
 }
 
 /// Returns whether neither address is negative.
-fn is_natural(bounds: Bounds) -> bool
-    ensures { result ≡ is_natural bounds }
+fn is_non_negative(bounds: Bounds) -> bool
+    ensures { result ≡ is_non_negative bounds }
 {
     0 <= bounds.first && 0 <= bounds.last
 }
 
 /// Returns whether neither address is negative. A missing aperture passes.
-fn are_natural(bounds: Option<Bounds>) -> bool
-    ensures { result ≡ are_natural bounds }
+fn is_none_or_non_negative(bounds: Option<Bounds>) -> bool
+    ensures { result ≡ is_none_or_non_negative bounds }
 {
     match bounds {
-        Some(bounds) => is_natural(bounds),
+        Some(bounds) => is_non_negative(bounds),
         None => true,
     }
 }
@@ -67,38 +67,39 @@ const MEM: Aperture = Aperture {
 
 /// Returns whether the I/O aperture is valid. Passes it to [`Apertures::new`] together with a
 /// memory aperture that is known to be valid.
-pub(crate) fn is_io(io: Bounds) -> bool
-    ensures { result ≡ (is_natural io && is_io_aperture (aperture io)) }
+pub(crate) fn is_valid_io_aperture(io: Bounds) -> bool
+    ensures { result ≡ (is_non_negative io && is_io_aperture (aperture io)) }
 {
-    is_natural(io) && Apertures::new(aperture(io), MEM, None).is_ok()
+    is_non_negative(io) && Apertures::new(aperture(io), MEM, None).is_ok()
 }
 
-fn is_lawful_mem(mem: Bounds) -> bool
+fn is_valid_mem_ignoring_sign(mem: Bounds) -> bool
     ensures { result ≡ is_mem_aperture (aperture mem) }
 {
     Apertures::new(IO, aperture(mem), None).is_ok()
 }
 
 /// Returns whether the memory aperture is valid, whatever the other apertures are.
-pub(crate) fn is_mem(mem: Bounds) -> bool
-    ensures { result ≡ (is_natural mem && is_mem_aperture (aperture mem)) }
+pub(crate) fn is_valid_mem_aperture(mem: Bounds) -> bool
+    ensures { result ≡ (is_non_negative mem && is_mem_aperture (aperture mem)) }
 {
-    is_natural(mem) && is_lawful_mem(mem)
+    is_non_negative(mem) && is_valid_mem_ignoring_sign(mem)
 }
 
-fn is_lawful_pref(mem: Bounds, pref: Option<Bounds>) -> bool
+fn is_valid_pref_ignoring_sign(mem: Bounds, pref: Option<Bounds>) -> bool
     ensures { result
         ≡ (not (is_mem_aperture (aperture mem)) || has_lawful_pref (aperture mem)
         (option_map aperture pref)) }
 {
-    !is_lawful_mem(mem) || Apertures::new(IO, aperture(mem), pref_aperture(pref)).is_ok()
+    !is_valid_mem_ignoring_sign(mem)
+        || Apertures::new(IO, aperture(mem), pref_aperture(pref)).is_ok()
 }
 
 /// Returns whether the prefetchable aperture is valid and doesn't overlap the memory aperture. If
 /// the memory aperture isn't valid itself, checks only that no address is negative.
-pub(crate) fn is_pref(mem: Bounds, pref: Option<Bounds>) -> bool
-    ensures { result ≡ (are_natural pref
+pub(crate) fn is_pref_none_or_valid(mem: Bounds, pref: Option<Bounds>) -> bool
+    ensures { result ≡ (is_none_or_non_negative pref
         && (not (is_mem_aperture (aperture mem)) || has_lawful_pref (aperture mem) (option_map aperture pref))) }
 {
-    are_natural(pref) && is_lawful_pref(mem, pref)
+    is_none_or_non_negative(pref) && is_valid_pref_ignoring_sign(mem, pref)
 }

@@ -16,7 +16,7 @@ use host_bridge::Host;
 use std::alloc::{AllocError, Global};
 
 /// Declares the endpoints. Returns `None` if a pattern isn't valid or configuration blocks overlap.
-fn endpoint_decls(
+fn declare_endpoints_if_valid(
     alloc: Global,
     entries: &[EndpointEntry<'_>],
 ) -> Result<Option<Vec<Decl>>, AllocError>
@@ -26,9 +26,9 @@ fn endpoint_decls(
 {
     let mut decls = Vec::new(alloc);
     'entries: for entry in entries {
-        match entry.declare(alloc)? {
+        match entry.declare_if_valid(alloc)? {
             Some(decl) => decls.push(Decl {
-                path: entry.at.path(),
+                path: entry.at.path_or_zero(),
                 function: Declared::Endpoint(decl),
             })?,
             None => return Ok(None),
@@ -38,7 +38,10 @@ fn endpoint_decls(
 }
 
 /// Appends the declarations of the bridges.
-fn with_bridges(decls: Vec<Decl>, entries: &[BridgeEntry<'_>]) -> Result<Vec<Decl>, AllocError>
+fn append_bridge_decls(
+    decls: Vec<Decl>,
+    entries: &[BridgeEntry<'_>],
+) -> Result<Vec<Decl>, AllocError>
     requires bridges { IsTrue (list_all is_lawful_bridge entries.now) }
     requires lawful { HasLawfulDecls decls.items }
     ensures { IfOk result (λ v.
@@ -47,7 +50,7 @@ fn with_bridges(decls: Vec<Decl>, entries: &[BridgeEntry<'_>]) -> Result<Vec<Dec
     let mut decls = decls;
     'entries: for entry in entries {
         decls.push(Decl {
-            path: entry.at.path(),
+            path: entry.at.path_or_zero(),
             function: Declared::Bridge(entry.declare()),
         })?;
     }
@@ -56,19 +59,22 @@ fn with_bridges(decls: Vec<Decl>, entries: &[BridgeEntry<'_>]) -> Result<Vec<Dec
 
 /// Declares all functions, endpoints first. Returns `None` if a pattern isn't valid or
 /// configuration blocks overlap.
-fn decls(alloc: Global, file: &FileEntries<'_>) -> Result<Option<Vec<Decl>>, AllocError>
+fn declare_functions_if_valid(
+    alloc: Global,
+    file: &FileEntries<'_>,
+) -> Result<Option<Vec<Decl>>, AllocError>
     requires { IsTrue (is_judged file.now) }
     ensures { IfOk result (λ found. Gives (list_all masks_hold file.now.endpoints) found (λ v.
         (v.items ≡ said.rows file.now) × HasLawfulDecls v.items)) }
 {
-    match endpoint_decls(alloc, &file.endpoints)? {
-        Some(endpoints) => Ok(Some(with_bridges(endpoints, &file.bridges)?)),
+    match declare_endpoints_if_valid(alloc, &file.endpoints)? {
+        Some(endpoints) => Ok(Some(append_bridge_decls(endpoints, &file.bridges)?)),
         None => Ok(None),
     }
 }
 
 /// Returns the declaration of each guest in the file, in order.
-fn guests(alloc: Global, entries: &[GuestEntry<'_>]) -> Result<Vec<GuestDecl>, AllocError>
+fn declare_guests(alloc: Global, entries: &[GuestEntry<'_>]) -> Result<Vec<GuestDecl>, AllocError>
     requires { Each IsShortGuest entries.now }
     ensures { IfOk result (λ v. v.items ≡ map said.guest entries.now) }
 {
@@ -80,7 +86,11 @@ fn guests(alloc: Global, entries: &[GuestEntry<'_>]) -> Result<Vec<GuestDecl>, A
 }
 
 /// Builds the host with these functions at reset.
-fn host(alloc: Global, decls: Vec<Decl>, apertures: Apertures) -> Result<Host, AllocError>
+fn build_host_at_reset(
+    alloc: Global,
+    decls: Vec<Decl>,
+    apertures: Apertures,
+) -> Result<Host, AllocError>
     requires { IsBoard (board_of decls.items) }
     ensures { IfOk result (λ h.
         h ≡ record { state = reset_state (board_of decls.items); apertures = apertures }) }
@@ -90,7 +100,7 @@ fn host(alloc: Global, decls: Vec<Decl>, apertures: Apertures) -> Result<Host, A
 
 /// Builds the host and the guests of a file that passed all earlier checks. Returns `CellMasks` if
 /// a pattern isn't valid or configuration blocks overlap, and `Memory` if memory is exhausted.
-pub(crate) fn build_checked(
+pub(crate) fn check_masks_and_build(
     alloc: Global,
     file: &FileEntries<'_>,
 ) -> Result<(Host, Vec<GuestDecl>), BoardFault>
@@ -104,11 +114,11 @@ pub(crate) fn build_checked(
         ⊎ ((e ≡ CellMasks) × (list_all masks_hold file.now.endpoints ≡ false))) }
 {
     let apertures = apertures(file).unwrap();
-    let decls = match decls(alloc, file)? {
+    let decls = match declare_functions_if_valid(alloc, file)? {
         Some(decls) => decls,
         None => return Err(BoardFault::CellMasks),
     };
-    let host = host(alloc, decls, apertures)?;
-    let guests = guests(alloc, &file.guests)?;
+    let host = build_host_at_reset(alloc, decls, apertures)?;
+    let guests = declare_guests(alloc, &file.guests)?;
     Ok((host, guests))
 }

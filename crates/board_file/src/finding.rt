@@ -2,15 +2,15 @@
 ghost use Rattle.std.specs.Prelude.{◌≡◌, IfOk, OnOk, map};
 ghost use Rattle.board_file.specs.{EntryRules.{file_rules, host_rules}, Problems.{found_of, Adds, broken, of_values, problems_in}};
 
-use crate::apertures::{is_io, is_mem, is_pref};
+use crate::apertures::{is_pref_none_or_valid, is_valid_io_aperture, is_valid_mem_aperture};
 use crate::entries::FileEntries;
 use crate::entry::Entry;
 use crate::fault::BoardFault;
-use crate::functions::bridge::push_bridges;
-use crate::functions::endpoint::push_endpoints;
-use crate::functions::numbers::has_few_functions;
-use crate::guests::problems::push_guests;
-use crate::path::problems::push_paths;
+use crate::functions::bridge::push_all_bridge_problems;
+use crate::functions::endpoint::push_all_endpoint_problems;
+use crate::functions::numbers::has_at_most_1024_functions;
+use crate::guests::problems::push_all_guest_problems;
+use crate::path::problems::push_all_path_problems;
 use crate::rule::Rule;
 use crate::source::Source;
 use std::alloc::{AllocError, Global};
@@ -24,7 +24,7 @@ pub struct Violation<'a> {
 }
 
 /// Appends a problem for each rule that the entry breaks.
-pub(crate) fn push_broken(
+pub(crate) fn push_broken_rules(
     problems: &mut Vec<Violation<'_>>,
     entry: Entry,
     rules: &[(Rule, bool)],
@@ -44,7 +44,7 @@ pub(crate) fn push_broken(
 }
 
 /// Appends the problems of the file as a whole.
-fn push_file(
+fn push_file_problems(
     problems: &mut Vec<Violation<'_>>,
     fault: BoardFault,
     file: &FileEntries<'_>,
@@ -53,11 +53,11 @@ fn push_file(
         problems.new.items) }
 {
     match fault {
-        BoardFault::TooMany => push_broken(
+        BoardFault::TooMany => push_broken_rules(
             problems,
             Entry::File,
             &[
-                (Rule::Functions, has_few_functions(file)),
+                (Rule::Functions, has_at_most_1024_functions(file)),
                 (Rule::Guests, file.guests.len() <= 32),
             ],
         ),
@@ -66,7 +66,7 @@ fn push_file(
 }
 
 /// Appends the problems of the apertures.
-fn push_host(
+fn push_aperture_problems(
     problems: &mut Vec<Violation<'_>>,
     fault: BoardFault,
     file: &FileEntries<'_>,
@@ -75,13 +75,16 @@ fn push_host(
         problems.new.items) }
 {
     match fault {
-        BoardFault::Aperture => push_broken(
+        BoardFault::Aperture => push_broken_rules(
             problems,
             Entry::Host,
             &[
-                (Rule::IoAperture, is_io(file.io)),
-                (Rule::MemAperture, is_mem(file.mem)),
-                (Rule::PrefAperture, is_pref(file.mem, file.pref)),
+                (Rule::IoAperture, is_valid_io_aperture(file.io)),
+                (Rule::MemAperture, is_valid_mem_aperture(file.mem)),
+                (
+                    Rule::PrefAperture,
+                    is_pref_none_or_valid(file.mem, file.pref),
+                ),
             ],
         ),
         _ => Ok(()),
@@ -89,7 +92,7 @@ fn push_host(
 }
 
 /// Appends the problems of all values except paths.
-fn push_values(
+fn push_non_path_problems(
     alloc: Global,
     problems: &mut Vec<Violation<'_>>,
     file: &FileEntries<'_>,
@@ -97,11 +100,11 @@ fn push_values(
 ) -> Result<(), AllocError>
     ensures { OnOk result (Adds (of_values fault file.now) problems.old.items problems.new.items) }
 {
-    push_file(problems, fault, file)?;
-    push_host(problems, fault, file)?;
-    push_endpoints(alloc, problems, file, fault)?;
-    push_bridges(problems, file, fault)?;
-    push_guests(problems, file, fault)
+    push_file_problems(problems, fault, file)?;
+    push_aperture_problems(problems, fault, file)?;
+    push_all_endpoint_problems(alloc, problems, file, fault)?;
+    push_all_bridge_problems(problems, file, fault)?;
+    push_all_guest_problems(problems, file, fault)
 }
 
 /// Returns the problems of the file's values with this fault, in file order. Returns none if the
@@ -116,9 +119,9 @@ pub(crate) fn value_problems<'a>(
     let mut problems = Vec::new(alloc);
     match fault {
         BoardFault::Place | BoardFault::Slot => {
-            push_paths(alloc, &mut problems, &source.file, &source.functions, fault)?
+            push_all_path_problems(alloc, &mut problems, &source.file, &source.functions, fault)?
         }
-        _ => push_values(alloc, &mut problems, &source.file, fault)?,
+        _ => push_non_path_problems(alloc, &mut problems, &source.file, fault)?,
     }
     Ok(problems)
 }

@@ -4,7 +4,7 @@ ghost use Rattle.model_guests.specs.World.{is_name_byte, is_name};
 ghost use Rattle.board_file.specs.{Entries.guest, Functions.{guest as declared_guest}, PathTexts.path_at};
 ghost use Rattle.board_file.specs.Entries as said;
 
-use crate::document::reading::{FromTable, slots, text};
+use crate::document::reading::{FromTable, read_slots_or_empty, text_or_empty};
 use crate::path::text::PathText;
 use accesses::GuestDecl;
 use arrayvec::{ArrayString, ArrayVec};
@@ -33,8 +33,8 @@ impl<'a> FromTable<'a> for GuestEntry<'a> {
 
     fn from_table(alloc: Global, table: &'a Table) -> Result<Self, AllocError> {
         Ok(GuestEntry {
-            name: text(table, "name"),
-            slots: slots(alloc, table)?,
+            name: text_or_empty(table, "name"),
+            slots: read_slots_or_empty(alloc, table)?,
         })
     }
 }
@@ -62,38 +62,41 @@ fn slot_paths(texts: &[PathText<'_>]) -> ArrayVec<Path, 32>
 {
     let mut slots = ArrayVec::new();
     'texts: for text in texts {
-        slots.push(text.path());
+        slots.push(text.path_or_zero());
     }
     slots
 }
 
-fn is_name_byte(byte: u8) -> bool
+fn is_lowercase_or_digit(byte: u8) -> bool
     ensures { result ≡ is_name_byte byte }
 {
     byte.is_ascii_lowercase() || byte.is_ascii_digit()
 }
 
-fn are_name_bytes(bytes: &[u8]) -> bool
+fn are_lowercase_or_digits(bytes: &[u8]) -> bool
     ensures { result ≡ list_all is_name_byte bytes.now }
 {
-    bytes.iter().all(|byte| is_name_byte(*byte))
+    bytes.iter().all(|byte| is_lowercase_or_digit(*byte))
 }
 
 /// Returns whether a guest may have this name: 1 to 16 characters from `a` to `z` and `0` to `9`,
 /// the first a letter, and not `host`.
-pub(crate) fn is_name(name: &str) -> bool
+pub(crate) fn is_valid_guest_name(name: &str) -> bool
     ensures { result ≡ is_name name.now }
 {
     match name.as_bytes().split_first() {
         None => false,
         Some((first, rest)) => {
-            first.is_ascii_lowercase() && are_name_bytes(rest) && rest.len() <= 15 && name != "host"
+            first.is_ascii_lowercase()
+                && are_lowercase_or_digits(rest)
+                && rest.len() <= 15
+                && name != "host"
         }
     }
 }
 
 /// Returns whether none of the first `count` guests has this name.
-pub(crate) fn is_own_name(guests: &[GuestEntry<'_>], count: usize, name: &str) -> bool
+pub(crate) fn is_name_unused_by_first(guests: &[GuestEntry<'_>], count: usize, name: &str) -> bool
     ensures { result ≡ list_all (λ g. not (bytes_eq g.name name.now)) (take count guests.now) }
 {
     guests.iter().take(count).all(|guest| guest.name != name)

@@ -91,7 +91,7 @@ impl Rule {
     /// Returns the fault of a file that breaks the rule, and the key at which the problem is
     /// reported. The key is empty for rules about keys, which apply to any key, and for rules about
     /// slots, which have no key.
-    fn row(self) -> (BoardFault, &'static str)
+    fn fault_and_key(self) -> (BoardFault, &'static str)
         ensures { (result.0, result.1.now) ≡ row_of self }
     {
         match self {
@@ -140,7 +140,7 @@ impl Rule {
     pub fn fault(self) -> BoardFault
         ensures { result ≡ fault_of self }
     {
-        self.row().0
+        self.fault_and_key().0
     }
 
     /// Returns the key at which a problem is reported, or an empty string if the rule isn't about
@@ -148,6 +148,6 @@ impl Rule {
     pub fn key(self) -> &'static str
         ensures { result.now ≡ key_of self }
     {
-        self.row().1
+        self.fault_and_key().1
     }
 }

@@ -7,8 +7,8 @@ ghost use Rattle.model_guests.specs.World.{IsLawfulWorld};
 ghost use Rattle.board_file.specs.{Functions.standings, KeyProblems.problems_of, Problems.found_of, Meaning.{early_checks, world_in, meaning, document_meaning}, Faults.number_of, declared.fault.BoardFault.TheVariants.{NotToml, Memory}};
 ghost use Rattle.board_file.specs.Entries as said;
 
-use crate::board::build_checked;
-use crate::checks::order;
+use crate::board::check_masks_and_build;
+use crate::checks::checks_in_order;
 use crate::document::key_problems::key_problems;
 use crate::document::reading::read_entries;
 use crate::entries::FileEntries;
@@ -71,11 +71,11 @@ impl<'a> Source<'a> {
     }
 
     /// Returns the first fault of the document, except `CellMasks`.
-    fn first_fault(&self, alloc: Global) -> Result<Option<BoardFault>, AllocError>
+    fn first_early_fault(&self, alloc: Global) -> Result<Option<BoardFault>, AllocError>
         ensures { let ms = table_view self.now.document.now in
             IfOk result (λ found. option_map number_of found ≡ first_broken (early_checks ms)) }
     {
-        'checks: for fault in order() {
+        'checks: for fault in checks_in_order() {
             if !self.problems(alloc, *fault)?.is_empty() {
                 return Ok(Some(*fault));
             }
@@ -85,7 +85,7 @@ impl<'a> Source<'a> {
 
     /// Builds the host and the guests of the document, or returns the fault for which the document
     /// is refused. See [`read_board`] for the order of the checks.
-    pub fn world(&self, alloc: Global) -> Result<(Host, Vec<GuestDecl>), BoardFault>
+    pub fn build_host_and_guests(&self, alloc: Global) -> Result<(Host, Vec<GuestDecl>), BoardFault>
         ensures world { let ms = table_view self.now.document.now in
             IfOk result (λ r. meaning ms ≡ Ok (world_in r.0 r.1.items)) }
         ensures reset { IfOk result (λ r. IsAtReset r.0.state) }
@@ -93,9 +93,9 @@ impl<'a> Source<'a> {
         ensures refused { let ms = table_view self.now.document.now in
             IfErr result (λ e. e ≢ Memory → meaning ms ≡ Err (number_of e)) }
     {
-        match self.first_fault(alloc)? {
+        match self.first_early_fault(alloc)? {
             Some(fault) => Err(fault),
-            None => build_checked(alloc, &self.file),
+            None => check_masks_and_build(alloc, &self.file),
         }
     }
 }
@@ -114,12 +114,12 @@ fn read_document(
         e ≢ Memory → meaning (table_view document.now) ≡ Err (number_of e)) }
 {
     let source = Source::new(alloc, bytes, document)?;
-    source.world(alloc)
+    source.build_host_and_guests(alloc)
 }
 
 /// Reads a board file. Returns its host bridge and board at reset, with CONFIG_ADDRESS 0, and its
 /// guests in file order. A file that fails checks is refused with the first of them: `NotToml`,
-/// those of [`order`](crate::checks::order), `CellMasks`. Each check covers the whole file. Bytes
+/// those of [`checks_in_order`](crate::checks::checks_in_order), `CellMasks`. Each check covers the whole file. Bytes
 /// that aren't UTF-8 aren't TOML. Exhausted memory can be reported at any point.
 pub fn read_board(alloc: Global, bytes: &[u8]) -> Result<(Host, Vec<GuestDecl>), BoardFault>
     ensures world { IfOk result (λ r.

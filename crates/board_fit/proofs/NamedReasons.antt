@@ -6,7 +6,7 @@ use Rattle.model_registers.specs.Declarations.{IoDecode}
 use Rattle.model_board.{specs.{Paths.Path, Board.{Row, Board, is_bridge}, BusNumbers.{bridge_count, numbers_suffice}, Places.{row_inserted, board_of}}, proofs.PlacesLaw.each_to_board}
 use Rattle.model_set_up.specs.Pools.{opens_io, has_io, bridges_above, has_io_paths}
 use Rattle.board_file.{specs.{Bars.Bar, Entries.{Bridge, File}, Endpoints.Endpoint, Functions.{endpoint_row, bridge_row, rows}, PathTexts.path_at}, proofs.{Declaring.declared_regions, FirstBroken.{alone, broken_at}, Searches.{position_none, not_empty, both_empty}}}
-use Rattle.board_fit.{specs.{ReasonLaws.ReasonsAreTold, Misfits.{is_io, has_no_io_window, first_without_io_window, no_io_window, blocked_bars, blocked_in, blocked_regions, bridge_too_many}}, proofs.BridgesAbove.{all_above, by_file}}
+use Rattle.board_fit.{specs.{ReasonLaws.BusAndIoFaultsNameEntries, Misfits.{is_io, has_no_io_window, first_bridge_blocking_io, no_io_window, remarks_on_io_bars, no_io_window_remarks, remarks_on_blocked_io, remark_on_bridge_256}}, proofs.BridgesAbove.{all_above, by_file}}
 use Rattle.model_registers.specs.Declarations as declared
 
 -- ---- bridges
@@ -26,7 +26,7 @@ count_rows : (es : List Endpoint) (b : Board) → bridge_count (map endpoint_row
 count_rows [] b = refl
 count_rows (e ∷ es) b = grind (arith, sum_by-cons, count_rows es b)
 
-bridge_named : (f : File) → numbers_suffice (board_of (rows f)) ≡ false → bridge_too_many f ≢ []
+bridge_named : (f : File) → numbers_suffice (board_of (rows f)) ≡ false → remark_on_bridge_256 f ≢ []
 bridge_named f h = grind (arith, common_steps, count_board, count_rows, not_empty, lt-ltb, leb-false, sum_by-cons)
 
 -- ---- regions of I/O
@@ -35,7 +35,7 @@ bridge_named f h = grind (arith, common_steps, count_board, count_rows, not_empt
 passed : (t : Bool) (d : IoDecode) → (has_no_io_window d && t) ≡ false → (not t || has_io d) ≡ true
 passed t d h = grind arith
 
-all_open : (bs : List Bridge) (p : Path) → first_without_io_window bs p ≡ None → all_above (λ b. has_io b.io) bs p ≡ true
+all_open : (bs : List Bridge) (p : Path) → first_bridge_blocking_io bs p ≡ None → all_above (λ b. has_io b.io) bs p ≡ true
 all_open bs p h = grind (arith, all_from, passed, position_none)
 
 -- an endpoint has no regions of I/O, where none is named behind a bridge
@@ -47,29 +47,29 @@ opens_none : (e : Endpoint) → list_any (λ (b : Bar). is_io b.kind) e.bars ≡
 opens_none e h = grind (arith, common_steps, declared_regions e, false_from_ne_true, from_any, from_flat_map, from_map, from_filter, both_ways, any_in)
 
 -- what is named behind the first bridge that is closed
-blocked_behind : (bs : List Bridge) (i : ℕ) (e : Endpoint) → blocked_in bs (i, e) ≡ [] → option_map_or (λ k. blocked_bars i k e.bars) (first_without_io_window bs (path_at e.at)) [] ≡ []
-unfolding blocked_in
+blocked_behind : (bs : List Bridge) (i : ℕ) (e : Endpoint) → no_io_window_remarks bs (i, e) ≡ [] → option_map_or (λ k. remarks_on_io_bars i k e.bars) (first_bridge_blocking_io bs (path_at e.at)) [] ≡ []
+unfolding no_io_window_remarks
 blocked_behind bs i e h = h
 
 module _ (f : File) where
   abbrev keeps : Row → Type 0
   keeps r = (not (opens_io r.decl) || list_all (λ d. has_io d.io) (bridges_above (board_of (rows f)) r.path)) ≡ true
 
-  endpoint_keeps : (i : ℕ) (e : Endpoint) → blocked_in f.bridges (i, e) ≡ [] → keeps (endpoint_row e)
-  endpoint_keeps i e h = by_bridge (first_without_io_window f.bridges (path_at e.at)) refl
+  endpoint_keeps : (i : ℕ) (e : Endpoint) → no_io_window_remarks f.bridges (i, e) ≡ [] → keeps (endpoint_row e)
+  endpoint_keeps i e h = by_bridge (first_bridge_blocking_io f.bridges (path_at e.at)) refl
     where
       either : (a b : Bool) → (a ≡ false) ⊎ (b ≡ true) → (not a || b) ≡ true
       either a b k = grind arith
 
-      by_bridge : (o : Option ℕ) → first_without_io_window f.bridges (path_at e.at) ≡ o → keeps (endpoint_row e)
+      by_bridge : (o : Option ℕ) → first_bridge_blocking_io f.bridges (path_at e.at) ≡ o → keeps (endpoint_row e)
       by_bridge None is =
           either (opens_io (endpoint_row e).decl) (list_all (λ d. has_io d.io) (bridges_above (board_of (rows f)) (path_at e.at)))
           (inr (by_file (λ (d : declared.Bridge). has_io d.io) (path_at e.at) (λ b. has_io b.io) (λ b. refl) f ∙ all_open f.bridges (path_at e.at) is))
       by_bridge (Some k) is =
           either (opens_io (endpoint_row e).decl) (list_all (λ d. has_io d.io) (bridges_above (board_of (rows f)) (path_at e.at)))
-          (inl (opens_none e (no_io_bars i k 0 e.bars (sym (ap (λ (o : Option ℕ). option_map_or (λ k. blocked_bars i k e.bars) o []) is) ∙ blocked_behind f.bridges i e h))))
+          (inl (opens_none e (no_io_bars i k 0 e.bars (sym (ap (λ (o : Option ℕ). option_map_or (λ k. remarks_on_io_bars i k e.bars) o []) is) ∙ blocked_behind f.bridges i e h))))
 
-  endpoints_keep : (n : ℕ) (es : List Endpoint) → flat_map (blocked_in f.bridges) (enumerate_from n es) ≡ [] → Each keeps (map endpoint_row es)
+  endpoints_keep : (n : ℕ) (es : List Endpoint) → flat_map (no_io_window_remarks f.bridges) (enumerate_from n es) ≡ [] → Each keeps (map endpoint_row es)
   endpoints_keep n [] h = tt
   endpoints_keep n (e ∷ es) h = grind (arith, both_empty, endpoint_keeps, endpoints_keep (n + 1) es)
 
@@ -77,10 +77,10 @@ module _ (f : File) where
   bridges_keep [] = tt
   bridges_keep (b ∷ bs) = (refl, bridges_keep bs)
 
-  region_named : has_io_paths (board_of (rows f)) ≡ false → blocked_regions f ≢ []
+  region_named : has_io_paths (board_of (rows f)) ≡ false → remarks_on_blocked_io f ≢ []
   region_named h none = grind (arith, each_to_board, each_append, endpoints_keep, bridges_keep, both_ways, all_from, each_in)
 
 -- ---- the rules of set-up
 
-pub reasons_are_told : ReasonsAreTold
-reasons_are_told = grind (arith, bridge_named, alone, broken_at, region_named)
+pub bus_and_io_faults_name_entries : BusAndIoFaultsNameEntries
+bus_and_io_faults_name_entries = grind (arith, bridge_named, alone, broken_at, region_named)

@@ -1,8 +1,8 @@
 -- The entries of a file that prevent its board from being set up.
---     first_without_io_window bs p      of these bridges the first above the function at a path that has no I/O window
---     blocked_regions      all regions of I/O behind such a bridge, in order
---     bridge_too_many      the bridge after the 255 that have bus numbers
---     reasons f fault      the one or the other, where the fault is that
+--     first_bridge_blocking_io bs p      of these bridges the first above the function at a path that has no I/O window
+--     remarks_on_blocked_io      all regions of I/O behind such a bridge, in order
+--     remark_on_bridge_256      the bridge after the 255 that have bus numbers
+--     remarks_on_fault_causes f fault      the one or the other, where the fault is that
 use Rattle.std.specs.{Prelude.{ℕ, nat_lt, Bool, true, false, ◌&&◌, List, [], ◌∷◌, filter, length, map, flat_map, Option, if◌then◌else◌}, List.{position, enumerate_from}, Option.option_map_or}
 use Rattle.model_registers.specs.Declarations.{Kind, io_kind, mem32, mem64, IoDecode, no_io, io16, io32}
 use Rattle.model_board.specs.Paths.{Path, is_ancestor_of}
@@ -21,34 +21,34 @@ has_no_io_window no_io = true
 has_no_io_window io16 = false
 has_no_io_window io32 = false
 
-abbrev pub blocks_io : Path → Bridge → Bool
-blocks_io p b = has_no_io_window b.io && is_ancestor_of (path_at b.at) p
+abbrev pub is_above_without_io_window : Path → Bridge → Bool
+is_above_without_io_window p b = has_no_io_window b.io && is_ancestor_of (path_at b.at) p
 
-abbrev pub first_without_io_window : List Bridge → Path → Option ℕ
-first_without_io_window bs p = position (blocks_io p) bs
+abbrev pub first_bridge_blocking_io : List Bridge → Path → Option ℕ
+first_bridge_blocking_io bs p = position (is_above_without_io_window p) bs
 
 abbrev pub no_io_window : ℕ → ℕ → ℕ × Bar → Remark
 no_io_window i k (j, b) = remark.NoIoWindow i j k
 
 -- those of a list of regions
-abbrev pub blocked_bars : ℕ → ℕ → List Bar → List Remark
-blocked_bars i k bars = map (no_io_window i k) (filter (λ p. is_io p.1.kind) (enumerate_from 0 bars))
+abbrev pub remarks_on_io_bars : ℕ → ℕ → List Bar → List Remark
+remarks_on_io_bars i k bars = map (no_io_window i k) (filter (λ p. is_io p.1.kind) (enumerate_from 0 bars))
 
 -- if there is such a bridge
-abbrev pub blocked_by : ℕ → Option ℕ → List Bar → List Remark
-blocked_by i o bars = option_map_or (λ k. blocked_bars i k bars) o []
+abbrev pub remarks_on_io_bars_if_blocked : ℕ → Option ℕ → List Bar → List Remark
+remarks_on_io_bars_if_blocked i o bars = option_map_or (λ k. remarks_on_io_bars i k bars) o []
 
-unfoldable pub blocked_in : List Bridge → ℕ × Endpoint → List Remark
-blocked_in bs (i, e) = blocked_by i (first_without_io_window bs (path_at e.at)) e.bars
+unfoldable pub no_io_window_remarks : List Bridge → ℕ × Endpoint → List Remark
+no_io_window_remarks bs (i, e) = remarks_on_io_bars_if_blocked i (first_bridge_blocking_io bs (path_at e.at)) e.bars
 
-abbrev pub blocked_regions : File → List Remark
-blocked_regions f = flat_map (blocked_in f.bridges) (enumerate_from 0 f.endpoints)
+abbrev pub remarks_on_blocked_io : File → List Remark
+remarks_on_blocked_io f = flat_map (no_io_window_remarks f.bridges) (enumerate_from 0 f.endpoints)
 
 -- a bridge has one of the bus numbers from 1 to 255
-abbrev pub bridge_too_many : File → List Remark
-bridge_too_many f = if nat_lt 255 (length f.bridges) then remark.BridgeTooMany 255 ∷ [] else []
+abbrev pub remark_on_bridge_256 : File → List Remark
+remark_on_bridge_256 f = if nat_lt 255 (length f.bridges) then remark.BridgeTooMany 255 ∷ [] else []
 
-abbrev pub reasons : File → Fault → List Remark
-reasons f Buses = bridge_too_many f
-reasons f NoIoWindow = blocked_regions f
-reasons f _ = []
+abbrev pub remarks_on_fault_causes : File → Fault → List Remark
+remarks_on_fault_causes f Buses = remark_on_bridge_256 f
+remarks_on_fault_causes f NoIoWindow = remarks_on_blocked_io f
+remarks_on_fault_causes f _ = []

@@ -1,8 +1,8 @@
 -- How pools fit their apertures.
 --     size_of x, aperture_size a pool      how many bytes an aperture has, and the one of a pool, if there is one
 --     pool_fit b a pool      a pool, with the size of its aperture and how much it takes of that
---     pools_of fault      the pools that are reported: the one that doesn't fit, if that is the fault; all, if there is none
---     pool_fits b a fault      how these fit
+--     pools_to_report fault      the pools that are reported: the one that doesn't fit, if that is the fault; all, if there is none
+--     reported_pool_fits b a fault      how these fit
 use Rattle.std.specs.Prelude.{ℕ, ◌+◌, ◌-◌, List, [], ◌∷◌, map, Option, Some, None, option_map}
 use Rattle.model_registers.specs.Apertures.{Aperture, Apertures}
 use Rattle.model_board.specs.Board.{Board}
@@ -25,12 +25,12 @@ pool_fit b a pool = record {
   used = told_use b a (named_pool pool);
 }
 
-abbrev pub pools_of : Option Fault → List Pool
-pools_of None = Io ∷ Mem ∷ Pref ∷ []
-pools_of (Some IoPool) = Io ∷ []
-pools_of (Some MemoryPool) = Mem ∷ []
-pools_of (Some PrefetchablePool) = Pref ∷ []
-pools_of (Some _) = []
+abbrev pub pools_to_report : Option Fault → List Pool
+pools_to_report None = Io ∷ Mem ∷ Pref ∷ []
+pools_to_report (Some IoPool) = Io ∷ []
+pools_to_report (Some MemoryPool) = Mem ∷ []
+pools_to_report (Some PrefetchablePool) = Pref ∷ []
+pools_to_report (Some _) = []
 
-abbrev pub pool_fits : Board → Apertures → Option Fault → List PoolFit
-pool_fits b a fault = map (pool_fit b a) (pools_of fault)
+abbrev pub reported_pool_fits : Board → Apertures → Option Fault → List PoolFit
+reported_pool_fits b a fault = map (pool_fit b a) (pools_to_report fault)

@@ -1,13 +1,13 @@
 -- Possible mistakes in a board file whose board can be set up.
 --     has_none_behind      none of these functions is on the bus behind the bridge at a path
 --     is_given      one of the guests has the function at a path in a slot
---     is_wide x      the aperture of a pool is more than ten times what the pool uses, and it uses something
---     empty_bridges, endpoints_of_none (where the file has guests), guests_without_slots      all of which this is so, in order
---     all_wide_apertures xs, wide_apertures w xs      a remark for each wide aperture; if these are selected
+--     is_aperture_too_wide x      the aperture of a pool is more than ten times what the pool uses, and it uses something
+--     empty_bridges, endpoints_without_guest (where the file has guests), guests_without_slots      all of which this is so, in order
+--     all_wide_apertures xs, wide_apertures_if_all_warned w xs      a remark for each wide aperture; if these are selected
 --     warnings w f xs      what is warned of, in order
 use Rattle.std.specs.{Prelude.{ℕ, ◌*◌, ◌==◌, Bool, false, not, ◌&&◌, nat_lt, List, [], ◌++◌, filter, length, map, Option, Some, None, if◌then◌else◌}, List.{list_all, list_any, enumerate_from}}
 use Rattle.model_board.specs.Paths.{Path, path_eq, parent}
-use Rattle.board_file.specs.{Endpoints.Endpoint, Entries.{Bridge, Guest, File}, EntryRules.are_same_place, PathTexts.path_at}
+use Rattle.board_file.specs.{Endpoints.Endpoint, Entries.{Bridge, Guest, File}, EntryRules.are_same_valid_path, PathTexts.path_at}
 use Rattle.window_packing.specs.declared.pool_uses.PoolUse.{PoolUse}
 use Rattle.board_fit.specs.declared.{pool_fit.PoolFit.PoolFit, remark.Remark.Remark, warning_level.WarningLevel.WarningLevel}
 use Rattle.board_fit.specs.declared.remark.Remark.TheVariants as remark
@@ -25,8 +25,8 @@ endpoint_path e = path_at e.at
 abbrev pub bridge_path : Bridge → Path
 bridge_path b = path_at b.at
 
-abbrev pub all_paths : File → List Path
-all_paths f = map endpoint_path f.endpoints ++ map bridge_path f.bridges
+abbrev pub all_function_paths : File → List Path
+all_function_paths f = map endpoint_path f.endpoints ++ map bridge_path f.bridges
 
 -- on the bus behind a bridge
 abbrev pub is_behind : Path → Path → Bool
@@ -38,19 +38,19 @@ has_none_behind paths bridge = list_all (λ p. not (is_behind bridge p)) paths
 abbrev pub empty_bridges : File → List Remark
 empty_bridges f =
     map (with_index remark.EmptyBridge)
-    (filter (λ p. has_none_behind (all_paths f) (bridge_path p.1)) (enumerate_from 0 f.bridges))
+    (filter (λ p. has_none_behind (all_function_paths f) (bridge_path p.1)) (enumerate_from 0 f.bridges))
 
 -- ---- endpoints
 
 abbrev pub has_as_slot : List ℕ → Guest → Bool
-has_as_slot at g = list_any (λ s. are_same_place s at) g.slots
+has_as_slot at g = list_any (λ s. are_same_valid_path s at) g.slots
 
 abbrev pub is_given : List Guest → List ℕ → Bool
 is_given gs at = list_any (has_as_slot at) gs
 
 -- a file without guests is for none
-abbrev pub endpoints_of_none : File → List Remark
-endpoints_of_none f =
+abbrev pub endpoints_without_guest : File → List Remark
+endpoints_without_guest f =
     if length f.guests == 0 then []
     else map (with_index remark.EndpointOfNone)
     (filter (λ p. not (is_given f.guests p.1.at)) (enumerate_from 0 f.endpoints))
@@ -63,29 +63,29 @@ guests_without_slots gs =
 
 -- ---- apertures
 
-abbrev pub is_wide_use : ℕ → PoolUse → Bool
-is_wide_use size u = not (u.extent == 0) && nat_lt (u.extent * 10) size
+abbrev pub is_over_ten_times_used : ℕ → PoolUse → Bool
+is_over_ten_times_used size u = not (u.extent == 0) && nat_lt (u.extent * 10) size
 
 abbrev pub is_wide_for : Option ℕ → Option PoolUse → Bool
-is_wide_for (Some size) (Some u) = is_wide_use size u
+is_wide_for (Some size) (Some u) = is_over_ten_times_used size u
 is_wide_for (Some size) None = false
 is_wide_for None u = false
 
-abbrev pub is_wide : PoolFit → Bool
-is_wide x = is_wide_for x.size x.used
+abbrev pub is_aperture_too_wide : PoolFit → Bool
+is_aperture_too_wide x = is_wide_for x.size x.used
 
 abbrev pub wide_aperture : PoolFit → Remark
 wide_aperture x = remark.WideAperture x.pool
 
 abbrev pub all_wide_apertures : List PoolFit → List Remark
-all_wide_apertures xs = map wide_aperture (filter is_wide xs)
+all_wide_apertures xs = map wide_aperture (filter is_aperture_too_wide xs)
 
 -- on a small board wide apertures are no mistake
-abbrev pub wide_apertures : WarningLevel → List PoolFit → List Remark
-wide_apertures warned.Likely xs = []
-wide_apertures warned.All xs = all_wide_apertures xs
+abbrev pub wide_apertures_if_all_warned : WarningLevel → List PoolFit → List Remark
+wide_apertures_if_all_warned warned.Likely xs = []
+wide_apertures_if_all_warned warned.All xs = all_wide_apertures xs
 
 -- ---- all
 
 abbrev pub warnings : WarningLevel → File → List PoolFit → List Remark
-warnings w f xs = empty_bridges f ++ endpoints_of_none f ++ guests_without_slots f.guests ++ wide_apertures w xs
+warnings w f xs = empty_bridges f ++ endpoints_without_guest f ++ guests_without_slots f.guests ++ wide_apertures_if_all_warned w xs

@@ -8,11 +8,11 @@ ghost use Rattle.model_board.specs.{Board.Board, AtReset.IsAtReset};
 ghost use Rattle.model_set_up.specs.{FunctionTable.board_in, SetUpWrites.set_up_rules};
 ghost use Rattle.bus_scan.specs.{Faults.number_of, SizedTables.IsTableOf, declared.fault.Fault.TheVariants.Memory};
 ghost use Rattle.window_packing.specs.Readies.{board_below};
-ghost use Rattle.board_fit.specs.{PlacedRemarks.{remark_of, IsPlacedRemark}, PoolFits.pool_fits, Verdicts.{remarks_of, IsVerdict}};
+ghost use Rattle.board_fit.specs.{PlacedRemarks.{remark_of, IsPlacedRemark}, PoolFits.reported_pool_fits, Verdicts.{remarks_of, IsVerdict}};
 
-use crate::misfit::reasons;
-use crate::placed_remark::{PlacedRemark, with_places};
-use crate::pool_fit::{PoolFit, pool_fits};
+use crate::misfit::remarks_on_fault_causes;
+use crate::placed_remark::{PlacedRemark, locate_remarks};
+use crate::pool_fit::{PoolFit, reported_pool_fits};
 use crate::remark::Remark;
 use crate::warning_level::WarningLevel;
 use crate::warnings::warnings;
@@ -39,7 +39,7 @@ pub struct Verdict {
 }
 
 /// Returns warnings if there is no fault, and the entries that cause the fault if there is one.
-fn remarks(
+fn collect_remarks(
     alloc: Global,
     warned: WarningLevel,
     file: &FileEntries<'_>,
@@ -50,12 +50,12 @@ fn remarks(
 {
     match fault {
         None => warnings(alloc, warned, file, fits),
-        Some(fault) => reasons(alloc, file, fault),
+        Some(fault) => remarks_on_fault_causes(alloc, file, fault),
     }
 }
 
 /// Adds a place in the file to each remark. Doesn't scan the file if there are no remarks.
-fn placed(
+fn locate_remarks_if_any(
     alloc: Global,
     source: &Source<'_>,
     remarks: &[Remark],
@@ -68,11 +68,11 @@ fn placed(
         return Ok(Vec::new(alloc));
     }
     let places = Places::new(alloc, source.bytes, source.document)?;
-    with_places(alloc, &places, remarks)
+    locate_remarks(alloc, &places, remarks)
 }
 
 /// Builds the verdict from the fits of the pools and the fault.
-fn with_remarks(
+fn build_verdict(
     alloc: Global,
     warned: WarningLevel,
     source: &Source<'_>,
@@ -86,8 +86,8 @@ fn with_remarks(
     ensures places { let s = source.now in IfOk result (λ v.
         Each (IsPlacedRemark s.bytes.now (table_view s.document.now)) v.remarks.items) }
 {
-    let remarks = remarks(alloc, warned, &source.file, &fits, fault)?;
-    let remarks = placed(alloc, source, &remarks)?;
+    let remarks = collect_remarks(alloc, warned, &source.file, &fits, fault)?;
+    let remarks = locate_remarks_if_any(alloc, source, &remarks)?;
     Ok(Verdict {
         fault,
         fits,
@@ -96,7 +96,7 @@ fn with_remarks(
 }
 
 /// Computes the fits of the pools and builds the verdict.
-fn judge_fits(
+fn compute_fits_and_verdict(
     alloc: Global,
     warned: WarningLevel,
     source: &Source<'_>,
@@ -107,18 +107,22 @@ fn judge_fits(
     requires { IsTableOf (board_in table.now) table.now }
     ensures fault { IfOk result (λ v. v.fault ≡ fault) }
     ensures fits { IfOk result (λ v. (b : Board) → IsTableOf b table.now
-        → v.fits.items ≡ pool_fits b apertures.now fault) }
+        → v.fits.items ≡ reported_pool_fits b apertures.now fault) }
     ensures remarks { IfOk result (λ v.
         map remark_of v.remarks.items ≡ remarks_of warned source.now.file v.fits.items fault) }
     ensures places { let s = source.now in IfOk result (λ v.
         Each (IsPlacedRemark s.bytes.now (table_view s.document.now)) v.remarks.items) }
 {
-    let fits = pool_fits(alloc, table, apertures, fault)?;
-    with_remarks(alloc, warned, source, fits, fault)
+    let fits = reported_pool_fits(alloc, table, apertures, fault)?;
+    build_verdict(alloc, warned, source, fits, fault)
 }
 
 /// Checks whether a board with this function table can be set up.
-fn can_be_placed(alloc: Global, table: &FunctionTable, apertures: &Apertures) -> Result<(), Fault>
+fn check_can_be_placed(
+    alloc: Global,
+    table: &FunctionTable,
+    apertures: &Apertures,
+) -> Result<(), Fault>
     requires { IsTableOf (board_in table.now) table.now }
     ensures kept { IfOk result (λ _.
         (b : Board) → IsTableOf b table.now →
@@ -131,7 +135,7 @@ fn can_be_placed(alloc: Global, table: &FunctionTable, apertures: &Apertures) ->
 }
 
 /// Returns the verdict on a board with this function table.
-fn judge_table(
+fn judge_function_table(
     alloc: Global,
     warned: WarningLevel,
     source: &Source<'_>,
@@ -145,10 +149,17 @@ fn judge_table(
     ensures places { let s = source.now in IfOk result (λ v.
         Each (IsPlacedRemark s.bytes.now (table_view s.document.now)) v.remarks.items) }
 {
-    match can_be_placed(alloc, table, apertures) {
-        Ok(()) => judge_fits(alloc, warned, source, table, apertures, None),
+    match check_can_be_placed(alloc, table, apertures) {
+        Ok(()) => compute_fits_and_verdict(alloc, warned, source, table, apertures, None),
         Err(Fault::Memory) => Err(AllocError),
-        Err(fault) => judge_fits(alloc, warned, source, table, apertures, Some(fault)),
+        Err(fault) => compute_fits_and_verdict(
+            alloc,
+            warned,
+            source,
+            table,
+            apertures,
+            Some(fault),
+        ),
     }
 }
 
@@ -170,8 +181,8 @@ pub fn judge(
     let apertures = host.apertures();
     let mut host = host;
     match enumerate(alloc, &mut host) {
-        Ok(table) => judge_table(alloc, warned, source, &table, &apertures),
+        Ok(table) => judge_function_table(alloc, warned, source, &table, &apertures),
         Err(Fault::Memory) => Err(AllocError),
-        Err(fault) => with_remarks(alloc, warned, source, Vec::new(alloc), Some(fault)),
+        Err(fault) => build_verdict(alloc, warned, source, Vec::new(alloc), Some(fault)),
     }
 }

@@ -2,7 +2,7 @@
 ghost use Rattle.std.specs.Prelude.{◌≡◌, IfOk};
 ghost use Rattle.bars.specs.Kinds.{kind_of};
 ghost use Rattle.headers.specs.Decodes.{io_decode_of};
-ghost use Rattle.board_fit.specs.Misfits.{is_io, has_no_io_window, blocks_io, first_without_io_window, blocked_bars, blocked_by, blocked_in, blocked_regions, bridge_too_many, reasons};
+ghost use Rattle.board_fit.specs.Misfits.{is_io, has_no_io_window, is_above_without_io_window, first_bridge_blocking_io, remarks_on_io_bars, remarks_on_io_bars_if_blocked, no_io_window_remarks, remarks_on_blocked_io, remark_on_bridge_256, remarks_on_fault_causes};
 
 use crate::remark::Remark;
 use bars::Kind;
@@ -33,27 +33,29 @@ fn has_no_io_window(io: IoDecode) -> bool
 }
 
 /// Returns whether a bridge is above the path and has no I/O window.
-fn blocks_io(path: &Path, bridge: &BridgeEntry<'_>) -> bool
-    ensures { result ≡ blocks_io path.now bridge.now }
+fn is_above_without_io_window(path: &Path, bridge: &BridgeEntry<'_>) -> bool
+    ensures { result ≡ is_above_without_io_window path.now bridge.now }
 {
-    has_no_io_window(bridge.io) && bridge.at.path().is_ancestor_of(path)
+    has_no_io_window(bridge.io) && bridge.at.path_or_zero().is_ancestor_of(path)
 }
 
 /// Returns the index of the first bridge above the path that has no I/O window.
-fn first_without_io_window(bridges: &[BridgeEntry<'_>], path: &Path) -> Option<usize>
-    ensures { result ≡ first_without_io_window bridges.now path.now }
+fn first_bridge_blocking_io(bridges: &[BridgeEntry<'_>], path: &Path) -> Option<usize>
+    ensures { result ≡ first_bridge_blocking_io bridges.now path.now }
 {
-    bridges.iter().position(|bridge| blocks_io(path, bridge))
+    bridges
+        .iter()
+        .position(|bridge| is_above_without_io_window(path, bridge))
 }
 
 /// Returns a remark for each I/O BAR of an endpoint that is behind the given bridge.
-fn blocked_bars(
+fn remarks_on_io_bars(
     alloc: Global,
     endpoint: usize,
     bridge: usize,
     bars: &[BarEntry<'_>],
 ) -> Result<Vec<Remark>, AllocError>
-    ensures { IfOk result (λ v. v.items ≡ blocked_bars endpoint bridge bars.now) }
+    ensures { IfOk result (λ v. v.items ≡ remarks_on_io_bars endpoint bridge bars.now) }
 {
     bars.iter()
         .enumerate()
@@ -62,42 +64,44 @@ fn blocked_bars(
         .collect(alloc)
 }
 
-/// Like `blocked_bars`, but returns no remarks if there is no bridge.
-fn blocked_by(
+/// Like `remarks_on_io_bars`, but returns no remarks if there is no bridge.
+fn remarks_on_io_bars_if_blocked(
     alloc: Global,
     endpoint: usize,
     bridge: Option<usize>,
     bars: &[BarEntry<'_>],
 ) -> Result<Vec<Remark>, AllocError>
-    ensures { IfOk result (λ v. v.items ≡ blocked_by endpoint bridge bars.now) }
+    ensures { IfOk result (λ v.
+        v.items ≡ remarks_on_io_bars_if_blocked endpoint bridge bars.now) }
 {
     match bridge {
-        Some(bridge) => blocked_bars(alloc, endpoint, bridge, bars),
+        Some(bridge) => remarks_on_io_bars(alloc, endpoint, bridge, bars),
         None => Ok(Vec::new(alloc)),
     }
 }
 
 /// Returns a remark for each I/O BAR of an endpoint that is behind a bridge without an I/O window.
-#[tactic(auto, unfolding(crate::specs::Misfits::blocked_in))]
-fn blocked_in(
+#[tactic(auto, unfolding(crate::specs::Misfits::no_io_window_remarks))]
+fn no_io_window_remarks(
     alloc: Global,
     bridges: &[BridgeEntry<'_>],
     index: usize,
     endpoint: &EndpointEntry<'_>,
 ) -> Result<Vec<Remark>, AllocError>
-    ensures { IfOk result (λ v. v.items ≡ blocked_in bridges.now (index, endpoint.now)) }
+    ensures { IfOk result (λ v.
+        v.items ≡ no_io_window_remarks bridges.now (index, endpoint.now)) }
 {
-    let bridge = first_without_io_window(bridges, &endpoint.at.path());
-    blocked_by(alloc, index, bridge, &endpoint.bars)
+    let bridge = first_bridge_blocking_io(bridges, &endpoint.at.path_or_zero());
+    remarks_on_io_bars_if_blocked(alloc, index, bridge, &endpoint.bars)
 }
 
 /// Returns a remark for each I/O BAR of the file that is behind a bridge without an I/O window.
-fn blocked_regions(alloc: Global, file: &FileEntries<'_>) -> Result<Vec<Remark>, AllocError>
-    ensures { IfOk result (λ v. v.items ≡ blocked_regions file.now) }
+fn remarks_on_blocked_io(alloc: Global, file: &FileEntries<'_>) -> Result<Vec<Remark>, AllocError>
+    ensures { IfOk result (λ v. v.items ≡ remarks_on_blocked_io file.now) }
 {
     let mut remarks = Vec::new(alloc);
     'endpoints: for (index, endpoint) in file.endpoints.iter().enumerate() {
-        let blocked = blocked_in(alloc, &file.bridges, index, endpoint)?;
+        let blocked = no_io_window_remarks(alloc, &file.bridges, index, endpoint)?;
         remarks.extend_from_slice(&blocked)?;
     }
     Ok(remarks)
@@ -105,8 +109,8 @@ fn blocked_regions(alloc: Global, file: &FileEntries<'_>) -> Result<Vec<Remark>,
 
 /// Returns a remark on the first bridge for which no bus number is left, if there are more than 255
 /// bridges.
-fn bridge_too_many(alloc: Global, file: &FileEntries<'_>) -> Result<Vec<Remark>, AllocError>
-    ensures { IfOk result (λ v. v.items ≡ bridge_too_many file.now) }
+fn remark_on_bridge_256(alloc: Global, file: &FileEntries<'_>) -> Result<Vec<Remark>, AllocError>
+    ensures { IfOk result (λ v. v.items ≡ remark_on_bridge_256 file.now) }
 {
     let mut remarks = Vec::new(alloc);
     if 255 < file.bridges.len() {
@@ -117,16 +121,16 @@ fn bridge_too_many(alloc: Global, file: &FileEntries<'_>) -> Result<Vec<Remark>,
 
 /// Returns a remark for each entry that prevents the board from being set up. Only faults about bus
 /// numbers (201) and I/O windows (202) have entries to name.
-pub(crate) fn reasons(
+pub(crate) fn remarks_on_fault_causes(
     alloc: Global,
     file: &FileEntries<'_>,
     fault: Fault,
 ) -> Result<Vec<Remark>, AllocError>
-    ensures { IfOk result (λ v. v.items ≡ reasons file.now fault) }
+    ensures { IfOk result (λ v. v.items ≡ remarks_on_fault_causes file.now fault) }
 {
     match fault {
-        Fault::Buses => bridge_too_many(alloc, file),
-        Fault::NoIoWindow => blocked_regions(alloc, file),
+        Fault::Buses => remark_on_bridge_256(alloc, file),
+        Fault::NoIoWindow => remarks_on_blocked_io(alloc, file),
         _ => Ok(Vec::new(alloc)),
     }
 }

@@ -5,7 +5,7 @@ ghost use Rattle.lists.specs.Elements.{Each};
 ghost use Rattle.board_fit.specs.PlacedRemarks.{remark_of, IsPlacedRemark};
 
 use crate::remark::Remark;
-use diagnostics::{Other, Places, TextPlace, place_of, with_place};
+use diagnostics::{Other, Places, TextPlace, find_value_or_entry_place, locate_entry_if_some};
 use std::alloc::{AllocError, Global};
 
 /// A remark, its place in the file if that could be confirmed, and the other entry that the remark
@@ -22,13 +22,17 @@ pub struct PlacedRemark {
 const OTHER_KEY: &str = "io";
 
 /// Finds the place of a remark, and that of the other entry.
-fn locate(alloc: Global, places: &Places<'_>, remark: Remark) -> Result<PlacedRemark, AllocError>
+fn locate_remark(
+    alloc: Global,
+    places: &Places<'_>,
+    remark: Remark,
+) -> Result<PlacedRemark, AllocError>
     ensures same { IfOk result (λ l. l.remark ≡ remark) }
     ensures located { IfOk result
         (IsPlacedRemark places.now.text.now (table_view places.now.document.now)) }
 {
-    let place = place_of(alloc, places, remark.entry(), remark.key())?;
-    let other = with_place(alloc, places, remark.other(), OTHER_KEY)?;
+    let place = find_value_or_entry_place(alloc, places, remark.entry(), remark.key())?;
+    let other = locate_entry_if_some(alloc, places, remark.other(), OTHER_KEY)?;
     Ok(PlacedRemark {
         remark,
         place,
@@ -37,7 +41,7 @@ fn locate(alloc: Global, places: &Places<'_>, remark: Remark) -> Result<PlacedRe
 }
 
 /// Finds the places of all remarks, in the same order.
-pub(crate) fn with_places(
+pub(crate) fn locate_remarks(
     alloc: Global,
     places: &Places<'_>,
     remarks: &[Remark],
@@ -48,7 +52,7 @@ pub(crate) fn with_places(
 {
     let mut all = Vec::new(alloc);
     'remarks: for remark in remarks {
-        all.push(locate(alloc, places, *remark)?)?;
+        all.push(locate_remark(alloc, places, *remark)?)?;
     }
     Ok(all)
 }

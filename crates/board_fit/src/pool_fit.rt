@@ -3,7 +3,7 @@ ghost use Rattle.std.specs.Prelude.{◌≡◌, IfOk};
 ghost use Rattle.model_board.specs.Board.{Board};
 ghost use Rattle.model_set_up.specs.FunctionTable.{board_in};
 ghost use Rattle.bus_scan.specs.SizedTables.{IsTableOf};
-ghost use Rattle.board_fit.specs.PoolFits.{size_of, aperture_size, pool_fit, pools_of, pool_fits};
+ghost use Rattle.board_fit.specs.PoolFits.{size_of, aperture_size, pool_fit, pools_to_report, reported_pool_fits};
 
 use bus_scan::{Fault, FunctionTable};
 use headers::{Aperture, Apertures};
@@ -62,8 +62,8 @@ fn pool_fit(
 
 /// Returns the pools to report: all pools if there is no fault, only the pool that doesn't fit if
 /// that is the fault, and none for any other fault.
-fn pools_of(fault: Option<Fault>) -> &'static [Pool]
-    ensures { result.now ≡ pools_of fault }
+fn pools_to_report(fault: Option<Fault>) -> &'static [Pool]
+    ensures { result.now ≡ pools_to_report fault }
 {
     match fault {
         None => &[Pool::Io, Pool::Mem, Pool::Pref],
@@ -75,7 +75,7 @@ fn pools_of(fault: Option<Fault>) -> &'static [Pool]
 }
 
 /// Returns the fits of the pools to report, for a board with this function table.
-pub(crate) fn pool_fits(
+pub(crate) fn reported_pool_fits(
     alloc: Global,
     table: &FunctionTable,
     apertures: &Apertures,
@@ -83,10 +83,11 @@ pub(crate) fn pool_fits(
 ) -> Result<Vec<PoolFit>, AllocError>
     requires { IsTableOf (board_in table.now) table.now }
     ensures { IfOk result (λ v.
-        (b : Board) → IsTableOf b table.now → v.items ≡ pool_fits b apertures.now fault) }
+        (b : Board) → IsTableOf b table.now
+        → v.items ≡ reported_pool_fits b apertures.now fault) }
 {
     let mut fits = Vec::new(alloc);
-    'pools: for pool in pools_of(fault) {
+    'pools: for pool in pools_to_report(fault) {
         fits.push(pool_fit(alloc, *pool, table, apertures)?)?;
     }
     Ok(fits)

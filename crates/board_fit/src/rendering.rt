@@ -5,7 +5,10 @@ use crate::pool_fit::PoolFit;
 use crate::remark::{Remark, aperture_key};
 use board_file::{Entry, Source};
 use bus_scan::Fault;
-use diagnostics::{Head, Places, RenderOptions, Subject, TextPlace, place_of, push_below};
+use diagnostics::{
+    Head, Places, RenderOptions, Subject, TextPlace, find_value_or_entry_place,
+    push_excerpt_of_head,
+};
 use std::alloc::{AllocError, Global};
 use std::fmt;
 use window_packing::Pool;
@@ -38,7 +41,7 @@ impl fmt::Display for PoolFit {
 const OPEN_IT: &str = "  help: give the bridge io = \"16\" or \"32\", or the BAR a memory kind\n";
 
 /// Appends what is wrong with the entry of a remark.
-fn push_message(text: &mut String, placed: &PlacedRemark) -> Result<(), AllocError> {
+fn push_remark_message(text: &mut String, placed: &PlacedRemark) -> Result<(), AllocError> {
     text.push_str(match placed.remark {
         Remark::EmptyBridge(_) => "is a bridge with nothing behind it",
         Remark::EndpointOfNone(_) => "is not in the slots of any guest",
@@ -54,7 +57,7 @@ fn push_message(text: &mut String, placed: &PlacedRemark) -> Result<(), AllocErr
 }
 
 /// Appends why a pool doesn't fit its aperture.
-fn push_need(text: &mut String, fit: &PoolFit) -> Result<(), AllocError> {
+fn push_why_pool_misfits(text: &mut String, fit: &PoolFit) -> Result<(), AllocError> {
     let pool = name_of(fit.pool);
     match fit.used {
         None => write!(
@@ -70,8 +73,8 @@ fn push_need(text: &mut String, fit: &PoolFit) -> Result<(), AllocError> {
 }
 
 /// Returns the beginning of an error, if there is a fault, or else of a warning.
-fn head_at<'a>(
-    telling: &RenderOptions<'a>,
+fn error_or_warning_head<'a>(
+    options: &RenderOptions<'a>,
     source: &Source<'a>,
     fault: Option<Fault>,
     entry: Entry,
@@ -79,7 +82,7 @@ fn head_at<'a>(
     place: Option<TextPlace>,
 ) -> Head<'a> {
     Head {
-        telling: *telling,
+        options: *options,
         label: if fault.is_some() { "error" } else { "warning" },
         bytes: source.bytes,
         document: source.document,
@@ -91,7 +94,7 @@ fn head_at<'a>(
 
 /// Appends the end of a message, with the number of the fault, and the line of the file if excerpts
 /// are shown.
-fn push_end(
+fn push_fault_number_and_excerpt(
     alloc: Global,
     text: &mut String,
     fault: Option<Fault>,
@@ -101,32 +104,32 @@ fn push_end(
         write!(text, " ({})", fault.number())?;
     }
     text.push('\n')?;
-    push_below(alloc, text, head)
+    push_excerpt_of_head(alloc, text, head)
 }
 
 /// Appends the message that a pool doesn't fit its aperture.
-fn push_misfit<'a>(
+fn push_misfit_message<'a>(
     alloc: Global,
     text: &mut String,
-    telling: &RenderOptions<'a>,
+    options: &RenderOptions<'a>,
     source: &Source<'a>,
     fault: Fault,
     fit: &PoolFit,
 ) -> Result<(), AllocError> {
     let key = aperture_key(fit.pool);
     let places = Places::new(alloc, source.bytes, source.document)?;
-    let place = place_of(alloc, &places, Entry::Host, key)?;
-    let head = head_at(telling, source, Some(fault), Entry::Host, key, place);
+    let place = find_value_or_entry_place(alloc, &places, Entry::Host, key)?;
+    let head = error_or_warning_head(options, source, Some(fault), Entry::Host, key, place);
     write!(text, "{head}{key} ")?;
-    push_need(text, fit)?;
-    push_end(alloc, text, Some(fault), &head)
+    push_why_pool_misfits(text, fit)?;
+    push_fault_number_and_excerpt(alloc, text, Some(fault), &head)
 }
 
 /// Appends how the pools fit: `ok` and a line for each pool, or the pool that doesn't fit.
-fn push_fits<'a>(
+fn push_pool_fit_lines<'a>(
     alloc: Global,
     text: &mut String,
-    telling: &RenderOptions<'a>,
+    options: &RenderOptions<'a>,
     source: &Source<'a>,
     verdict: &Verdict,
 ) -> Result<(), AllocError> {
@@ -135,7 +138,7 @@ fn push_fits<'a>(
     }
     for fit in &verdict.fits {
         match verdict.fault {
-            Some(fault) => push_misfit(alloc, text, telling, source, fault, fit)?,
+            Some(fault) => push_misfit_message(alloc, text, options, source, fault, fit)?,
             None => writeln!(text, "{fit}")?,
         }
     }
@@ -146,18 +149,18 @@ fn push_fits<'a>(
 /// message for each remark. Fails only if memory is exhausted.
 pub fn verdict_text<'a>(
     alloc: Global,
-    telling: &RenderOptions<'a>,
+    options: &RenderOptions<'a>,
     source: &Source<'a>,
     verdict: &Verdict,
 ) -> Result<String, AllocError> {
     let mut text = String::new(alloc);
-    push_fits(alloc, &mut text, telling, source, verdict)?;
+    push_pool_fit_lines(alloc, &mut text, options, source, verdict)?;
     for placed in &verdict.remarks {
         let (entry, key) = (placed.remark.entry(), placed.remark.key());
-        let head = head_at(telling, source, verdict.fault, entry, key, placed.place);
+        let head = error_or_warning_head(options, source, verdict.fault, entry, key, placed.place);
         write!(text, "{head}{} ", Subject(head))?;
-        push_message(&mut text, placed)?;
-        push_end(alloc, &mut text, verdict.fault, &head)?;
+        push_remark_message(&mut text, placed)?;
+        push_fault_number_and_excerpt(alloc, &mut text, verdict.fault, &head)?;
         if let Remark::NoIoWindow(_, _, _) = placed.remark {
             text.push_str(OPEN_IT)?;
         }

@@ -2,7 +2,7 @@
 --     HasPlace text ms t      its place, where it is known, is that of its value, and so are those of its cause and of the other entry
 --     ArePlaced text ms problems told      these problems with their places, in the order of their lines
 --     AreOfCheck text ms check told      all that break a rule of a check
---     phase fault      the checks that are made together with that of the fault
+--     checks_reported_with fault      the checks that are made together with that of the fault
 --     AreProblems text ms fault told      all that break a rule of these, check after check
 --     IsPlaceIn bytes p      a part of the text, with its line
 use Rattle.std.specs.{Prelude.{◌≡◌, ◌≤◌, ℕ, List, [], ◌∷◌, ◌++◌, length, map, option_map, IfSome, unwrap_or, IsPermutation}, List.Sorted.{IsNonDecreasingBy, IsStableByKey}, Ordering.nat_cmp}
@@ -64,11 +64,11 @@ AreOfChecks text ms [] told = told ≡ []
 AreOfChecks text ms (f ∷ fs) told = AreBoth (AreOfCheck text ms f) (AreOfChecks text ms fs) told
 
 -- keys, and then values; patterns are judged last, since their lengths go by those of blocks
-abbrev pub phase : BoardFault → List BoardFault
-phase fault.Key = fault.Key ∷ fault.UnknownKey ∷ []
-phase fault.UnknownKey = fault.Key ∷ fault.UnknownKey ∷ []
-phase fault.CellMasks = fault.CellMasks ∷ []
-phase _ = file_checks
+abbrev pub checks_reported_with : BoardFault → List BoardFault
+checks_reported_with fault.Key = fault.Key ∷ fault.UnknownKey ∷ []
+checks_reported_with fault.UnknownKey = fault.Key ∷ fault.UnknownKey ∷ []
+checks_reported_with fault.CellMasks = fault.CellMasks ∷ []
+checks_reported_with _ = file_checks
 
 abbrev pub AreProblems : List ℕ → Members → BoardFault → List PlacedBreach → Type 0
-AreProblems text ms fault told = AreOfChecks text ms (phase fault) told
+AreProblems text ms fault told = AreOfChecks text ms (checks_reported_with fault) told

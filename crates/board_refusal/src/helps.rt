@@ -1,25 +1,28 @@
 //! What to write instead of a wrong value.
 
 use crate::key_causes::push_key_suggestion;
-use crate::others::path_of;
-use crate::path_causes::push_meant;
+use crate::others::path_text_of_entry;
+use crate::path_causes::push_path_suggestion;
 use board_file::document::schema::TableKind;
-use board_file::document::tables::level_of;
+use board_file::document::tables::table_kind_of_entry;
 use board_file::entries::FileEntries;
 use board_file::{EndpointPart, Rule, Violation};
 use std::alloc::{AllocError, Global};
 
 /// Appends what to write, if the sentence about the problem doesn't say it.
-pub(crate) fn push_remedy(
+pub(crate) fn push_remedy_if_any(
     alloc: Global,
     text: &mut String,
     file: &FileEntries<'_>,
     problem: Violation<'_>,
 ) -> Result<(), AllocError> {
-    let at = path_of(file, problem.entry);
-    match (problem.rule, level_of(problem.entry), at) {
+    let at = path_text_of_entry(file, problem.entry);
+    match (problem.rule, table_kind_of_entry(problem.entry), at) {
         (Rule::Known, Some(level), _) => push_key_suggestion(alloc, text, level, problem.key),
-        (Rule::Path | Rule::NamesEndpoint, _, Some(at)) => push_meant(text, at.text().as_bytes()),
+        (Rule::Path | Rule::NamesEndpoint, _, Some(at)) => push_path_suggestion(
+            text,
+            at.text().as_bytes(),
+        ),
         (Rule::Name, _, _) => text.push_str(
             "a name is 1 to 16 lowercase letters and digits, and begins with a letter; \"host\" is reserved",
         ),

@@ -7,7 +7,7 @@ use strsim::levenshtein;
 
 /// Returns the key that was probably meant: the first within one edit of `word`, or else the first
 /// within two. A key with fewer than two letters for each edit doesn't count.
-fn nearest(
+fn find_similar_key(
     alloc: Global,
     word: &str,
     fields: &'static [Field],
@@ -31,7 +31,7 @@ pub(crate) fn push_key_suggestion(
     key: &str,
 ) -> Result<(), AllocError> {
     let fields = fields(level);
-    if let Some(meant) = nearest(alloc, key, fields)? {
+    if let Some(meant) = find_similar_key(alloc, key, fields)? {
         return write!(text, "did you mean '{meant}'?");
     }
     let mut before = "the keys of this table are ";
@@ -44,7 +44,11 @@ pub(crate) fn push_key_suggestion(
 }
 
 /// Appends what the value of a key must be.
-pub(crate) fn push_form(text: &mut String, level: TableKind, key: &str) -> Result<(), AllocError> {
+pub(crate) fn push_expected_form(
+    text: &mut String,
+    level: TableKind,
+    key: &str,
+) -> Result<(), AllocError> {
     let words = match form_at(level, key) {
         Some(ValueType::Integer) => " an integer such as 16 or 0x10, without quotes",
         Some(ValueType::Text) => match key {

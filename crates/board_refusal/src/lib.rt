@@ -16,5 +16,5 @@ mod sentences;
 mod value_causes;
 
 pub use placed_breach::PlacedBreach;
-pub use problems::placed_problems;
-pub use refusals::{refusal_text, unread_text};
+pub use problems::problems_reported_with;
+pub use refusals::{refusal_report, toml_error_message};

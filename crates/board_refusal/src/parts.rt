@@ -13,7 +13,7 @@ pub(crate) fn bar_of<'f, 'a>(file: &'f FileEntries<'a>, entry: Entry) -> Option<
 }
 
 /// Returns the size and the patterns of a register block.
-pub(crate) fn patterns_of<'f, 'a>(
+pub(crate) fn block_size_and_patterns<'f, 'a>(
     file: &'f FileEntries<'a>,
     entry: Entry,
 ) -> Option<(i64, &'f PatternTexts<'a>)> {
@@ -33,7 +33,11 @@ pub(crate) fn patterns_of<'f, 'a>(
 }
 
 /// Returns the offsets of a table's configuration registers, if it has any.
-fn extent_in(endpoint: &EndpointEntry<'_>, part: EndpointPart, index: usize) -> Option<ByteRange> {
+fn config_range_of_part(
+    endpoint: &EndpointEntry<'_>,
+    part: EndpointPart,
+    index: usize,
+) -> Option<ByteRange> {
     match part {
         EndpointPart::Bar => None,
         EndpointPart::Config => Some(endpoint.configs.get(index)?.extent()),
@@ -42,22 +46,26 @@ fn extent_in(endpoint: &EndpointEntry<'_>, part: EndpointPart, index: usize) -> 
 }
 
 /// Returns the offsets of the configuration registers of an entry, if it has any.
-pub(crate) fn extent_of(file: &FileEntries<'_>, entry: Entry) -> Option<ByteRange> {
+pub(crate) fn config_range_of_entry(file: &FileEntries<'_>, entry: Entry) -> Option<ByteRange> {
     match entry {
-        Entry::Part(part, i, j) => extent_in(file.endpoints.get(i)?, part, j),
+        Entry::Part(part, i, j) => config_range_of_part(file.endpoints.get(i)?, part, j),
         _ => None,
     }
 }
 
 /// Returns the first block of configuration registers of an endpoint that overlaps a range.
 /// Structures of the capability list come after configuration blocks.
-pub(crate) fn overlapped(file: &FileEntries<'_>, number: usize, range: ByteRange) -> Option<Entry> {
-    let endpoint = file.endpoints.get(number)?;
+pub(crate) fn first_overlapping_part(
+    file: &FileEntries<'_>,
+    endpoint_index: usize,
+    range: ByteRange,
+) -> Option<Entry> {
+    let endpoint = file.endpoints.get(endpoint_index)?;
     for part in EndpointPart::all() {
         for index in 0..endpoint.count(*part) {
-            if let Some(extent) = extent_in(endpoint, *part, index) {
+            if let Some(extent) = config_range_of_part(endpoint, *part, index) {
                 if !are_apart(extent, range) {
-                    return Some(Entry::Part(*part, number, index));
+                    return Some(Entry::Part(*part, endpoint_index, index));
                 }
             }
         }

@@ -1,8 +1,8 @@
 //! Paths that were probably meant, and paths at which a function is missing.
 
-use crate::others::function_at;
+use crate::others::first_function_with_path;
 use board_file::path::places::{FunctionPath, has_bridge};
-use board_file::path::text::{PathText, path_of};
+use board_file::path::text::{PathText, parse_path};
 use board_file::{Entry, Source};
 use diagnostics::Shown;
 use std::alloc::AllocError;
@@ -11,15 +11,15 @@ const DECIMAL: &str = "numbers in a path are decimal, without leading zeros";
 
 /// Appends the path that was probably meant by an invalid one, or else the syntax of paths. Appends
 /// nothing for a valid path. Recognises the form of `lspci` and leading zeros.
-pub(crate) fn push_meant(text: &mut String, at: &[u8]) -> Result<(), AllocError> {
+pub(crate) fn push_path_suggestion(text: &mut String, at: &[u8]) -> Result<(), AllocError> {
     let short = match at {
         [b'0', b'0', b':', rest @ ..] => rest,
         _ => at,
     };
-    if path_of(at).is_some() {
+    if parse_path(at).is_some() {
         return Ok(());
     }
-    if path_of(short).is_some() {
+    if parse_path(short).is_some() {
         return write!(text, "did you mean \"{}\"?", Shown(short));
     }
     match short {
@@ -42,14 +42,14 @@ pub(crate) fn push_meant(text: &mut String, at: &[u8]) -> Result<(), AllocError>
 }
 
 /// Appends the first prefix of a path at which there is no bridge.
-pub(crate) fn push_bridge(
+pub(crate) fn push_first_missing_bridge(
     text: &mut String,
     functions: &[FunctionPath],
     at: &[u8],
 ) -> Result<(), AllocError> {
     for (count, byte) in at.iter().enumerate() {
         let above = &at[..count];
-        if let (b'/', Some(path)) = (*byte, path_of(above)) {
+        if let (b'/', Some(path)) = (*byte, parse_path(above)) {
             if !has_bridge(functions, &path) {
                 return write!(text, " {}, but there is none", Shown(above));
             }
@@ -59,7 +59,7 @@ pub(crate) fn push_bridge(
 }
 
 /// Appends the path of the missing function 0.
-pub(crate) fn push_zero(text: &mut String, at: &[u8]) -> Result<(), AllocError> {
+pub(crate) fn push_missing_function_zero(text: &mut String, at: &[u8]) -> Result<(), AllocError> {
     match at.split_last() {
         Some((_, device)) => write!(text, " {}0, but there is none", Shown(device)),
         None => Ok(()),
@@ -67,10 +67,13 @@ pub(crate) fn push_zero(text: &mut String, at: &[u8]) -> Result<(), AllocError> 
 }
 
 /// Returns why a slot isn't the path of an endpoint alone.
-pub(crate) fn slot_words(source: &Source<'_>, at: &PathText<'_>) -> &'static str {
-    match path_of(at.text().as_bytes()) {
+pub(crate) fn why_slot_has_no_endpoint(source: &Source<'_>, at: &PathText<'_>) -> &'static str {
+    match parse_path(at.text().as_bytes()) {
         None => "is not a valid path",
-        Some(path) if has_bridge(&source.functions, &path) => match function_at(&source.file, at) {
+        Some(path) if has_bridge(&source.functions, &path) => match first_function_with_path(
+            &source.file,
+            at,
+        ) {
             Some(Entry::Endpoint(_)) => "is the path of both an endpoint and a bridge",
             _ => "is the path of a bridge, not of an endpoint",
         },

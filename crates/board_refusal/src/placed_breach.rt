@@ -3,10 +3,10 @@ ghost use Rattle.std.specs.Prelude.{◌≡◌, IfOk};
 ghost use Rattle.toml.specs.View.{table_view};
 ghost use Rattle.board_refusal.specs.Telling.{HasPlace, line_or_zero, ArePlaced};
 
-use crate::others::{cause_of, other_of};
+use crate::others::{first_conflicting_entry, specific_cause_if_any};
 use board_file::Violation;
 use board_file::entries::FileEntries;
-use diagnostics::{Other, Places, TextPlace, place_of, with_place};
+use diagnostics::{Other, Places, TextPlace, find_value_or_entry_place, locate_entry_if_some};
 use std::alloc::{AllocError, Global};
 
 /// A problem with its place in the file, if the place was found and confirmed.
@@ -23,7 +23,7 @@ pub struct PlacedBreach<'a> {
 }
 
 /// Finds the places of a problem and of the other entries involved.
-fn placed<'a>(
+fn locate_problem<'a>(
     alloc: Global,
     places: &Places<'_>,
     file: &FileEntries<'_>,
@@ -33,11 +33,11 @@ fn placed<'a>(
     ensures place { IfOk result
         (HasPlace places.now.text.now (table_view places.now.document.now)) }
 {
-    let place = place_of(alloc, places, problem.entry, problem.key)?;
-    let (cause, cause_key) = cause_of(file, problem.entry, problem.rule);
-    let cause = with_place(alloc, places, cause, cause_key)?;
-    let other = other_of(file, problem.entry, problem.rule);
-    let other = with_place(alloc, places, other, problem.key)?;
+    let place = find_value_or_entry_place(alloc, places, problem.entry, problem.key)?;
+    let (cause, cause_key) = specific_cause_if_any(file, problem.entry, problem.rule);
+    let cause = locate_entry_if_some(alloc, places, cause, cause_key)?;
+    let other = first_conflicting_entry(file, problem.entry, problem.rule);
+    let other = locate_entry_if_some(alloc, places, other, problem.key)?;
     Ok(PlacedBreach {
         problem: *problem,
         place,
@@ -48,10 +48,10 @@ fn placed<'a>(
 }
 
 /// Returns the line of a problem, or 0 if the line isn't known.
-fn line_or_zero(told: &PlacedBreach<'_>) -> usize
-    ensures { result ≡ line_or_zero told.now }
+fn line_or_zero(placed: &PlacedBreach<'_>) -> usize
+    ensures { result ≡ line_or_zero placed.now }
 {
-    match told.place {
+    match placed.place {
         Some(place) => place.line,
         None => 0,
     }
@@ -59,7 +59,7 @@ fn line_or_zero(told: &PlacedBreach<'_>) -> usize
 
 /// Adds the places of problems and sorts the problems by line. Problems without a line come first,
 /// and those on one line keep their order.
-pub(crate) fn with_places<'a>(
+pub(crate) fn locate_and_sort_by_line<'a>(
     alloc: Global,
     places: &Places<'_>,
     file: &FileEntries<'_>,
@@ -70,7 +70,7 @@ pub(crate) fn with_places<'a>(
 {
     let mut all = Vec::new(alloc);
     'problems: for problem in problems {
-        all.push(placed(alloc, places, file, problem)?)?;
+        all.push(locate_problem(alloc, places, file, problem)?)?;
     }
     all.sort_by_key(|one| line_or_zero(one))?;
     Ok(all)

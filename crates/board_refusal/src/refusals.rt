@@ -3,30 +3,31 @@ ghost use Rattle.std.specs.Prelude.{IfSome};
 ghost use Rattle.toml.specs.Errors.{IsWithin};
 ghost use Rattle.board_refusal.specs.Telling.{IsPlaceIn};
 
-use crate::helps::push_remedy;
+use crate::helps::push_remedy_if_any;
 use crate::placed_breach::PlacedBreach;
-use crate::problems::placed_problems;
-use crate::sentences::push_sentence;
+use crate::problems::problems_reported_with;
+use crate::sentences::push_problem_sentence;
 use board_file::{BoardFault, Source};
 use diagnostics::{
-    Head, MessageLayout, Position, RenderOptions, TextPlace, line_of, push_below, push_shown_line,
+    Head, MessageLayout, Position, RenderOptions, TextPlace, line_of, push_excerpt_if_enabled,
+    push_excerpt_of_head,
 };
 use std::alloc::{AllocError, Global};
 use toml::de::Error;
 
 /// Returns the beginning of the message of a problem. It points at the cause of the problem, if
 /// that isn't the value that the rule is about.
-fn head_of<'a>(
-    telling: RenderOptions<'a>,
+fn head_at_cause<'a>(
+    options: RenderOptions<'a>,
     source: &Source<'a>,
-    told: &PlacedBreach<'a>,
+    placed: &PlacedBreach<'a>,
 ) -> Head<'a> {
-    let (entry, key, place) = match told.cause {
-        Some(cause) => (cause.entry, told.cause_key, cause.place),
-        None => (told.problem.entry, told.problem.key, told.place),
+    let (entry, key, place) = match placed.cause {
+        Some(cause) => (cause.entry, placed.cause_key, cause.place),
+        None => (placed.problem.entry, placed.problem.key, placed.place),
     };
     Head {
-        telling,
+        options,
         label: "error",
         bytes: source.bytes,
         document: source.document,
@@ -38,20 +39,20 @@ fn head_of<'a>(
 
 /// Appends the message of a problem: the place and the entry, a sentence, the line of the file, and
 /// a remedy.
-fn push_problem<'a>(
+fn push_problem_message<'a>(
     alloc: Global,
     text: &mut String,
-    telling: RenderOptions<'a>,
+    options: RenderOptions<'a>,
     source: &Source<'a>,
-    told: &PlacedBreach<'a>,
+    placed: &PlacedBreach<'a>,
 ) -> Result<(), AllocError> {
-    let head = head_of(telling, source, told);
+    let head = head_at_cause(options, source, placed);
     write!(text, "{head}")?;
-    push_sentence(text, source, told, head)?;
-    writeln!(text, " ({})", told.problem.rule.fault().number())?;
-    push_below(alloc, text, &head)?;
+    push_problem_sentence(text, source, placed, head)?;
+    writeln!(text, " ({})", placed.problem.rule.fault().number())?;
+    push_excerpt_of_head(alloc, text, &head)?;
     let mut remedy = String::new(alloc);
-    push_remedy(alloc, &mut remedy, &source.file, told.problem)?;
+    push_remedy_if_any(alloc, &mut remedy, &source.file, placed.problem)?;
     if remedy.is_empty() {
         return Ok(());
     }
@@ -61,17 +62,17 @@ fn push_problem<'a>(
 /// Returns the messages for a board file that is refused with this fault, and then their number.
 /// `name` is the file name to show. With excerpts, the line of the file is shown below each message
 /// if it is known.
-pub fn refusal_text(
+pub fn refusal_report(
     alloc: Global,
     layout: MessageLayout,
     name: &str,
     source: &Source<'_>,
     fault: BoardFault,
 ) -> Result<String, AllocError> {
-    let problems = placed_problems(alloc, source, fault)?;
+    let problems = problems_reported_with(alloc, source, fault)?;
     let mut text = String::new(alloc);
     for problem in &problems {
-        push_problem(
+        push_problem_message(
             alloc,
             &mut text,
             RenderOptions { layout, name },
@@ -102,7 +103,7 @@ fn place_of_error(bytes: &[u8], error: &Error) -> Option<TextPlace>
 
 /// Returns the message for bytes that aren't a TOML document: a line with the parser's reason.
 /// `name` is the file name to show. With excerpts, the line at which parsing failed is shown below.
-pub fn unread_text(
+pub fn toml_error_message(
     alloc: Global,
     layout: MessageLayout,
     name: &str,
@@ -120,6 +121,6 @@ pub fn unread_text(
         text,
         "{name}{position}: error: invalid TOML: {reason} ({number})"
     )?;
-    push_shown_line(alloc, &mut text, layout, bytes, true, place)?;
+    push_excerpt_if_enabled(alloc, &mut text, layout, bytes, true, place)?;
     Ok(text)
 }

@@ -1,19 +1,24 @@
 //! The sentence that says what is wrong with an entry.
 
-use crate::key_causes::push_form;
-use crate::others::path_of;
+use crate::key_causes::push_expected_form;
+use crate::others::path_text_of_entry;
 use crate::parts::bar_of;
-use crate::path_causes::{push_bridge, push_zero, slot_words};
+use crate::path_causes::{
+    push_first_missing_bridge, push_missing_function_zero, why_slot_has_no_endpoint,
+};
 use crate::placed_breach::PlacedBreach;
-use crate::value_causes::{io_words, mem_words, pref_words, push_overlap, push_pattern, push_size};
-use board_file::document::tables::level_of;
+use crate::value_causes::{
+    push_size_and_overlap, push_why_pattern_invalid, push_why_size_invalid, why_io_invalid,
+    why_mem_invalid, why_pref_invalid,
+};
+use board_file::document::tables::table_kind_of_entry;
 use board_file::entries::FileEntries;
 use board_file::{Entry, Rule, Source};
 use diagnostics::{Head, Other, Shown, Subject};
 use std::alloc::AllocError;
 
 /// Returns the part of a rule's message that doesn't depend on the value.
-fn rule_words(rule: Rule) -> &'static str {
+fn fixed_message_part(rule: Rule) -> &'static str {
     match rule {
         Rule::Needed => "missing key",
         Rule::Form => "must be",
@@ -49,40 +54,40 @@ fn rule_words(rule: Rule) -> &'static str {
 }
 
 /// Appends the rest of the sentence about the path of a function or slot.
-fn push_path(
+fn push_what_path_lacks(
     text: &mut String,
     source: &Source<'_>,
     entry: Entry,
     rule: Rule,
 ) -> Result<(), AllocError> {
-    let Some(at) = path_of(&source.file, entry) else {
+    let Some(at) = path_text_of_entry(&source.file, entry) else {
         return Ok(());
     };
     let path = at.text().as_bytes();
     match rule {
-        Rule::BehindBridge => push_bridge(text, &source.functions, path),
-        Rule::FunctionZero => push_zero(text, path),
-        _ => text.push_str(slot_words(source, at)),
+        Rule::BehindBridge => push_first_missing_bridge(text, &source.functions, path),
+        Rule::FunctionZero => push_missing_function_zero(text, path),
+        _ => text.push_str(why_slot_has_no_endpoint(source, at)),
     }
 }
 
 /// Appends the rest of the sentence about a BAR or a register block.
-fn push_block(
+fn push_why_bar_or_block_invalid(
     text: &mut String,
     file: &FileEntries<'_>,
     entry: Entry,
     rule: Rule,
 ) -> Result<(), AllocError> {
     match (rule, bar_of(file, entry)) {
-        (Rule::Size, Some(bar)) => push_size(text, bar),
+        (Rule::Size, Some(bar)) => push_why_size_invalid(text, bar),
         (Rule::BlockFits, Some(bar)) => write!(text, " (at most {})", bar.size),
-        _ => push_pattern(text, file, entry),
+        _ => push_why_pattern_invalid(text, file, entry),
     }
 }
 
 /// Appends the rest of the sentence about a conflict with another entry. A 64-bit BAR at the last
 /// register has no registers of its own without such an entry.
-fn push_conflict(
+fn push_conflict_or_bar_range(
     text: &mut String,
     file: &FileEntries<'_>,
     entry: Entry,
@@ -92,7 +97,7 @@ fn push_conflict(
     match (rule, other) {
         (Rule::OwnRegisters, Some(other)) => write!(text, "shares a register with {other}"),
         (Rule::OwnRegisters, None) => text.push_str("is out of range for a 64-bit BAR (0 to 4)"),
-        (Rule::OwnOffsets, Some(other)) => push_overlap(text, file, entry, other),
+        (Rule::OwnOffsets, Some(other)) => push_size_and_overlap(text, file, entry, other),
         (_, Some(other)) => write!(text, " {other}"),
         (_, None) => Ok(()),
     }
@@ -100,32 +105,32 @@ fn push_conflict(
 
 /// Appends what is wrong with an entry: the key with its value, the words of the rule, and what
 /// depends on the value.
-pub(crate) fn push_sentence(
+pub(crate) fn push_problem_sentence(
     text: &mut String,
     source: &Source<'_>,
-    told: &PlacedBreach<'_>,
+    placed: &PlacedBreach<'_>,
     head: Head<'_>,
 ) -> Result<(), AllocError> {
-    let problem = told.problem;
+    let problem = placed.problem;
     let (entry, key, rule) = (problem.entry, problem.key, problem.rule);
     match rule {
         Rule::Needed | Rule::Known | Rule::Functions | Rule::Guests | Rule::Slots => {}
         _ => write!(text, "{} ", Subject(head))?,
     }
-    text.push_str(rule_words(rule))?;
+    text.push_str(fixed_message_part(rule))?;
     let file = &source.file;
-    match (rule, level_of(entry), file.pref) {
+    match (rule, table_kind_of_entry(entry), file.pref) {
         (Rule::Needed | Rule::Known, _, _) => write!(text, " '{}'", Shown(key.as_bytes())),
-        (Rule::Form, Some(level), _) => push_form(text, level, key),
-        (Rule::IoAperture, _, _) => text.push_str(io_words(file.io)),
-        (Rule::MemAperture, _, _) => text.push_str(mem_words(file.mem)),
-        (Rule::PrefAperture, _, Some(pref)) => text.push_str(pref_words(file.mem, pref)),
+        (Rule::Form, Some(level), _) => push_expected_form(text, level, key),
+        (Rule::IoAperture, _, _) => text.push_str(why_io_invalid(file.io)),
+        (Rule::MemAperture, _, _) => text.push_str(why_mem_invalid(file.mem)),
+        (Rule::PrefAperture, _, Some(pref)) => text.push_str(why_pref_invalid(file.mem, pref)),
         (Rule::Size | Rule::BlockFits | Rule::BarMasks | Rule::ConfigMasks, _, _) => {
-            push_block(text, file, entry, rule)
+            push_why_bar_or_block_invalid(text, file, entry, rule)
         }
         (Rule::BehindBridge | Rule::FunctionZero | Rule::NamesEndpoint, _, _) => {
-            push_path(text, source, entry, rule)
+            push_what_path_lacks(text, source, entry, rule)
         }
-        _ => push_conflict(text, file, entry, rule, told.other),
+        _ => push_conflict_or_bar_range(text, file, entry, rule, placed.other),
     }
 }

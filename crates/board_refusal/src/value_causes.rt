@@ -1,6 +1,6 @@
 //! Causes of invalid sizes, apertures and patterns.
 
-use crate::parts::{extent_of, patterns_of};
+use crate::parts::{block_size_and_patterns, config_range_of_entry};
 use bars::Kind;
 use board_file::Entry;
 use board_file::entries::{BarEntry, Bounds, FileEntries};
@@ -8,8 +8,8 @@ use diagnostics::Other;
 use std::alloc::AllocError;
 
 /// Returns the text for the first rule that isn't kept, or an empty string.
-fn first_words(rules: &[(&'static str, bool)]) -> &'static str {
-    for (words, is_kept) in rules {
+fn words_of_first_broken_rule(words_and_is_kept: &[(&'static str, bool)]) -> &'static str {
+    for (words, is_kept) in words_and_is_kept {
         if !*is_kept {
             return words;
         }
@@ -18,7 +18,10 @@ fn first_words(rules: &[(&'static str, bool)]) -> &'static str {
 }
 
 /// Appends why a BAR can't have its size.
-pub(crate) fn push_size(text: &mut String, bar: &BarEntry<'_>) -> Result<(), AllocError> {
+pub(crate) fn push_why_size_invalid(
+    text: &mut String,
+    bar: &BarEntry<'_>,
+) -> Result<(), AllocError> {
     let (least, greatest, limits) = match bar.kind {
         Kind::Io => (4, 1 << 8, "an I/O BAR (4 to 0x100)"),
         Kind::Mem32 { .. } => (16, 1 << 31, "a 32-bit memory BAR (16 to 0x80000000)"),
@@ -46,19 +49,19 @@ const MEGABYTES: &str =
     "must begin and end on a 1 MB boundary, such as [0xc0000000, 0xdfffffff] (the last address is included)";
 
 /// Returns whether neither address is negative.
-fn is_natural(bounds: Bounds) -> bool {
+fn is_non_negative(bounds: Bounds) -> bool {
     0 <= bounds.first && 0 <= bounds.last
 }
 
 /// Returns whether the bounds enclose whole megabytes.
-fn has_megabytes(bounds: Bounds) -> bool {
+fn is_megabyte_aligned(bounds: Bounds) -> bool {
     bounds.first % 0x10_0000 == 0 && bounds.last % 0x10_0000 == 0xf_ffff
 }
 
 /// Returns why the I/O aperture isn't valid.
-pub(crate) fn io_words(io: Bounds) -> &'static str {
-    first_words(&[
-        (NEGATIVE, is_natural(io)),
+pub(crate) fn why_io_invalid(io: Bounds) -> &'static str {
+    words_of_first_broken_rule(&[
+        (NEGATIVE, is_non_negative(io)),
         (EMPTY, io.first <= io.last),
         (
             "must begin and end on a 4 KB boundary, such as [0x1000, 0xffff] (the last address is included)",
@@ -70,21 +73,21 @@ pub(crate) fn io_words(io: Bounds) -> &'static str {
 }
 
 /// Returns why the memory aperture isn't valid.
-pub(crate) fn mem_words(mem: Bounds) -> &'static str {
-    first_words(&[
-        (NEGATIVE, is_natural(mem)),
+pub(crate) fn why_mem_invalid(mem: Bounds) -> &'static str {
+    words_of_first_broken_rule(&[
+        (NEGATIVE, is_non_negative(mem)),
         (EMPTY, mem.first <= mem.last),
-        (MEGABYTES, has_megabytes(mem)),
+        (MEGABYTES, is_megabyte_aligned(mem)),
         ("ends above 0xffffffff", mem.last < 1 << 32),
     ])
 }
 
 /// Returns why the prefetchable aperture isn't valid.
-pub(crate) fn pref_words(mem: Bounds, pref: Bounds) -> &'static str {
-    first_words(&[
-        (NEGATIVE, is_natural(pref)),
+pub(crate) fn why_pref_invalid(mem: Bounds, pref: Bounds) -> &'static str {
+    words_of_first_broken_rule(&[
+        (NEGATIVE, is_non_negative(pref)),
         (EMPTY, pref.first <= pref.last),
-        (MEGABYTES, has_megabytes(pref)),
+        (MEGABYTES, is_megabyte_aligned(pref)),
         (
             "begins below 4 GB (0x100000000) and ends above it",
             pref.last < 1 << 32 || 1 << 32 <= pref.first,
@@ -98,11 +101,11 @@ pub(crate) fn pref_words(mem: Bounds, pref: Bounds) -> &'static str {
 
 const TOO_LONG: &str = "has more bytes than block";
 
-/// Returns why a pattern isn't valid for `block` bytes. Returns an empty string if the pattern is
+/// Returns why a pattern isn't valid for `block_len` bytes. Returns an empty string if the pattern is
 /// valid.
-fn pattern_words(block: i64, pattern: &str) -> &'static str {
+fn why_pattern_invalid(block_len: i64, pattern: &str) -> &'static str {
     let digits = pattern.as_bytes();
-    first_words(&[
+    words_of_first_broken_rule(&[
         (
             "begins with 0x: write only the hexadecimal digits",
             !pattern.starts_with("0x"),
@@ -118,26 +121,29 @@ fn pattern_words(block: i64, pattern: &str) -> &'static str {
         ("is empty", !digits.is_empty()),
         (
             "needs the key 'block' (how many bytes there are), which is missing or 0",
-            block != 0,
+            block_len != 0,
         ),
-        (TOO_LONG, digits.len() as u64 / 2 <= block.unsigned_abs()),
+        (
+            TOO_LONG,
+            digits.len() as u64 / 2 <= block_len.unsigned_abs(),
+        ),
     ])
 }
 
 /// Returns the key and the text of the first pattern of a register block that isn't valid, and the
 /// size of the block.
-fn invalid_pattern<'a>(
+fn bad_pattern_key_text_and_block<'a>(
     file: &FileEntries<'a>,
     entry: Entry,
 ) -> Option<(&'static str, &'a str, i64)> {
-    let (block, patterns) = patterns_of(file, entry)?;
+    let (block, patterns) = block_size_and_patterns(file, entry)?;
     for (key, pattern) in &[
         ("reset", patterns.reset),
         ("rw", patterns.rw),
         ("w1c", patterns.w1c),
     ] {
         if let Some(pattern) = *pattern {
-            if !pattern_words(block, pattern).is_empty() {
+            if !why_pattern_invalid(block, pattern).is_empty() {
                 return Some((*key, pattern, block));
             }
         }
@@ -146,23 +152,23 @@ fn invalid_pattern<'a>(
 }
 
 /// Returns the key of the first pattern of a register block that isn't valid.
-pub(crate) fn pattern_key(file: &FileEntries<'_>, entry: Entry) -> &'static str {
-    match invalid_pattern(file, entry) {
+pub(crate) fn invalid_pattern_key_or_w1c(file: &FileEntries<'_>, entry: Entry) -> &'static str {
+    match bad_pattern_key_text_and_block(file, entry) {
         Some((key, _, _)) => key,
         None => "w1c",
     }
 }
 
 /// Appends why a pattern of a register block is invalid, or that its masks share a bit.
-pub(crate) fn push_pattern(
+pub(crate) fn push_why_pattern_invalid(
     text: &mut String,
     file: &FileEntries<'_>,
     entry: Entry,
 ) -> Result<(), AllocError> {
-    let Some((_, pattern, block)) = invalid_pattern(file, entry) else {
+    let Some((_, pattern, block)) = bad_pattern_key_text_and_block(file, entry) else {
         return text.push_str("has a bit that is also in rw: a bit can be in only one of them");
     };
-    let words = pattern_words(block, pattern);
+    let words = why_pattern_invalid(block, pattern);
     if words == TOO_LONG {
         return write!(
             text,
@@ -174,16 +180,16 @@ pub(crate) fn push_pattern(
 }
 
 /// Appends the size of a block of configuration registers, and the block that it overlaps.
-pub(crate) fn push_overlap(
+pub(crate) fn push_size_and_overlap(
     text: &mut String,
     file: &FileEntries<'_>,
     entry: Entry,
     other: Other,
 ) -> Result<(), AllocError> {
-    let Some((block, _)) = patterns_of(file, entry) else {
+    let Some((block, _)) = block_size_and_patterns(file, entry) else {
         return Ok(());
     };
-    let Some(met) = extent_of(file, other.entry) else {
+    let Some(met) = config_range_of_entry(file, other.entry) else {
         return Ok(());
     };
     let first = met.off;

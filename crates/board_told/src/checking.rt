@@ -11,7 +11,7 @@ ghost use Rattle.board_file.specs.Faults as of_file;
 
 use board_file::{BoardFault, Source};
 use board_fit::{WarningLevel, judge, verdict_text};
-use board_refusal::{refusal_text, unread_text};
+use board_refusal::{refusal_report, toml_error_message};
 use diagnostics::{MessageLayout, RenderOptions};
 use host_bridge::Host;
 use session::OpenFault;
@@ -27,9 +27,9 @@ pub struct Checked {
 }
 
 /// Reports why the bytes can't be parsed as TOML, and where the parser stopped.
-fn refuse_bytes(
+fn report_toml_error(
     alloc: Global,
-    telling: &RenderOptions<'_>,
+    options: &RenderOptions<'_>,
     board: &[u8],
     error: &Error,
 ) -> Result<Checked, OpenFault>
@@ -38,7 +38,7 @@ fn refuse_bytes(
     ensures fault { IfOk result (λ c. IsFaultOf board.now c.fault) }
     ensures memory { IfErr result IsOutOfMemory }
 {
-    match unread_text(alloc, telling.layout, telling.name, board, error) {
+    match toml_error_message(alloc, options.layout, options.name, board, error) {
         Ok(text) => Ok(Checked {
             text,
             fault: Some(OpenFault::File(BoardFault::NotToml)),
@@ -48,9 +48,9 @@ fn refuse_bytes(
 }
 
 /// Reports each entry that breaks a rule of the board-file format.
-fn refuse(
+fn report_broken_rules(
     alloc: Global,
-    telling: &RenderOptions<'_>,
+    options: &RenderOptions<'_>,
     source: &Source<'_>,
     fault: BoardFault,
 ) -> Result<Checked, OpenFault>
@@ -63,7 +63,7 @@ fn refuse(
     if fault == BoardFault::Memory {
         return Err(OpenFault::File(fault));
     }
-    match refusal_text(alloc, telling.layout, telling.name, source, fault) {
+    match refusal_report(alloc, options.layout, options.name, source, fault) {
         Ok(text) => Ok(Checked {
             text,
             fault: Some(OpenFault::File(fault)),
@@ -73,7 +73,7 @@ fn refuse(
 }
 
 /// Wraps a set-up fault of the board as an `OpenFault`.
-fn of_board(fault: Option<bus_scan::Fault>) -> Option<OpenFault>
+fn wrap_set_up_fault(fault: Option<bus_scan::Fault>) -> Option<OpenFault>
     ensures { result ≡ option_map SetUp fault }
 {
     fault.map(OpenFault::SetUp)
@@ -82,7 +82,7 @@ fn of_board(fault: Option<bus_scan::Fault>) -> Option<OpenFault>
 /// Judges the board of an accepted file and renders the verdict.
 fn judge_board(
     alloc: Global,
-    telling: &RenderOptions<'_>,
+    options: &RenderOptions<'_>,
     warned: WarningLevel,
     source: &Source<'_>,
     host: Host,
@@ -94,15 +94,15 @@ fn judge_board(
     ensures { IfOk result (λ c. IsFaultOf source.now.bytes.now c.fault) }
 {
     let verdict = judge(alloc, warned, source, host)?;
-    let text = verdict_text(alloc, telling, source, &verdict)?;
-    let fault = of_board(verdict.fault);
+    let text = verdict_text(alloc, options, source, &verdict)?;
+    let fault = wrap_set_up_fault(verdict.fault);
     Ok(Checked { text, fault })
 }
 
 /// Like `judge_board`, but reports exhausted memory as a set-up fault (299).
-fn accept(
+fn judge_or_memory_fault(
     alloc: Global,
-    telling: &RenderOptions<'_>,
+    options: &RenderOptions<'_>,
     warned: WarningLevel,
     source: &Source<'_>,
     host: Host,
@@ -114,7 +114,7 @@ fn accept(
     ensures fault { IfOk result (λ c. IsFaultOf source.now.bytes.now c.fault) }
     ensures memory { IfErr result IsOutOfMemory }
 {
-    match judge_board(alloc, telling, warned, source, host) {
+    match judge_board(alloc, options, warned, source, host) {
         Ok(checked) => Ok(checked),
         Err(_) => Err(OpenFault::SetUp(bus_scan::Fault::Memory)),
     }
@@ -123,7 +123,7 @@ fn accept(
 /// Checks a board file. The text has a line for each entry that breaks a rule, or the verdict on
 /// the declared board. `name` is the file name to print. With `MessageLayout::WithExcerpts`, the
 /// offending line of the file follows each message. Fails only if memory is exhausted (199 or 299).
-pub fn check_text(
+pub fn check_board_file(
     alloc: Global,
     layout: MessageLayout,
     warned: WarningLevel,
@@ -133,17 +133,17 @@ pub fn check_text(
     ensures fault { IfOk result (λ c. IsFaultOf board.now c.fault) }
     ensures memory { IfErr result IsOutOfMemory }
 {
-    let telling = RenderOptions { layout, name };
+    let options = RenderOptions { layout, name };
     let document = match toml::table_from_slice(alloc, board) {
         Ok(document) => document,
         Err(e) if e.is_memory() => return Err(OpenFault::File(BoardFault::Memory)),
-        Err(e) => return refuse_bytes(alloc, &telling, board, &e),
+        Err(e) => return report_toml_error(alloc, &options, board, &e),
     };
     let Ok(source) = Source::new(alloc, board, &document) else {
         return Err(OpenFault::File(BoardFault::Memory));
     };
-    match source.world(alloc) {
-        Ok((host, _)) => accept(alloc, &telling, warned, &source, host),
-        Err(fault) => refuse(alloc, &telling, &source, fault),
+    match source.build_host_and_guests(alloc) {
+        Ok((host, _)) => judge_or_memory_fault(alloc, &options, warned, &source, host),
+        Err(fault) => report_broken_rules(alloc, &options, &source, fault),
     }
 }

@@ -7,7 +7,7 @@ ghost use Rattle.bars.specs.{Kinds.named_space, Slots.{placed, bases_from}};
 ghost use Rattle.board_told.specs.GuestFindings.{lone_asked, base_holds, closed_at, closed_in, closed_told};
 
 use bars::{BarWithBase, Space};
-use findings::opens;
+use findings::enables_space;
 use monitor::Monitor;
 use std::alloc::{AllocError, Global};
 
@@ -24,7 +24,7 @@ pub struct ClosedInSlot {
 }
 
 /// Returns whether a BAR contains an address of the given space.
-fn holds(region: &BarWithBase, space: Space, addr: u64) -> bool
+fn contains_address(region: &BarWithBase, space: Space, addr: u64) -> bool
     ensures { result ≡ base_holds (named_space space) addr (placed 0 region.now) }
 {
     region.offset_of(space, addr).is_some()
@@ -32,7 +32,7 @@ fn holds(region: &BarWithBase, space: Space, addr: u64) -> bool
 
 /// Appends each BAR of a function that contains the address, together with the function's Command
 /// value.
-fn add_holding(
+fn add_bars_with_address(
     closed: &mut Vec<ClosedInSlot>,
     space: Space,
     addr: u64,
@@ -46,7 +46,7 @@ fn add_holding(
 {
     for register in 0..6 {
         if let Some(region) = regions[register]
-            && holds(&region, space, addr)
+            && contains_address(&region, space, addr)
         {
             closed.push(ClosedInSlot {
                 slot,
@@ -62,7 +62,7 @@ fn add_holding(
 
 /// Appends the BARs of the function in `slot` that contain the address. Appends nothing if the slot
 /// is empty or Command enables the space.
-fn add_slot(
+fn add_slot_bars_if_disabled(
     closed: &mut Vec<ClosedInSlot>,
     monitor: &Monitor,
     guest: usize,
@@ -78,15 +78,15 @@ fn add_slot(
     let Some(own) = monitor.own_registers(guest, slot) else {
         return Ok(());
     };
-    if opens(own.command, space) {
+    if enables_space(own.command, space) {
         return Ok(());
     }
-    add_holding(closed, space, addr, slot, own.command, &own.regions)
+    add_bars_with_address(closed, space, addr, slot, own.command, &own.regions)
 }
 
 /// Returns every disabled BAR of a guest that contains the address, ordered by slot and then by BAR
 /// index.
-pub(crate) fn all_closed(
+pub(crate) fn collect_disabled_bars(
     alloc: Global,
     monitor: &Monitor,
     guest: usize,
@@ -100,7 +100,7 @@ pub(crate) fn all_closed(
 {
     let mut closed = Vec::new(alloc);
     for slot in 0..monitor.slots(guest) {
-        add_slot(&mut closed, monitor, guest, slot, space, addr)?;
+        add_slot_bars_if_disabled(&mut closed, monitor, guest, slot, space, addr)?;
     }
     Ok(closed)
 }

@@ -7,7 +7,7 @@ ghost use Rattle.bars.specs.Kinds.{named_space};
 ghost use Rattle.accesses.specs.Accesses.{target_of};
 ghost use Rattle.board_told.specs.GuestFindings.{lone_asked, fault_at, lost_by, finding_told, fault_number, IsWhyFault};
 
-use crate::closed::{ClosedInSlot, all_closed};
+use crate::closed::{ClosedInSlot, collect_disabled_bars};
 use accesses::{At, Refusal};
 use bars::Space;
 use monitor::{DecodedByte, Monitor};
@@ -50,7 +50,7 @@ impl WhyFault {
 }
 
 /// Returns the finding for an unclaimed address, with the disabled BARs that contain the address.
-fn found_nobody(
+fn unclaimed_finding(
     alloc: Global,
     monitor: &Monitor,
     guest: usize,
@@ -62,11 +62,11 @@ fn found_nobody(
         IfOk result (λ f.
         finding_told f ≡ nobody (closed_from (named_space space) addr 0 g.slots)) }
 {
-    Ok(Finding::Nobody(all_closed(alloc, monitor, guest, space, addr)?))
+    Ok(Finding::Nobody(collect_disabled_bars(alloc, monitor, guest, space, addr)?))
 }
 
 /// Returns the finding for an I/O port at which no function of the guest answers.
-fn lost_at_port(
+fn unanswered_port_finding(
     alloc: Global,
     monitor: &Monitor,
     guest: usize,
@@ -78,9 +78,9 @@ fn lost_at_port(
 {
     let latch = monitor.latch(guest);
     match latch.select(addr) {
-        Select::Ordinary => found_nobody(alloc, monitor, guest, Space::Io, addr),
+        Select::Ordinary => unclaimed_finding(alloc, monitor, guest, Space::Io, addr),
         Select::Nowhere => Ok(Finding::NoSlot {
-            at: latch.function(),
+            at: latch.selected_bdf(),
         }),
         Select::Slot(slot, _) => Ok(Finding::Empty {
             slot: u64::from(slot),
@@ -89,15 +89,20 @@ fn lost_at_port(
 }
 
 /// Returns the finding for an access that no function of the guest answers.
-fn lost(alloc: Global, monitor: &Monitor, guest: usize, at: At) -> Result<Finding, AllocError>
+fn unanswered_finding(
+    alloc: Global,
+    monitor: &Monitor,
+    guest: usize,
+    at: At,
+) -> Result<Finding, AllocError>
     requires { guest < length monitor.now.world.guests }
     ensures { let g = lone_asked monitor.now.world guest in
         IfOk result (λ f. finding_told f ≡ lost_by g (destination g.latch 1 (target_of at))) }
 {
     match at {
         At::Config { slot, off: _ } => Ok(Finding::Empty { slot }),
-        At::Io { port } => lost_at_port(alloc, monitor, guest, port),
-        At::Mem { addr } => found_nobody(alloc, monitor, guest, Space::Mem, addr),
+        At::Io { port } => unanswered_port_finding(alloc, monitor, guest, port),
+        At::Mem { addr } => unclaimed_finding(alloc, monitor, guest, Space::Mem, addr),
     }
 }
 
@@ -122,7 +127,7 @@ pub fn find_target(
     match monitor.locate(guest, at) {
         Err(why) => Err(WhyFault::Refused(why)),
         Ok(Some(hit)) => Ok(Finding::Answers(hit)),
-        Ok(None) => match lost(alloc, monitor, guest, at) {
+        Ok(None) => match unanswered_finding(alloc, monitor, guest, at) {
             Ok(finding) => Ok(finding),
             Err(_) => Err(WhyFault::Memory),
         },

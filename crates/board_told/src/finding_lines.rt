@@ -10,7 +10,7 @@ ghost use Rattle.board_told.specs.{GuestFindings.finding_told, GuestLines.{head_
 use crate::closed::ClosedInSlot;
 use crate::finding::Finding;
 use accesses::{At, Place};
-use findings_render::{ShownDisabled, numbers};
+use findings_render::{ShownDisabled, shown_bdf};
 use monitor::DecodedByte;
 use std::alloc::AllocError;
 use std::fmt;
@@ -75,13 +75,17 @@ impl<'a> fmt::Display for ShownFinding<'a> {
             Finding::Answers(hit) => write!(f, "{}", ShownHit(*hit)),
             Finding::Nobody(_) => write!(f, "nothing responds"),
             Finding::Empty { slot } => write!(f, "slot {slot} is empty"),
-            Finding::NoSlot { at } => write!(f, "there is no slot at {}", numbers(*at)),
+            Finding::NoSlot { at } => write!(f, "there is no slot at {}", shown_bdf(*at)),
         }
     }
 }
 
 /// Appends the line with the queried place and its finding.
-pub(crate) fn push_head(text: &mut String, at: At, finding: &Finding) -> Result<(), AllocError>
+pub(crate) fn push_finding_line(
+    text: &mut String,
+    at: At,
+    finding: &Finding,
+) -> Result<(), AllocError>
     ensures { OnOk result (Adds text.old text.new
         (ended (why_line (head_text (target_of at) (finding_told finding.now))))) }
 {
@@ -89,7 +93,7 @@ pub(crate) fn push_head(text: &mut String, at: At, finding: &Finding) -> Result<
 }
 
 /// Appends the slot, index, address and size of a disabled BAR.
-fn push_place(text: &mut String, closed: &ClosedInSlot) -> Result<(), AllocError>
+fn push_disabled_bar_place(text: &mut String, closed: &ClosedInSlot) -> Result<(), AllocError>
     ensures { OnOk result (Adds text.old text.new (place_line closed.now)) }
 {
     let slot = closed.slot;
@@ -103,32 +107,32 @@ fn push_place(text: &mut String, closed: &ClosedInSlot) -> Result<(), AllocError
 }
 
 /// Appends the line for a disabled BAR.
-fn push_closed(text: &mut String, closed: &ClosedInSlot) -> Result<(), AllocError>
+fn push_disabled_bar(text: &mut String, closed: &ClosedInSlot) -> Result<(), AllocError>
     ensures { OnOk result (Adds text.old text.new (closed_line closed.now)) }
 {
-    push_place(text, closed)?;
+    push_disabled_bar_place(text, closed)?;
     write!(text, "{}", ShownDisabled(closed.command))?;
     text.push('\n')
 }
 
 /// Appends a line for each disabled BAR.
-fn push_all_closed(text: &mut String, all: &[ClosedInSlot]) -> Result<(), AllocError>
+fn push_disabled_bars(text: &mut String, all: &[ClosedInSlot]) -> Result<(), AllocError>
     ensures { OnOk result (Adds text.old text.new (told_lines all.now)) }
 {
     for closed in all {
-        push_closed(text, closed)?;
+        push_disabled_bar(text, closed)?;
     }
     Ok(())
 }
 
 /// Appends a line for each disabled BAR that contains an unclaimed address. Appends nothing for
 /// other findings.
-pub(crate) fn push_closed_of(text: &mut String, finding: &Finding) -> Result<(), AllocError>
+pub(crate) fn push_bars_if_unclaimed(text: &mut String, finding: &Finding) -> Result<(), AllocError>
     ensures { OnOk result (Adds text.old text.new
         (lines_of_closed (finding_told finding.now))) }
 {
     match finding {
-        Finding::Nobody(all) => push_all_closed(text, all),
+        Finding::Nobody(all) => push_disabled_bars(text, all),
         Finding::Answers(_) | Finding::Empty { .. } | Finding::NoSlot { .. } => Ok(()),
     }
 }

@@ -6,15 +6,15 @@ ghost use Rattle.model_lines.specs.{WhyText.why_line, WhyGuests.target_lines};
 ghost use Rattle.model_lines.specs.WhyGuests as model;
 ghost use Rattle.accesses.specs.Accesses.{target_of};
 ghost use Rattle.serde_json.specs.View.{view};
-ghost use Rattle.board_told.specs.{GuestFindings.{lone_asked, fault_at, closed_told, finding_told, IsWhyFault}, GuestLines.text_told, WhyJson.{closed_value, finding_value, guest_json, guest_why_in}};
+ghost use Rattle.board_told.specs.{GuestFindings.{lone_asked, fault_at, closed_told, finding_told, IsWhyFault}, GuestLines.text_told, WhyJson.{closed_value, finding_value, guest_json, explain_guest_access}};
 
 use crate::closed::ClosedInSlot;
 use crate::finding::{Finding, WhyFault, find_target};
-use crate::finding_lines::{push_closed_of, push_head};
+use crate::finding_lines::{push_bars_if_unclaimed, push_finding_line};
 use accesses::{At, Place};
 use findings::{PortUse, port_use};
-use findings_render::push_use;
-use json_texts::{HasValue, number_value, values, why_json};
+use findings_render::push_port_use_line;
+use json_texts::{HasValue, bdf_value, explanation_json, values};
 use monitor::Monitor;
 use paths::Latch;
 use serde_json::{Value, json};
@@ -23,25 +23,35 @@ use std::alloc::{AllocError, Global};
 
 /// Appends the line about the role of an I/O port in the configuration mechanism. Appends nothing
 /// for other ports and for other places.
-fn push_use_at(alloc: Global, text: &mut String, latch: Latch, at: At) -> Result<(), AllocError>
+fn push_use_if_config_port(
+    alloc: Global,
+    text: &mut String,
+    latch: Latch,
+    at: At,
+) -> Result<(), AllocError>
     ensures { OnOk result (Adds text.old text.new
         (text_of_lines (map why_line (target_lines latch (target_of at))))) }
 {
     match at {
-        At::Io { port } => push_use(alloc, text, latch, port, port_use(latch, port)),
+        At::Io { port } => push_port_use_line(alloc, text, latch, port, port_use(latch, port)),
         At::Config { .. } | At::Mem { .. } => Ok(()),
     }
 }
 
 /// Returns the explanation as lines of text.
-fn text_of(alloc: Global, latch: Latch, at: At, finding: &Finding) -> Result<String, AllocError>
+fn finding_text(
+    alloc: Global,
+    latch: Latch,
+    at: At,
+    finding: &Finding,
+) -> Result<String, AllocError>
     ensures { IfOk result (λ t.
         string_bytes t ≡ text_told latch (target_of at) (finding_told finding.now)) }
 {
     let mut text = String::new(alloc);
-    push_use_at(alloc, &mut text, latch, at)?;
-    push_head(&mut text, at, finding)?;
-    push_closed_of(&mut text, finding)?;
+    push_use_if_config_port(alloc, &mut text, latch, at)?;
+    push_finding_line(&mut text, at, finding)?;
+    push_bars_if_unclaimed(&mut text, finding)?;
     Ok(text)
 }
 
@@ -80,20 +90,25 @@ fn finding_value(alloc: Global, finding: &Finding) -> Result<Value, AllocError>
         }
         Finding::Empty { slot } => json!(in alloc; {"slot": *slot, "type": "empty"}),
         Finding::NoSlot { at } => {
-            json!(in alloc; {"number": number_value(alloc, *at)?, "type": "no slot"})
+            json!(in alloc; {"number": bdf_value(alloc, *at)?, "type": "no slot"})
         }
     }
 }
 
 /// Returns the explanation as a JSON object on one line.
-fn json_of(alloc: Global, latch: Latch, at: At, finding: &Finding) -> Result<String, AllocError>
+fn finding_json(
+    alloc: Global,
+    latch: Latch,
+    at: At,
+    finding: &Finding,
+) -> Result<String, AllocError>
     ensures { IfOk result (λ t.
         string_bytes t ≡ guest_json latch (target_of at) (finding_told finding.now)) }
 {
     let found = finding_value(alloc, finding)?;
     match at {
-        At::Io { port } => why_json(alloc, port_use(latch, port), found),
-        At::Config { .. } | At::Mem { .. } => why_json(alloc, PortUse::LikeOthers, found),
+        At::Io { port } => explanation_json(alloc, port_use(latch, port), found),
+        At::Config { .. } | At::Mem { .. } => explanation_json(alloc, PortUse::LikeOthers, found),
     }
 }
 
@@ -106,7 +121,7 @@ fn json_of(alloc: Global, latch: Latch, at: At, finding: &Finding) -> Result<Str
 ///
 /// Refused with 303 if a one-byte read would be: for a slot above 31, an offset above 255 or a port
 /// above FFFFFFFFh. Fails with 299 if memory is exhausted.
-pub fn guest_why_in(
+pub fn explain_guest_access(
     alloc: Global,
     form: ReportForm,
     monitor: &Monitor,
@@ -115,7 +130,7 @@ pub fn guest_why_in(
 ) -> Result<String, WhyFault>
     requires { guest < length monitor.now.world.guests }
     ensures text { let g = lone_asked monitor.now.world guest in
-        IfOk result (λ t. string_bytes t ≡ guest_why_in form g (target_of at)) }
+        IfOk result (λ t. string_bytes t ≡ explain_guest_access form g (target_of at)) }
     ensures served { IfOk result (λ _. fault_at (target_of at) ≡ None) }
     ensures refused { IfErr result (λ e. IsWhyFault e (fault_at (target_of at))) }
 {
@@ -125,7 +140,7 @@ pub fn guest_why_in(
     };
     let latch = monitor.latch(guest);
     match form {
-        ReportForm::Lines => text_of(alloc, latch, at, &finding).map_err(|_| WhyFault::Memory),
-        ReportForm::Json => json_of(alloc, latch, at, &finding).map_err(|_| WhyFault::Memory),
+        ReportForm::Lines => finding_text(alloc, latch, at, &finding).map_err(|_| WhyFault::Memory),
+        ReportForm::Json => finding_json(alloc, latch, at, &finding).map_err(|_| WhyFault::Memory),
     }
 }

@@ -16,20 +16,20 @@ mod guest_why;
 mod listing;
 
 pub use board_fit::WarningLevel;
-pub use checking::{Checked, check_text};
+pub use checking::{Checked, check_board_file};
 pub use closed::ClosedInSlot;
 pub use diagnostics::MessageLayout;
 pub use fault::Fault;
 pub use finding::{Finding, WhyFault, find_target};
-pub use guest_why::guest_why_in;
-pub use listing::list_in;
+pub use guest_why::explain_guest_access;
+pub use listing::list_board_file;
 pub use monitor::{At, Monitor};
 
 /// Establishes that a guest's explanations depend only on the guest's own functions and
 /// CONFIG_ADDRESS. Two guests with equal state get equal explanations, on any boards and beside any
 /// other guests. They still do after any sequences of requests whose effects on the two guests are
 /// equal.
-pub fn told_alone()
+pub fn own_state_alone_decides_why()
     ensures equal { EqualGuests }
     ensures along { EqualAlong }
 {}

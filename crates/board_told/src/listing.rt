@@ -15,7 +15,7 @@ use std::alloc::{AllocError, Global};
 use window_packing::{Ready, set_up};
 
 /// Reads a board file and sets up its board. Returns the board with its guests.
-fn ready_board(alloc: Global, board: &[u8]) -> Result<(Ready, Vec<GuestDecl>), OpenFault>
+fn read_and_set_up_board(alloc: Global, board: &[u8]) -> Result<(Ready, Vec<GuestDecl>), OpenFault>
     ensures declared { IfOk result (λ v. IsReadyOf board.now v.0 v.1.items) }
     ensures file { IfErr result (OnFile (Refuses board.now)) }
     ensures placement { IfErr result (OnSetUp (Breaks board.now)) }
@@ -26,7 +26,7 @@ fn ready_board(alloc: Global, board: &[u8]) -> Result<(Ready, Vec<GuestDecl>), O
 }
 
 /// Renders the listing of a board that is set up and of its guests.
-fn report_in(
+fn render_listing(
     alloc: Global,
     ready: &Ready,
     guests: &[GuestDecl],
@@ -47,14 +47,14 @@ fn report_in(
 ///
 /// Fails if the file is refused (1xx), if the board can't be set up (2xx), or if
 /// memory is exhausted (199 or 299).
-pub fn list_in(alloc: Global, board: &[u8], form: ReportForm) -> Result<String, OpenFault>
+pub fn list_board_file(alloc: Global, board: &[u8], form: ReportForm) -> Result<String, OpenFault>
     ensures report { IfOk result (λ t.
         (w : World) × IsSetUp board.now w × (string_bytes t ≡ report_in form w)) }
     ensures file { IfErr result (OnFile (Refuses board.now)) }
     ensures placement { IfErr result (OnSetUp (Breaks board.now)) }
 {
-    let (ready, guests) = ready_board(alloc, board)?;
-    let Ok(text) = report_in(alloc, &ready, &guests, form) else {
+    let (ready, guests) = read_and_set_up_board(alloc, board)?;
+    let Ok(text) = render_listing(alloc, &ready, &guests, form) else {
         return Err(OpenFault::SetUp(bus_scan::Fault::Memory));
     };
     Ok(text)

@@ -2,7 +2,7 @@
 use Rattle.std.{proofs.{Common.{◌≡◌, ℕ, zero, suc, ◌+◌, ◌<◌, ◌≤◌, inl, inr, false, ◌&&◌, Some, List, length, refl, ap, ◌∙◌, subst, arith, rules}, lemmas.{Bool.Decides.nat_tests, Option.slice_get_within}}, specs.{Prelude.nat_le, List.{slice_get, slice_set}}}
 use Rattle.model_registers.specs.Registers.{File}
 use Rattle.model_board.specs.{Paths.Path, Board.is_bridge, Cycles.{secondary_register, subordinate_register, covers}}
-use Rattle.bridge_forward.{specs.{declared.{bus.Node.Node, function.Function.{Function, TheVariants.{Endpoint, Bridge}}}, Functions.{decl_of, with_cells}, Layout.{function_of, functions_of, paths_of, ends_of, IsLaidOut}, Skips.{AreSkipped, IsTree, first_bridge}, Search.IsSide}, proofs.{EndpointAccess.set_cases, Reached.{Passed, passed_next}}}
+use Rattle.bridge_forward.{specs.{declared.{bus.Node.Node, function.Function.{Function, TheVariants.{Endpoint, Bridge}}}, Functions.{decl_of, with_cells}, Layout.{function_of, functions_of, paths_of, ends_of, IsLaidOut}, Skips.{AreSkipped, IsTree, first_bridge_from}, Search.IsSide}, proofs.{EndpointAccess.set_cases, Reached.{Passed, passed_next}}}
 use Rattle.lists.proofs.Indices.{at_below, map_at, map_set, set_same, same_at}
 
 -- ---- another function at one place
@@ -71,10 +71,10 @@ pub record Linked (nodes initial : List Node) (i next : ℕ) : Type 0 where
 pub linked_none : (nodes : List Node) → Linked nodes nodes (length nodes) (length nodes)
 linked_none nodes = search (rules, slice_get_within)
 
-run_here : (nodes : List Node) (i next : ℕ) (n : Node) → slice_get nodes i ≡ Some n → AreSkipped nodes (i + 1) next → AreSkipped nodes i (first_bridge n i next)
+run_here : (nodes : List Node) (i next : ℕ) (n : Node) → slice_get nodes i ≡ Some n → AreSkipped nodes (i + 1) next → AreSkipped nodes i (first_bridge_from n i next)
 run_here nodes i next n e s = let a = s.ahead in record { ahead = grind arith; leaves = λ j m l k g. grind (arith, nat_tests, same_at nodes j m n, s.leaves j m) }
 
-pub linked_more : (nodes initial : List Node) (i next : ℕ) (n : Node) (at : ℕ) → Linked nodes initial (i + 1) next → slice_get nodes i ≡ Some n → at ≡ first_bridge n i next → Linked (slice_set nodes i (record n { bridge = at })) initial i at
+pub linked_more : (nodes initial : List Node) (i next : ℕ) (n : Node) (at : ℕ) → Linked nodes initial (i + 1) next → slice_get nodes i ≡ Some n → at ≡ first_bridge_from n i next → Linked (slice_set nodes i (record n { bridge = at })) initial i at
 linked_more nodes initial i next n at d e is = record {
   paths = search (rules, map_set, set_same, map_at, d.paths);
   ends = search (rules, map_set, set_same, map_at, d.ends);

@@ -1,6 +1,6 @@
 -- The node at which a search for a bridge continues: it skips endpoints that have nothing behind them.
 --     is_passed n i      the node at index i is such an endpoint
---     first_bridge n i next      the next bridge from index i on, given `next`, the first bridge after index i
+--     first_bridge_from n i next      the next bridge from index i on, given `next`, the first bridge after index i
 --     AreSkipped nodes i b      the nodes from index i up to b are all such endpoints
 --     IsTree      a list in layout order in which each node stores the index of the next bridge
 use Rattle.std.specs.Prelude.{List, ◌≡◌, ℕ, ◌+◌, ◌≤◌, ◌<◌, Bool, false, not, ◌&&◌, ◌==◌, if◌then◌else◌, Some, slice_get}
@@ -10,8 +10,8 @@ use Rattle.bridge_forward.specs.{declared.bus.Node.Node, Functions.decl_of, Layo
 abbrev pub is_passed : Node → ℕ → Bool
 is_passed n i = not (is_bridge (decl_of n.function)) && (n.end == i + 1)
 
-abbrev pub first_bridge : Node → ℕ → ℕ → ℕ
-first_bridge n i next = if is_passed n i then next else i
+abbrev pub first_bridge_from : Node → ℕ → ℕ → ℕ
+first_bridge_from n i next = if is_passed n i then next else i
 
 pub record AreSkipped (nodes : List Node) (i b : ℕ) : Type 0 where
   pub ahead : i ≤ b

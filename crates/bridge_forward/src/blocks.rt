@@ -10,16 +10,16 @@ use headers::Region;
 use std::alloc::{AllocError, Global};
 
 /// Returns the declared region whose first BAR register has this index.
-fn region_at(regions: &[Region], index: u8) -> Option<&Region>
+fn find_region_at(regions: &[Region], index: u8) -> Option<&Region>
     ensures { option_copied result ≡ region_at regions.now index }
 {
     regions.iter().find(|region| region.index == index)
 }
 
-fn bar_at(regions: &[Region], index: u8) -> Option<BarDecl>
+fn bar_decl_at(regions: &[Region], index: u8) -> Option<BarDecl>
     ensures { result ≡ declared_bar regions.now index }
 {
-    match region_at(regions, index) {
+    match find_region_at(regions, index) {
         Some(region) => Some(region.bar),
         None => None,
     }
@@ -29,11 +29,11 @@ fn bar_at(regions: &[Region], index: u8) -> Option<BarDecl>
 pub(crate) fn bar_decls(regions: &[Region]) -> [Option<BarDecl>; 6]
     ensures { result ≡ map (declared_bar regions.now) (0 ∷ 1 ∷ 2 ∷ 3 ∷ 4 ∷ 5 ∷ []) }
 {
-    [0, 1, 2, 3, 4, 5].map(|index| bar_at(regions, index))
+    [0, 1, 2, 3, 4, 5].map(|index| bar_decl_at(regions, index))
 }
 
 /// Creates the register block with these cells, which start at offset 0.
-fn block_file(alloc: Global, block: &[Cell]) -> Result<Cells, AllocError>
+fn cells_of_block(alloc: Global, block: &[Cell]) -> Result<Cells, AllocError>
     requires { length block.now ≤ 4096 }
     ensures { IfOk result (λ f. f ≡ as_made (cells_from (config 0) block.now)) }
 {
@@ -45,19 +45,22 @@ fn block_file(alloc: Global, block: &[Cell]) -> Result<Cells, AllocError>
 }
 
 /// Creates the register block behind a BAR register. The block is empty if no region starts there.
-fn block_at(alloc: Global, regions: &[Region], index: u8) -> Result<Cells, AllocError>
+fn cells_of_block_at(alloc: Global, regions: &[Region], index: u8) -> Result<Cells, AllocError>
     requires { Each (λ r. length r.cells ≤ 4096) regions.now }
     ensures { IfOk result (λ f. f ≡ as_made (declared_block regions.now index)) }
 {
-    match region_at(regions, index) {
-        Some(region) => block_file(alloc, &region.block),
+    match find_region_at(regions, index) {
+        Some(region) => cells_of_block(alloc, &region.block),
         None => Cells::new(alloc, &[]),
     }
 }
 
 /// Creates the six register blocks of an endpoint, one for each BAR register. A block is empty if
 /// no region starts at its BAR register.
-pub(crate) fn block_files(alloc: Global, regions: &[Region]) -> Result<Vec<Cells>, AllocError>
+pub(crate) fn cells_of_all_blocks(
+    alloc: Global,
+    regions: &[Region],
+) -> Result<Vec<Cells>, AllocError>
     requires { Each (λ r. length r.cells ≤ 4096) regions.now }
     ensures blocks { IfOk result (λ v.
         (n : ℕ) → n < 6 →
@@ -66,7 +69,7 @@ pub(crate) fn block_files(alloc: Global, regions: &[Region]) -> Result<Vec<Cells
 {
     let mut blocks = Vec::with_capacity(alloc, 6)?;
     for index in 0..6 {
-        blocks.push(block_at(alloc, regions, index)?)?;
+        blocks.push(cells_of_block_at(alloc, regions, index)?)?;
     }
     Ok(blocks)
 }

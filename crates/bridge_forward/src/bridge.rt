@@ -7,7 +7,7 @@ ghost use Rattle.headers.specs.WindowPairs.{pair_of};
 ghost use Rattle.bridge_forward.specs.{ByIndex.ranges_told, Decoded.IsDecoded, RoutingRows.named_ranges};
 
 use crate::by_index::LiveRanges;
-use crate::routing::{Ranges, window_of};
+use crate::routing::{Ranges, window_from_pair};
 use bars::Space;
 use config_bytes::{Cells, enables_of, from_lanes};
 use headers::{Bridge, BridgeDecl, command, io_window, mem_window, pref_window};
@@ -47,13 +47,13 @@ impl Model for BridgeFn {
 }
 
 /// Decodes the routing registers of a bridge.
-fn decode(cells: &Cells, decl: &BridgeDecl) -> Decoded
+fn decode_registers(cells: &Cells, decl: &BridgeDecl) -> Decoded
     ensures { IsDecoded decl.now cells.now.now result }
 {
     Decoded {
         command: command(cells).0,
-        secondary: byte_at(cells, 0x19),
-        subordinate: byte_at(cells, 0x1a),
+        secondary: read_register_byte(cells, 0x19),
+        subordinate: read_register_byte(cells, 0x1a),
         io: io_window(cells, decl),
         mem: mem_window(cells, decl),
         pref: pref_window(cells, decl),
@@ -75,7 +75,7 @@ impl BridgeFn {
         // An implemented bridge never has Vendor ID FFFFh.
         prove!(decl.vendor() != 0xffff);
         let cells = Bridge::cells(alloc, &decl, multifunction)?;
-        let decoded = decode(&cells, &decl);
+        let decoded = decode_registers(&cells, &decl);
         Ok(BridgeFn {
             decl,
             cells,
@@ -101,7 +101,7 @@ impl BridgeFn {
             } }
     {
         self.cells.write(u16::from(off), enables, data);
-        self.decoded = decode(&self.cells, &self.decl);
+        self.decoded = decode_registers(&self.cells, &self.decl);
     }
 
     /// Returns whether the bridge forwards an address downstream: Command enables the address
@@ -139,29 +139,29 @@ impl BridgeFn {
     }
 
     /// Returns the windows programmed in the registers.
-    pub(crate) fn windows(&self) -> Ranges
+    pub(crate) fn programmed_windows(&self) -> Ranges
         ensures { let file = self.now.file in let d = self.now.decl in
             named_ranges result
             ≡ windows (io_window d.io file) (mem_window file) (pref_window d.pref file) }
     {
         Ranges::Windows {
-            io: window_of(self.decoded.io),
-            mem: window_of(self.decoded.mem),
-            pref: window_of(self.decoded.pref),
+            io: window_from_pair(self.decoded.io),
+            mem: window_from_pair(self.decoded.mem),
+            pref: window_from_pair(self.decoded.pref),
         }
     }
 
     /// Returns the windows programmed in the registers, without allocating.
-    pub(crate) fn windows_now(&self) -> LiveRanges
+    pub(crate) fn live_windows(&self) -> LiveRanges
         ensures { let file = self.now.file in let d = self.now.decl in
             ranges_told result
             ≡ windows (io_window d.io file) (mem_window file) (pref_window d.pref file) }
     {
         let Decoded { io, mem, pref, .. } = self.decoded;
         LiveRanges::Windows {
-            io: window_of(io),
-            mem: window_of(mem),
-            pref: window_of(pref),
+            io: window_from_pair(io),
+            mem: window_from_pair(mem),
+            pref: window_from_pair(pref),
         }
     }
 
@@ -176,7 +176,7 @@ impl BridgeFn {
     pub(crate) fn primary(&self) -> u8
         ensures { result ≡ number self.now.file (config 0x18) 1 }
     {
-        byte_at(&self.cells, 0x18)
+        read_register_byte(&self.cells, 0x18)
     }
 
     /// Returns the Subordinate Bus Number register.
@@ -198,7 +198,7 @@ fn is_in(addr: u64, window: Option<(u64, u64)>) -> bool
 }
 
 /// Reads the one-byte register at `off`.
-fn byte_at(cells: &Cells, off: u16) -> u8
+fn read_register_byte(cells: &Cells, off: u16) -> u8
     ensures { result ≡ number cells.now.now (config off) 1 }
 {
     let word = cells.read(off / 4 * 4, enables_of(u64::from(off), 1));

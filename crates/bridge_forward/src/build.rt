@@ -2,7 +2,7 @@
 ghost use Rattle.std.specs.{Prelude.{◌≡◌, ◌<◌, IfOk, length, map}, BTreeSet.IsFromIterResult};
 ghost use Rattle.model_board.specs.{Board.{IsBoard, is_multifunction}, Lawful.{IsLawfulDecl, HasLawfulDecls}, Places.board_of};
 ghost use Rattle.paths.specs.PathOrders.{path_cmp};
-ghost use Rattle.bridge_forward.specs.{Devices.shared_devices, Layout.{function_of, functions_of, paths_of, AreInOrder, EndsAt, IsLaidOut}, Skips.IsTree, Functions.reset_cells, Resets.reset_functions};
+ghost use Rattle.bridge_forward.specs.{Devices.multifunction_device_paths, Layout.{function_of, functions_of, paths_of, AreInOrder, EndsAt, IsLaidOut}, Skips.IsTree, Functions.reset_cells, Resets.reset_functions};
 
 use crate::bus::Node;
 use crate::decl::Decl;
@@ -12,7 +12,7 @@ use std::alloc::{AllocError, Global};
 use std::collections::BTreeSet;
 
 /// Sorts the functions of a board into path order.
-fn sort(decls: &mut Vec<Decl>)
+fn sort_by_path(decls: &mut Vec<Decl>)
     requires { IsBoard (board_of decls.old.items) }
     ensures { decls.new.items ≡ board_of decls.old.items }
 {
@@ -20,31 +20,31 @@ fn sort(decls: &mut Vec<Decl>)
 }
 
 /// Collects the path of function 0 of each multifunction device.
-fn shared_devices(alloc: Global, decls: &[Decl]) -> Result<BTreeSet<Path>, AllocError>
-    ensures { IfOk result (IsFromIterResult path_cmp (shared_devices decls.now)) }
+fn multifunction_device_paths(alloc: Global, decls: &[Decl]) -> Result<BTreeSet<Path>, AllocError>
+    ensures { IfOk result (IsFromIterResult path_cmp (multifunction_device_paths decls.now)) }
 {
     decls
         .iter()
-        .filter(|decl| decl.is_extra_function())
+        .filter(|decl| decl.is_nonzero_function())
         .map(|decl| decl.path.function_zero())
         .collect(alloc)
 }
 
 /// Returns, for each function, whether its device is a multifunction device. Every device has a
 /// function 0, so one set lookup per function replaces a comparison with all other functions.
-fn multifunction_devices(alloc: Global, decls: &[Decl]) -> Result<Vec<bool>, AllocError>
+fn multifunction_flags(alloc: Global, decls: &[Decl]) -> Result<Vec<bool>, AllocError>
     requires { IsBoard decls.now }
     ensures { IfOk result (λ v.
         v.items ≡ map (λ r. is_multifunction decls.now r.path) decls.now) }
 {
-    let shared = shared_devices(alloc, decls)?;
+    let shared = multifunction_device_paths(alloc, decls)?;
     decls
         .iter()
-        .map(|decl| decl.is_in_one_of(&shared))
+        .map(|decl| decl.is_device_in_set(&shared))
         .collect(alloc)
 }
 
-/// Creates the node of a function at reset. `lay_out` sets `end` and `bridge` later.
+/// Creates the node of a function at reset. `link_into_tree` sets `end` and `bridge` later.
 fn node_at_reset(alloc: Global, decl: Decl, multifunction: bool) -> Result<Node, AllocError>
     ensures made { IfOk result (λ n.
         function_of n
@@ -72,8 +72,8 @@ pub(crate) fn nodes_at_reset(alloc: Global, decls: Vec<Decl>) -> Result<Vec<Node
     ensures lawful { IfOk result (λ _. HasLawfulDecls (board_of decls.items)) }
 {
     let mut decls = decls;
-    sort(&mut decls);
-    let multifunction = multifunction_devices(alloc, &decls)?;
+    sort_by_path(&mut decls);
+    let multifunction = multifunction_flags(alloc, &decls)?;
     let mut nodes = Vec::with_capacity(alloc, decls.len())?;
     for decl in decls {
         let is_multifunction = multifunction[nodes.len()];
@@ -84,7 +84,7 @@ pub(crate) fn nodes_at_reset(alloc: Global, decls: Vec<Decl>) -> Result<Vec<Node
 
 /// Returns the end of the subtree behind node `i`: the index after its last descendant. The nodes
 /// are in path order.
-fn end_of(nodes: &[Node], i: usize) -> usize
+fn subtree_end(nodes: &[Node], i: usize) -> usize
     requires order { AreInOrder (paths_of nodes.now) }
     requires there { i < length nodes.now }
     ensures { EndsAt (paths_of nodes.now) i result }
@@ -98,20 +98,20 @@ fn end_of(nodes: &[Node], i: usize) -> usize
 
 /// Sets `end` in each of the nodes, which are in path order. Takes at most (number of nodes) ×
 /// (depth) steps.
-fn set_ends(nodes: &mut [Node])
+fn set_subtree_ends(nodes: &mut [Node])
     requires { AreInOrder (paths_of nodes.old) }
     ensures laid { IsLaidOut nodes.new }
     ensures functions { functions_of nodes.new ≡ functions_of nodes.old }
 {
     for i in 0..nodes.len() {
-        let end = end_of(nodes, i);
+        let end = subtree_end(nodes, i);
         let node = &mut nodes[i];
         node.end = end;
     }
 }
 
 /// Sets `bridge` in each node, from the last node to the first.
-fn link_bridges(nodes: &mut [Node])
+fn set_next_bridges(nodes: &mut [Node])
     requires { IsLaidOut nodes.old }
     ensures tree { IsTree nodes.new }
     ensures functions { functions_of nodes.new ≡ functions_of nodes.old }
@@ -121,17 +121,17 @@ fn link_bridges(nodes: &mut [Node])
     while i > 0 {
         i -= 1;
         let node = &mut nodes[i];
-        next = node.first_bridge(i, next);
+        next = node.first_bridge_from(i, next);
         node.bridge = next;
     }
 }
 
 /// Links nodes in path order into a tree.
-pub(crate) fn lay_out(nodes: &mut [Node])
+pub(crate) fn link_into_tree(nodes: &mut [Node])
     requires { AreInOrder (paths_of nodes.old) }
     ensures tree { IsTree nodes.new }
     ensures functions { functions_of nodes.new ≡ functions_of nodes.old }
 {
-    set_ends(nodes);
-    link_bridges(nodes);
+    set_subtree_ends(nodes);
+    set_next_bridges(nodes);
 }

@@ -3,16 +3,16 @@ ghost use Rattle.std.specs.{Prelude.{◌≡◌, ◌%◌, ◌<◌, IfOk, IfSome, 
 ghost use Rattle.lists.specs.Elements.{EachPair};
 ghost use Rattle.model_board.specs.{Routing.routing, Paths.{path_before, path_eq}, Board.IsBoard, Places.board_of, State.row_at, Claims.first_claim, AtReset.{board_at, reset_state, IsAtReset}};
 ghost use Rattle.bars.specs.{Slots.bases_from, Kinds.named_space};
-ghost use Rattle.bridge_forward.specs.{BasesNow.bases_nth, Cycled.reached_by, Layout.{function_of, functions_of}, RoutingRows.{primary_nth, secondary_nth}};
+ghost use Rattle.bridge_forward.specs.{BasesNow.bases_nth, Cycled.reached_by, Layout.{function_of, functions_of}, RoutingRows.{primary_bus_nth, secondary_bus_nth}};
 
-use crate::build::{lay_out, nodes_at_reset};
+use crate::build::{link_into_tree, nodes_at_reset};
 use crate::cycle::Cycle;
 use crate::decl::Decl;
 use crate::endpoint::EndpointFn;
 use crate::function::Function;
 use crate::routes::Routes;
 use crate::routing::RoutingRow;
-use crate::walk::{locate, position, reach};
+use crate::walk::{find_index_of_path, find_reached_function, locate};
 use bars::{BarWithBase, Space};
 use paths::Path;
 use std::alloc::{AllocError, Global};
@@ -83,13 +83,13 @@ pub struct BarOffset {
 }
 
 impl Node {
-    ghost use Rattle.bridge_forward.specs.Skips.{first_bridge};
+    ghost use Rattle.bridge_forward.specs.Skips.{first_bridge_from};
 
     /// Returns the index of the first bridge at or after this node. `i` is the index of the node,
     /// and `next` the result for the node after it.
-    pub(crate) fn first_bridge(&self, i: usize, next: usize) -> usize
+    pub(crate) fn first_bridge_from(&self, i: usize, next: usize) -> usize
         requires { i < next }
-        ensures { result ≡ first_bridge self.now i next }
+        ensures { result ≡ first_bridge_from self.now i next }
     {
         if !self.function.is_bridge() && self.end == i + 1 {
             next
@@ -99,23 +99,23 @@ impl Node {
     }
 
     /// Returns the function's path and its declaration.
-    fn declared(&self) -> Result<Decl, AllocError>
+    fn copy_declaration(&self) -> Result<Decl, AllocError>
         ensures { IfOk result (λ d. d ≡ row_at (function_of self.now)) }
     {
         Ok(Decl {
             path: self.path.copied(),
-            function: self.function.declared()?,
+            function: self.function.copy_declaration()?,
         })
     }
 }
 
 /// Returns the declarations of all functions with their paths.
-fn declared(alloc: Global, nodes: &[Node]) -> Result<Vec<Decl>, AllocError>
+fn copy_declarations(alloc: Global, nodes: &[Node]) -> Result<Vec<Decl>, AllocError>
     ensures { IfOk result (λ v. v.items ≡ board_at (functions_of nodes.now)) }
 {
     let mut decls = Vec::with_capacity(alloc, nodes.len())?;
     for node in nodes {
-        decls.push(node.declared()?)?;
+        decls.push(node.copy_declaration()?)?;
     }
     Ok(decls)
 }
@@ -132,18 +132,18 @@ impl Bus {
         ensures at_reset { IfOk result (λ bus. IsAtReset (record { functions = bus; latch = 0 })) }
     {
         let mut nodes = nodes_at_reset(alloc, decls)?;
-        lay_out(&mut nodes);
-        let known = Routes::unknown(alloc)?;
+        link_into_tree(&mut nodes);
+        let known = Routes::new_empty(alloc)?;
         Ok(Bus { nodes, known })
     }
 
     /// Builds the same board at reset, from the declarations of its functions.
-    pub fn at_reset(&self, alloc: Global) -> Result<Bus, AllocError>
+    pub fn rebuild_at_reset(&self, alloc: Global) -> Result<Bus, AllocError>
         requires { IsBoard (board_at self.now) }
         ensures board { IfOk result (λ bus. board_at bus ≡ board_at self.now) }
         ensures at_reset { IfOk result (λ bus. IsAtReset (record { functions = bus; latch = 0 })) }
     {
-        let decls = declared(alloc, &self.nodes)?;
+        let decls = copy_declarations(alloc, &self.nodes)?;
         let bus = Bus::build(alloc, decls)?;
         Ok(bus)
     }
@@ -155,11 +155,11 @@ impl Bus {
         ensures reply { result ≡ cycle_reply self.old cycle }
         ensures after { self.new ≡ after_cycle self.old cycle }
     {
-        let at = reach(&self.nodes, &mut self.known, &cycle)?;
+        let at = find_reached_function(&self.nodes, &mut self.known, &cycle)?;
         let node = &mut self.nodes[at];
         let reply = node.function.access(cycle.op, cycle.offset, cycle.enables);
-        let changes_routes = node.function.is_bridge_written(cycle.op);
-        self.known.forget_if(changes_routes);
+        let changes_routes = node.function.is_write_to_bridge(cycle.op);
+        self.known.invalidate_all_if(changes_routes);
         Some(reply)
     }
 
@@ -196,26 +196,26 @@ impl Bus {
             ≡ find (λ f. path_eq f.path path.now) self.now }
         ensures within { IfSome result (λ i. i < length self.now) }
     {
-        position(&self.nodes, path)
+        find_index_of_path(&self.nodes, path)
     }
 
     /// Returns the routing registers of all functions in path order. Only an audit uses them;
     /// accesses don't.
     #[tactic(auto, using(crate::proofs::Changes::same_order, crate::proofs::Nodes::functions_in_order))]
-    pub fn routing(&self, alloc: Global) -> Result<Vec<RoutingRow>, AllocError>
+    pub fn routing_rows(&self, alloc: Global) -> Result<Vec<RoutingRow>, AllocError>
         ensures rows { IfOk result (λ v. v.items ≡ routing self.now) }
         ensures in_order { EachPair (λ f g. IsTrue (path_before f.path g.path)) self.now }
     {
         let mut rows = Vec::with_capacity(alloc, self.nodes.len())?;
         for node in &self.nodes {
-            rows.push(node.function.routing(alloc, &node.path)?)?;
+            rows.push(node.function.routing_row(alloc, &node.path)?)?;
         }
         Ok(rows)
     }
 
     /// Returns the Secondary Bus Number of the bridge at an index, or `None` if there is no bridge.
-    pub fn secondary_nth(&self, index: usize) -> Option<u8>
-        ensures { result ≡ secondary_nth self.now index }
+    pub fn secondary_bus_nth(&self, index: usize) -> Option<u8>
+        ensures { result ≡ secondary_bus_nth self.now index }
     {
         if index >= self.nodes.len() {
             return None;
@@ -225,8 +225,8 @@ impl Bus {
     }
 
     /// Returns the Primary Bus Number of the bridge at an index, or `None` if there is no bridge.
-    pub fn primary_nth(&self, index: usize) -> Option<u8>
-        ensures { result ≡ primary_nth self.now index }
+    pub fn primary_bus_nth(&self, index: usize) -> Option<u8>
+        ensures { result ≡ primary_bus_nth self.now index }
     {
         if index >= self.nodes.len() {
             return None;
@@ -237,25 +237,25 @@ impl Bus {
 
     /// Returns the regions of the endpoint at an index with their base addresses, each at the index
     /// of its first BAR register. All entries are `None` if there is no endpoint.
-    pub fn placed_nth(&self, index: usize) -> [Option<BarWithBase>; 6]
+    pub fn bars_with_bases_nth(&self, index: usize) -> [Option<BarWithBase>; 6]
         ensures { bases_from 0 result ≡ bases_nth self.now index }
     {
         if index >= self.nodes.len() {
             return [None; 6];
         }
         let node = &self.nodes[index];
-        node.function.placed()
+        node.function.bars_with_bases()
     }
 
     /// Returns the index of the function that a configuration cycle on bus 0 reaches. Doesn't
     /// perform the cycle.
-    pub fn reached(&mut self, cycle: &Cycle) -> Option<usize>
+    pub fn index_reached_by(&mut self, cycle: &Cycle) -> Option<usize>
         ensures function { option_and_then (slice_get self.old) result
             ≡ reached_by self.old cycle.now }
         ensures within { IfSome result (λ i. i < length self.old) }
         ensures after { self.new ≡ self.old }
     {
-        reach(&self.nodes, &mut self.known, cycle)
+        find_reached_function(&self.nodes, &mut self.known, cycle)
     }
 
     /// Borrows the endpoint at a path, if there is one. Changes through the borrow affect no other
@@ -265,7 +265,7 @@ impl Bus {
         ensures value { option_copied_mut result ≡ endpoint_at self.old path.now }
         ensures in_order { EachPair (λ f g. IsTrue (path_before f.path g.path)) self.old }
     {
-        let at = position(&self.nodes, path)?;
+        let at = find_index_of_path(&self.nodes, path)?;
         if self.nodes[at].function.is_bridge() {
             return None;
         }
@@ -278,7 +278,7 @@ impl Bus {
     pub fn reset_endpoint(&mut self, path: &Path)
         ensures { self.new ≡ with_endpoint_reset path.now self.old }
     {
-        let Some(at) = position(&self.nodes, path) else {
+        let Some(at) = find_index_of_path(&self.nodes, path) else {
             return;
         };
         let node = &mut self.nodes[at];

@@ -3,7 +3,7 @@
 ghost use Rattle.std.specs.{Prelude.{◌≡◌, length, option_map, slice_get}, Option.option_copied};
 ghost use Rattle.model_registers.specs.{Registers.{config, number}, ByteEnables.LiesInWord};
 ghost use Rattle.model_board.specs.State.{BoardFunction};
-ghost use Rattle.bridge_forward.specs.{BridgeDecls.declared_bridge_nth, ByIndex.{ranges_told, ranges_nth}, Lending.endpoint_nth};
+ghost use Rattle.bridge_forward.specs.{BridgeDecls.declared_bridge_nth, ByIndex.{ranges_told, live_ranges_nth}, Lending.endpoint_nth};
 
 use crate::bus::Bus;
 use crate::endpoint::EndpointFn;
@@ -26,7 +26,7 @@ pub enum LiveRanges {
 
 impl Bus {
     /// Returns the number of functions on the board.
-    pub fn count(&self) -> usize
+    pub fn function_count(&self) -> usize
         ensures { result ≡ length self.now }
     {
         self.nodes.len()
@@ -43,14 +43,14 @@ impl Bus {
 
     /// Returns the value of the `width` bytes of configuration space at offset `off` of the
     /// function at an index. The bytes must not cross a word boundary.
-    pub fn number_nth(&self, index: usize, off: u8, width: u64) -> Option<u32>
+    pub fn config_value_nth(&self, index: usize, off: u8, width: u64) -> Option<u32>
         requires { LiesInWord off width }
         ensures { result
             ≡ option_map (λ (f : BoardFunction). number f.file (config off) width)
             (slice_get self.now index) }
     {
         let node = self.nodes.get(index)?;
-        Some(node.function.number(off, width))
+        Some(node.function.config_value(off, width))
     }
 
     /// Returns the declaration of the bridge at an index, or `None` if there is no bridge.
@@ -76,10 +76,10 @@ impl Bus {
     }
 
     /// Returns the regions or windows of the function at an index.
-    pub fn ranges_nth(&self, index: usize) -> Option<LiveRanges>
-        ensures { option_map ranges_told result ≡ ranges_nth self.now index }
+    pub fn live_ranges_nth(&self, index: usize) -> Option<LiveRanges>
+        ensures { option_map ranges_told result ≡ live_ranges_nth self.now index }
     {
         let node = self.nodes.get(index)?;
-        Some(node.function.ranges_now())
+        Some(node.function.live_ranges())
     }
 }

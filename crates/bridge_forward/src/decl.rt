@@ -2,9 +2,9 @@
 ghost use Rattle.std.specs.{Prelude.{◌≡◌, ◌↔◌, IsTrue}, BTreeSet.contains, Ordering.is_lt};
 ghost use Rattle.model_board.specs.{Paths.{path_before, function_zero}, Board.IsBoard, Places.{board_of, standing}};
 ghost use Rattle.paths.specs.PathOrders.{path_cmp};
-ghost use Rattle.bridge_forward.specs.Devices.{is_extra_function};
+ghost use Rattle.bridge_forward.specs.Devices.{is_nonzero_function};
 
-use crate::places::{HasPath, are_lawful};
+use crate::places::{HasPath, are_lawful_places};
 use headers::{BridgeDecl, EndpointDecl};
 use paths::Path;
 use std::cmp::Ordering;
@@ -45,15 +45,15 @@ impl Decl {
     }
 
     /// Returns whether the function number is 1 to 7.
-    pub(crate) fn is_extra_function(&self) -> bool
-        ensures { result ≡ is_extra_function self.now.path }
+    pub(crate) fn is_nonzero_function(&self) -> bool
+        ensures { result ≡ is_nonzero_function self.now.path }
     {
         self.path.last().function() != 0
     }
 
     /// Returns whether the function's device is in the set. The set identifies each device by the
     /// path of its function 0.
-    pub(crate) fn is_in_one_of(&self, devices: &BTreeSet<Path>) -> bool
+    pub(crate) fn is_device_in_set(&self, devices: &BTreeSet<Path>) -> bool
         ensures { result ≡ contains path_cmp devices.now (function_zero self.now.path) }
     {
         devices.contains(&self.path.function_zero())
@@ -81,5 +81,5 @@ impl HasPath for Decl {
 pub fn lawful_places(decls: &[Decl]) -> bool
     ensures { IsTrue result ↔ IsBoard (board_of decls.now) }
 {
-    are_lawful(decls)
+    are_lawful_places(decls)
 }

@@ -5,9 +5,9 @@ ghost use Rattle.bars.specs.{Kinds.named_space, Slots.bases_from, Hits.named_hit
 ghost use Rattle.headers.specs.Places.{place_of};
 ghost use Rattle.bridge_forward.specs.RoutingRows.{base_of};
 
-use crate::blocks::{bar_decls, block_files, reset_all};
+use crate::blocks::{bar_decls, cells_of_all_blocks, reset_all};
 use crate::offsets;
-use crate::routing::regions_of;
+use crate::routing::collect_regions;
 use crate::routing_region::RoutingRegion;
 use bars::{BarWithBase, Bars, Space};
 use config_bytes::Cells;
@@ -16,7 +16,7 @@ use std::alloc::{AllocError, Global};
 use std::marker::Model;
 
 /// Copies the six entries.
-fn six(regions: &[Option<BarWithBase>; 6]) -> [Option<BarWithBase>; 6]
+fn copy_regions(regions: &[Option<BarWithBase>; 6]) -> [Option<BarWithBase>; 6]
     ensures { result ≡ regions.now }
 {
     [
@@ -69,7 +69,7 @@ impl EndpointFn {
         let config = Endpoint::cells(alloc, &decl, multifunction)?;
         let regions = &decl.values().bar;
         let bars = Bars::new(bar_decls(regions));
-        let blocks = block_files(alloc, regions)?;
+        let blocks = cells_of_all_blocks(alloc, regions)?;
         let command = command(&config).0;
         Ok(EndpointFn {
             decl,
@@ -99,15 +99,15 @@ impl EndpointFn {
         ensures { IfOk result (λ v.
             map base_of v.items ≡ map (base_address self.now.file) self.now.decl.regions) }
     {
-        regions_of(alloc, self.bars.regions())
+        collect_regions(alloc, self.bars.regions())
     }
 
     /// Returns the regions at their programmed base addresses, each at the index of its first BAR
     /// register. Doesn't allocate.
-    pub(crate) fn placed(&self) -> [Option<BarWithBase>; 6]
+    pub(crate) fn bars_with_bases(&self) -> [Option<BarWithBase>; 6]
         ensures { bases_from 0 result ≡ map (base_address self.now.file) self.now.decl.regions }
     {
-        six(self.bars.regions())
+        copy_regions(self.bars.regions())
     }
 
     /// Reads the enabled bytes of the word at `off`, a multiple of 4, in the register block behind
@@ -118,7 +118,7 @@ impl EndpointFn {
         ensures { result ≡ read self.now.file (block reg off) (lanes enables) }
     {
         match self.blocks.get(usize::from(reg)) {
-            Some(block) => offsets::read(block, off, enables),
+            Some(block) => offsets::read_or_zero(block, off, enables),
             None => 0,
         }
     }
@@ -136,7 +136,7 @@ impl EndpointFn {
         let Some(block) = self.blocks.get_mut(usize::from(reg)) else {
             return;
         };
-        offsets::write(block, off, enables, data);
+        offsets::write_or_ignore(block, off, enables, data);
     }
 
     /// Sets the W1C bits of `mask` in the register byte at `off`. Other bits, and other register
@@ -147,12 +147,12 @@ impl EndpointFn {
     {
         match place {
             Place::Cfg => {
-                offsets::raise(&mut self.config, off, mask);
+                offsets::raise_or_ignore(&mut self.config, off, mask);
                 self.command = command(&self.config).0;
             }
             Place::Bar(reg) => {
                 if let Some(block) = self.blocks.get_mut(usize::from(reg)) {
-                    offsets::raise(block, off, mask);
+                    offsets::raise_or_ignore(block, off, mask);
                 }
             }
         }
@@ -165,9 +165,9 @@ impl EndpointFn {
         ensures { result ≡ (cell_at self.now.file (place_of place off)).value }
     {
         match place {
-            Place::Cfg => offsets::value(&self.config, off),
+            Place::Cfg => offsets::value_or_zero(&self.config, off),
             Place::Bar(reg) => match self.blocks.get(usize::from(reg)) {
-                Some(block) => offsets::value(block, off),
+                Some(block) => offsets::value_or_zero(block, off),
                 None => 0,
             },
         }
@@ -183,12 +183,12 @@ impl EndpointFn {
     {
         match place {
             Place::Cfg => {
-                offsets::set(&mut self.config, off, value);
+                offsets::set_or_ignore(&mut self.config, off, value);
                 self.command = command(&self.config).0;
             }
             Place::Bar(reg) => {
                 if let Some(block) = self.blocks.get_mut(usize::from(reg)) {
-                    offsets::set(block, off, value);
+                    offsets::set_or_ignore(block, off, value);
                 }
             }
         }
@@ -209,7 +209,7 @@ impl EndpointFn {
         requires { off % 4 ≡ 0 }
         ensures { result ≡ read self.now.file (config off) (lanes enables) }
     {
-        match bar_index(off) {
+        match bar_index_of_offset(off) {
             Some(reg) => self.bars.read(reg, enables),
             None => self.config.read(u16::from(off), enables),
         }
@@ -224,7 +224,7 @@ impl EndpointFn {
                   (config off) self.old.file;
             } }
     {
-        match bar_index(off) {
+        match bar_index_of_offset(off) {
             Some(reg) => self.bars.write(reg, enables, data),
             None => {
                 self.config.write(u16::from(off), enables, data);
@@ -245,7 +245,7 @@ impl EndpointFn {
 
 /// Returns the index of the BAR register at `off`, a multiple of 4, or `None` if `off` isn't the
 /// offset of a BAR.
-fn bar_index(off: u8) -> Option<u8>
+fn bar_index_of_offset(off: u8) -> Option<u8>
     requires { off % 4 ≡ 0 }
     ensures there { IfSome result (λ reg. (reg < 6) × (off ≡ 0x10 + 4 * reg)) }
     ensures elsewhere { IfNone result ((off < 0x10) ⊎ (0x28 ≤ off)) }

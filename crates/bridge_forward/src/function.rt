@@ -11,7 +11,7 @@ use crate::decl::Declared;
 use crate::endpoint::EndpointFn;
 use crate::routing::{Ranges, RoutingRow};
 use bars::BarWithBase;
-use config_bytes::{Op, enables_of, lowered};
+use config_bytes::{Op, enables_of, shift_lanes_down};
 use headers::BridgeDecl;
 use paths::Path;
 use std::alloc::{AllocError, Global};
@@ -55,7 +55,7 @@ impl Function {
 
     /// Returns a copy of the declaration.
     #[tactic(auto, using(std::proofs::lemmas::List::Elements::same_from_all_zip))]
-    pub(crate) fn declared(&self) -> Result<Declared, AllocError>
+    pub(crate) fn copy_declaration(&self) -> Result<Declared, AllocError>
         ensures { IfOk result (λ d. declared d ≡ decl_of self.now) }
     {
         match self {
@@ -150,44 +150,44 @@ impl Function {
     {
         match self {
             Function::Endpoint(endpoint) => Ok(Ranges::Regions(endpoint.regions(alloc)?)),
-            Function::Bridge(bridge) => Ok(bridge.windows()),
+            Function::Bridge(bridge) => Ok(bridge.programmed_windows()),
         }
     }
 
     /// Returns the regions of an endpoint at their programmed base addresses, each at the index of
     /// its first BAR register. All entries are `None` for a bridge.
-    pub(crate) fn placed(&self) -> [Option<BarWithBase>; 6]
+    pub(crate) fn bars_with_bases(&self) -> [Option<BarWithBase>; 6]
         ensures { bases_from 0 result ≡ bases_of (decl_of self.now) (file_of self.now) }
     {
         match self {
-            Function::Endpoint(endpoint) => endpoint.placed(),
+            Function::Endpoint(endpoint) => endpoint.bars_with_bases(),
             Function::Bridge(_) => [None; 6],
         }
     }
 
     /// Returns the programmed regions of an endpoint or windows of a bridge, without allocating.
-    pub(crate) fn ranges_now(&self) -> LiveRanges
+    pub(crate) fn live_ranges(&self) -> LiveRanges
         ensures { ranges_told result ≡ ranges_of (file_of self.now) (decl_of self.now) }
     {
         match self {
-            Function::Endpoint(endpoint) => LiveRanges::Regions(endpoint.placed()),
-            Function::Bridge(bridge) => bridge.windows_now(),
+            Function::Endpoint(endpoint) => LiveRanges::Regions(endpoint.bars_with_bases()),
+            Function::Bridge(bridge) => bridge.live_windows(),
         }
     }
 
     /// Returns the value of the `width` bytes of configuration space at offset `off`. The bytes
     /// must not cross a word boundary.
-    pub(crate) fn number(&self, off: u8, width: u64) -> u32
+    pub(crate) fn config_value(&self, off: u8, width: u64) -> u32
         requires { LiesInWord off width }
         ensures { result ≡ number (file_of self.now) (config off) width }
     {
         let from = u64::from(off);
         let word = self.config_read(off / 4 * 4, enables_of(from, width));
-        lowered(from, word)
+        shift_lanes_down(from, word)
     }
 
     /// Returns the routing registers, labelled with the path of the function.
-    pub(crate) fn routing(&self, alloc: Global, path: &Path) -> Result<RoutingRow, AllocError>
+    pub(crate) fn routing_row(&self, alloc: Global, path: &Path) -> Result<RoutingRow, AllocError>
         ensures { IfOk result (λ r. r ≡ record {
           path = path.now;
           command = command_word (file_of self.now);
@@ -223,7 +223,7 @@ impl Function {
     }
 
     /// Returns whether the operation is a write and the function is a bridge.
-    pub(crate) fn is_bridge_written(&self, op: Op) -> bool
+    pub(crate) fn is_write_to_bridge(&self, op: Op) -> bool
         ensures { result ≡ (is_write op && is_bridge (decl_of self.now)) }
     {
         op.is_write() && self.is_bridge()
@@ -231,7 +231,7 @@ impl Function {
 
     /// Returns whether the function is a bridge that claims type 1 cycles for the bus: its
     /// Secondary Bus Number ≤ `bus` ≤ its Subordinate Bus Number.
-    pub(crate) fn covers(&self, bus: u8) -> bool
+    pub(crate) fn covers_bus(&self, bus: u8) -> bool
         ensures { result
             ≡ (is_bridge (decl_of self.now) && nat_le (secondary_register (file_of self.now)) bus
             && nat_le bus (subordinate_register (file_of self.now))) }
@@ -243,7 +243,7 @@ impl Function {
     }
 
     /// Returns whether the function is a bridge with this Secondary Bus Number.
-    pub(crate) fn routes_to(&self, bus: u8) -> bool
+    pub(crate) fn has_secondary_bus(&self, bus: u8) -> bool
         ensures { result
             ≡ (is_bridge (decl_of self.now) && (secondary_register (file_of self.now) == bus)) }
     {

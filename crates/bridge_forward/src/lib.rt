@@ -25,6 +25,6 @@ pub use cycle::{Cycle, CycleType};
 pub use decl::{Decl, Declared, lawful_places};
 pub use endpoint::EndpointFn;
 pub use paths::{Part, Path};
-pub use places::{HasPath, are_lawful};
+pub use places::{HasPath, are_lawful_places};
 pub use routing::{Ranges, RoutingRow, Window};
 pub use routing_region::RoutingRegion;

@@ -7,7 +7,7 @@ ghost use Rattle.bridge_forward.specs.EndpointParts.{IsShort};
 use config_bytes::Cells;
 
 /// Reads the enabled bytes of the word at `off`, a multiple of 4.
-pub(crate) fn read(cells: &Cells, off: u64, enables: u8) -> u32
+pub(crate) fn read_or_zero(cells: &Cells, off: u64, enables: u8) -> u32
     requires word { off % 4 ≡ 0 }
     requires short { IsShort cells.now.now }
     ensures { result ≡ read cells.now.now (config off) (lanes enables) }
@@ -19,7 +19,7 @@ pub(crate) fn read(cells: &Cells, off: u64, enables: u8) -> u32
 }
 
 /// Writes the enabled bytes of the word at `off`, a multiple of 4.
-pub(crate) fn write(cells: &mut Cells, off: u64, enables: u8, data: u32)
+pub(crate) fn write_or_ignore(cells: &mut Cells, off: u64, enables: u8, data: u32)
     requires word { off % 4 ≡ 0 }
     requires short { IsShort cells.old.now }
     ensures { cells.new
@@ -31,7 +31,7 @@ pub(crate) fn write(cells: &mut Cells, off: u64, enables: u8, data: u32)
 }
 
 /// Sets the W1C bits of `mask` in the register byte at `off`.
-pub(crate) fn raise(cells: &mut Cells, off: u64, mask: u8)
+pub(crate) fn raise_or_ignore(cells: &mut Cells, off: u64, mask: u8)
     requires { IsShort cells.old.now }
     ensures { cells.new ≡ record cells.old { now = raise mask (config off) cells.old.now } }
 {
@@ -41,7 +41,7 @@ pub(crate) fn raise(cells: &mut Cells, off: u64, mask: u8)
 }
 
 /// Returns the value of the register byte at `off`, or 0 if it isn't implemented.
-pub(crate) fn value(cells: &Cells, off: u64) -> u8
+pub(crate) fn value_or_zero(cells: &Cells, off: u64) -> u8
     requires { IsShort cells.now.now }
     ensures { result ≡ (cell_at cells.now.now (config off)).value }
 {
@@ -52,7 +52,7 @@ pub(crate) fn value(cells: &Cells, off: u64) -> u8
 }
 
 /// Sets the value of the register byte at `off`, ignoring its write mask and W1C mask.
-pub(crate) fn set(cells: &mut Cells, off: u64, value: u8)
+pub(crate) fn set_or_ignore(cells: &mut Cells, off: u64, value: u8)
     requires { IsShort cells.old.now }
     ensures { cells.new ≡ record cells.old { now = set_value value (config off) cells.old.now } }
 {

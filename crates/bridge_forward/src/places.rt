@@ -34,7 +34,7 @@ fn has_bridge<S: HasPath>(places: &[S], parts: &[Part]) -> bool
     ensures { result ≡ has_bridge (map S.standing places.now) parts.now }
 {
     for place in places {
-        if place.is_bridge() && place.path().has_parts(parts) {
+        if place.is_bridge() && place.path().equals_parts(parts) {
             return true;
         }
     }
@@ -43,7 +43,7 @@ fn has_bridge<S: HasPath>(places: &[S], parts: &[Part]) -> bool
 
 /// Returns whether the parts lead to a bus: the list is empty, which stands for bus 0, or is the
 /// path of one of the bridges.
-fn is_bus<S: HasPath>(places: &[S], parts: &[Part]) -> bool
+fn leads_to_bus<S: HasPath>(places: &[S], parts: &[Part]) -> bool
     ensures { IsTrue result
         ↔ ((parts.now ≡ []) ⊎ IsTrue (has_bridge (map S.standing places.now) parts.now)) }
 {
@@ -55,22 +55,22 @@ fn is_bus<S: HasPath>(places: &[S], parts: &[Part]) -> bool
 
 /// Returns whether the function at `place` is on bus 0 or behind a bridge, in a device with a
 /// function 0.
-fn is_founded<S: HasPath>(places: &[S], place: &S) -> bool
+fn has_bus_and_function_zero<S: HasPath>(places: &[S], place: &S) -> bool
     ensures { IsTrue result ↔ IsFounded (map S.standing places.now) (S.standing place.now) }
 {
     let path = place.path();
-    let on_bus = is_bus(places, path.parent());
+    let on_bus = leads_to_bus(places, path.parent());
     let has_zero = has_path(places, &path.function_zero());
     on_bus && has_zero
 }
 
 /// Returns whether every function is on bus 0 or behind a bridge, in a device with a function 0.
-fn are_founded<S: HasPath>(places: &[S]) -> bool
+fn all_have_bus_and_function_zero<S: HasPath>(places: &[S]) -> bool
     ensures { IsTrue result
         ↔ Each (IsFounded (map S.standing places.now)) (map S.standing places.now) }
 {
     for place in places {
-        if !is_founded(places, place) {
+        if !has_bus_and_function_zero(places, place) {
             return false;
         }
     }
@@ -78,7 +78,7 @@ fn are_founded<S: HasPath>(places: &[S]) -> bool
 }
 
 /// Returns whether all paths are different.
-fn are_apart<S: HasPath>(places: &[S]) -> bool
+fn have_distinct_paths<S: HasPath>(places: &[S]) -> bool
     ensures { IsTrue result
         ↔ EachPair (λ s t. IsFalse (path_eq t.path s.path)) (map S.standing places.now) }
 {
@@ -93,8 +93,8 @@ fn are_apart<S: HasPath>(places: &[S]) -> bool
 /// Returns whether the functions, in any order, form a valid board: their paths are unique, every
 /// path is on bus 0 or behind one of the bridges, and every device has a function 0. Doesn't
 /// allocate.
-pub fn are_lawful<S: HasPath>(places: &[S]) -> bool
+pub fn are_lawful_places<S: HasPath>(places: &[S]) -> bool
     ensures { IsTrue result ↔ AreLawfulPlaces (map S.standing places.now) }
 {
-    are_founded(places) && are_apart(places)
+    all_have_bus_and_function_zero(places) && have_distinct_paths(places)
 }

@@ -28,7 +28,7 @@ impl Model for Routes {
 
 /// Returns the cache entry for a bridge that was found in generation `time`. For `None`, returns an
 /// entry that is valid in no generation.
-fn entry(time: u64, bridge: Option<usize>) -> (u64, usize)
+fn cache_entry(time: u64, bridge: Option<usize>) -> (u64, usize)
     requires { 1 ≤ time }
     ensures known { known_entry time result ≡ bridge }
     ensures past { result.0 ≤ time }
@@ -43,7 +43,7 @@ impl Routes {
     ghost use Rattle.bridge_forward.specs.Leading.{AreUnknown};
 
     /// Creates an empty cache for the 256 bus numbers.
-    pub(crate) fn unknown(alloc: Global) -> Result<Routes, AllocError>
+    pub(crate) fn new_empty(alloc: Global) -> Result<Routes, AllocError>
         ensures { IfOk result AreUnknown }
     {
         let bridges = vec![in alloc; (0, 0); 256]?;
@@ -51,7 +51,7 @@ impl Routes {
     }
 
     /// Returns the cached bridge for a bus number.
-    pub(crate) fn bridge(&self, bus: u8) -> Option<usize>
+    pub(crate) fn cached_bridge(&self, bus: u8) -> Option<usize>
         ensures { result ≡ get_or self.now bus None }
     {
         let (found, bridge) = self.bridges[usize::from(bus)];
@@ -63,14 +63,14 @@ impl Routes {
     }
 
     /// Caches the bridge for a bus number. `None` invalidates the entry.
-    pub(crate) fn keep(&mut self, bus: u8, bridge: Option<usize>)
+    pub(crate) fn cache_bridge(&mut self, bus: u8, bridge: Option<usize>)
         ensures { self.new ≡ slice_set self.old bus bridge }
     {
-        self.bridges[usize::from(bus)] = entry(self.time, bridge);
+        self.bridges[usize::from(bus)] = cache_entry(self.time, bridge);
     }
 
     /// Invalidates all entries.
-    fn forget(&mut self)
+    fn invalidate_all(&mut self)
         ensures { self.new ≡ replicate 256 None }
     {
         if self.time < u64::MAX {
@@ -82,11 +82,11 @@ impl Routes {
     }
 
     /// Invalidates all entries if `changed` is true.
-    pub(crate) fn forget_if(&mut self, changed: bool)
+    pub(crate) fn invalidate_all_if(&mut self, changed: bool)
         ensures { self.new ≡ (if changed then replicate 256 None else self.old) }
     {
         if changed {
-            self.forget();
+            self.invalidate_all();
         }
     }
 }

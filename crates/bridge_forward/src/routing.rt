@@ -49,7 +49,7 @@ impl Model for RoutingRow {
 }
 
 /// Converts a pair of first and last address to a window.
-pub(crate) fn window_of(pair: Option<(u64, u64)>) -> Option<Window>
+pub(crate) fn window_from_pair(pair: Option<(u64, u64)>) -> Option<Window>
     ensures { (w : Option model.Window) → pair ≡ option_map pair_of w →
         option_map window_of result ≡ w }
 {
@@ -60,7 +60,7 @@ pub(crate) fn window_of(pair: Option<(u64, u64)>) -> Option<Window>
 }
 
 /// Collects the regions from the six BAR registers, in register order.
-pub(crate) fn regions_of(
+pub(crate) fn collect_regions(
     alloc: Global,
     slots: &[Option<bars::BarWithBase>; 6],
 ) -> Result<Vec<RoutingRegion>, AllocError>

@@ -16,7 +16,7 @@ use std::cmp::Ordering;
 /// `from` up to, but not including, `to` are the functions on the bus and behind it. Each step
 /// jumps to the next bridge on the bus, skipping endpoints and everything behind the previous
 /// bridge.
-fn bridge_on_bus(nodes: &[Node], from: usize, to: usize, number: u8) -> Option<usize>
+fn find_bridge_covering_bus(nodes: &[Node], from: usize, to: usize, number: u8) -> Option<usize>
     requires tree { IsTree nodes.now }
     requires range { to ≤ length nodes.now }
     ensures within { IfSome result (λ i. (from ≤ i) × (i < to)) }
@@ -33,7 +33,7 @@ fn bridge_on_bus(nodes: &[Node], from: usize, to: usize, number: u8) -> Option<u
             return None;
         }
         let node = &nodes[at];
-        if node.function.covers(number) {
+        if node.function.covers_bus(number) {
             return Some(at);
         }
         i = node.end;
@@ -44,7 +44,7 @@ fn bridge_on_bus(nodes: &[Node], from: usize, to: usize, number: u8) -> Option<u
 /// Returns the function with this device and function number on a bus. The nodes from `from` up to,
 /// but not including, `to` are the functions on the bus and behind it. They are in path order, so
 /// this is a binary search.
-fn part_on_bus(
+fn find_function_on_bus(
     nodes: &[Node],
     bus: &[Part],
     from: usize,
@@ -64,7 +64,7 @@ fn part_on_bus(
     while low < high {
         let middle = low + (high - low) / 2;
         let node = &nodes[middle];
-        match node.path.compare_on(bus, device, function) {
+        match node.path.compare_to_function_on_bus(bus, device, function) {
             Ordering::Equal => return Some(middle),
             Ordering::Less => low = middle + 1,
             Ordering::Greater => high = middle,
@@ -75,7 +75,7 @@ fn part_on_bus(
 
 /// Returns the bridge that leads to a bus. The search examines only the bridges on the buses along
 /// the way.
-fn search_bridge(nodes: &[Node], bus: u8) -> Option<usize>
+fn search_bridge_to_bus(nodes: &[Node], bus: u8) -> Option<usize>
     requires { IsTree nodes.now }
     ensures found { IfSome result (LeadsTo nodes.now bus) }
     ensures none { IfNone result (LeadsNowhere nodes.now bus) }
@@ -83,11 +83,11 @@ fn search_bridge(nodes: &[Node], bus: u8) -> Option<usize>
     let mut from = 0;
     let mut to = nodes.len();
     loop {
-        let at = bridge_on_bus(nodes, from, to, bus)?;
+        let at = find_bridge_covering_bus(nodes, from, to, bus)?;
         let bridge = &nodes[at];
         from = at + 1;
         to = bridge.end;
-        if bridge.function.routes_to(bus) {
+        if bridge.function.has_secondary_bus(bus) {
             return Some(at);
         }
     }
@@ -95,23 +95,27 @@ fn search_bridge(nodes: &[Node], bus: u8) -> Option<usize>
 
 /// Returns the bridge that leads to a bus, from the cache if possible. Caches a bridge that had to
 /// be searched for.
-fn bridge_to(nodes: &[Node], known: &mut Routes, bus: u8) -> Option<usize>
+fn find_bridge_with_cache(nodes: &[Node], known: &mut Routes, bus: u8) -> Option<usize>
     requires tree { IsTree nodes.now }
     requires routes { AreRoutes nodes.now known.old }
     ensures routes { AreRoutes nodes.now known.new }
     ensures found { IfSome result (LeadsTo nodes.now bus) }
     ensures none { IfNone result (LeadsNowhere nodes.now bus) }
 {
-    if let Some(at) = known.bridge(bus) {
+    if let Some(at) = known.cached_bridge(bus) {
         return Some(at);
     }
-    let found = search_bridge(nodes, bus);
-    known.keep(bus, found);
+    let found = search_bridge_to_bus(nodes, bus);
+    known.cache_bridge(bus, found);
     found
 }
 
 /// Returns the function that a configuration cycle on bus 0 reaches.
-pub(crate) fn reach(nodes: &[Node], known: &mut Routes, cycle: &Cycle) -> Option<usize>
+pub(crate) fn find_reached_function(
+    nodes: &[Node],
+    known: &mut Routes,
+    cycle: &Cycle,
+) -> Option<usize>
     requires tree { IsTree nodes.now }
     requires routes { AreRoutes nodes.now known.old }
     ensures routes { AreRoutes nodes.now known.new }
@@ -126,11 +130,11 @@ pub(crate) fn reach(nodes: &[Node], known: &mut Routes, cycle: &Cycle) -> Option
         ..
     } = *cycle;
     let CycleType::Type1 { bus } = kind else {
-        return part_on_bus(nodes, &[], 0, nodes.len(), device, function);
+        return find_function_on_bus(nodes, &[], 0, nodes.len(), device, function);
     };
-    let at = bridge_to(nodes, known, bus)?;
+    let at = find_bridge_with_cache(nodes, known, bus)?;
     let bridge = &nodes[at];
-    part_on_bus(
+    find_function_on_bus(
         nodes,
         bridge.path.parts(),
         at + 1,
@@ -176,7 +180,7 @@ pub(crate) fn locate(nodes: &[Node], space: Space, addr: u64) -> Option<BarOffse
 
 /// Returns the index of the function with this path. Uses binary search, because the nodes are in
 /// path order.
-pub(crate) fn position(nodes: &[Node], path: &Path) -> Option<usize>
+pub(crate) fn find_index_of_path(nodes: &[Node], path: &Path) -> Option<usize>
     requires { IsTree nodes.now }
     ensures found { IfSome result (λ i.
         IsAt nodes.now i (find (λ f. path_eq f.path path.now) (functions_of nodes.now))) }

@@ -1,7 +1,7 @@
 -- What a scan leaves is a numbered board, and what sizing finds is itself a board with the same table.
 use Rattle.std.proofs.Common.{◌≡◌, List, sym, ap, ◌∙◌, subst, arith}
 use Rattle.model_board.{specs.{Board.{Board, IsBoard}, BusNumbers.Enumerates, Lawful.HasLawfulDecls, State.State, AtReset.board_at}, proofs.StateRows.state_rows}
-use Rattle.model_set_up.{specs.{Scanning.{board_numbers, numbered_file, numbered_state, IsNumbered, HasOwnNumbers}, FunctionTable.{TableRow, sized_table, board_in}}, proofs.FoundBoards.{found_few, placed_as_found}}
+use Rattle.model_set_up.{specs.{Scanning.{board_numbers, numbered_file, numbered_state, IsNumbered, HasOwnNumbers}, FunctionTable.{TableRow, sized_table, board_in}}, proofs.FoundBoards.{found_few, scan_finds_all_placement_needs}}
 use Rattle.host_bridge.specs.HostState.{HostState}
 use Rattle.bus_scan.specs.SizedTables.{IsTableOf}
 
@@ -22,4 +22,4 @@ table_left h k same numbered t e = subst (λ (x : HostState). IsTableOf (board_a
 
 -- a table is that of the board that was found
 pub table_of_found : (b : Board) (t : List TableRow) → IsTableOf b t → IsTableOf (board_in t) t
-table_of_found b t h = grind (arith, placed_as_found, found_few)
+table_of_found b t h = grind (arith, scan_finds_all_placement_needs, found_few)

@@ -4,7 +4,7 @@ use Rattle.std.{proofs.{Common.{◌≡◌, ℕ, ◌+◌, ◌/◌, ◌≤◌, Boo
 use Rattle.model_registers.{proofs.{DeviceBytes.change_beside, Parts.IsOutside}, specs.Registers.{config, File, cell_at, write}}
 use Rattle.lists.{specs.Elements.{Each, IsIn}, proofs.Members.{each_in, each_from, in_map, any_in}}
 use Rattle.model_board.{specs.{Paths.{Path, path_eq}, Board.{Board, Row, is_bridge, stands_at}, BusNumbers.{secondary, subordinate}, State.{BoardFunction, State, with_file, row_at}, Cycles.{BusAddress, reached, secondary_register, subordinate_register}, AtReset.board_at}, proofs.PathEnds.path_self}
-use Rattle.model_set_up.{specs.{Reach.address_of, Scanning.IsNumbered}, proofs.Routes.{reached_by_numbers, only_named}}
+use Rattle.model_set_up.{specs.{Reach.address_of, Scanning.IsNumbered}, proofs.Routes.{bdf_reaches_its_function_only, only_named}}
 use Rattle.bus_scan.{specs.Probes.{with_ones, mask_shown, TakesBack}, proofs.{ProbedFiles.{ones, Probed}, NumberedStates.{has_numbers, no_latch, each_reached, in_itself, only_there}}}
 
 -- ---- a write leaves what stands elsewhere
@@ -91,7 +91,7 @@ module _ (s : State) (h : IsNumbered s) (to : BusAddress) (f : BoardFunction) (f
         (λ g m e k. numbers_below ons ones off g.file (high (subst (λ (g : BoardFunction). IsTrue (is_bridge g.decl)) (each_in (λ g. path_eq g.path f.path ≡ true → g ≡ f) g s.functions only m e) k)))
 
     there : (g : BoardFunction) × (reached after (address_of (board_at s.functions) f.path) ≡ Some g) × (g.path ≡ f.path)
-    there = grind (arith, reached_by_numbers, stands, rows_changed, numbers_changed, keeps, has_numbers)
+    there = grind (arith, bdf_reaches_its_function_only, stands, rows_changed, numbers_changed, keeps, has_numbers)
 
     reached_after : reached after to ≡ Some there.0
     reached_after = ap (reached after) named ∙ there.1

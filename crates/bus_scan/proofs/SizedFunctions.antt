@@ -2,7 +2,7 @@
 use Rattle.std.{proofs.Common.{◌≡◌, ℕ, ◌+◌, ◌*◌, ◌<◌, List, [], Option, Some, sym, ap, ◌∙◌, subst, arith, true, map}, specs.{Prelude.{bit_and, IsTrue}, Option.option_map_or}}
 use Rattle.model_registers.specs.{Registers.config, ByteEnables.lanes, Declarations.{Bridge, HasLawfulRegions, IoDecode, no_io, io16, io32, PrefDecode, no_pref, pref32, pref64, Bar, Endpoint}, DeclarationRules.IsLawfulEndpoint, EndpointTable.endpoint_reset, BridgeTable.bridge_file, OwnCopies.bare}
 use Rattle.model_board.{specs.{Board.{Decl, endpoint, bridge, is_bridge, is_multifunction, Board, Row, stands_at}, State.{BoardFunction, State, row_at}, Cycles.{BusAddress, reached}, Lawful.IsLawfulDecl, AtReset.board_at, Paths.{Path, path_eq, last_part}}, proofs.PathEnds.path_self}
-use Rattle.model_set_up.{specs.{Scanning.{board_numbers, with_numbers, IsNumbered}, Reach.address_of, FunctionTable.{TableRow, table_row, met_decl, found_decl}}, proofs.Routes.reached_by_numbers}
+use Rattle.model_set_up.{specs.{Scanning.{board_numbers, with_numbers, IsNumbered}, Reach.address_of, FunctionTable.{TableRow, table_row, met_decl, found_decl}}, proofs.Routes.bdf_reaches_its_function_only}
 use Rattle.bus_scan.{specs.{Probes.{mask_shown, TakesBack, decl_reached, IsEndpointReached, IsBridgeReached, regions_in, io_in, pref_in, regions_reached, io_reached, pref_reached}, declared.table.Enumerated.{Enumerated, TheVariants.{Endpoint as FoundEndpoint, Bridge as FoundBridge}}, Rows.{regions_of, decl_of, range_of}, SizedRows.{IsScannedRow, bars_of}}, proofs.{ProbedFiles.{Probed, io_mask, pref_mask, probed_io, probed_pref}, ProbedEndpoints.{mask_at, probed_endpoint}, NumberedStates.{holds, each_reached, each_unmapped, has_numbers, in_itself, only_there}, ReachedFiles.{shows, takes_back}, SizedBars.regions_of_bars}}
 use Rattle.lists.{specs.Elements.IsIn, proofs.Members.{each_in, from_map, any_in}}
 use Rattle.headers.specs.{Decodes.{io_decode_of, pref_decode_of}, declared.decodes.{IoDecode.IoDecode as ShownIo, PrefDecode.PrefDecode as ShownPref}}
@@ -91,7 +91,7 @@ module _ (s : State) (h : IsNumbered s) where
   row_reached r m =
       let f = from_map row_at r s.functions m in
       let stands : stands_at (board_at s.functions) r.path ≡ true = any_in (λ (q : Row). path_eq q.path r.path) r (board_at s.functions) m (path_self r.path) in
-      let g = reached_by_numbers (board_at s.functions) h.board s.functions (has_numbers s h) r.path stands in
+      let g = bdf_reaches_its_function_only (board_at s.functions) h.board s.functions (has_numbers s h) r.path stands in
       let inside : IsIn g.0 s.functions = each_reached (λ x. IsIn x s.functions) s.functions (address_of (board_at s.functions) r.path) g.0 (in_itself s.functions) g.1 in
       grind (arith, each_in, only_there, path_self)
 

@@ -2,11 +2,11 @@
 //! 3.2.5).
 ghost use Rattle.std.specs.Prelude.{◌≡◌, ◌⊎◌, ◌<◌, ◌+◌, [], ◌∷◌, ◌++◌, length, IfOk, IfErr, MatchResult, IsTrue, Some, find, ℕ, ◌≤◌};
 ghost use Rattle.model_board.specs.{Paths.{Path as PathValue, path_eq}, Board.{Board, Row, is_bridge_at, is_multifunction, IsBoard}, BusNumbers.{Enumerates, secondary}, State.state_of, Cycles.reached, AtReset.{board_at, IsAtReset}};
-ghost use Rattle.model_set_up.specs.{Scanning.{BusNumbers, numbered_file, numbered_state, IsNumbered, HasOwnNumbers}, ScanOrder.{on, next_part, met}, FunctionTable.{TableRow, scanned_table}};
+ghost use Rattle.model_set_up.specs.{Scanning.{BusNumbers, numbered_file, numbered_state, IsNumbered, HasOwnNumbers}, ScanOrder.{on, next_position_to_probe, met}, FunctionTable.{TableRow, scanned_table}};
 ghost use Rattle.paths.specs.BusAddresses.{bus_address_of};
 ghost use Rattle.bus_scan.specs.{declared.fault.Fault.TheVariants.{Buses, Memory}, Scans.{given, ComesTo, OnBus, IsBridgeThere, IsRefused}, Sights.seen_of, Rows.{decl_of, range_of}};
 
-use crate::bus_parts::{DEEPEST, PARTS, address, next_part, path_on};
+use crate::bus_parts::{DEEPEST, PARTS, bdf_at_position, next_position_to_probe, path_at_devfn};
 use crate::fault::Fault;
 use crate::probed_header::{Layout, ProbedHeader, probe_header};
 use crate::table::{Enumerated, EnumeratedFunction, FunctionTable};
@@ -25,7 +25,7 @@ struct Enumeration {
 }
 
 /// Writes the Primary, Secondary and Subordinate Bus Number of the bridge at a BDF.
-fn write_numbers(host: &mut Host, at: Bdf, primary: u8, secondary: u8, subordinate: u8)
+fn write_bus_numbers(host: &mut Host, at: Bdf, primary: u8, secondary: u8, subordinate: u8)
     ensures written { (b : Board) (numbers : PathValue → BusNumbers) (p : PathValue)
         → IsBoard b → IsTrue (is_bridge_at b p)
         → host.old.state ≡ state_of b (numbered_file b numbers)
@@ -41,7 +41,7 @@ fn write_numbers(host: &mut Host, at: Bdf, primary: u8, secondary: u8, subordina
 
 impl Enumeration {
     /// Appends a function to the table.
-    fn push(
+    fn push_function(
         &mut self,
         path: Path,
         bus: u8,
@@ -70,7 +70,7 @@ impl Enumeration {
     /// Assigns the next bus number to the secondary bus of a bridge, and returns that number.
     /// Forwards all higher bus numbers as well, so that the scan can reach every bus behind the
     /// bridge.
-    fn open_bridge(
+    fn assign_secondary_bus(
         &mut self,
         host: &mut Host,
         at: Bdf,
@@ -99,28 +99,35 @@ impl Enumeration {
             io: IoDecode::Unimplemented,
             pref: PrefDecode::Unimplemented,
         };
-        self.push(path, bus, seen, found)?;
-        write_numbers(host, at, bus, number, 0xff);
+        self.push_function(path, bus, seen, found)?;
+        write_bus_numbers(host, at, bus, number, 0xff);
         self.last = number;
         Ok(number)
     }
 
     /// Sets the Subordinate Bus Number of a bridge to the last assigned bus number, in its register
     /// and in its row.
-    fn close_bridge(&mut self, host: &mut Host, at: Bdf, bus: u8, number: u8, index: usize)
+    fn write_final_subordinate(
+        &mut self,
+        host: &mut Host,
+        at: Bdf,
+        bus: u8,
+        number: u8,
+        index: usize,
+    )
         requires { index < length self.old.rows.items }
         ensures closed { (b : Board) (on_path : PathValue) (n : ℕ) (r : Row) →
             IsBridgeThere b on_path bus n r (bus_address_of at)
             → number ≡ secondary b (on on_path n) → index ≡ length (met b (on on_path n))
             → ComesTo b (on (on on_path n) 128) host.old self.old
-            → ComesTo b (on on_path (next_part b on_path n)) host.new self.new }
+            → ComesTo b (on on_path (next_position_to_probe b on_path n)) host.new self.new }
         ensures rows { length self.new.rows.items ≡ length self.old.rows.items }
         ensures kept { host.new.apertures ≡ host.old.apertures }
     {
         let last = self.last;
         let row = &mut self.rows[index];
         row.set_subordinate(last);
-        write_numbers(host, at, bus, number, last);
+        write_bus_numbers(host, at, bus, number, last);
     }
 
     /// Numbers a bridge, and adds the bridge and everything behind it to the table.
@@ -138,26 +145,32 @@ impl Enumeration {
             → path ≡ on on_path n → seen ≡ seen_of (is_multifunction b path) r.decl
             → ComesTo b (on on_path n) host.old self.old
             → MatchResult result
-            (λ _. ComesTo b (on on_path (next_part b on_path n)) host.new self.new)
+            (λ _. ComesTo b (on on_path (next_position_to_probe b on_path n)) host.new self.new)
             (λ f. IsRefused b f host.new.state) }
         ensures rows { IfOk result (λ _.
             length self.old.rows.items ≤ length self.new.rows.items) }
         ensures kept { host.new.apertures ≡ host.old.apertures }
     {
         let index = self.rows.len();
-        let number = self.open_bridge(host, at, bus, path.copied(), seen)?;
+        let number = self.assign_secondary_bus(host, at, bus, path.copied(), seen)?;
         let parts = path.parts();
         if parts.len() < DEEPEST {
             self.scan_bus(host, parts, number)?;
         }
-        self.close_bridge(host, at, bus, number, index);
+        self.write_final_subordinate(host, at, bus, number, index);
         Ok(())
     }
 
     /// Adds the function at position `n` of the scan order of a bus, and everything behind it, to
     /// the table. Returns the position to probe next.
     #[cycle(scan)]
-    fn scan_place(&mut self, host: &mut Host, bus: &[Part], number: u8, n: u8) -> Result<u8, Fault>
+    fn scan_and_next_position(
+        &mut self,
+        host: &mut Host,
+        bus: &[Part],
+        number: u8,
+        n: u8,
+    ) -> Result<u8, Fault>
         requires short { length bus.now < 16 }
         requires part { n < PARTS }
         ensures later { IfOk result (λ m. (n < m) × (m ≤ PARTS)) }
@@ -170,19 +183,19 @@ impl Enumeration {
             length self.old.rows.items ≤ length self.new.rows.items) }
         ensures kept { host.new.apertures ≡ host.old.apertures }
     {
-        let at = address(number, n);
+        let at = bdf_at_position(number, n);
         let Some(seen) = probe_header(host, at) else {
-            return Ok(next_part(n, false));
+            return Ok(next_position_to_probe(n, false));
         };
-        let path = path_on(bus, n);
+        let path = path_at_devfn(bus, n);
         match seen.layout {
             Layout::Endpoint { pin } => {
                 let bars = [None, None, None, None, None, None];
-                self.push(path, number, seen, Enumerated::Endpoint { pin, bars })?;
+                self.push_function(path, number, seen, Enumerated::Endpoint { pin, bars })?;
             }
             Layout::Bridge => self.scan_bridge(host, at, number, path, seen)?,
         }
-        Ok(next_part(n, seen.is_multifunction))
+        Ok(next_position_to_probe(n, seen.is_multifunction))
     }
 
     /// Adds all functions on a bus and behind it to the table. `bus` is the path of the bridge
@@ -201,7 +214,7 @@ impl Enumeration {
     {
         let mut n = 0;
         while n < PARTS {
-            n = self.scan_place(host, bus, number, n)?;
+            n = self.scan_and_next_position(host, bus, number, n)?;
         }
         Ok(())
     }

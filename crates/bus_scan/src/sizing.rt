@@ -24,7 +24,7 @@ const PREFETCHABLE_WINDOW: u8 = 0x24;
 
 /// Writes all ones to the enabled bytes of a register, reads them back, and restores the previous
 /// value. Returns the value that was read back.
-fn probe(host: &mut Host, at: Bdf, off: u8, enables: u8) -> u32
+fn probe_writable_bits(host: &mut Host, at: Bdf, off: u8, enables: u8) -> u32
     requires word { off % 4 ≡ 0 }
     requires taken { TakesBack host.old.state (bus_address_of at) off (lanes enables) }
     ensures mask { result
@@ -40,7 +40,7 @@ fn probe(host: &mut Host, at: Bdf, off: u8, enables: u8) -> u32
 
 /// Returns the region whose BAR registers read `low` and `high` after all ones were written, if
 /// there is one.
-fn region_shown(low: u32, high: u32) -> Option<BarDecl>
+fn bar_from_probed_words(low: u32, high: u32) -> Option<BarDecl>
     ensures shown { IfSome result (λ b. IsLawfulSize b.kind b.size × ShowsSize b low high) }
     ensures found { (b : Bar) → IsLawfulSize b.kind b.size → ShowsSize b low high →
         result ≡ Some b }
@@ -62,13 +62,13 @@ fn size_bar(host: &mut Host, at: Bdf, reg: u8) -> Option<BarDecl>
     ensures host { host.new ≡ host.old }
 {
     let off = BASES + 4 * reg;
-    let low = probe(host, at, off, 0b1111);
+    let low = probe_writable_bits(host, at, off, 0b1111);
     let high = if reg < 5 && low & 0b111 == 0b100 {
-        probe(host, at, off + 4, 0b1111)
+        probe_writable_bits(host, at, off + 4, 0b1111)
     } else {
         0
     };
-    region_shown(low, high)
+    bar_from_probed_words(low, high)
 }
 
 /// Returns whether a BAR register is the upper half of the 64-bit BAR before it.
@@ -80,7 +80,7 @@ fn is_upper_half(bars: &[Option<BarDecl>; 6], reg: u8) -> bool
     if slot > 0
         && let Some(bar) = bars[slot - 1]
     {
-        bar.kind().is_wide()
+        bar.kind().uses_two_registers()
     } else {
         false
     }
@@ -107,14 +107,14 @@ fn size_bars(host: &mut Host, at: Bdf) -> [Option<BarDecl>; 6]
 
 /// Detects how a bridge decodes its I/O window, by probing I/O Base and I/O Limit. Leaves Secondary
 /// Status, in the same word, unchanged.
-fn size_io_window(host: &mut Host, at: Bdf) -> IoDecode
+fn detect_io_decode(host: &mut Host, at: Bdf) -> IoDecode
     requires registers { IsNumbered host.old.state }
     requires bridge { IsBridgeReached host.old.state.functions (bus_address_of at) }
     ensures decode { io_decode_of result
         ≡ io_reached host.old.state.functions (bus_address_of at) }
     ensures host { host.new ≡ host.old }
 {
-    let mask = probe(host, at, IO_WINDOW, 0b0011);
+    let mask = probe_writable_bits(host, at, IO_WINDOW, 0b0011);
     if mask == 0 {
         IoDecode::Unimplemented
     } else if mask & 0xf == 0 {
@@ -125,14 +125,14 @@ fn size_io_window(host: &mut Host, at: Bdf) -> IoDecode
 }
 
 /// Detects how a bridge decodes its prefetchable memory window, by probing its base and limit.
-fn size_pref_window(host: &mut Host, at: Bdf) -> PrefDecode
+fn detect_pref_decode(host: &mut Host, at: Bdf) -> PrefDecode
     requires registers { IsNumbered host.old.state }
     requires bridge { IsBridgeReached host.old.state.functions (bus_address_of at) }
     ensures decode { pref_decode_of result
         ≡ pref_reached host.old.state.functions (bus_address_of at) }
     ensures host { host.new ≡ host.old }
 {
-    let mask = probe(host, at, PREFETCHABLE_WINDOW, 0b1111);
+    let mask = probe_writable_bits(host, at, PREFETCHABLE_WINDOW, 0b1111);
     if mask == 0 {
         PrefDecode::Unimplemented
     } else if mask & 0xf == 0 {
@@ -158,8 +158,8 @@ fn size_function(host: &mut Host, row: &mut EnumeratedFunction)
             io,
             pref,
         } => {
-            *io = size_io_window(host, at);
-            *pref = size_pref_window(host, at);
+            *io = detect_io_decode(host, at);
+            *pref = detect_pref_decode(host, at);
         }
     }
 }

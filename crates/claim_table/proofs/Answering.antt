@@ -91,8 +91,8 @@ module _ (qs : List Path) (ports mems : List RegionEntry) (t : List TableEntry) 
     of_entry : option_map (λ (f : BoardFunction). f.path) (slice_get hosted e.function) ≡ Some (path_nth qs e.function)
     of_entry = each_found (λ (d : RegionEntry). IsOfFunction hosted (table_entry qs space d)) (lies_in n) (by_space space ports mems) e (of_space space) found
 
-    pub located : (located_claim hosted (Some (record { index = e.function; region = e.region; offset = n - e.first })) ≡ first_claim hosted space n) × (e.function < length hosted)
-    located = grind (arith, of_entry, claimed, slice_get_within)
+    pub claimed_bar_offset : (located_claim hosted (Some (record { index = e.function; region = e.region; offset = n - e.first })) ≡ first_claim hosted space n) × (e.function < length hosted)
+    claimed_bar_offset = grind (arith, of_entry, claimed, slice_get_within)
 
 pub none_claimed : (qs : List Path) (ports mems : List RegionEntry) (t : List TableEntry) (h : HostState) → table_of qs ports mems ≡ t → FitsTable t h → (space : Space) (n : ℕ) → find (lies_in n) (by_space space ports mems) ≡ None → None ≡ first_claim h.state.functions space n
 none_claimed qs ports mems t h is fits space n none = sym (ap (option_map (claim_for qs n)) none) ∙ answer qs ports mems t h is fits space n

@@ -4,7 +4,7 @@ use Rattle.lists.{specs.Elements.Each, proofs.{EachLemmas.{each_append, each_map
 use Rattle.model_registers.{specs.{Registers.File, Declarations.{Kind, io_kind, mem32, mem64, least_size, Region, IsLawfulRegion}, EndpointTable.BaseAddress, Decoding.{Space, io, memory, space_of, same_space, opens_space, base_address, command_word}}, proofs.HitRegions.space_same}
 use Rattle.model_board.specs.{Paths.Path, Board.{Decl, endpoint, bridge}, Lawful.{IsLawfulDecl, HasLawfulDecls}, State.{BoardFunction, row_at}, Routing.{Ranges, regions, windows, RoutingRow, row_of, routing}}
 use Rattle.model_set_up.specs.PlacedRegions.{PlacedRegion}
-use Rattle.model_findings.{specs.{OpenRegions.{region_now, open_of, open_regions}, Orderly.{IsStateOfBoard, IsOrderly, HasClaimsOfRegions}}, proofs.Claims.orderly_claims}
+use Rattle.model_findings.{specs.{OpenRegions.{region_now, open_of, open_regions}, Orderly.{IsStateOfBoard, IsOrderly, HasClaimsOfRegions}}, proofs.Claims.consistent_claims_are_unique}
 use Rattle.host_bridge.specs.HostState.{HostState}
 use Rattle.claim_table.{specs.{declared.region_entry.RegionEntry.RegionEntry, Tables.{table_claim, FitsTable, IsOfFunction}, Entries.{entry_for, of_space, open_at, open_entries, AreEntries, path_nth, table_entry, table_of}, Fitting.{paths, fits_by_routing}}, proofs.{Listing.{region_of, is_of, IsSortedOf, AreGathered, entries_are, claims_listed}, Answering.of_functions}}
 
@@ -85,7 +85,7 @@ module _ (h : HostState) (board : IsStateOfBoard h.state.functions) (order : IsO
   ps = map (λ (r : RoutingRow). r.path) (routing fs)
 
   claims : HasClaimsOfRegions fs
-  claims = orderly_claims fs board order
+  claims = consistent_claims_are_unique fs board order
 
   abbrev all_of : Space → List RegionEntry
   all_of space = open_entries space 0 (routing fs)

@@ -11,14 +11,14 @@ use bridge_forward::{Ranges, RoutingRegion, RoutingRow};
 use std::alloc::{AllocError, Global};
 
 /// Returns whether a Command value enables decoding in an address space.
-fn opens(command: u16, space: Space) -> bool
+fn enables_space(command: u16, space: Space) -> bool
     ensures { result ≡ opens_space command (named_space space) }
 {
     command & space.command_bit() != 0
 }
 
 /// Appends the regions of a function that are in an address space.
-fn add_regions(
+fn add_regions_in_space(
     entries: &mut Vec<RegionEntry>,
     space: Space,
     function: usize,
@@ -42,7 +42,7 @@ fn add_regions(
 }
 
 /// Appends the regions of a function in an address space, if Command enables that space.
-fn add_open(
+fn add_enabled_regions(
     entries: &mut Vec<RegionEntry>,
     space: Space,
     function: usize,
@@ -53,8 +53,8 @@ fn add_open(
 {
     match &row.ranges {
         Ranges::Regions(regions) => {
-            if opens(row.command, space) {
-                add_regions(entries, space, function, regions)
+            if enables_space(row.command, space) {
+                add_regions_in_space(entries, space, function, regions)
             } else {
                 Ok(())
             }
@@ -64,7 +64,7 @@ fn add_open(
 }
 
 /// Returns the enabled regions of all functions in one address space, in path order.
-fn all_open(
+fn all_enabled_regions(
     alloc: Global,
     space: Space,
     rows: &[RoutingRow],
@@ -73,13 +73,13 @@ fn all_open(
 {
     let mut entries = Vec::new(alloc);
     for (function, row) in rows.iter().enumerate() {
-        add_open(&mut entries, space, function, row)?;
+        add_enabled_regions(&mut entries, space, function, row)?;
     }
     Ok(entries)
 }
 
 /// Returns the enabled regions of all functions in one address space, sorted by address.
-pub(crate) fn open_by_address(
+pub(crate) fn enabled_regions_sorted(
     alloc: Global,
     space: Space,
     rows: &[RoutingRow],
@@ -88,7 +88,7 @@ pub(crate) fn open_by_address(
         IsPermutation (open_entries (named_space space) 0 rows.now) v.items) }
     ensures rising { IfOk result (λ v. IsNonDecreasingBy (λ (e : EntryValue). e.first) v.items) }
 {
-    let mut entries = all_open(alloc, space, rows)?;
+    let mut entries = all_enabled_regions(alloc, space, rows)?;
     entries.sort_unstable_by_key(|entry| entry.first);
     Ok(entries)
 }

@@ -7,7 +7,7 @@ use crate::region_entry::RegionEntry;
 use bars::Space;
 
 /// Returns the list of entries for an address space.
-pub(crate) fn of_space<'a>(
+pub(crate) fn entries_of_space<'a>(
     space: Space,
     ports: &'a [RegionEntry],
     memory: &'a [RegionEntry],

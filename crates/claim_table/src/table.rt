@@ -2,9 +2,9 @@
 ghost use Rattle.std.specs.Prelude.{◌≡◌, IfOk, map};
 ghost use Rattle.model_board.specs.Routing.{RoutingRow as RowValue};
 
-use crate::open_regions::open_by_address;
+use crate::open_regions::enabled_regions_sorted;
 use crate::region_entry::RegionEntry;
-use crate::search::{entry_at, of_space};
+use crate::search::{entries_of_space, entry_at};
 use bridge_forward::RoutingRow;
 use host_bridge::{BarOffset, Claim, Host, Path, Route, Space};
 use std::alloc::{AllocError, Global};
@@ -33,7 +33,7 @@ impl Model for Table {
 }
 
 /// Copies the paths of all rows.
-fn paths_in(alloc: Global, rows: &[RoutingRow]) -> Result<Vec<Path>, AllocError>
+fn copy_paths(alloc: Global, rows: &[RoutingRow]) -> Result<Vec<Path>, AllocError>
     ensures { IfOk result (λ v. v.items ≡ map (λ (r : RowValue). r.path) rows.now) }
 {
     rows.iter().map(|row| row.path.copied()).collect(alloc)
@@ -56,9 +56,9 @@ impl Table {
     {
         let rows = host.routing(alloc)?;
         Ok(Table {
-            paths: paths_in(alloc, &rows)?,
-            ports: open_by_address(alloc, Space::Io, &rows)?,
-            memory: open_by_address(alloc, Space::Mem, &rows)?,
+            paths: copy_paths(alloc, &rows)?,
+            ports: enabled_regions_sorted(alloc, Space::Io, &rows)?,
+            memory: enabled_regions_sorted(alloc, Space::Mem, &rows)?,
         })
     }
 
@@ -83,7 +83,7 @@ impl Route for Table {
     ghost by_routing = { fits_by_routing };
 
     fn claimant(&self, _host: &Host, space: Space, addr: u64) -> Option<Claim> {
-        let entry = entry_at(of_space(space, &self.ports, &self.memory), addr)?;
+        let entry = entry_at(entries_of_space(space, &self.ports, &self.memory), addr)?;
         Some(Claim {
             path: self.paths[entry.function].copied(),
             region: entry.region,
@@ -91,8 +91,8 @@ impl Route for Table {
         })
     }
 
-    fn located(&self, _host: &Host, space: Space, addr: u64) -> Option<BarOffset> {
-        let entry = entry_at(of_space(space, &self.ports, &self.memory), addr)?;
+    fn claimed_bar_offset(&self, _host: &Host, space: Space, addr: u64) -> Option<BarOffset> {
+        let entry = entry_at(entries_of_space(space, &self.ports, &self.memory), addr)?;
         Some(BarOffset {
             index: entry.function,
             region: entry.region,

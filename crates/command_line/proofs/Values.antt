@@ -1,7 +1,7 @@
 -- The first value of an argument, by the rows of a parse.
 use Rattle.std.{proofs.Common.{◌≡◌, ◌⊎◌, inl, inr, ℕ, Bool, true, false, cond, List, [], ◌∷◌, Option, Some, None, map, refl, sym, ap, ◌∙◌, arith}, specs.{Prelude.{option_map, option_and_then, find, slice_get, unwrap_or, codes, Box}, Box.box_value, Borrow.Bor, Str.bytes_eq}}
 use Rattle.clap.{specs.{declared.parser.matches.{MatchedArg.MatchedArg, Found.Found, ArgMatches.{ArgMatches, TheViews.{out-ArgMatches, out-SubCommand}}, SubCommand.SubCommand}, Walk.{Row, rows_of, row_of, stop_after}, Matches.{first_value, subcommand_name_of}, Simple.{Shape, argument_words, built, entered, names_of, rows_at, subcommand_rows, subcommand_rows_of, subcommand_of}, Faults.is_simple_and_free}, proofs.OnLiterals.clap_on_literals}
-use Rattle.command_line.specs.{Words.{pciguest_app, subcommand, value, value_in}, Choices.{is_json, is_all, is_strict, is_true, board_in, IsAskedBy, IsNoCommand}, declared.choice.Choice.{Choice, TheVariants.{Help, Demo, List as Lists, Check, Run, Firmware, Report}}}
+use Rattle.command_line.specs.{Words.{pciguest_app, subcommand, value, value_in}, Choices.{is_json, is_all, is_strict, is_flag_set, board_in, IsAskedBy, IsNoCommand}, declared.choice.Choice.{Choice, TheVariants.{Help, Demo, List as Lists, Check, Run, Firmware, Report}}}
 use Rattle.model_lines.specs.Reports.{report_named, of_problems, of_readiness}
 use Rattle.model_lines.specs.Reports as model
 
@@ -91,13 +91,13 @@ board_alike : {v w : List ℕ → Option (List ℕ)} → ((id : List ℕ) → w 
 board_alike alike = ap (λ o. unwrap_or o []) (alike (codes "board"))
 
 json_alike : {v w : List ℕ → Option (List ℕ)} → ((id : List ℕ) → w id ≡ v id) → is_json w ≡ is_json v
-json_alike alike = ap is_true (alike (codes "json"))
+json_alike alike = ap is_flag_set (alike (codes "json"))
 
 all_alike : {v w : List ℕ → Option (List ℕ)} → ((id : List ℕ) → w id ≡ v id) → is_all w ≡ is_all v
-all_alike alike = ap is_true (alike (codes "all"))
+all_alike alike = ap is_flag_set (alike (codes "all"))
 
 strict_alike : {v w : List ℕ → Option (List ℕ)} → ((id : List ℕ) → w id ≡ v id) → is_strict w ≡ is_strict v
-strict_alike alike = ap is_true (alike (codes "strict"))
+strict_alike alike = ap is_flag_set (alike (codes "strict"))
 
 pub asked_alike : {name : List ℕ} {o : Option (List ℕ)} {v w : List ℕ → Option (List ℕ)} → o ≡ Some name
     → ((id : List ℕ) → w id ≡ v id) → (terminal : Bool) (c : Choice) → IsAskedBy (Some name) v terminal c

@@ -13,23 +13,23 @@ use Rattle.model_lines.specs.Reports.{report_named}
 use Rattle.lines.specs.Requests.{report_of}
 use Rattle.command_line.specs.{Words.{subcommand, value}, declared.choice.Choice.{Choice, TheVariants.{Help, Demo, List as Lists, Check, Run, Firmware, Report}}}
 
-abbrev pub is_true : Option (List ℕ) → Bool
-is_true given = option_map_or (λ t. bytes_eq t (codes "true")) given false
+abbrev pub is_flag_set : Option (List ℕ) → Bool
+is_flag_set given = option_map_or (λ t. bytes_eq t (codes "true")) given false
 
 abbrev pub is_plain : Option (List ℕ) → Bool → Bool
-is_plain given is_terminal = not is_terminal || is_true given
+is_plain given is_terminal = not is_terminal || is_flag_set given
 
 -- `--json` is given
 abbrev pub is_json : (List ℕ → Option (List ℕ)) → Bool
-is_json value = is_true (value (codes "json"))
+is_json value = is_flag_set (value (codes "json"))
 
 -- `--all` is given
 abbrev pub is_all : (List ℕ → Option (List ℕ)) → Bool
-is_all value = is_true (value (codes "all"))
+is_all value = is_flag_set (value (codes "all"))
 
 -- `--strict` is given
 abbrev pub is_strict : (List ℕ → Option (List ℕ)) → Bool
-is_strict value = is_true (value (codes "strict"))
+is_strict value = is_flag_set (value (codes "strict"))
 
 -- the path of a board file, which is empty where none is given
 abbrev pub board_in : (List ℕ → Option (List ℕ)) → List ℕ

@@ -1,9 +1,9 @@
 //! The command that the program's arguments select.
 ghost use Rattle.std.specs.Prelude.{◌≡◌, Some, [], true, map, option_map, IfOk, IfSome, IfNone, Err, MatchResult};
 ghost use Rattle.clap.specs.{Faults.fault_of, Matches.{first_value, found_of}, Values.kind_of};
-ghost use Rattle.command_line.specs.{Words.{pciguest_app, is_taken}, Choices.{is_true, board_path, IsAsked, IsAskedBy, IsNoCommand, IsWork, IsHelp}};
+ghost use Rattle.command_line.specs.{Words.{pciguest_app, is_taken}, Choices.{is_flag_set, board_path, IsAsked, IsAskedBy, IsNoCommand, IsWork, IsHelp}};
 
-use crate::commands::command;
+use crate::commands::root_command;
 use clap::error::ErrorKind;
 use clap::{ArgMatches, Error};
 use lines::Report;
@@ -77,15 +77,15 @@ pub enum WordsFault {
 
 /// Returns the command that prints the help or version text for which the arguments ask, or fails
 /// with the reason why the arguments are invalid.
-fn help<'a>(alloc: Global, words: &[&str]) -> Result<Choice<'a>, WordsFault>
+fn help_text_or_fault<'a>(alloc: Global, words: &[&str]) -> Result<Choice<'a>, WordsFault>
     ensures { IfOk result IsHelp }
 {
-    let Ok(command) = command(alloc) else {
+    let Ok(root_command) = root_command(alloc) else {
         return Err(WordsFault::Memory);
     };
-    // `help` and `help NAME` print a text, so they are no subcommand of `command`.
-    let command = command.disable_help_subcommand(false);
-    let Err(error) = command.try_get_matches_from(words) else {
+    // `help` and `help NAME` print a text, so they are no subcommand of `root_command`.
+    let root_command = root_command.disable_help_subcommand(false);
+    let Err(error) = root_command.try_get_matches_from(words) else {
         return Err(WordsFault::Usage(String::new(alloc)));
     };
     let Ok(text) = error.to_string(alloc) else {
@@ -100,20 +100,24 @@ fn help<'a>(alloc: Global, words: &[&str]) -> Result<Choice<'a>, WordsFault>
 
 /// Returns what follows from an error of the argument parser: the help or version text for which the
 /// arguments ask, or the reason why they are invalid.
-fn refusal<'a>(alloc: Global, error: &Error, words: &[&str]) -> Result<Choice<'a>, WordsFault>
+fn help_or_fault_on_error<'a>(
+    alloc: Global,
+    error: &Error,
+    words: &[&str],
+) -> Result<Choice<'a>, WordsFault>
     ensures memory { kind_of error.now ≡ ErrorKind.OutOfMemory →
         result ≡ Err WordsFault.Memory }
     ensures help { IfOk result IsHelp }
 {
     match error.kind() {
         ErrorKind::OutOfMemory => Err(WordsFault::Memory),
-        _ => help(alloc, words),
+        _ => help_text_or_fault(alloc, words),
     }
 }
 
 /// Returns whether a flag is set, given its value.
-fn is_true(given: Option<&str>) -> bool
-    ensures { result ≡ is_true (option_map (λ s. s.now) given.entry) }
+fn is_flag_set(given: Option<&str>) -> bool
+    ensures { result ≡ is_flag_set (option_map (λ s. s.now) given.entry) }
 {
     match given {
         Some(text) => text == "true",
@@ -123,7 +127,7 @@ fn is_true(given: Option<&str>) -> bool
 
 /// Returns the command of the subcommand `name` with its arguments, or `None` if the program has no
 /// such subcommand.
-fn asked<'a>(name: &str, given: &ArgMatches<'a>, is_terminal: bool) -> Option<Choice<'a>>
+fn choice_by_name<'a>(name: &str, given: &ArgMatches<'a>, is_terminal: bool) -> Option<Choice<'a>>
     ensures asked { IfSome result
         (IsAskedBy (Some name.now) (first_value (found_of given.now)) is_terminal) }
     ensures work { IfSome result IsWork }
@@ -131,20 +135,20 @@ fn asked<'a>(name: &str, given: &ArgMatches<'a>, is_terminal: bool) -> Option<Ch
 {
     // `board` is a required argument of every subcommand that reads a board file.
     let path = given.get_str("board").unwrap_or("");
-    let json = is_true(given.get_str("json"));
-    let strict = is_true(given.get_str("strict"));
+    let json = is_flag_set(given.get_str("json"));
+    let strict = is_flag_set(given.get_str("strict"));
     match name {
         "demo" => Some(Choice::Demo),
         "list" => Some(Choice::List { path, json }),
         "check" => {
-            let all = is_true(given.get_str("all"));
-            let plain = !is_terminal || is_true(given.get_str("plain"));
+            let all = is_flag_set(given.get_str("all"));
+            let plain = !is_terminal || is_flag_set(given.get_str("plain"));
             Some(Choice::Check { path, all, plain })
         }
         "run" => Some(Choice::Run { path, strict }),
         "firmware" => Some(Choice::Firmware { path, strict }),
         _ => {
-            let report = Report::named(name.as_bytes())?;
+            let report = Report::from_word(name.as_bytes())?;
             Some(Choice::Report {
                 report,
                 path,
@@ -174,19 +178,19 @@ pub fn choose<'a>(
     ensures taken { is_taken (map (λ w. w.now) words.entry.now) ≡ true
         → MatchResult result IsWork (λ f. f ≡ WordsFault.Memory) }
 {
-    let Ok(command) = command(alloc) else {
+    let Ok(root_command) = root_command(alloc) else {
         return Err(WordsFault::Memory);
     };
-    match command.try_get_matches_from(words) {
+    match root_command.try_get_matches_from(words) {
         Ok(matches) => {
             let Some((name, given)) = matches.subcommand() else {
                 return Err(WordsFault::Usage(String::new(alloc)));
             };
-            match asked(name, given, is_terminal) {
+            match choice_by_name(name, given, is_terminal) {
                 Some(choice) => Ok(choice),
                 None => Err(WordsFault::Usage(String::new(alloc))),
             }
         }
-        Err(error) => refusal(alloc, &error, words),
+        Err(error) => help_or_fault_on_error(alloc, &error, words),
     }
 }

@@ -127,7 +127,7 @@ impl Cell {
 }
 
 /// Proves that the value and both masks of each cell are below 256. A call has no other effect.
-pub fn are_cells(cells: &[Cell])
+pub fn prove_cells_are_lawful(cells: &[Cell])
     ensures { Each IsCell cells.now }
 {
     let mut left = cells;

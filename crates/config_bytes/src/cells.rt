@@ -4,7 +4,7 @@ ghost use Rattle.model_registers.specs.{Cell.written, Registers.{config, changed
 ghost use Rattle.lists.specs.Elements.{Each};
 ghost use Rattle.config_bytes.specs.CellFile.{HasDistinctOffsets, KeepsPlaces, file_of, placed, placed_outside, reset_outside};
 
-use crate::cell::{Cell, are_cells};
+use crate::cell::{Cell, prove_cells_are_lawful};
 use byteorder::{ByteOrder, LittleEndian};
 use std::alloc::{AllocError, Global};
 use std::marker::Model;
@@ -44,7 +44,7 @@ fn is_enabled(enables: u8, lane: u8) -> bool
 }
 
 /// Returns the table length needed for the highest offset.
-fn table_length(cells: &[(u16, Cell)]) -> usize
+fn required_table_length(cells: &[(u16, Cell)]) -> usize
     ensures { All (λ c. c.0 < result) cells.now }
 {
     cells
@@ -55,7 +55,7 @@ fn table_length(cells: &[(u16, Cell)]) -> usize
 }
 
 /// Stores each cell in the table at its offset.
-fn place(table: &mut [Cell], cells: &[(u16, Cell)])
+fn store_at_offsets(table: &mut [Cell], cells: &[(u16, Cell)])
     requires { Each (λ c. c.0 < length table.old) cells.now }
     ensures { table.new ≡ placed cells.now table.old }
 {
@@ -65,7 +65,7 @@ fn place(table: &mut [Cell], cells: &[(u16, Cell)])
 }
 
 /// Stores each cell in the table at its offset, and skips the cells at offsets `first` to `last`.
-fn place_outside(table: &mut [Cell], cells: &[(u16, Cell)], first: u16, last: u16)
+fn store_at_offsets_outside(table: &mut [Cell], cells: &[(u16, Cell)], first: u16, last: u16)
     requires { Each (λ c. c.0 < length table.old) cells.now }
     ensures { table.new ≡ placed_outside first last cells.now table.old }
 {
@@ -110,13 +110,13 @@ impl Cells {
         ensures kept { IfOk result KeepsPlaces }
     {
         let initial = Vec::from_slice(alloc, cells)?;
-        let mut table = vec![in alloc; Cell::fixed(0); table_length(cells)]?;
-        place(table.as_mut_slice(), cells);
+        let mut table = vec![in alloc; Cell::fixed(0); required_table_length(cells)]?;
+        store_at_offsets(table.as_mut_slice(), cells);
         Ok(Cells { table, initial })
     }
 
     /// Returns the byte at offset `off`, or 0 if it isn't enabled.
-    fn byte_at(&self, off: u16, enabled: bool) -> u8
+    fn byte_if_enabled(&self, off: u16, enabled: bool) -> u8
         ensures byte { result
             ≡ (if enabled then (cell_at self.now.now (config off)).value else 0) }
         ensures places { IsConfigFile self.now.now }
@@ -146,24 +146,24 @@ impl Cells {
         // the bytes needn't be tested for being enabled.
         if enables == 0b1111 {
             let bytes = [
-                self.byte_at(off, true),
-                self.byte_at(off + 1, true),
-                self.byte_at(off + 2, true),
-                self.byte_at(off + 3, true),
+                self.byte_if_enabled(off, true),
+                self.byte_if_enabled(off + 1, true),
+                self.byte_if_enabled(off + 2, true),
+                self.byte_if_enabled(off + 3, true),
             ];
             return LittleEndian::read_u32(&bytes);
         }
         let bytes = [
-            self.byte_at(off, is_enabled(enables, 0)),
-            self.byte_at(off + 1, is_enabled(enables, 1)),
-            self.byte_at(off + 2, is_enabled(enables, 2)),
-            self.byte_at(off + 3, is_enabled(enables, 3)),
+            self.byte_if_enabled(off, is_enabled(enables, 0)),
+            self.byte_if_enabled(off + 1, is_enabled(enables, 1)),
+            self.byte_if_enabled(off + 2, is_enabled(enables, 2)),
+            self.byte_if_enabled(off + 3, is_enabled(enables, 3)),
         ];
         LittleEndian::read_u32(&bytes)
     }
 
     /// Writes a byte to the cell at offset `off` if `enabled` is set.
-    fn write_byte(&mut self, off: u16, enabled: bool, byte: u8)
+    fn write_byte_if_enabled(&mut self, off: u16, enabled: bool, byte: u8)
         ensures cells { self.new ≡ record self.old {
           now =
               if enabled then changed (written byte) (config off) self.old.now else self.old.now;
@@ -190,10 +190,10 @@ impl Cells {
         let mut bytes = [0; 4];
         LittleEndian::write_u32(&mut bytes, data);
         let [first, second, third, fourth] = bytes;
-        self.write_byte(off, is_enabled(enables, 0), first);
-        self.write_byte(off + 1, is_enabled(enables, 1), second);
-        self.write_byte(off + 2, is_enabled(enables, 2), third);
-        self.write_byte(off + 3, is_enabled(enables, 3), fourth);
+        self.write_byte_if_enabled(off, is_enabled(enables, 0), first);
+        self.write_byte_if_enabled(off + 1, is_enabled(enables, 1), second);
+        self.write_byte_if_enabled(off + 2, is_enabled(enables, 2), third);
+        self.write_byte_if_enabled(off + 3, is_enabled(enables, 3), fourth);
     }
 
     /// Sets the bits of `mask` in the cell at `off`, as a device does. Only W1C bits can be set.
@@ -214,7 +214,7 @@ impl Cells {
     pub fn value(&self, off: u16) -> u8
         ensures { result ≡ (cell_at self.now.now (config off)).value }
     {
-        self.byte_at(off, true)
+        self.byte_if_enabled(off, true)
     }
 
     /// Sets the value of the cell at `off`, ignoring and keeping its masks. Without a cell there,
@@ -239,7 +239,7 @@ impl Cells {
         ensures places { IsConfigFile self.new.now }
         ensures kept { KeepsPlaces self.new }
     {
-        place(self.table.as_mut_slice(), self.initial.as_slice());
+        store_at_offsets(self.table.as_mut_slice(), self.initial.as_slice());
     }
 
     /// Restores the reset value of every cell except those at offsets `first` to `last`, both
@@ -250,7 +250,7 @@ impl Cells {
         ensures places { IsConfigFile self.new.now }
         ensures kept { KeepsPlaces self.new }
     {
-        place_outside(
+        store_at_offsets_outside(
             self.table.as_mut_slice(),
             self.initial.as_slice(),
             first,

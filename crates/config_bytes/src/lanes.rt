@@ -31,7 +31,7 @@ pub fn from_lanes(off: u64, width: u64, word: u32) -> u32
 /// Shifts a word down so that the byte lane of `off` becomes the lowest. If `word` was read with
 /// the byte enables of an access, the result is the value that the access reads. No mask is needed,
 /// because disabled bytes read 0.
-pub fn lowered(off: u64, word: u32) -> u32
+pub fn shift_lanes_down(off: u64, word: u32) -> u32
     ensures { result ≡ word / 256 ^ (off % 4) }
 {
     word >> (8 * (off % 4))

@@ -11,14 +11,14 @@ mod cells;
 mod lanes;
 mod op;
 
-pub use cell::{Cell, CellFault, are_cells};
+pub use cell::{Cell, CellFault, prove_cells_are_lawful};
 pub use cells::Cells;
-pub use lanes::{all_ones, enables_of, from_lanes, lowered, to_lanes};
+pub use lanes::{all_ones, enables_of, from_lanes, shift_lanes_down, to_lanes};
 pub use op::Op;
 
 /// Proves laws about building a list of cells, each with its offset in configuration space: which
 /// register file the list describes, which offsets it uses, and that no offset is used twice.
-pub fn lists_of_offsets()
+pub fn cell_lists_make_register_files()
     ensures file_of_append { FileOfAppend }
     ensures file_of_offsets { FileOfOffsets }
     ensures file_of_config { FileOfConfig }

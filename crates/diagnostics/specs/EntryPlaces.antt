@@ -1,7 +1,7 @@
 -- Places of entries, with their lines.
 --     Turn, turn      a step of a way, as its key or index
---     way_of entry      the way to the entry itself
---     way_to entry key      the way to the value at a key of an entry; a slot is its value itself
+--     key_path_of_entry entry      the way to the entry itself
+--     key_path_of_value entry key      the way to the value at a key of an entry; a slot is its value itself
 --     way_told ms entry key      the way to the value at a key of an entry, or where it has none to the entry
 --     IsPlaceOf      the place of a value at the end of this way, or inside the value there, which was confirmed
 --     entry_of      the entry that is told of beside another
@@ -22,21 +22,21 @@ turn (Index i) = at_index i
 abbrev pub way_in : List ℕ → ℕ → List Turn → List Turn
 way_in list i rest = at_key list ∷ at_index i ∷ rest
 
-abbrev pub way_of : Entry → List Turn
-way_of entry.File = []
-way_of entry.Host = at_key (codes "host") ∷ []
-way_of (entry.Endpoint i) = way_in (codes "endpoint") i []
-way_of (entry.Part p i j) = way_in (codes "endpoint") i (way_in (part_key p) j [])
-way_of (entry.Bridge i) = way_in (codes "bridge") i []
-way_of (entry.Guest i) = way_in (codes "guest") i []
-way_of (entry.Slot i j) = way_in (codes "guest") i (way_in (codes "slots") j [])
+abbrev pub key_path_of_entry : Entry → List Turn
+key_path_of_entry entry.File = []
+key_path_of_entry entry.Host = at_key (codes "host") ∷ []
+key_path_of_entry (entry.Endpoint i) = way_in (codes "endpoint") i []
+key_path_of_entry (entry.Part p i j) = way_in (codes "endpoint") i (way_in (part_key p) j [])
+key_path_of_entry (entry.Bridge i) = way_in (codes "bridge") i []
+key_path_of_entry (entry.Guest i) = way_in (codes "guest") i []
+key_path_of_entry (entry.Slot i j) = way_in (codes "guest") i (way_in (codes "slots") j [])
 
-abbrev pub way_to : Entry → List ℕ → List Turn
-way_to (entry.Slot i j) k = way_of (entry.Slot i j)
-way_to e k = way_of e ++ at_key k ∷ []
+abbrev pub key_path_of_value : Entry → List ℕ → List Turn
+key_path_of_value (entry.Slot i j) k = key_path_of_entry (entry.Slot i j)
+key_path_of_value e k = key_path_of_entry e ++ at_key k ∷ []
 
 abbrev pub way_told : Members → Entry → List ℕ → List Turn
-way_told ms e k = if is_some (value_at ms e k) then way_to e k else way_of e
+way_told ms e k = if is_some (value_at ms e k) then key_path_of_value e k else key_path_of_entry e
 
 pub record IsPlaceOf (text : List ℕ) (ms : Members) (e : Entry) (key : List ℕ) (p : TextPlace) : Type 0 where
   pub way : List Step

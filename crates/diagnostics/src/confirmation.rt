@@ -3,13 +3,13 @@
 //! place.
 ghost use Rattle.std.specs.{Prelude.{◌≡◌, IfOk, IfSome, List, Some, length, map, ℕ}, Option.ForSome};
 ghost use Rattle.toml.specs.{Parse.parse_document, View.table_view};
-ghost use Rattle.diagnostics.specs.{LineNumbers.{line_of, first_line}, Marks.with_marks, Places.{IsMarked, Stands, IsPlace, IsPlaceWithin}};
+ghost use Rattle.diagnostics.specs.{LineNumbers.{line_of, first_line}, Marks.replace_with_marks, Places.{IsMarked, Stands, IsPlace, IsPlaceWithin}};
 
-use crate::descent::push_descent;
-use crate::line_numbers::first_lines;
-use crate::marking::{are_in_order, is_mark, marked_start, with_marks};
-use crate::scanning::{Extent, scalars};
-use crate::shapes::members_have_one_shape;
+use crate::descent::push_steps_to_first_scalar;
+use crate::line_numbers::line_numbers_of_starts;
+use crate::marking::{are_ordered_within, is_mark_of_start, parse_mark_value, replace_with_marks};
+use crate::scanning::{Extent, scan_scalars};
+use crate::shapes::members_have_same_shape;
 use crate::steps::{Step, value_at};
 use crate::text_place::TextPlace;
 use std::alloc::{AllocError, Global};
@@ -35,14 +35,14 @@ pub struct Places<'a> {
     marked: Option<Marked>,
     ghost confirmed: { ForSome marked (λ m.
         IsMarked text.now (table_view document.now) places.items
-        × ∥ parse_document (with_marks text.now 0 places.items)
+        × ∥ parse_document (replace_with_marks text.now 0 places.items)
         ≡ Some (table_view m.table) ∥₁
         × m.lines.items ≡ map (first_line text.now) places.items) },
 }
 
 /// Parses the text with a mark at each place. Returns `None` if the result isn't a document of the
 /// same shape.
-fn marked_document(
+fn mark_and_parse_if_same_shape(
     alloc: Global,
     text: &[u8],
     document: &Table,
@@ -50,16 +50,16 @@ fn marked_document(
 ) -> Result<Option<Marked>, AllocError>
     ensures { IfOk result (λ found.
         IfSome found (λ m. IsMarked text.now (table_view document.now) places.now
-        × (parse_document (with_marks text.now 0 places.now) ≡ Some (table_view m.table))
+        × (parse_document (replace_with_marks text.now 0 places.now) ≡ Some (table_view m.table))
         × (m.lines.items ≡ map (first_line text.now) places.now))) }
 {
-    if !are_in_order(text.len(), places) {
+    if !are_ordered_within(text.len(), places) {
         return Ok(None);
     }
-    let bytes = with_marks(alloc, text, places)?;
+    let bytes = replace_with_marks(alloc, text, places)?;
     match toml::table_from_slice(alloc, &bytes) {
-        Ok(table) if members_have_one_shape(document, &table) => {
-            let lines = first_lines(alloc, text, places)?;
+        Ok(table) if members_have_same_shape(document, &table) => {
+            let lines = line_numbers_of_starts(alloc, text, places)?;
             Ok(Some(Marked { table, lines }))
         }
         Err(e) if e.is_memory() => Err(AllocError),
@@ -68,7 +68,7 @@ fn marked_document(
 }
 
 /// Returns the line number and the end offset of the place that begins at `start`, if there is one.
-fn line_and_end(places: &[Extent], lines: &[usize], start: usize) -> Option<(usize, usize)>
+fn find_line_and_end(places: &[Extent], lines: &[usize], start: usize) -> Option<(usize, usize)>
     requires { length lines.now ≡ length places.now }
     ensures line { IfSome result (λ p.
         (text : List ℕ) → lines.now ≡ map (first_line text) places.now →
@@ -93,8 +93,8 @@ impl<'a> Places<'a> {
         ensures text { IfOk result (λ p. p.text.now ≡ text.now) }
         ensures document { IfOk result (λ p. p.document.now ≡ document.now) }
     {
-        let places = scalars(alloc, text)?;
-        let marked = marked_document(alloc, text, document, &places)?;
+        let places = scan_scalars(alloc, text)?;
+        let marked = mark_and_parse_if_same_shape(alloc, text, document, &places)?;
         Ok(Places {
             text,
             document,
@@ -104,7 +104,7 @@ impl<'a> Places<'a> {
     }
 
     /// Returns the place of the scalar at the end of a key path, if it could be confirmed.
-    pub fn place(&self, way: &[Step<'_>]) -> Option<TextPlace>
+    pub fn scalar_place(&self, way: &[Step<'_>]) -> Option<TextPlace>
         ensures { IfSome result
             (IsPlace self.now.text.now (table_view self.now.document.now) way.now) }
     {
@@ -115,9 +115,11 @@ impl<'a> Places<'a> {
             return None;
         };
         let value = value_at(way, &marked.table)?;
-        let start = marked_start(value)?;
-        let known = line_and_end(&self.places, &marked.lines, start)?;
-        if is_mark(start, Some(value)) && !is_mark(start, value_at(way, self.document)) {
+        let start = parse_mark_value(value)?;
+        let known = find_line_and_end(&self.places, &marked.lines, start)?;
+        if is_mark_of_start(start, Some(value))
+            && !is_mark_of_start(start, value_at(way, self.document))
+        {
             return Some(TextPlace {
                 line: known.0,
                 start,
@@ -148,7 +150,7 @@ impl<'a> Places<'a> {
         };
         let mut longer = Vec::new(alloc);
         longer.extend_from_slice(way)?;
-        push_descent(&mut longer, value)?;
-        Ok(self.place(&longer))
+        push_steps_to_first_scalar(&mut longer, value)?;
+        Ok(self.scalar_place(&longer))
     }
 }

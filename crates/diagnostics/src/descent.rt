@@ -2,14 +2,14 @@
 ghost use Rattle.std.specs.Prelude.{OnOk};
 ghost use Rattle.diagnostics.specs.Places.{GoesOn};
 
-use crate::marking::marked_start;
+use crate::marking::parse_mark_value;
 use crate::steps::Step;
 use std::alloc::AllocError;
 use toml::Table;
 use toml::value::Value;
 
 /// Returns the smaller of two offsets, or the only one that is given.
-fn earlier(one: Option<usize>, other: Option<usize>) -> Option<usize> {
+fn min_or_only(one: Option<usize>, other: Option<usize>) -> Option<usize> {
     match (one, other) {
         (Some(one), Some(other)) => Some(one.min(other)),
         _ => one.or(other),
@@ -18,18 +18,18 @@ fn earlier(one: Option<usize>, other: Option<usize>) -> Option<usize> {
 
 /// Returns the offset of the first mark inside a value, if there is one.
 #[cycle(starts)]
-fn start_in(marked: &Value) -> Option<usize> {
+fn find_first_mark_start(marked: &Value) -> Option<usize> {
     match marked {
-        Value::Array(items) => start_in_items(items.as_slice()),
-        Value::Table(table) => start_in_table(table),
-        scalar => marked_start(scalar),
+        Value::Array(items) => first_mark_start_in_items(items.as_slice()),
+        Value::Table(table) => first_mark_start_in_table(table),
+        scalar => parse_mark_value(scalar),
     }
 }
 
 #[cycle(starts)]
-fn start_in_items(items: &[Value]) -> Option<usize> {
+fn first_mark_start_in_items(items: &[Value]) -> Option<usize> {
     for item in items {
-        let start = start_in(item);
+        let start = find_first_mark_start(item);
         if start.is_some() {
             return start;
         }
@@ -38,10 +38,10 @@ fn start_in_items(items: &[Value]) -> Option<usize> {
 }
 
 #[cycle(starts)]
-fn start_in_table(table: &Table) -> Option<usize> {
+fn first_mark_start_in_table(table: &Table) -> Option<usize> {
     let mut first = None;
     for (_, inner) in table.iter() {
-        first = earlier(first, start_in(inner));
+        first = min_or_only(first, find_first_mark_start(inner));
     }
     first
 }
@@ -49,38 +49,47 @@ fn start_in_table(table: &Table) -> Option<usize> {
 /// Appends the steps from a marked value to the first scalar inside it. Appends nothing if there is
 /// no scalar.
 #[cycle(descent)]
-pub(crate) fn push_descent<'v>(way: &mut Vec<Step<'v>>, marked: &'v Value) -> Result<(), AllocError>
+pub(crate) fn push_steps_to_first_scalar<'v>(
+    way: &mut Vec<Step<'v>>,
+    marked: &'v Value,
+) -> Result<(), AllocError>
     ensures { OnOk result (GoesOn way.old.items way.new.items) }
 {
     match marked {
-        Value::Array(items) => push_in_items(way, items.as_slice()),
-        Value::Table(table) => push_in_table(way, table),
+        Value::Array(items) => push_steps_to_scalar_in_items(way, items.as_slice()),
+        Value::Table(table) => push_steps_to_scalar_in_table(way, table),
         _ => Ok(()),
     }
 }
 
 #[cycle(descent)]
-fn push_in_items<'v>(way: &mut Vec<Step<'v>>, items: &'v [Value]) -> Result<(), AllocError>
+fn push_steps_to_scalar_in_items<'v>(
+    way: &mut Vec<Step<'v>>,
+    items: &'v [Value],
+) -> Result<(), AllocError>
     ensures { OnOk result (GoesOn way.old.items way.new.items) }
 {
-    for (index, inner) in items.iter().enumerate() {
-        if start_in(inner).is_some() {
+    'items: for (index, inner) in items.iter().enumerate() {
+        if find_first_mark_start(inner).is_some() {
             way.push(Step::Index(index))?;
-            return push_descent(way, inner);
+            return push_steps_to_first_scalar(way, inner);
         }
     }
     Ok(())
 }
 
 #[cycle(descent)]
-fn push_in_table<'v>(way: &mut Vec<Step<'v>>, table: &'v Table) -> Result<(), AllocError>
+fn push_steps_to_scalar_in_table<'v>(
+    way: &mut Vec<Step<'v>>,
+    table: &'v Table,
+) -> Result<(), AllocError>
     ensures { OnOk result (GoesOn way.old.items way.new.items) }
 {
-    let first = start_in_table(table);
-    for (key, inner) in table.iter() {
-        if first.is_some() && start_in(inner) == first {
+    let first = first_mark_start_in_table(table);
+    'members: for (key, inner) in table.iter() {
+        if first.is_some() && find_first_mark_start(inner) == first {
             way.push(Step::Key(key.as_str()))?;
-            return push_descent(way, inner);
+            return push_steps_to_first_scalar(way, inner);
         }
     }
     Ok(())

@@ -1,7 +1,7 @@
 //! Finds the places of board-file entries in the text.
 ghost use Rattle.std.specs.Prelude.{◌≡◌, IfOk, IfSome, map, option_map};
 ghost use Rattle.toml.specs.View.{table_view};
-ghost use Rattle.diagnostics.specs.EntryPlaces.{turn, way_of, way_to, entry_of, IsPlaceOf};
+ghost use Rattle.diagnostics.specs.EntryPlaces.{turn, key_path_of_entry, key_path_of_value, entry_of, IsPlaceOf};
 
 use crate::confirmation::Places;
 use crate::entry_texts::EntryText;
@@ -31,8 +31,8 @@ impl fmt::Display for Other {
 }
 
 /// Returns the key path of an entry.
-fn way_of<'k>(alloc: Global, entry: Entry) -> Result<Vec<Step<'k>>, AllocError>
-    ensures { IfOk result (λ v. map turn v.items ≡ way_of entry) }
+fn key_path_of_entry<'k>(alloc: Global, entry: Entry) -> Result<Vec<Step<'k>>, AllocError>
+    ensures { IfOk result (λ v. map turn v.items ≡ key_path_of_entry entry) }
 {
     let endpoint = Step::Key("endpoint");
     let guest = Step::Key("guest");
@@ -53,10 +53,14 @@ fn way_of<'k>(alloc: Global, entry: Entry) -> Result<Vec<Step<'k>>, AllocError>
 }
 
 /// Returns the key path of the value at `key` of an entry. The value of a slot is the entry itself.
-fn way_to<'k>(alloc: Global, entry: Entry, key: &'k str) -> Result<Vec<Step<'k>>, AllocError>
-    ensures { IfOk result (λ v. map turn v.items ≡ way_to entry key.now) }
+fn key_path_of_value<'k>(
+    alloc: Global,
+    entry: Entry,
+    key: &'k str,
+) -> Result<Vec<Step<'k>>, AllocError>
+    ensures { IfOk result (λ v. map turn v.items ≡ key_path_of_value entry key.now) }
 {
-    let mut way = way_of(alloc, entry)?;
+    let mut way = key_path_of_entry(alloc, entry)?;
     match entry {
         Entry::Slot(_, _) => {}
         _ => way.push(Step::Key(key))?,
@@ -66,7 +70,7 @@ fn way_to<'k>(alloc: Global, entry: Entry, key: &'k str) -> Result<Vec<Step<'k>>
 
 /// Returns the place of the value at `key` of an entry, or of the entry's first value if the key is
 /// missing. Returns `None` if the place couldn't be confirmed.
-pub fn place_of(
+pub fn find_value_or_entry_place(
     alloc: Global,
     places: &Places<'_>,
     entry: Entry,
@@ -76,16 +80,16 @@ pub fn place_of(
         IfSome found (IsPlaceOf places.now.text.now (table_view places.now.document.now) entry key.now)) }
 {
     if value_at(places.document, entry, key).is_some() {
-        let way = way_to(alloc, entry, key)?;
+        let way = key_path_of_value(alloc, entry, key)?;
         places.place_within(alloc, &way)
     } else {
-        let way = way_of(alloc, entry)?;
+        let way = key_path_of_entry(alloc, entry)?;
         places.place_within(alloc, &way)
     }
 }
 
 /// Returns the entry together with the place of its value at `key`, or `None` if there is no entry.
-pub fn with_place(
+pub fn locate_entry_if_some(
     alloc: Global,
     places: &Places<'_>,
     entry: Option<Entry>,
@@ -97,7 +101,7 @@ pub fn with_place(
 {
     match entry {
         Some(entry) => {
-            let place = place_of(alloc, places, entry, key)?;
+            let place = find_value_or_entry_place(alloc, places, entry, key)?;
             Ok(Some(Other { entry, place }))
         }
         None => Ok(None),

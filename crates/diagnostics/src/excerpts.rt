@@ -10,18 +10,18 @@ use std::alloc::{AllocError, Global};
 const MOST: usize = 60;
 
 /// Returns the first `count` bytes, or all bytes if there are fewer.
-fn front(bytes: &[u8], count: usize) -> &[u8] {
+fn clamped_prefix(bytes: &[u8], count: usize) -> &[u8] {
     &bytes[..count.min(bytes.len())]
 }
 
 /// Returns the bytes from an offset on.
-fn from(bytes: &[u8], offset: usize) -> &[u8] {
+fn clamped_suffix(bytes: &[u8], offset: usize) -> &[u8] {
     &bytes[offset.min(bytes.len())..]
 }
 
 /// Returns the character to show for a byte. A character outside ASCII is shown as one `?`, at its
 /// first byte.
-fn character(byte: u8) -> Option<char> {
+fn printable_unless_continuation(byte: u8) -> Option<char> {
     match byte {
         b'\t' | b' '..=b'~' => Some(char::from(byte)),
         128..=191 => None,
@@ -30,9 +30,9 @@ fn character(byte: u8) -> Option<char> {
 }
 
 /// Appends the printable form of the bytes.
-fn push_characters(text: &mut String, bytes: &[u8]) -> Result<(), AllocError> {
+fn push_printable(text: &mut String, bytes: &[u8]) -> Result<(), AllocError> {
     for byte in bytes {
-        if let Some(shown) = character(*byte) {
+        if let Some(shown) = printable_unless_continuation(*byte) {
             text.push(shown)?;
         }
     }
@@ -40,7 +40,7 @@ fn push_characters(text: &mut String, bytes: &[u8]) -> Result<(), AllocError> {
 }
 
 /// Appends blanks as wide as the shown text. Tabs are repeated, so that marks line up.
-fn push_blanks(text: &mut String, shown: &str) -> Result<(), AllocError> {
+fn push_blanks_as_wide_as(text: &mut String, shown: &str) -> Result<(), AllocError> {
     for byte in shown.as_bytes() {
         text.push(if *byte == b'\t' { '\t' } else { ' ' })?;
     }
@@ -48,10 +48,10 @@ fn push_blanks(text: &mut String, shown: &str) -> Result<(), AllocError> {
 }
 
 /// Appends a `^` for each character to mark, and at least one.
-fn push_marks(text: &mut String, bytes: &[u8]) -> Result<(), AllocError> {
+fn push_carets_for(text: &mut String, bytes: &[u8]) -> Result<(), AllocError> {
     text.push('^')?;
-    for byte in from(bytes, 1) {
-        if character(*byte).is_some() {
+    for byte in clamped_suffix(bytes, 1) {
+        if printable_unless_continuation(*byte).is_some() {
             text.push('^')?;
         }
     }
@@ -59,60 +59,63 @@ fn push_marks(text: &mut String, bytes: &[u8]) -> Result<(), AllocError> {
 }
 
 /// Returns the part of a line before an offset.
-pub(crate) fn line_before(text: &[u8], offset: usize) -> &[u8] {
-    let before = front(text, offset);
+pub(crate) fn line_part_before(text: &[u8], offset: usize) -> &[u8] {
+    let before = clamped_prefix(text, offset);
     match before.iter().rposition(|byte| *byte == b'\n') {
-        Some(feed) => from(before, feed + 1),
+        Some(feed) => clamped_suffix(before, feed + 1),
         None => before,
     }
 }
 
 /// Returns the part of a line before an offset, in printable form and truncated on the left.
-fn shown_before(alloc: Global, text: &[u8], offset: usize) -> Result<String, AllocError> {
+fn clipped_line_before(alloc: Global, text: &[u8], offset: usize) -> Result<String, AllocError> {
     let mut shown = String::new(alloc);
-    let line = line_before(text, offset);
+    let line = line_part_before(text, offset);
     if line.len() > MOST {
         shown.push_str("...")?;
     }
-    push_characters(&mut shown, from(line, line.len().saturating_sub(MOST)))?;
+    push_printable(
+        &mut shown,
+        clamped_suffix(line, line.len().saturating_sub(MOST)),
+    )?;
     Ok(shown)
 }
 
 /// Returns the part of a line from an offset on.
-fn line_after(text: &[u8], offset: usize) -> &[u8] {
-    let after = from(text, offset);
+fn line_part_from(text: &[u8], offset: usize) -> &[u8] {
+    let after = clamped_suffix(text, offset);
     match after.iter().position(|byte| matches!(*byte, b'\n' | b'\r')) {
-        Some(end) => front(after, end),
+        Some(end) => clamped_prefix(after, end),
         None => after,
     }
 }
 
-/// Appends the line of the file that contains `place`. If `has_value`, also appends a line of marks
+/// Appends the line of the file that contains `place`. If `carets`, also appends a line of marks
 /// below that place. Appends nothing if excerpts are off or the place is unknown.
-pub fn push_shown_line(
+pub fn push_excerpt_if_enabled(
     alloc: Global,
     shown: &mut String,
     layout: MessageLayout,
     text: &[u8],
-    has_value: bool,
+    carets: bool,
     place: Option<TextPlace>,
 ) -> Result<(), AllocError> {
     let (MessageLayout::WithExcerpts, Some(place)) = (layout, place) else {
         return Ok(());
     };
     let number = format!(in alloc; "{}", place.line)?;
-    let before = shown_before(alloc, text, place.start)?;
-    let after = line_after(text, place.start);
+    let before = clipped_line_before(alloc, text, place.start)?;
+    let after = line_part_from(text, place.start);
     write!(shown, " {number} | {before}")?;
-    push_characters(shown, front(after, MOST))?;
+    push_printable(shown, clamped_prefix(after, MOST))?;
     shown.push_str(if after.len() > MOST { "...\n" } else { "\n" })?;
-    if has_value {
+    if carets {
         shown.push(' ')?;
-        push_blanks(shown, &number)?;
+        push_blanks_as_wide_as(shown, &number)?;
         shown.push_str(" | ")?;
-        push_blanks(shown, &before)?;
+        push_blanks_as_wide_as(shown, &before)?;
         let len = place.end.saturating_sub(place.start);
-        push_marks(shown, front(after, len.min(MOST)))?;
+        push_carets_for(shown, clamped_prefix(after, len.min(MOST)))?;
         shown.push('\n')?;
     }
     Ok(())
@@ -120,14 +123,18 @@ pub fn push_shown_line(
 
 /// Appends the excerpt below the header of a message: the line of the file that the header names,
 /// with marks below the value if the key has one.
-pub fn push_below(alloc: Global, shown: &mut String, head: &Head<'_>) -> Result<(), AllocError> {
-    let has_value = value_at(head.document, head.entry, head.key).is_some();
-    push_shown_line(
+pub fn push_excerpt_of_head(
+    alloc: Global,
+    shown: &mut String,
+    head: &Head<'_>,
+) -> Result<(), AllocError> {
+    let carets = value_at(head.document, head.entry, head.key).is_some();
+    push_excerpt_if_enabled(
         alloc,
         shown,
-        head.telling.layout,
+        head.options.layout,
         head.bytes,
-        has_value,
+        carets,
         head.place,
     )
 }

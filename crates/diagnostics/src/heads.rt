@@ -1,7 +1,7 @@
 //! The beginnings of messages about entries.
 
 use crate::entry_texts::EntryText;
-use crate::excerpts::line_before;
+use crate::excerpts::line_part_before;
 use crate::message_layout::RenderOptions;
 use crate::shown::Shown;
 use crate::text_place::TextPlace;
@@ -20,7 +20,7 @@ impl<'a> fmt::Display for Position<'a> {
     fn fmt<W: fmt::Write>(&self, f: &mut fmt::Formatter<W>) -> fmt::Result {
         match self.1 {
             Some(place) => {
-                let before = line_before(self.0, place.start).len();
+                let before = line_part_before(self.0, place.start).len();
                 write!(f, ":{}:{}", place.line, before.saturating_add(1))
             }
             None => Ok(()),
@@ -37,7 +37,7 @@ fn is_one_word(bytes: &[u8]) -> bool {
 /// name of the entry's owner.
 #[derive(Clone, Copy)]
 pub struct Head<'a> {
-    pub telling: RenderOptions<'a>,
+    pub options: RenderOptions<'a>,
     pub label: &'a str,
     pub bytes: &'a [u8],
     pub document: &'a Table,
@@ -49,7 +49,7 @@ pub struct Head<'a> {
 impl<'a> Head<'a> {
     /// Returns the text of the value in the file, if the place is known and the text is a single
     /// word.
-    fn written(&self) -> Option<&'a [u8]> {
+    fn value_text_if_one_word(&self) -> Option<&'a [u8]> {
         let place = self.place?;
         let word = self.bytes.get(place.start..place.end)?;
         if is_one_word(word) { Some(word) } else { None }
@@ -57,7 +57,7 @@ impl<'a> Head<'a> {
 
     /// Returns the path or name of the endpoint, bridge or guest that the entry belongs to. Returns
     /// `None` for the keys `at` and `name`, whose value is shown anyway.
-    fn owner(&self) -> Option<&'a str> {
+    fn owner_name_unless_shown(&self) -> Option<&'a str> {
         match self.key {
             "at" | "name" => None,
             _ => owner_name(self.document, self.entry),
@@ -68,13 +68,13 @@ impl<'a> Head<'a> {
 impl<'a> fmt::Display for Head<'a> {
     fn fmt<W: fmt::Write>(&self, f: &mut fmt::Formatter<W>) -> fmt::Result {
         let position = Position(self.bytes, self.place);
-        write!(f, "{}{position}: {}: ", self.telling.name, self.label)?;
+        write!(f, "{}{position}: {}: ", self.options.name, self.label)?;
         match self.entry {
             Entry::File => return Ok(()),
             Entry::Slot(guest, _) => write!(f, "{}", EntryText(Entry::Guest(guest)))?,
             entry => write!(f, "{}", EntryText(entry))?,
         }
-        if let Some(owner) = self.owner() {
+        if let Some(owner) = self.owner_name_unless_shown() {
             write!(f, " (\"{}\")", Shown(owner.as_bytes()))?;
         }
         write!(f, ": ")
@@ -95,7 +95,7 @@ impl<'a> fmt::Display for Subject<'a> {
         }
         match (
             value_at(head.document, head.entry, head.key),
-            head.written(),
+            head.value_text_if_one_word(),
         ) {
             (Some(Value::Integer(_)), Some(word)) => write!(f, " = {}", Shown(word)),
             (Some(Value::Integer(number)), None) => write!(f, " = {number}"),

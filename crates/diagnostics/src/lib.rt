@@ -20,11 +20,11 @@ mod steps;
 mod text_place;
 
 pub use confirmation::Places;
-pub use entry_places::{Other, place_of, with_place};
-pub use excerpts::{push_below, push_shown_line};
+pub use entry_places::{Other, find_value_or_entry_place, locate_entry_if_some};
+pub use excerpts::{push_excerpt_if_enabled, push_excerpt_of_head};
 pub use heads::{Head, Position, Subject};
 pub use line_numbers::line_of;
 pub use message_layout::{MessageLayout, RenderOptions};
-pub use shown::{Shown, push_shown};
+pub use shown::{Shown, push_as_printable};
 pub use steps::Step;
 pub use text_place::TextPlace;

@@ -2,7 +2,7 @@
 //! is the offset at which the place begins.
 ghost use Rattle.std.specs.Prelude.{◌≡◌, ◌<◌, ◌^◌, ◌++◌, ℕ, true, IfOk, OnOk, IsTrue, Some, length, option_map};
 ghost use Rattle.toml.specs.View.{view};
-ghost use Rattle.diagnostics.specs.Marks.{are_in_order, mark, quoted, with_marks, is_mark};
+ghost use Rattle.diagnostics.specs.Marks.{are_ordered_within, mark, quoted, replace_with_marks, is_mark_of_start};
 
 use crate::scanning::Extent;
 use itoa::Buffer;
@@ -10,8 +10,8 @@ use std::alloc::{AllocError, Global};
 use toml::value::Value;
 
 /// Returns whether the places are in ascending order, don't overlap and end within `len` bytes.
-pub(crate) fn are_in_order(len: usize, places: &[Extent]) -> bool
-    ensures { result ≡ are_in_order 0 len places.now }
+pub(crate) fn are_ordered_within(len: usize, places: &[Extent]) -> bool
+    ensures { result ≡ are_ordered_within 0 len places.now }
 {
     let mut from = 0;
     'places: for place in places {
@@ -24,7 +24,7 @@ pub(crate) fn are_in_order(len: usize, places: &[Extent]) -> bool
 }
 
 /// Appends the mark of a place, in quotes.
-fn push_mark(bytes: &mut Vec<u8>, start: usize) -> Result<(), AllocError>
+fn push_quoted_mark(bytes: &mut Vec<u8>, start: usize) -> Result<(), AllocError>
     ensures { OnOk result (bytes.new.items ≡ bytes.old.items ++ quoted (mark start)) }
 {
     let mut buffer = Buffer::new();
@@ -35,19 +35,19 @@ fn push_mark(bytes: &mut Vec<u8>, start: usize) -> Result<(), AllocError>
 }
 
 /// Returns the text with each place replaced by its mark.
-pub(crate) fn with_marks(
+pub(crate) fn replace_with_marks(
     alloc: Global,
     text: &[u8],
     places: &[Extent],
 ) -> Result<Vec<u8>, AllocError>
-    requires { IsTrue (are_in_order 0 (length text.now) places.now) }
-    ensures { IfOk result (λ v. v.items ≡ with_marks text.now 0 places.now) }
+    requires { IsTrue (are_ordered_within 0 (length text.now) places.now) }
+    ensures { IfOk result (λ v. v.items ≡ replace_with_marks text.now 0 places.now) }
 {
     let mut bytes = Vec::with_capacity(alloc, text.len())?;
     let mut from = 0;
     'places: for place in places {
         bytes.extend_from_slice(&text[from..place.start])?;
-        push_mark(&mut bytes, place.start)?;
+        push_quoted_mark(&mut bytes, place.start)?;
         from = place.end;
     }
     bytes.extend_from_slice(&text[from..])?;
@@ -55,8 +55,8 @@ pub(crate) fn with_marks(
 }
 
 /// Returns whether a value is the mark of the place that begins at `start`.
-pub(crate) fn is_mark(start: usize, value: Option<&Value>) -> bool
-    ensures { result ≡ is_mark start (option_map (λ v. view v.now) value.entry) }
+pub(crate) fn is_mark_of_start(start: usize, value: Option<&Value>) -> bool
+    ensures { result ≡ is_mark_of_start start (option_map (λ v. view v.now) value.entry) }
 {
     match value {
         Some(Value::String(text)) => {
@@ -71,7 +71,7 @@ pub(crate) fn is_mark(start: usize, value: Option<&Value>) -> bool
 }
 
 /// Returns the number after the `@` of a mark, or `None` if the text isn't `@` and a number.
-fn start_of(text: &str) -> Option<usize>
+fn parse_mark_start(text: &str) -> Option<usize>
     ensures { (start : ℕ) → start < 2 ^ 64
         → text.now ≡ mark start → result ≡ Some start }
 {
@@ -81,12 +81,12 @@ fn start_of(text: &str) -> Option<usize>
 }
 
 /// Returns the number after the `@` of a mark, or `None` if the value isn't a string of this form.
-pub(crate) fn marked_start(value: &Value) -> Option<usize>
+pub(crate) fn parse_mark_value(value: &Value) -> Option<usize>
     ensures { (start : ℕ) → start < 2 ^ 64
-        → is_mark start (Some (view value.now)) ≡ true → result ≡ Some start }
+        → is_mark_of_start start (Some (view value.now)) ≡ true → result ≡ Some start }
 {
     match value {
-        Value::String(text) => start_of(text.as_str()),
+        Value::String(text) => parse_mark_start(text.as_str()),
         _ => None,
     }
 }

@@ -40,7 +40,7 @@ struct ScalarScanner {
 }
 
 /// Returns the byte `places` after `at`, or 0 past the end of the text.
-fn byte_after(text: &[u8], at: usize, places: usize) -> u8
+fn byte_after_or_zero(text: &[u8], at: usize, places: usize) -> u8
     requires { places ≤ 3 }
     ensures { result ≡ unwrap_or (slice_get text.now (at + places)) 0 }
 {
@@ -54,32 +54,33 @@ fn byte_after(text: &[u8], at: usize, places: usize) -> u8
 }
 
 /// Returns whether three copies of `byte` begin at `at`.
-fn are_three(text: &[u8], at: usize, byte: u8) -> bool {
-    byte_after(text, at, 0) == byte
-        && byte_after(text, at, 1) == byte
-        && byte_after(text, at, 2) == byte
+fn has_three_at(text: &[u8], at: usize, byte: u8) -> bool {
+    byte_after_or_zero(text, at, 0) == byte
+        && byte_after_or_zero(text, at, 1) == byte
+        && byte_after_or_zero(text, at, 2) == byte
 }
 
 /// Returns whether the closing quotes of a string begin at `at`. In a run of more than three
 /// quotes, the last three close the string.
-fn is_closed(text: &[u8], at: usize, quotes: Quotes) -> bool
+fn is_closing_quotes_at(text: &[u8], at: usize, quotes: Quotes) -> bool
     requires { at < length text.now }
 {
     text[at] == quotes.byte
         && (quotes.count == 1
-            || are_three(text, at, quotes.byte) && byte_after(text, at, 3) != quotes.byte)
+            || has_three_at(text, at, quotes.byte)
+                && byte_after_or_zero(text, at, 3) != quotes.byte)
 }
 
 /// Returns the end offset of a string, including its closing quotes. `from` is the offset after the
 /// opening quotes.
-fn text_end(text: &[u8], from: usize, quotes: Quotes) -> usize {
+fn string_end(text: &[u8], from: usize, quotes: Quotes) -> usize {
     let mut is_escaped = false;
     for at in from..text.len() {
         if is_escaped {
             is_escaped = false;
         } else if text[at] == b'\\' && quotes.byte == b'"' {
             is_escaped = true;
-        } else if is_closed(text, at, quotes) {
+        } else if is_closing_quotes_at(text, at, quotes) {
             return at.saturating_add(quotes.count);
         }
     }
@@ -97,7 +98,7 @@ fn comment_end(text: &[u8], from: usize) -> usize {
 }
 
 /// Returns the end offset of a scalar without quotes. Trailing blanks aren't part of the scalar.
-fn bare_end(text: &[u8], from: usize) -> usize {
+fn unquoted_scalar_end(text: &[u8], from: usize) -> usize {
     let mut end = from;
     for at in from..text.len() {
         match text[at] {
@@ -120,7 +121,7 @@ impl ScalarScanner {
     }
 
     /// Returns whether the innermost open bracket is that of an inline table.
-    fn is_in_table(&self) -> bool {
+    fn is_in_inline_table(&self) -> bool {
         match self.brackets.last() {
             Some(byte) => *byte == b'{',
             None => false,
@@ -128,28 +129,32 @@ impl ScalarScanner {
     }
 
     /// Handles a byte of a key or a table header.
-    fn in_key(&mut self, text: &[u8], at: usize)
+    fn scan_key_byte(&mut self, text: &[u8], at: usize)
         requires { at < length text.now }
     {
         match text[at] {
-            byte @ (b'"' | b'\'') => self.next = text_end(text, at + 1, Quotes { byte, count: 1 }),
+            byte @ (b'"' | b'\'') => self.next = string_end(
+                text,
+                at + 1,
+                Quotes { byte, count: 1 },
+            ),
             b'=' => self.mode = Mode::Value,
-            b']' if byte_after(text, at, 1) != b']' => self.mode = Mode::After,
+            b']' if byte_after_or_zero(text, at, 1) != b']' => self.mode = Mode::After,
             _ => {}
         }
     }
 
     /// Records the scalar that begins at `at`.
-    fn take_scalar(&mut self, text: &[u8], at: usize) -> Result<(), AllocError>
+    fn record_scalar_at(&mut self, text: &[u8], at: usize) -> Result<(), AllocError>
         requires { at < length text.now }
     {
         let byte = text[at];
         let end = if byte != b'"' && byte != b'\'' {
-            bare_end(text, at)
-        } else if are_three(text, at, byte) {
-            text_end(text, at + 3, Quotes { byte, count: 3 })
+            unquoted_scalar_end(text, at)
+        } else if has_three_at(text, at, byte) {
+            string_end(text, at + 3, Quotes { byte, count: 3 })
         } else {
-            text_end(text, at + 1, Quotes { byte, count: 1 })
+            string_end(text, at + 1, Quotes { byte, count: 1 })
         };
         self.mode = Mode::After;
         self.next = end;
@@ -158,7 +163,7 @@ impl ScalarScanner {
     }
 
     /// Handles the first byte of a value.
-    fn in_value(&mut self, text: &[u8], at: usize) -> Result<(), AllocError>
+    fn begin_value(&mut self, text: &[u8], at: usize) -> Result<(), AllocError>
         requires { at < length text.now }
     {
         match text[at] {
@@ -167,7 +172,7 @@ impl ScalarScanner {
                 self.mode = Mode::Key;
                 self.brackets.push(b'{')?;
             }
-            _ => self.take_scalar(text, at)?,
+            _ => self.record_scalar_at(text, at)?,
         }
         Ok(())
     }
@@ -180,11 +185,11 @@ impl ScalarScanner {
     }
 
     /// Handles a comma, or the bracket that closes an array or an inline table.
-    fn end_item(&mut self, byte: u8) {
+    fn scan_comma_or_close(&mut self, byte: u8) {
         self.mode = if byte != b',' {
             let _ = self.brackets.pop();
             Mode::After
-        } else if self.is_in_table() {
+        } else if self.is_in_inline_table() {
             Mode::Key
         } else {
             Mode::Value
@@ -192,17 +197,17 @@ impl ScalarScanner {
     }
 
     /// Handles the first byte of a token.
-    fn take_byte(&mut self, text: &[u8], at: usize) -> Result<(), AllocError>
+    fn scan_byte(&mut self, text: &[u8], at: usize) -> Result<(), AllocError>
         requires { at < length text.now }
     {
         match (text[at], self.mode) {
             (b' ' | b'\t' | b'\r', _) => {}
             (b'\n', _) => self.expect_key_unless_nested(),
             (b'#', _) => self.next = comment_end(text, at),
-            (byte @ (b',' | b'}'), _) => self.end_item(byte),
-            (_, Mode::Key) => self.in_key(text, at),
-            (b']', _) => self.end_item(b']'),
-            (_, Mode::Value) => return self.in_value(text, at),
+            (byte @ (b',' | b'}'), _) => self.scan_comma_or_close(byte),
+            (_, Mode::Key) => self.scan_key_byte(text, at),
+            (b']', _) => self.scan_comma_or_close(b']'),
+            (_, Mode::Value) => return self.begin_value(text, at),
             (_, Mode::After) => {}
         }
         Ok(())
@@ -210,11 +215,11 @@ impl ScalarScanner {
 }
 
 /// Returns the scalars of a TOML document in the order of the text.
-pub(crate) fn scalars(alloc: Global, text: &[u8]) -> Result<Vec<Extent>, AllocError> {
+pub(crate) fn scan_scalars(alloc: Global, text: &[u8]) -> Result<Vec<Extent>, AllocError> {
     let mut scanner = ScalarScanner::new(alloc);
     for at in 0..text.len() {
         if at >= scanner.next {
-            scanner.take_byte(text, at)?;
+            scanner.scan_byte(text, at)?;
         }
     }
     Ok(scanner.scalars)

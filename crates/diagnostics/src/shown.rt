@@ -21,6 +21,6 @@ impl<'a> fmt::Display for Shown<'a> {
 }
 
 /// Appends bytes as text, with `?` for each byte that isn't printable ASCII.
-pub fn push_shown(text: &mut String, bytes: &[u8]) -> Result<(), AllocError> {
+pub fn push_as_printable(text: &mut String, bytes: &[u8]) -> Result<(), AllocError> {
     write!(text, "{}", Shown(bytes))
 }

@@ -26,13 +26,13 @@ fn child<'v>(step: Step<'_>, value: &'v Value) -> Option<&'v Value>
 }
 
 /// Follows a key path from a value. Returns `None` if a step selects nothing.
-fn value_behind<'v>(way: &[Step<'_>], value: &'v Value) -> Option<&'v Value>
+fn follow_key_path<'v>(way: &[Step<'_>], value: &'v Value) -> Option<&'v Value>
     ensures { option_map (λ v. view v.now) result ≡ value_at way.now (view value.now) }
 {
     match way {
         [] => Some(value),
         [step, rest @ ..] => match child(*step, value) {
-            Some(inner) => value_behind(rest, inner),
+            Some(inner) => follow_key_path(rest, inner),
             None => None,
         },
     }
@@ -53,7 +53,7 @@ pub(crate) fn value_at<'v>(way: &[Step<'_>], document: &'v Table) -> Option<&'v 
 {
     match way {
         [Step::Key(key), rest @ ..] => match member(*key, document) {
-            Some(inner) => value_behind(rest, inner),
+            Some(inner) => follow_key_path(rest, inner),
             None => None,
         },
         _ => None,

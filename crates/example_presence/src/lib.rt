@@ -22,7 +22,7 @@ pub fn is_present(host: &mut Host, at: Bdf) -> bool
 
 /// Returns the number of devices on bus 0 whose function 0 is present. Registers and apertures
 /// aren't changed.
-pub fn devices(host: &mut Host) -> u8
+pub fn count_bus_0_devices(host: &mut Host) -> u8
     ensures value { result ≡ devices_below host.old.state.functions 32 }
     ensures registers { host.new.state.functions ≡ host.old.state.functions }
     ensures apertures { host.new.apertures ≡ host.old.apertures }

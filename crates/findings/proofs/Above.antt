@@ -3,7 +3,7 @@ use Rattle.std.{proofs.Common.{◌≡◌, List, [], ◌∷◌, refl, sym, ap, �
 use Rattle.lists.{specs.Elements.{first_some, IsIn}, proofs.Members.flat_map_same}
 use Rattle.model_board.specs.{Paths.{Path, is_ancestor_of}, Routing.RoutingRow}
 use Rattle.model_set_up.specs.PlacedRegions.{PlacedRegion}
-use Rattle.findings.{specs.{Regions.regions_of, BridgeViolations.{sort_blamed, blame, blames_of}, declared.bridge_violation.ViolationKind.ViolationKind}, proofs.Sorts.path_of}
+use Rattle.findings.{specs.{Regions.regions_of, BridgeViolations.{bars_to_check, blame, blames_of}, declared.bridge_violation.ViolationKind.ViolationKind}, proofs.Sorts.path_of}
 
 abbrev pub leads : Path → RoutingRow → Bool
 leads p r = is_ancestor_of r.path p
@@ -12,10 +12,10 @@ blames_above : (c : ViolationKind) (q : PlacedRegion) (rows : List RoutingRow) �
 blames_above c q [] = refl
 blames_above c q (r ∷ rows) = grind (arith, blames_above c q rows)
 
-pub function_blames : (c : ViolationKind) (rows above : List RoutingRow) (r : RoutingRow) → above ≡ filter (leads r.path) rows → flat_map (blames_of c above) (regions_of (sort_blamed c) r) ≡ flat_map (blames_of c rows) (regions_of (sort_blamed c) r)
-function_blames c rows above r e = flat_map_same (blames_of c above) (blames_of c rows) (regions_of (sort_blamed c) r) one
+pub function_blames : (c : ViolationKind) (rows above : List RoutingRow) (r : RoutingRow) → above ≡ filter (leads r.path) rows → flat_map (blames_of c above) (regions_of (bars_to_check c) r) ≡ flat_map (blames_of c rows) (regions_of (bars_to_check c) r)
+function_blames c rows above r e = flat_map_same (blames_of c above) (blames_of c rows) (regions_of (bars_to_check c) r) one
   where
-    one : (q : PlacedRegion) → IsIn q (regions_of (sort_blamed c) r) → blames_of c above q ≡ blames_of c rows q
+    one : (q : PlacedRegion) → IsIn q (regions_of (bars_to_check c) r) → blames_of c above q ≡ blames_of c rows q
     one q m =
-        let same : above ≡ filter (leads q.path) rows = e ∙ ap (λ (p : Path). filter (leads p) rows) (sym (path_of (sort_blamed c) r.path r.command r.ranges q m)) in
+        let same : above ≡ filter (leads q.path) rows = e ∙ ap (λ (p : Path). filter (leads p) rows) (sym (path_of (bars_to_check c) r.path r.command r.ranges q m)) in
         ap option_to_list (ap (first_some (blame c q)) same ∙ blames_above c q rows)

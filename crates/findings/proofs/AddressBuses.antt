@@ -2,8 +2,8 @@
 use Rattle.std.{proofs.{Common.{◌≡◌, ℕ, Bool, true, false, List, [], ◌∷◌, Some, None, Option, refl, sym, ap, ◌∙◌, eqb, length, arith}, lemmas.Bool.and_parts}, specs.{Prelude.{find, slice_get, unwrap_or}, Option.option_map_or}}
 use Rattle.lists.{specs.Elements.IsIn, proofs.{EachLemmas.pairs_from_map, FirstFound.found_in, Members.pair_in}}
 use Rattle.model_board.{specs.{Paths.{Path, path_eq}, Board.{Decl, endpoint, bridge, is_bridge}, State.BoardFunction, Cycles.secondary_register}, proofs.{PathOrder.path_same, PathEnds.not_before_itself}}
-use Rattle.model_findings.{specs.{Orderly.IsStateOfBoard, Found.{is_bridge_at, bus_now}}, proofs.Found.is_found_at}
-use Rattle.bridge_forward.specs.RoutingRows.{secondary_of, secondary_nth}
+use Rattle.model_findings.{specs.{Orderly.IsStateOfBoard, Found.{is_bridge_at, current_bus_number}}, proofs.Found.is_found_at}
+use Rattle.bridge_forward.specs.RoutingRows.{secondary_of, secondary_bus_nth}
 
 abbrev stands_at : Path → BoardFunction → Bool
 stands_at p f = path_eq f.path p
@@ -47,11 +47,11 @@ module _ (fs : List BoardFunction) (state : IsStateOfBoard fs) (p : Path) where
           let is : f.path ≡ p = path_same f.path p k.1 in
           sym (ap held (ap (λ (q : Path). find (is_bridge_at q) fs) (sym is) ∙ is_found_at fs state f k.0 (ap is_bridge e)))
 
-  some_bus : eqb (length p) 0 ≡ false → bus_now fs p ≡ held (find (is_bridge_at p) fs)
+  some_bus : eqb (length p) 0 ≡ false → current_bus_number fs p ≡ held (find (is_bridge_at p) fs)
   some_bus some = grind arith
 
-  pub number_by_index : eqb (length p) 0 ≡ false → (i : ℕ) → slice_get fs i ≡ there → unwrap_or (secondary_nth fs i) 0 ≡ bus_now fs p
+  pub number_by_index : eqb (length p) 0 ≡ false → (i : ℕ) → slice_get fs i ≡ there → unwrap_or (secondary_bus_nth fs i) 0 ≡ current_bus_number fs p
   number_by_index some i is = grind (arith, some_bus, none_at, its_number)
 
-  pub number_of_none : eqb (length p) 0 ≡ false → None ≡ there → 0 ≡ bus_now fs p
+  pub number_of_none : eqb (length p) 0 ≡ false → None ≡ there → 0 ≡ current_bus_number fs p
   number_of_none some e = sym (some_bus some ∙ ap held (none_at p fs (sym e)))

@@ -3,8 +3,8 @@ use Rattle.std.{proofs.{Common.{arith, ◌≡◌, ℕ, Bool, true, false, cond, 
 use Rattle.lists.specs.Elements.{first_some}
 use Rattle.model_board.specs.{Paths.is_ancestor_of, Routing.RoutingRow}
 use Rattle.model_set_up.specs.PlacedRegions.{PlacedRegion}
-use Rattle.model_findings.specs.{OpenRegions.open_regions, Problems.{unforwarded, forwarding_problem}, ReadinessIssues.{plain_regions, first_prefetched, prefetch_blame, prefetch_issue}}
-use Rattle.findings.{specs.{Regions.all_regions, BridgeViolations.{blame, blames_of, all_blames, unforwarded_problem, prefetched_issue}, declared.{regions.Sort.TheVariants.{Open, Plain}, bridge_violation.{BridgeViolation.BridgeViolation, ViolationKind.{ViolationKind, TheVariants.{NotForwarded, Prefetched}}}}}, proofs.Sorts.{all_open, all_plain}}
+use Rattle.model_findings.specs.{OpenRegions.open_regions, Problems.{first_unforwarded_address, forwarding_problem}, ReadinessIssues.{plain_regions, first_prefetched_address, prefetch_blame, prefetch_issue}}
+use Rattle.findings.{specs.{Regions.all_selected_bars, BridgeViolations.{blame, blames_of, all_violations, unforwarded_problem, prefetched_issue}, declared.{regions.Sort.TheVariants.{Open, Plain}, bridge_violation.{BridgeViolation.BridgeViolation, ViolationKind.{ViolationKind, TheVariants.{NotForwarded, Prefetched}}}}}, proofs.Sorts.{all_open, all_plain}}
 use Rattle.model_findings.specs.Problems as audit
 
 -- if a blame is told as g tells of its region and row, so is the first one, and so are all
@@ -26,12 +26,12 @@ one_told to true None of = refl
 one_told to true (Some n) of = refl
 one_told to false at of = refl
 
-pub forwarding : (rows : List RoutingRow) → map unforwarded_problem (all_blames NotForwarded rows) ≡ flat_map (forwarding_problem rows) (open_regions rows)
+pub forwarding : (rows : List RoutingRow) → map unforwarded_problem (all_violations NotForwarded rows) ≡ flat_map (forwarding_problem rows) (open_regions rows)
 forwarding rows =
-    all_unanswered NotForwarded unforwarded_problem audit.blame (λ q r. one_told unforwarded_problem (is_ancestor_of r.path q.path) (unforwarded r q) (λ n. record { region = q; bridge = r.path; address = n })) rows (all_regions Open rows)
+    all_unanswered NotForwarded unforwarded_problem audit.blame (λ q r. one_told unforwarded_problem (is_ancestor_of r.path q.path) (first_unforwarded_address r q) (λ n. record { region = q; bridge = r.path; address = n })) rows (all_selected_bars Open rows)
     ∙ ap (flat_map (forwarding_problem rows)) (all_open rows)
 
-pub prefetching : (rows : List RoutingRow) → map prefetched_issue (all_blames Prefetched rows) ≡ flat_map (prefetch_issue rows) (plain_regions rows)
+pub prefetching : (rows : List RoutingRow) → map prefetched_issue (all_violations Prefetched rows) ≡ flat_map (prefetch_issue rows) (plain_regions rows)
 prefetching rows =
-    all_unanswered Prefetched prefetched_issue prefetch_blame (λ q r. one_told prefetched_issue (is_ancestor_of r.path q.path) (first_prefetched r q) (λ n. record { region = q; bridge = r.path; address = n })) rows (all_regions Plain rows)
+    all_unanswered Prefetched prefetched_issue prefetch_blame (λ q r. one_told prefetched_issue (is_ancestor_of r.path q.path) (first_prefetched_address r q) (λ n. record { region = q; bridge = r.path; address = n })) rows (all_selected_bars Plain rows)
     ∙ ap (flat_map (prefetch_issue rows)) (all_plain rows)

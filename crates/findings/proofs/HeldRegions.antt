@@ -5,8 +5,8 @@ use Rattle.model_registers.specs.{EndpointTable.BaseAddress, Decoding.{Space, co
 use Rattle.model_board.specs.{Board.{Decl, endpoint, bridge}, Paths.Path, Claims.{Claim, first_claim}, State.BoardFunction, Routing.{ranges_of, row_of, routing}}
 use Rattle.model_set_up.specs.PlacedRegions.{PlacedRegion, holds}
 use Rattle.model_findings.specs.OpenRegions.{region_now, regions_of}
-use Rattle.model_lines.{specs.Why.{BlockReason, Cause, closed_by, stopped_at, stops, is_answer, causes_of, UnansweredRegion, told_of, is_closed, is_as_at_reset, apart, at_reset, Forwarder, forwarders, told, why}, proofs.Why.from_reverse}
-use Rattle.findings.specs.{WhyByRows.{is_held, held_in, held_of, all_held, told_from, is_held_as_at_reset, held_apart}, declared.holding.RegionWithCommand.RegionWithCommand}
+use Rattle.model_lines.{specs.Why.{BlockReason, Cause, closed_by, stopped_at, blockers, is_answering_bar, causes_of, UnansweredRegion, told_of, is_closed, is_as_at_reset, apart, at_reset, Forwarder, forwarders, told, why}, proofs.Why.from_reverse}
+use Rattle.findings.specs.{WhyByRows.{is_held, held_in, held_of, silent_holders, told_from, is_held_as_at_reset, held_apart}, declared.holding.RegionWithCommand.RegionWithCommand}
 
 filter_both : {A : Type 0} (s t : A → Bool) (xs : List A) → filter (λ x. s x && t x) xs ≡ filter t (filter s xs)
 filter_both s t [] = refl
@@ -39,28 +39,28 @@ module _ (fs : List BoardFunction) (space : Space) (n : ℕ) where
   function_told f = by f.decl
     where
       by : (d : Decl) → map (told_from fs space n) (held_in space n (first_claim fs space n) (command_word f.file) (regions_of (record { path = f.path; command = command_word f.file; ranges = ranges_of f.file d })))
-          ≡ map (tell f) (filter (λ q. not (is_answer (first_claim fs space n) q)) (filter (holds space n) (regions_of (record { path = f.path; command = command_word f.file; ranges = ranges_of f.file d }))))
+          ≡ map (tell f) (filter (λ q. not (is_answering_bar (first_claim fs space n) q)) (filter (holds space n) (regions_of (record { path = f.path; command = command_word f.file; ranges = ranges_of f.file d }))))
       by (bridge d) = refl
       by (endpoint d) =
           with_path f (is_held space n (first_claim fs space n)) (map (base_address f.file) d.regions)
-          ∙ ap (map (tell f)) (filter_both (holds space n) (λ q. not (is_answer (first_claim fs space n) q)) (map (region_now f.path) (map (base_address f.file) d.regions)))
+          ∙ ap (map (tell f)) (filter_both (holds space n) (λ q. not (is_answering_bar (first_claim fs space n) q)) (map (region_now f.path) (map (base_address f.file) d.regions)))
 
-  all_unanswered : (gs : List BoardFunction) → map (told_from fs space n) (all_held space n (first_claim fs space n) (routing gs)) ≡ flat_map (told_of fs space n) gs
+  all_unanswered : (gs : List BoardFunction) → map (told_from fs space n) (silent_holders space n (first_claim fs space n) (routing gs)) ≡ flat_map (told_of fs space n) gs
   all_unanswered [] = refl
   all_unanswered (f ∷ gs) = grind (arith, map-append, function_told, all_unanswered gs)
 
   -- ---- regions where reset leaves them
 
   -- a bridge above is no Command of the region's function
-  none_closed : (p : Path) (w : ℕ) → IsIn (closed_by w) (stops fs space n p) → ⊥
+  none_closed : (p : Path) (w : ℕ) → IsIn (closed_by w) (blockers fs space n p) → ⊥
   none_closed p w m = grind (arith, from_flat_map, not_stopped, from_option)
 
-  by_command : (p : Path) (command : ℕ) (u : Bool) → is_closed (reverse (stops fs space n p ++ cond u [] (closed_by command ∷ []))) ≡ not u
-  by_command p command false = ap is_closed (reverse-append (stops fs space n p) (closed_by command ∷ []))
+  by_command : (p : Path) (command : ℕ) (u : Bool) → is_closed (reverse (blockers fs space n p ++ cond u [] (closed_by command ∷ []))) ≡ not u
+  by_command p command false = ap is_closed (reverse-append (blockers fs space n p) (closed_by command ∷ []))
   by_command p command true =
-      unless_true (is_closed (reverse (stops fs space n p ++ []))) (λ e.
-      let c = closed_in (reverse (stops fs space n p ++ [])) e in
-      none_closed p c.0 (subst (IsIn (closed_by c.0)) (append-nil (stops fs space n p)) (from_reverse (closed_by c.0) (stops fs space n p ++ []) c.1)))
+      unless_true (is_closed (reverse (blockers fs space n p ++ []))) (λ e.
+      let c = closed_in (reverse (blockers fs space n p ++ [])) e in
+      none_closed p c.0 (subst (IsIn (closed_by c.0)) (append-nil (blockers fs space n p)) (from_reverse (closed_by c.0) (blockers fs space n p ++ []) c.1)))
 
   as_at_reset : (h : RegionWithCommand) → is_as_at_reset (told_from fs space n h) ≡ is_held_as_at_reset space h
   as_at_reset h = ap (λ t. h.region.first == 0 && t) (by_command h.region.path h.command (opens_space h.command space))
@@ -69,12 +69,12 @@ module _ (fs : List BoardFunction) (space : Space) (n : ℕ) where
   told_apart [] = refl
   told_apart (h ∷ hs) = grind (arith, as_at_reset, told_apart hs)
 
-  count_at_reset : (hs : List RegionWithCommand) → count_by (is_held_as_at_reset space) hs ≡ at_reset (map (told_from fs space n) hs)
-  count_at_reset hs = grind (arith, as_at_reset, fold-map)
+  count_unplaced : (hs : List RegionWithCommand) → count_by (is_held_as_at_reset space) hs ≡ at_reset (map (told_from fs space n) hs)
+  count_unplaced hs = grind (arith, as_at_reset, fold-map)
 
   -- what is told by rows is what is told of the address
   pub why_by_rows : (answer : Option Claim) (hs : List RegionWithCommand) (gs : List Forwarder) (ts : List UnansweredRegion) (k : ℕ)
-      → answer ≡ first_claim fs space n → hs ≡ all_held space n answer (routing fs) → gs ≡ forwarders fs space n
+      → answer ≡ first_claim fs space n → hs ≡ silent_holders space n answer (routing fs) → gs ≡ forwarders fs space n
       → ts ≡ map (told_from fs space n) (held_apart space hs) → k ≡ count_by (is_held_as_at_reset space) hs
       → record { answer = answer; forwarders = gs; told = ts; at_reset = k } ≡ why fs space n
-  why_by_rows answer hs gs ts k claimed held forwarded tells left = grind (arith, all_unanswered, told_apart, count_at_reset)
+  why_by_rows answer hs gs ts k claimed held forwarded tells left = grind (arith, all_unanswered, told_apart, count_unplaced)

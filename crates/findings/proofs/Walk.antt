@@ -4,7 +4,7 @@ use Rattle.lists.{specs.Elements.IsIn, proofs.Members.{each_from, in_map, in_fro
 use Rattle.model_registers.{specs.Decoding.{Space, same_space}, proofs.HitRegions.space_same}
 use Rattle.model_board.{specs.Paths.{Path, parent}, proofs.PathOrder.path_same}
 use Rattle.model_findings.{specs.{Agents.{Extent, Agent, answers}, Orderly.AreAlone, Problems.{contention, contentions}}, proofs.Problems.{Within, by_extent, no_contention}}
-use Rattle.findings.specs.{declared.span.Span.Span, Spans.{bus_hash, space_key, bus_and_space_hash, extent_span, agent_spans, spans_from, place_of, key_of, crowds, AreApartBut, is_crowded}}
+use Rattle.findings.specs.{declared.span.Span.Span, Spans.{bus_hash, space_key, bus_and_space_hash, extent_span, agent_spans, spans_from, place_of, sort_key, contains_group, AreApartBut, is_crowded}}
 
 -- ---- spans in order
 
@@ -17,11 +17,11 @@ get_any [] k d e h = absurd (omega arith)
 get_any (x ∷ xs) zero d e h = refl
 get_any (x ∷ xs) (suc k) d e h = get_any xs k d e (omega arith)
 
-module _ (spans : List Span) (rising : IsNonDecreasingBy key_of spans) (groups : List ℕ) (apart : AreApartBut groups spans) where
+module _ (spans : List Span) (rising : IsNonDecreasingBy sort_key spans) (groups : List ℕ) (apart : AreApartBut groups spans) where
   small : (s : Span) → place_of s ≤ 0xffffffffffffffff
   small s = min-le_right s.first 0xffffffffffffffff
 
-  later : (i j : ℕ) (d : Span) → i < j → j < length spans → (get_or spans i d).group ≡ (get_or spans j d).group → crowds groups (get_or spans j d).group ≡ false → (get_or spans i d).last < (get_or spans j d).first
+  later : (i j : ℕ) (d : Span) → i < j → j < length spans → (get_or spans i d).group ≡ (get_or spans j d).group → contains_group groups (get_or spans j d).group ≡ false → (get_or spans i d).last < (get_or spans j d).first
   later i j d before within same quiet =
       let low = rising i (i + 1) d (omega arith) (omega arith) in
       let high = rising (i + 1) j d (omega arith) within in
@@ -29,7 +29,7 @@ module _ (spans : List Span) (rising : IsNonDecreasingBy key_of spans) (groups :
       grind (arith, between, small, min-le_left)
 
   -- two spans of two agents
-  pub two_spans : (s t : Span) → Contains spans s → Contains spans t → (s.agent ≡ t.agent → ⊥) → s.group ≡ t.group → crowds groups t.group ≡ false → (s.last < t.first) ⊎ (t.last < s.first)
+  pub two_spans : (s t : Span) → Contains spans s → Contains spans t → (s.agent ≡ t.agent → ⊥) → s.group ≡ t.group → contains_group groups t.group ≡ false → (s.last < t.first) ⊎ (t.last < s.first)
   two_spans s t (i, l, e) (j, m, f) differ same quiet = by (sides i j)
     where
       sides : (i j : ℕ) → (i < j) ⊎ ((i ≡ j) ⊎ (j < i))
@@ -39,9 +39,9 @@ module _ (spans : List Span) (rising : IsNonDecreasingBy key_of spans) (groups :
       at_t = get_any spans j s t m ∙ f
 
       by : (i < j) ⊎ ((i ≡ j) ⊎ (j < i)) → (s.last < t.first) ⊎ (t.last < s.first)
-      by (inl h) = inl (subst (λ (x : Span). s.last < x.first) at_t (subst (λ (x : Span). x.last < (get_or spans j s).first) e (later i j s h m (ap (λ (x : Span). x.group) e ∙ same ∙ sym (ap (λ (x : Span). x.group) at_t)) (ap (λ (x : Span). crowds groups x.group) at_t ∙ quiet))))
+      by (inl h) = inl (subst (λ (x : Span). s.last < x.first) at_t (subst (λ (x : Span). x.last < (get_or spans j s).first) e (later i j s h m (ap (λ (x : Span). x.group) e ∙ same ∙ sym (ap (λ (x : Span). x.group) at_t)) (ap (λ (x : Span). contains_group groups x.group) at_t ∙ quiet))))
       by (inr (inl h)) = absurd (differ (ap (λ (x : Span). x.agent) (sym e ∙ ap (λ k. get_or spans k s) h ∙ at_t)))
-      by (inr (inr h)) = inr (subst (λ (x : Span). t.last < x.first) e (subst (λ (x : Span). x.last < (get_or spans i s).first) at_t (later j i s h l (ap (λ (x : Span). x.group) at_t ∙ sym same ∙ sym (ap (λ (x : Span). x.group) e)) (ap (λ (x : Span). crowds groups x.group) e ∙ ap (crowds groups) same ∙ quiet))))
+      by (inr (inr h)) = inr (subst (λ (x : Span). t.last < x.first) e (subst (λ (x : Span). x.last < (get_or spans i s).first) at_t (later j i s h l (ap (λ (x : Span). x.group) at_t ∙ sym same ∙ sym (ap (λ (x : Span). x.group) e)) (ap (λ (x : Span). contains_group groups x.group) e ∙ ap (contains_group groups) same ∙ quiet))))
 
 -- ---- agents
 
@@ -61,7 +61,7 @@ left_out : {A B : Type 0} (f : A → List B) (p : A → Bool) (xs : List A) → 
 left_out f p [] none = refl
 left_out f p (x ∷ xs) none = let rest = left_out f p xs (λ y m. none y (inr m)) in grind (arith, rest, none x (inl refl))
 
-module _ (all spans : List Span) (moved : IsPermutation all spans) (rising : IsNonDecreasingBy key_of spans) (groups : List ℕ) (apart : AreApartBut groups spans) where
+module _ (all spans : List Span) (moved : IsPermutation all spans) (rising : IsNonDecreasingBy sort_key spans) (groups : List ℕ) (apart : AreApartBut groups spans) where
   alone : (m n : ℕ) (a b : Agent) → m < n → ((x : Span) → IsIn x (agent_spans m a) → IsIn x all) → ((x : Span) → IsIn x (agent_spans n b) → IsIn x all) → (is_crowded groups a ≡ false) ⊎ (is_crowded groups b ≡ false) → AreAlone a b
   alone m n a b less own other quiet bus space x h = by (answers space x b) refl
     where
@@ -79,7 +79,7 @@ module _ (all spans : List Span) (moved : IsPermutation all spans) (rising : IsN
               same_group = ap₂ (λ (p : Path) (z : Space). bus_hash p * 2 + space_key z) (path_same (parent a.path) (parent b.path) bus) (space_same a.space space s ∙ sym (space_same b.space space t))
 
               quiet_there : (is_crowded groups a ≡ false) ⊎ (is_crowded groups b ≡ false) → is_crowded groups b ≡ false
-              quiet_there (inl k) = ap (crowds groups) (sym same_group) ∙ k
+              quiet_there (inl k) = ap (contains_group groups) (sym same_group) ∙ k
               quiet_there (inr k) = k
 
               of : (e.end - 1 < f.first) ⊎ (f.end - 1 < e.first) → ⊥
@@ -98,7 +98,7 @@ module _ (all spans : List Span) (moved : IsPermutation all spans) (rising : IsN
       by true e rest = ap₂ ◌++◌ (left_out (contention a) (is_crowded groups) bs (λ b m k. none b m (inr k))) rest
       by false e rest = rest ∙ sym (ap (λ ps. ps ++ contentions bs) (each_none (contention a) bs (each_from (λ b. contention a b ≡ []) bs (λ b m. none b m (inl e)))))
 
-pub few_contended : (agents : List Agent) (spans : List Span) (groups : List ℕ) → IsPermutation (spans_from 0 agents) spans → IsNonDecreasingBy key_of spans → AreApartBut groups spans → contentions (filter (is_crowded groups) agents) ≡ contentions agents
+pub few_contended : (agents : List Agent) (spans : List Span) (groups : List ℕ) → IsPermutation (spans_from 0 agents) spans → IsNonDecreasingBy sort_key spans → AreApartBut groups spans → contentions (filter (is_crowded groups) agents) ≡ contentions agents
 few_contended agents spans groups moved rising apart = pruned (spans_from 0 agents) spans moved rising groups apart 0 agents (λ x m. m)
 
 -- ---- the spans of agents, one after the other

@@ -4,7 +4,7 @@
 --     lost_function fs p      the problem of the function at a path, if it has one
 use Rattle.std.specs.{Prelude.{List, [], ◌∷◌, Bool, true, false, ◌&&◌, if◌then◌else◌, Option}, Option.option_map_or}
 use Rattle.model_board.specs.{Paths.{Path, path_eq}, State.BoardFunction, Routing.{Ranges, regions, windows, RoutingRow}}
-use Rattle.model_findings.specs.{Found.{address_now, path_reached}, Problems.{Problem, not_found}}
+use Rattle.model_findings.specs.{Found.{current_bdf, path_reached}, Problems.{Problem, not_found}}
 
 abbrev pub is_windows : Ranges → Bool
 is_windows (regions bs) = false
@@ -18,4 +18,4 @@ is_there p o = option_map_or (λ q. path_eq q p) o false
 
 abbrev pub lost_function : List BoardFunction → Path → List Problem
 lost_function fs p =
-    if is_there p (path_reached fs p) then [] else not_found p (address_now fs p) (path_reached fs p) ∷ []
+    if is_there p (path_reached fs p) then [] else not_found p (current_bdf fs p) (path_reached fs p) ∷ []

@@ -1,7 +1,7 @@
 -- The addresses that agents answer, in the code's types.
 --     extent_of, extents_of      a window, both ends included, and up to two of them
 --     least_of      the lesser of two numbers that may be there
---     first_missed es q      the least address of a region that none of some extents holds
+--     first_missed_address es q      the least address of a region that none of some extents holds
 use Rattle.std.specs.{Prelude.{List, ◌∷◌, ◌++◌, ℕ, ◌+◌, ◌&&◌, not, min, Option, Some, None, map, filter}, List.list_any, Option.{option_map, option_to_list}}
 use Rattle.model_set_up.specs.PlacedRegions.{PlacedRegion, holds}
 use Rattle.model_findings.specs.{Agents.{Extent, extent_holds}, Problems.least}
@@ -19,6 +19,6 @@ least_of (Some x) None = Some x
 least_of (Some x) (Some y) = Some (min x y)
 
 -- addresses that none holds begin at the region's first byte, or where an extent ends
-abbrev pub first_missed : List Extent → PlacedRegion → Option ℕ
-first_missed es q =
+abbrev pub first_missed_address : List Extent → PlacedRegion → Option ℕ
+first_missed_address es q =
     least (filter (λ n. holds q.space n q && not (list_any (extent_holds n) es)) (q.first ∷ map (λ e. e.end) es))

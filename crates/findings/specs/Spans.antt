@@ -3,7 +3,7 @@
 --     window_span, agent_spans, spans_from      the spans of a window, of an agent and of agents from an index on
 --     place_of, key_of      a first address; the order of spans: by bus and space, then by first address
 --     EndsBefore s t      a span ends before the next one begins, if that is of the same bus and space
---     crowds groups g      one of some buses and spaces
+--     contains_group groups g      one of some buses and spaces
 --     AreApartBut groups spans      but in these, each span ends before the next one begins
 --     is_crowded groups a      an agent there
 use Rattle.std.specs.{Prelude.{List, [], ◌∷◌, ◌++◌, ◌≡◌, ℕ, ◌+◌, ◌-◌, ◌*◌, ◌%◌, ◌<◌, ◌==◌, Bool, IsFalse, min, map, length, slice_index_or}, List.list_any}
@@ -41,19 +41,19 @@ spans_from n (a ∷ bs) = agent_spans n a ++ spans_from (n + 1) bs
 abbrev pub place_of : Span → ℕ
 place_of s = min s.first 0xffffffffffffffff
 
-abbrev pub key_of : Span → ℕ
-key_of s = s.group * 0x10000000000000000 + place_of s
+abbrev pub sort_key : Span → ℕ
+sort_key s = s.group * 0x10000000000000000 + place_of s
 
 abbrev pub EndsBefore : Span → Span → Type 0
 EndsBefore s t = s.group ≡ t.group → s.last < place_of t
 
-abbrev pub crowds : List ℕ → ℕ → Bool
-crowds groups g = list_any (λ h. h == g) groups
+abbrev pub contains_group : List ℕ → ℕ → Bool
+contains_group groups g = list_any (λ h. h == g) groups
 
 abbrev pub AreApartBut : List ℕ → List Span → Type 0
 AreApartBut groups spans = (i : ℕ) (d : Span) → i + 1 < length spans
-    → IsFalse (crowds groups (slice_index_or spans (i + 1) d).group)
+    → IsFalse (contains_group groups (slice_index_or spans (i + 1) d).group)
     → EndsBefore (slice_index_or spans i d) (slice_index_or spans (i + 1) d)
 
 abbrev pub is_crowded : List ℕ → Agent → Bool
-is_crowded groups a = crowds groups (bus_and_space_hash a)
+is_crowded groups a = contains_group groups (bus_and_space_hash a)

@@ -1,6 +1,6 @@
 -- The explanation of an address, computed from routing registers and the declarations of bridges.
 --     row_windows, row_hindrance, row_stop      of a bridge, by its row
---     RegionWithCommand, held_in, held_of, all_held      regions that hold an address and don't answer, each with its function's Command
+--     RegionWithCommand, held_in, held_of, silent_holders      regions that hold an address and don't answer, each with its function's Command
 --     causes_at, told_from      all that keeps such a region from answering, by its path and Command; what is told of it
 --     is_held_as_at_reset, held_apart      it stands where reset leaves it, by its Command; those that don't
 --     selected t g xs      of the elements that pass a test
@@ -10,7 +10,7 @@ use Rattle.model_registers.specs.{Declarations.Bridge, Decoding.{Space, io, memo
 use Rattle.model_board.specs.{Paths.{Path, is_ancestor_of}, Claims.Claim, State.BoardFunction, Routing.{Ranges, regions, windows, RoutingRow, row_forwards, is_routed}}
 use Rattle.model_set_up.specs.PlacedRegions.{PlacedRegion, holds}
 use Rattle.model_findings.specs.OpenRegions.{regions_of}
-use Rattle.model_lines.specs.Why.{NamedWindow, named, for_memory, io_windows, pref_windows, BlockReason, closes, misses, Cause, closed_by, stopped_at, stops, is_answer, UnansweredRegion, Forwarder, forwarder, passes_on}
+use Rattle.model_lines.specs.Why.{NamedWindow, named, for_memory, io_windows, pref_windows, BlockReason, closes, misses, Cause, closed_by, stopped_at, blockers, is_answering_bar, UnansweredRegion, Forwarder, forwarder, reaches_and_forwards}
 use Rattle.findings.specs.declared.holding.RegionWithCommand.{RegionWithCommand}
 
 abbrev pub row_windows : Space → Bridge → Ranges → List NamedWindow
@@ -30,7 +30,7 @@ row_stop space n p d r =
 -- ---- regions that hold the address
 
 abbrev pub is_held : Space → ℕ → Option Claim → PlacedRegion → Bool
-is_held space n answer q = holds space n q && not (is_answer answer q)
+is_held space n answer q = holds space n q && not (is_answering_bar answer q)
 
 abbrev pub held_in : Space → ℕ → Option Claim → ℕ → List PlacedRegion → List RegionWithCommand
 held_in space n answer command qs =
@@ -39,14 +39,14 @@ held_in space n answer command qs =
 abbrev pub held_of : Space → ℕ → Option Claim → RoutingRow → List RegionWithCommand
 held_of space n answer r = held_in space n answer r.command (regions_of r)
 
-abbrev pub all_held : Space → ℕ → Option Claim → List RoutingRow → List RegionWithCommand
-all_held space n answer rows = flat_map (held_of space n answer) rows
+abbrev pub silent_holders : Space → ℕ → Option Claim → List RoutingRow → List RegionWithCommand
+silent_holders space n answer rows = flat_map (held_of space n answer) rows
 
 -- ---- what keeps them from answering
 
 abbrev pub causes_at : List BoardFunction → Space → ℕ → Path → ℕ → List Cause
 causes_at fs space n p command =
-    reverse (stops fs space n p ++ (if opens_space command space then [] else closed_by command ∷ []))
+    reverse (blockers fs space n p ++ (if opens_space command space then [] else closed_by command ∷ []))
 
 abbrev pub told_from : List BoardFunction → Space → ℕ → RegionWithCommand → UnansweredRegion
 told_from fs space n h = record { region = h.region; causes = causes_at fs space n h.region.path h.command }
@@ -68,4 +68,4 @@ row_forwarder space n rows bus r =
     then record { path = r.path; bus = unwrap_or bus 0 } ∷ [] else []
 
 abbrev pub forwarders_among : List BoardFunction → Space → ℕ → List BoardFunction → List Forwarder
-forwarders_among fs space n gs = selected (passes_on fs space n) forwarder gs
+forwarders_among fs space n gs = selected (reaches_and_forwards fs space n) forwarder gs

@@ -3,10 +3,10 @@
 --     is_taker, paths_taking      a bridge that takes a cycle on a bus; those among some functions
 --     taken fs bus n      that bridge, and whether it is the last
 --     missing_by      what is missing at the end, unless a path is reached
---     is_unfound, unfound      a function, by its path, that has a number and isn't reached; those among some rows
+--     has_bdf_but_not_reached, unfound      a function, by its path, that has a number and isn't reached; those among some rows
 use Rattle.std.specs.Prelude.{List, [], ℕ, Bool, ◌&&◌, ◌==◌, not, Option, Some, None, option_map, unwrap_or, map, filter}
 use Rattle.model_board.specs.{Paths.{Path, path_eq, parent}, State.BoardFunction, Cycles.{secondary_register, covers, taker, BusAddress}, Routing.RoutingRow}
-use Rattle.model_findings.specs.Found.{address_now}
+use Rattle.model_findings.specs.Found.{current_bdf}
 use Rattle.findings.specs.{Bridges.is_there, WhyByRows.selected, declared.cycle_way.{WayEnd.{WayEnd, TheVariants.{OnBus, NoTaker}}, Taken.Taken}}
 use Rattle.model_lines.specs.Ways as ways
 
@@ -30,9 +30,9 @@ abbrev pub missing_by : Option Path → ways.WayEnd → BusAddress → Option wa
 missing_by None e at = Some (ways.missing_at e at)
 missing_by (Some p) e at = None
 
-abbrev pub is_unfound : List BoardFunction → BusAddress → Option Path → Path → Bool
-is_unfound fs at reached p = ways.address_eq (address_now fs p) at && not (is_there p reached)
+abbrev pub has_bdf_but_not_reached : List BoardFunction → BusAddress → Option Path → Path → Bool
+has_bdf_but_not_reached fs at reached p = ways.address_eq (current_bdf fs p) at && not (is_there p reached)
 
-abbrev pub unfound : List BoardFunction → BusAddress → Option Path → List RoutingRow → List Path
-unfound fs at reached rows =
-    map (λ (r : RoutingRow). r.path) (filter (λ (r : RoutingRow). is_unfound fs at reached r.path) rows)
+abbrev pub unreached : List BoardFunction → BusAddress → Option Path → List RoutingRow → List Path
+unreached fs at reached rows =
+    map (λ (r : RoutingRow). r.path) (filter (λ (r : RoutingRow). has_bdf_but_not_reached fs at reached r.path) rows)

@@ -6,8 +6,8 @@ ghost use Rattle.model_lines.specs.Why.{why};
 ghost use Rattle.findings.specs.{WhyByRows.{told_from, is_held_as_at_reset, held_apart}, WhyTold.{region_told, why_told}};
 
 use crate::causes::{UnansweredRegion, Why};
-use crate::holding::{AddressQuery, RegionWithCommand, all_held};
-use crate::row::opens;
+use crate::holding::{AddressQuery, RegionWithCommand, silent_holders};
+use crate::row::enables_space;
 use crate::stopping::causes_of;
 use crate::why_forwarding::forwarders;
 use bars::Space;
@@ -19,7 +19,7 @@ use std::alloc::{AllocError, Global};
 fn is_as_at_reset(asked: &AddressQuery, held: &RegionWithCommand) -> bool
     ensures { result ≡ is_held_as_at_reset (named_space asked.now.space) held.now }
 {
-    held.region.region.base == 0 && !opens(held.command, asked.space)
+    held.region.region.base == 0 && !enables_space(held.command, asked.space)
 }
 
 /// Returns what keeps each BAR in the list from answering. Leaves out BARs in their reset state.
@@ -49,7 +49,7 @@ fn all_unanswered(
 }
 
 /// Returns how many BARs in the list are in their reset state.
-fn count_at_reset(asked: &AddressQuery, held: &[RegionWithCommand]) -> usize
+fn count_unplaced(asked: &AddressQuery, held: &[RegionWithCommand]) -> usize
     ensures { let left = is_held_as_at_reset (named_space asked.now.space) in
         result ≡ count_by left held.now }
 {
@@ -70,9 +70,9 @@ pub fn why_address(alloc: Global, host: &Host, space: Space, addr: u64) -> Resul
         addr,
         answer: host.claimant(space, addr),
     };
-    let held = all_held(alloc, &asked, &rows)?;
+    let held = silent_holders(alloc, &asked, &rows)?;
     let told = all_unanswered(alloc, host, &rows, &asked, &held)?;
-    let at_reset = count_at_reset(&asked, &held);
+    let at_reset = count_unplaced(&asked, &held);
     Ok(Why {
         forwarders: forwarders(alloc, host, &rows, &asked)?,
         answer: asked.answer,

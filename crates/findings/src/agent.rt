@@ -4,8 +4,8 @@ ghost use Rattle.bars.specs.Kinds.{named_space};
 ghost use Rattle.model_board.specs.Paths.{path_eq};
 ghost use Rattle.model_findings.specs.Agents.{extent_holds, region_agent, bridge_agent, on_one_bus};
 
-use crate::region::{LiveBar, extent};
-use crate::row::{forwarded, holds_any};
+use crate::region::{LiveBar, bar_window};
+use crate::row::{either_holds, forwarding_windows};
 use bars::Space;
 use bridge_forward::{Part, Path, RoutingRow, Window};
 use std::marker::Model;
@@ -46,7 +46,7 @@ impl Agent {
             path: region.path.copied(),
             register: Some(region.region.index),
             space: region.region.kind.space(),
-            one: Some(extent(region.region)),
+            one: Some(bar_window(region.region)),
             other: None,
         }
     }
@@ -55,7 +55,7 @@ impl Agent {
     pub(crate) fn of_bridge(row: &RoutingRow, space: Space) -> Agent
         ensures { result ≡ bridge_agent row.now (named_space space) }
     {
-        let (one, other) = forwarded(row, space);
+        let (one, other) = forwarding_windows(row, space);
         Agent {
             path: row.path.copied(),
             register: None,
@@ -79,10 +79,10 @@ impl Agent {
     }
 
     /// Returns whether the responder claims an address of its own space.
-    pub(crate) fn answers(&self, addr: u64) -> bool
+    pub(crate) fn claims_address(&self, addr: u64) -> bool
         ensures { result ≡ list_any (extent_holds addr) self.now.extents }
     {
-        holds_any(self.one, self.other, addr)
+        either_holds(self.one, self.other, addr)
     }
 
     /// Returns whether both responders are on the same bus.

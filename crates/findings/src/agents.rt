@@ -4,7 +4,7 @@ ghost use Rattle.model_findings.specs.Agents.{region_agent, agents_of, agents};
 
 use crate::agent::Agent;
 use crate::region::LiveBar;
-use crate::regions::{Sort, add_regions};
+use crate::regions::{Sort, add_selected_of_function};
 use bars::Space;
 use bridge_forward::{Ranges, RoutingRow};
 use std::alloc::{AllocError, Global};
@@ -20,13 +20,17 @@ fn add_region_agents(told: &mut Vec<Agent>, regions: &[LiveBar]) -> Result<(), A
 }
 
 /// Appends the responders for a function.
-fn add_agents(alloc: Global, told: &mut Vec<Agent>, row: &RoutingRow) -> Result<(), AllocError>
+fn add_function_agents(
+    alloc: Global,
+    told: &mut Vec<Agent>,
+    row: &RoutingRow,
+) -> Result<(), AllocError>
     ensures { OnOk result (told.new.items ≡ told.old.items ++ agents_of row.now) }
 {
     match &row.ranges {
         Ranges::Regions(_) => {
             let mut regions = Vec::new(alloc);
-            add_regions(&mut regions, Sort::Open, row)?;
+            add_selected_of_function(&mut regions, Sort::Open, row)?;
             add_region_agents(told, &regions)
         }
         Ranges::Windows { .. } => {
@@ -43,7 +47,7 @@ pub(crate) fn agents(alloc: Global, rows: &[RoutingRow]) -> Result<Vec<Agent>, A
 {
     let mut told = Vec::new(alloc);
     for row in rows {
-        add_agents(alloc, &mut told, row)?;
+        add_function_agents(alloc, &mut told, row)?;
     }
     Ok(told)
 }

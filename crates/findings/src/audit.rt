@@ -4,12 +4,12 @@ ghost use Rattle.model_findings.specs.Problems.{problems, routing_problems};
 ghost use Rattle.findings.specs.Findings.{problem_of};
 
 use crate::agents::agents;
-use crate::bridge_violation::{ViolationKind, all_blames};
+use crate::bridge_violation::{ViolationKind, all_violations};
 use crate::contention::add_all_contentions;
-use crate::forwarding::add_forwarding;
-use crate::numbering::add_numbering;
+use crate::forwarding::add_not_forwarded_problems;
+use crate::numbering::add_numbering_problems;
 use crate::problem::Problem;
-use crate::span::crowded;
+use crate::span::agents_in_overlapping_groups;
 use bridge_forward::RoutingRow;
 use host_bridge::Host;
 use std::alloc::{AllocError, Global};
@@ -20,12 +20,12 @@ use std::alloc::{AllocError, Global};
 fn routing_problems(alloc: Global, rows: &[RoutingRow]) -> Result<Vec<Problem>, AllocError>
     ensures { IfOk result (λ v. map problem_of v.items ≡ routing_problems rows.now) }
 {
-    let unforwarded = all_blames(alloc, ViolationKind::NotForwarded, rows)?;
+    let unforwarded = all_violations(alloc, ViolationKind::NotForwarded, rows)?;
     let mut told = Vec::new(alloc);
-    add_forwarding(&mut told, &unforwarded)?;
+    add_not_forwarded_problems(&mut told, &unforwarded)?;
     let agents = agents(alloc, rows)?;
-    let crowded = crowded(alloc, &agents)?;
-    add_all_contentions(&mut told, &crowded)?;
+    let agents_in_overlapping_groups = agents_in_overlapping_groups(alloc, &agents)?;
+    add_all_contentions(&mut told, &agents_in_overlapping_groups)?;
     Ok(told)
 }
 
@@ -39,6 +39,6 @@ pub fn problems(alloc: Global, host: &mut Host) -> Result<Vec<Problem>, AllocErr
 {
     let rows = host.routing(alloc)?;
     let mut told = routing_problems(alloc, &rows)?;
-    add_numbering(&mut told, host, &rows)?;
+    add_numbering_problems(&mut told, host, &rows)?;
     Ok(told)
 }

@@ -2,12 +2,12 @@
 ghost use Rattle.std.specs.Prelude.{◌≡◌, ◌++◌, map, filter, flat_map, IfOk, OnOk};
 ghost use Rattle.lists.specs.Elements.{first_some};
 ghost use Rattle.model_board.specs.Paths.{is_ancestor_of};
-ghost use Rattle.findings.specs.{BridgeViolations.{sort_blamed, address_blamed, blame, blames_of, all_blames}, Regions.regions_of};
+ghost use Rattle.findings.specs.{BridgeViolations.{bars_to_check, first_violating_address, blame, blames_of, all_violations}, Regions.regions_of};
 
-use crate::forwarding::unforwarded;
-use crate::prefetching::first_prefetched;
+use crate::forwarding::first_unforwarded_address;
+use crate::prefetching::first_prefetched_address;
 use crate::region::LiveBar;
-use crate::regions::{Sort, add_regions};
+use crate::regions::{Sort, add_selected_of_function};
 use bridge_forward::{Path, RoutingRow};
 use std::alloc::{AllocError, Global};
 
@@ -28,8 +28,8 @@ pub(crate) struct BridgeViolation {
 }
 
 /// Returns which BARs to check for this kind of error.
-fn sort_blamed(charge: ViolationKind) -> Sort
-    ensures { result ≡ sort_blamed charge }
+fn bars_to_check(charge: ViolationKind) -> Sort
+    ensures { result ≡ bars_to_check charge }
 {
     match charge {
         ViolationKind::NotForwarded => Sort::Open,
@@ -38,23 +38,27 @@ fn sort_blamed(charge: ViolationKind) -> Sort
 }
 
 /// Returns the lowest address of a BAR that a bridge mishandles, if there is one.
-fn address_blamed(charge: ViolationKind, row: &RoutingRow, region: &LiveBar) -> Option<u64>
-    ensures { result ≡ address_blamed charge row.now region.now }
+fn first_violating_address(charge: ViolationKind, row: &RoutingRow, region: &LiveBar) -> Option<u64>
+    ensures { result ≡ first_violating_address charge row.now region.now }
 {
     match charge {
-        ViolationKind::NotForwarded => unforwarded(row, region),
-        ViolationKind::Prefetched => first_prefetched(row, region),
+        ViolationKind::NotForwarded => first_unforwarded_address(row, region),
+        ViolationKind::Prefetched => first_prefetched_address(row, region),
     }
 }
 
 /// Returns a bridge's violation, if the bridge is above the BAR and mishandles it.
-fn blame_by(charge: ViolationKind, row: &RoutingRow, region: &LiveBar) -> Option<BridgeViolation>
+fn violation_by_bridge(
+    charge: ViolationKind,
+    row: &RoutingRow,
+    region: &LiveBar,
+) -> Option<BridgeViolation>
     ensures { result ≡ blame charge region.now row.now }
 {
     if !row.path.is_ancestor_of(&region.path) {
         return None;
     }
-    let address = address_blamed(charge, row, region)?;
+    let address = first_violating_address(charge, row, region)?;
     Some(BridgeViolation {
         region: region.copied(),
         bridge: row.path.copied(),
@@ -63,7 +67,7 @@ fn blame_by(charge: ViolationKind, row: &RoutingRow, region: &LiveBar) -> Option
 }
 
 /// Returns the violation of the first of these bridges that mishandles the BAR.
-fn first_blame(
+fn first_violation(
     charge: ViolationKind,
     above: &[&RoutingRow],
     region: &LiveBar,
@@ -71,7 +75,7 @@ fn first_blame(
     ensures { result ≡ first_some (blame charge region.now) (map (λ r. r.now) above.now) }
 {
     for row in above {
-        if let Some(first) = blame_by(charge, *row, region) {
+        if let Some(first) = violation_by_bridge(charge, *row, region) {
             return Some(first);
         }
     }
@@ -79,7 +83,7 @@ fn first_blame(
 }
 
 /// Appends a violation for each of these BARs that one of the bridges mishandles.
-fn add_blames(
+fn add_violations(
     told: &mut Vec<BridgeViolation>,
     charge: ViolationKind,
     above: &[&RoutingRow],
@@ -90,7 +94,7 @@ fn add_blames(
         ++ flat_map (blames_of charge (map (λ r. r.now) above.now)) regions.now) }
 {
     for region in regions {
-        if let Some(first) = first_blame(charge, above, region) {
+        if let Some(first) = first_violation(charge, above, region) {
             told.push(first)?;
         }
     }
@@ -99,7 +103,7 @@ fn add_blames(
 
 /// Returns the rows of the bridges above a path. They are collected only once for all BARs of a
 /// function.
-fn rows_above<'a>(
+fn bridge_rows_above<'a>(
     alloc: Global,
     rows: &'a [RoutingRow],
     path: &Path,
@@ -117,7 +121,7 @@ fn rows_above<'a>(
 }
 
 /// Appends the violations for a function's BARs.
-fn add_function(
+fn add_function_violations(
     alloc: Global,
     told: &mut Vec<BridgeViolation>,
     charge: ViolationKind,
@@ -125,25 +129,25 @@ fn add_function(
     row: &RoutingRow,
 ) -> Result<(), AllocError>
     ensures { OnOk result (told.new.items ≡ told.old.items
-        ++ flat_map (blames_of charge rows.now) (regions_of (sort_blamed charge) row.now)) }
+        ++ flat_map (blames_of charge rows.now) (regions_of (bars_to_check charge) row.now)) }
 {
     let mut regions = Vec::new(alloc);
-    add_regions(&mut regions, sort_blamed(charge), row)?;
-    let above = rows_above(alloc, rows, &row.path)?;
-    add_blames(told, charge, &above, &regions)
+    add_selected_of_function(&mut regions, bars_to_check(charge), row)?;
+    let above = bridge_rows_above(alloc, rows, &row.path)?;
+    add_violations(told, charge, &above, &regions)
 }
 
 /// Returns the violations for the BARs of all functions.
-pub(crate) fn all_blames(
+pub(crate) fn all_violations(
     alloc: Global,
     charge: ViolationKind,
     rows: &[RoutingRow],
 ) -> Result<Vec<BridgeViolation>, AllocError>
-    ensures { IfOk result (λ v. v.items ≡ all_blames charge rows.now) }
+    ensures { IfOk result (λ v. v.items ≡ all_violations charge rows.now) }
 {
     let mut told = Vec::new(alloc);
     for row in rows {
-        add_function(alloc, &mut told, charge, rows, row)?;
+        add_function_violations(alloc, &mut told, charge, rows, row)?;
     }
     Ok(told)
 }

@@ -1,6 +1,6 @@
 //! Computes the BDF at which a function is reached (PCI-to-PCI Bridge Architecture 1.2, chapter 3).
 ghost use Rattle.std.specs.Prelude.{◌≡◌, ◌≤◌, ◌<◌, ◌+◌, ◌++◌, length};
-ghost use Rattle.model_findings.specs.{Orderly.IsStateOfBoard, Found.{bus_now, address_now}};
+ghost use Rattle.model_findings.specs.{Orderly.IsStateOfBoard, Found.{current_bus_number, current_bdf}};
 ghost use Rattle.paths.specs.BusAddresses.{bus_address_of};
 
 use host_bridge::{Bdf, Host};
@@ -35,16 +35,16 @@ fn path_of(parts: &[Part]) -> Path
 
 /// Returns the number of a bus: 0 for bus 0, and the Secondary Bus Number of the bridge above for
 /// other buses.
-fn bus_of(host: &Host, bus: &[Part]) -> u8
+fn bus_number_of_path(host: &Host, bus: &[Part]) -> u8
     requires board { IsStateOfBoard host.now.state.functions }
     requires short { length bus.now < 16 }
-    ensures { result ≡ bus_now host.now.state.functions bus.now }
+    ensures { result ≡ current_bus_number host.now.state.functions bus.now }
 {
     if bus.is_empty() {
         return 0;
     }
     match host.index_of(&path_of(bus)) {
-        Some(index) => host.secondary_nth(index).unwrap_or(0),
+        Some(index) => host.secondary_bus_nth(index).unwrap_or(0),
         None => 0,
     }
 }
@@ -53,11 +53,11 @@ fn bus_of(host: &Host, bus: &[Part]) -> u8
 /// number.
 pub fn address_of(host: &Host, path: &Path) -> Bdf
     requires { IsStateOfBoard host.now.state.functions }
-    ensures { bus_address_of result ≡ address_now host.now.state.functions path.now }
+    ensures { bus_address_of result ≡ current_bdf host.now.state.functions path.now }
 {
     let part = path.last();
     Bdf {
-        bus: bus_of(host, path.parent()),
+        bus: bus_number_of_path(host, path.parent()),
         device: part.device(),
         function: part.function(),
     }

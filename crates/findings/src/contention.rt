@@ -5,21 +5,21 @@ ghost use Rattle.model_findings.specs.{Agents.answers, Problems.{shared, content
 ghost use Rattle.findings.specs.{Extents.extent_of, Findings.problem_of};
 
 use crate::agent::Agent;
-use crate::missed_address::lesser;
+use crate::missed_address::min_of_present;
 use crate::problem::Problem;
 use crate::row::is_same_space;
 use bridge_forward::Window;
 use std::alloc::AllocError;
 
 /// Returns the first address of a window if both responders claim it.
-fn if_shared(one: &Agent, other: &Agent, window: Option<Window>) -> Option<u64>
+fn window_start_if_shared(one: &Agent, other: &Agent, window: Option<Window>) -> Option<u64>
     requires { IsTrue (same_space one.now.space other.now.space) }
     ensures { option_to_list result
         ≡ filter (λ n. answers one.now.space n one.now && answers one.now.space n other.now)
         (map (λ e. e.first) (option_to_list (option_map extent_of window))) }
 {
     let first = window?.first;
-    if one.answers(first) && other.answers(first) {
+    if one.claims_address(first) && other.claims_address(first) {
         Some(first)
     } else {
         None
@@ -27,17 +27,17 @@ fn if_shared(one: &Agent, other: &Agent, window: Option<Window>) -> Option<u64>
 }
 
 /// Returns the lowest address that both responders claim.
-fn shared(one: &Agent, other: &Agent) -> Option<u64>
+fn lowest_shared_address(one: &Agent, other: &Agent) -> Option<u64>
     ensures { result ≡ shared one.now other.now }
 {
     if !is_same_space(one.space, other.space) {
         return None;
     }
-    let third = if_shared(one, other, other.one);
-    let fourth = if_shared(one, other, other.other);
-    let second = if_shared(one, other, one.other);
-    let first = if_shared(one, other, one.one);
-    lesser(first, lesser(second, lesser(third, fourth)))
+    let third = window_start_if_shared(one, other, other.one);
+    let fourth = window_start_if_shared(one, other, other.other);
+    let second = window_start_if_shared(one, other, one.other);
+    let first = window_start_if_shared(one, other, one.one);
+    min_of_present(first, min_of_present(second, min_of_present(third, fourth)))
 }
 
 /// Returns the conflict between two responders, if they are on the same bus and share an address.
@@ -47,7 +47,7 @@ fn contention(one: &Agent, other: &Agent) -> Option<Problem>
     if !one.is_on_same_bus(other) {
         return None;
     }
-    let address = shared(one, other)?;
+    let address = lowest_shared_address(one, other)?;
     Some(Problem::Contended {
         one: one.copied(),
         other: other.copied(),

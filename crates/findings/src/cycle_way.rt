@@ -33,47 +33,47 @@ pub(crate) struct Taken {
 }
 
 /// Returns whether a function is on the bus.
-fn is_on(path: &Path, bus: &Option<Path>) -> bool
+fn is_on_bus(path: &Path, bus: &Option<Path>) -> bool
     ensures { result ≡ path_eq (parent path.now) (unwrap_or bus.now []) }
 {
     match bus {
-        Some(bus) => bus.has_parts(path.parent()),
+        Some(bus) => bus.equals_parts(path.parent()),
         None => path.parent().is_empty(),
     }
 }
 
 /// Returns whether the function at an index is a bridge that claims cycles for bus `number`.
-fn covers_nth(host: &Host, index: usize, number: u8) -> bool
+fn nth_claims_bus_cycles(host: &Host, index: usize, number: u8) -> bool
     ensures { let fs = host.now.state.functions in
         result ≡ option_map_or (covers number) (slice_get fs index) false }
 {
-    let Some(secondary) = host.secondary_nth(index) else {
+    let Some(secondary) = host.secondary_bus_nth(index) else {
         return false;
     };
-    let Some(subordinate) = host.number_nth(index, 0x1a, 1) else {
+    let Some(subordinate) = host.peek_config_nth(index, 0x1a, 1) else {
         return false;
     };
     secondary <= number && u32::from(number) <= subordinate
 }
 
 /// Returns whether the function at an index is on the bus and claims cycles for bus `number`.
-fn takes_nth(host: &Host, index: usize, bus: &Option<Path>, number: u8) -> bool
+fn nth_on_bus_claims_cycles(host: &Host, index: usize, bus: &Option<Path>, number: u8) -> bool
     ensures { let fs = host.now.state.functions in result
         ≡ option_map_or (is_taker (unwrap_or bus.now []) number) (slice_get fs index) false }
 {
     match host.path_nth(index) {
-        Some(path) => is_on(&path, bus) && covers_nth(host, index, number),
+        Some(path) => is_on_bus(&path, bus) && nth_claims_bus_cycles(host, index, number),
         None => false,
     }
 }
 
 /// Returns the index of the first bridge on the bus that claims cycles for bus `number`.
-fn taker(host: &Host, bus: &Option<Path>, number: u8) -> Option<usize>
+fn index_of_claiming_bridge(host: &Host, bus: &Option<Path>, number: u8) -> Option<usize>
     ensures { let fs = host.now.state.functions in
         option_and_then (slice_get fs) result ≡ taker fs (unwrap_or bus.now []) number }
 {
     for index in 0..host.count() {
-        if takes_nth(host, index, bus, number) {
+        if nth_on_bus_claims_cycles(host, index, bus, number) {
             return Some(index);
         }
     }
@@ -84,9 +84,9 @@ fn taker(host: &Host, bus: &Option<Path>, number: u8) -> Option<usize>
 fn next_bridge(host: &Host, bus: &Option<Path>, number: u8) -> Option<Taken>
     ensures { result ≡ taken host.now.state.functions (unwrap_or bus.now []) number }
 {
-    let index = taker(host, bus, number)?;
+    let index = index_of_claiming_bridge(host, bus, number)?;
     let path = host.path_nth(index)?;
-    let secondary = host.number_nth(index, 0x19, 1)?;
+    let secondary = host.peek_config_nth(index, 0x19, 1)?;
     Some(Taken {
         path,
         is_last: secondary == u32::from(number),
@@ -95,11 +95,11 @@ fn next_bridge(host: &Host, bus: &Option<Path>, number: u8) -> Option<Taken>
 
 /// Returns the path of the function at an index if it is on the bus and claims cycles for bus
 /// `number`.
-fn taking_nth(host: &Host, index: usize, bus: &Option<Path>, number: u8) -> Option<Path>
+fn path_if_claiming_nth(host: &Host, index: usize, bus: &Option<Path>, number: u8) -> Option<Path>
     ensures { let one = option_to_list (slice_get host.now.state.functions index) in
         option_to_list result ≡ paths_taking (unwrap_or bus.now []) number one }
 {
-    if !takes_nth(host, index, bus, number) {
+    if !nth_on_bus_claims_cycles(host, index, bus, number) {
         return None;
     }
     host.path_nth(index)
@@ -107,7 +107,7 @@ fn taking_nth(host: &Host, index: usize, bus: &Option<Path>, number: u8) -> Opti
 
 /// Appends every bridge on the bus that claims cycles for bus `number`. The cycle passes through
 /// the first one.
-fn add_takers(
+fn add_claiming_bridges(
     told: &mut Vec<Path>,
     host: &Host,
     bus: &Option<Path>,
@@ -118,7 +118,7 @@ fn add_takers(
         ++ map (λ (f : BoardFunction). f.path) (takers fs number (unwrap_or bus.now []))) }
 {
     for index in 0..host.count() {
-        if let Some(path) = taking_nth(host, index, bus, number) {
+        if let Some(path) = path_if_claiming_nth(host, index, bus, number) {
             told.push(path)?;
         }
     }
@@ -127,7 +127,7 @@ fn add_takers(
 
 /// Follows a configuration cycle for a bus other than bus 0, starting at bus 0, until the cycle
 /// ends. Sixteen steps are enough, because at most 15 bridges are above a function.
-pub(crate) fn way_down(alloc: Global, host: &Host, number: u8) -> Result<Way, AllocError>
+pub(crate) fn follow_cycle_to_bus(alloc: Global, host: &Host, number: u8) -> Result<Way, AllocError>
     ensures bridges { let fs = host.now.state.functions in IfOk result (λ w.
         w.bridges.items ≡ map (λ (f : BoardFunction). f.path) (takers_down fs number 16 [])) }
     ensures end { let fs = host.now.state.functions in
@@ -136,7 +136,7 @@ pub(crate) fn way_down(alloc: Global, host: &Host, number: u8) -> Result<Way, Al
     let mut bridges = Vec::new(alloc);
     let mut bus = None;
     for _level in 0..16u8 {
-        add_takers(&mut bridges, host, &bus, number)?;
+        add_claiming_bridges(&mut bridges, host, &bus, number)?;
         let Some(Taken { path, is_last }) = next_bridge(host, &bus, number) else {
             return Ok(Way {
                 bridges,

@@ -8,7 +8,7 @@ ghost use Rattle.bridge_forward.specs.RoutingRows.{named_ranges, window_of};
 ghost use Rattle.findings.specs.{WhyByRows.{row_windows, row_hindrance}, WhyTold.{window_told, windows_told, hindrance_told}};
 
 use crate::causes::{BlockReason, NamedWindow, WindowName};
-use crate::row::{is_in, opens};
+use crate::row::{enables_space, is_in_window};
 use bars::Space;
 use bridge_forward::{Ranges, RoutingRow, Window};
 use headers::{BridgeDecl, IoDecode, PrefDecode};
@@ -20,17 +20,17 @@ pub(crate) fn forwards(row: &RoutingRow, space: Space, addr: u64) -> bool
     match &row.ranges {
         Ranges::Regions(_) => false,
         Ranges::Windows { io, mem, pref } => {
-            opens(row.command, space)
+            enables_space(row.command, space)
                 && match space {
-                    Space::Io => is_in(*io, addr),
-                    Space::Mem => is_in(*mem, addr) || is_in(*pref, addr),
+                    Space::Io => is_in_window(*io, addr),
+                    Space::Mem => is_in_window(*mem, addr) || is_in_window(*pref, addr),
                 }
         }
     }
 }
 
 /// Returns the I/O window, if the bridge implements one.
-fn io_window(decl: &BridgeDecl, window: Option<Window>) -> Option<NamedWindow>
+fn io_window_if_implemented(decl: &BridgeDecl, window: Option<Window>) -> Option<NamedWindow>
     ensures { map window_told (option_to_list result)
         ≡ io_windows decl.now.io (option_map window_of window) }
 {
@@ -44,7 +44,7 @@ fn io_window(decl: &BridgeDecl, window: Option<Window>) -> Option<NamedWindow>
 }
 
 /// Returns the prefetchable window, if the bridge implements one.
-fn pref_window(decl: &BridgeDecl, window: Option<Window>) -> Option<NamedWindow>
+fn pref_window_if_implemented(decl: &BridgeDecl, window: Option<Window>) -> Option<NamedWindow>
     ensures { map window_told (option_to_list result)
         ≡ pref_windows decl.now.pref (option_map window_of window) }
 {
@@ -58,7 +58,7 @@ fn pref_window(decl: &BridgeDecl, window: Option<Window>) -> Option<NamedWindow>
 }
 
 /// Returns the bridge's windows for a space. Only the memory window is mandatory.
-fn windows(
+fn named_windows_in_space(
     decl: &BridgeDecl,
     ranges: &Ranges,
     space: Space,
@@ -69,13 +69,13 @@ fn windows(
     match ranges {
         Ranges::Regions(_) => (None, None),
         Ranges::Windows { io, mem, pref } => match space {
-            Space::Io => (None, io_window(decl, *io)),
+            Space::Io => (None, io_window_if_implemented(decl, *io)),
             Space::Mem => {
                 let memory = NamedWindow {
                     name: WindowName::Memory,
                     window: *mem,
                 };
-                (Some(memory), pref_window(decl, *pref))
+                (Some(memory), pref_window_if_implemented(decl, *pref))
             }
         },
     }
@@ -83,7 +83,11 @@ fn windows(
 
 /// Returns the reason why a bridge doesn't forward an address. The caller has checked that it
 /// doesn't.
-pub(crate) fn hindrance_of(row: &RoutingRow, decl: Option<BridgeDecl>, space: Space) -> BlockReason
+pub(crate) fn block_reason_of(
+    row: &RoutingRow,
+    decl: Option<BridgeDecl>,
+    space: Space,
+) -> BlockReason
     ensures { hindrance_told result ≡ row_hindrance (named_space space) decl row.now }
 {
     let Some(decl) = decl else {
@@ -92,11 +96,11 @@ pub(crate) fn hindrance_of(row: &RoutingRow, decl: Option<BridgeDecl>, space: Sp
             other: None,
         };
     };
-    if !opens(row.command, space) {
+    if !enables_space(row.command, space) {
         return BlockReason::Closes {
             command: row.command,
         };
     }
-    let (one, other) = windows(&decl, &row.ranges, space);
+    let (one, other) = named_windows_in_space(&decl, &row.ranges, space);
     BlockReason::Misses { one, other }
 }

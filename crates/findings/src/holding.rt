@@ -2,9 +2,9 @@
 ghost use Rattle.std.specs.Prelude.{◌≡◌, ◌++◌, map, IfOk, OnOk};
 ghost use Rattle.bars.specs.Kinds.{named_space};
 ghost use Rattle.model_findings.specs.OpenRegions.{region_now};
-ghost use Rattle.model_lines.specs.Why.{is_answer};
+ghost use Rattle.model_lines.specs.Why.{is_answering_bar};
 ghost use Rattle.bridge_forward.specs.RoutingRows.{base_of};
-ghost use Rattle.findings.specs.WhyByRows.{is_held, held_in, held_of, all_held};
+ghost use Rattle.findings.specs.WhyByRows.{is_held, held_in, held_of, silent_holders};
 
 use crate::region::LiveBar;
 use bars::Space;
@@ -27,8 +27,8 @@ pub(crate) struct RegionWithCommand {
 }
 
 /// Returns whether this BAR is the one that answers.
-fn is_answer(answer: &Option<Claim>, region: &LiveBar) -> bool
-    ensures { result ≡ is_answer answer.now region.now }
+fn is_answering_bar(answer: &Option<Claim>, region: &LiveBar) -> bool
+    ensures { result ≡ is_answering_bar answer.now region.now }
 {
     match answer {
         None => false,
@@ -37,17 +37,17 @@ fn is_answer(answer: &Option<Claim>, region: &LiveBar) -> bool
 }
 
 /// Returns whether the BAR contains the address without answering it.
-fn is_held(asked: &AddressQuery, region: &LiveBar) -> bool
+fn holds_without_answering(asked: &AddressQuery, region: &LiveBar) -> bool
     ensures { let space = named_space asked.now.space in
         result ≡ is_held space asked.now.addr asked.now.answer region.now }
 {
     region.region.kind.space() == asked.space
         && region.holds(asked.addr)
-        && !is_answer(&asked.answer, region)
+        && !is_answering_bar(&asked.answer, region)
 }
 
 /// Appends each of these BARs that contains the address without answering it.
-fn add_regions(
+fn add_regions_not_answering(
     held: &mut Vec<RegionWithCommand>,
     asked: &AddressQuery,
     path: &Path,
@@ -64,7 +64,7 @@ fn add_regions(
             path: path.copied(),
             region: *region,
         };
-        if is_held(asked, &here) {
+        if holds_without_answering(asked, &here) {
             held.push(RegionWithCommand {
                 region: here,
                 command,
@@ -75,7 +75,7 @@ fn add_regions(
 }
 
 /// Appends the BARs of a function that contain the address without answering it.
-fn add_function(
+fn add_function_not_answering(
     held: &mut Vec<RegionWithCommand>,
     asked: &AddressQuery,
     row: &RoutingRow,
@@ -84,24 +84,31 @@ fn add_function(
         ≡ held.old.items ++ held_of space asked.now.addr asked.now.answer row.now) }
 {
     match &row.ranges {
-        Ranges::Regions(regions) => add_regions(held, asked, &row.path, row.command, regions),
+        Ranges::Regions(regions) => add_regions_not_answering(
+            held,
+            asked,
+            &row.path,
+            row.command,
+            regions,
+        ),
         Ranges::Windows { .. } => Ok(()),
     }
 }
 
 /// Returns every BAR that contains the address without answering it, in path order and then by BAR
 /// index.
-pub(crate) fn all_held(
+pub(crate) fn silent_holders(
     alloc: Global,
     asked: &AddressQuery,
     rows: &[RoutingRow],
 ) -> Result<Vec<RegionWithCommand>, AllocError>
     ensures { let space = named_space asked.now.space in
-        IfOk result (λ v. v.items ≡ all_held space asked.now.addr asked.now.answer rows.now) }
+        IfOk result (λ v.
+        v.items ≡ silent_holders space asked.now.addr asked.now.answer rows.now) }
 {
     let mut held = Vec::new(alloc);
     for row in rows {
-        add_function(&mut held, asked, row)?;
+        add_function_not_answering(&mut held, asked, row)?;
     }
     Ok(held)
 }

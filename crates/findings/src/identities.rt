@@ -1,7 +1,7 @@
 //! Reads the identity registers of a function (PCI Local Bus 3.0, sections 6.2.1 and 6.2.4).
 ghost use Rattle.std.specs.Prelude.{◌≡◌, ◌≤◌, ◌+◌, ◌%◌, option_map, slice_get};
 ghost use Rattle.model_board.specs.State.{BoardFunction};
-ghost use Rattle.model_handoff.specs.Functions.{subsystem_number};
+ghost use Rattle.model_handoff.specs.Functions.{subsystem_id_or_zero};
 ghost use Rattle.findings.specs.Identities.{identity_told, identity_nth};
 
 use host_bridge::Host;
@@ -19,15 +19,15 @@ pub struct Identity {
 
 /// Reads the 16-bit subsystem register at `off` of the function at an index. Returns 0 for a
 /// bridge.
-fn subsystem_number(host: &Host, index: usize, off: u8) -> Option<u32>
+fn subsystem_id_or_zero(host: &Host, index: usize, off: u8) -> Option<u32>
     requires { off % 4 + 2 ≤ 4 }
     ensures { let fs = host.now.state.functions in
-        result ≡ option_map (λ (f : BoardFunction). subsystem_number f.decl f.file off)
+        result ≡ option_map (λ (f : BoardFunction). subsystem_id_or_zero f.decl f.file off)
         (slice_get fs index) }
 {
-    match host.secondary_nth(index) {
+    match host.secondary_bus_nth(index) {
         Some(_) => Some(0),
-        None => host.number_nth(index, off, 2),
+        None => host.peek_config_nth(index, off, 2),
     }
 }
 
@@ -36,11 +36,11 @@ pub fn identity_nth(host: &Host, index: usize) -> Option<Identity>
     ensures { option_map identity_told result ≡ identity_nth host.now.state.functions index }
 {
     Some(Identity {
-        vendor: host.number_nth(index, 0x00, 2)?,
-        device: host.number_nth(index, 0x02, 2)?,
-        revision: host.number_nth(index, 0x08, 1)?,
-        class: host.number_nth(index, 0x09, 3)?,
-        subvendor: subsystem_number(host, index, 0x2c)?,
-        subsystem: subsystem_number(host, index, 0x2e)?,
+        vendor: host.peek_config_nth(index, 0x00, 2)?,
+        device: host.peek_config_nth(index, 0x02, 2)?,
+        revision: host.peek_config_nth(index, 0x08, 1)?,
+        class: host.peek_config_nth(index, 0x09, 3)?,
+        subvendor: subsystem_id_or_zero(host, index, 0x2c)?,
+        subsystem: subsystem_id_or_zero(host, index, 0x2e)?,
     })
 }

@@ -57,4 +57,4 @@ pub use problem::Problem;
 pub use readiness::{is_ready, readiness_issues};
 pub use readiness_issue::ReadinessIssue;
 pub use region::LiveBar;
-pub use row::{is_in, opens};
+pub use row::{enables_space, is_in_window};

@@ -2,14 +2,14 @@
 ghost use Rattle.std.specs.{Prelude.{◌≡◌, ◌&&◌, not, map, filter}, Option.{option_map, option_to_list}, List.list_any};
 ghost use Rattle.model_set_up.specs.PlacedRegions.{holds};
 ghost use Rattle.model_findings.specs.Agents.{extent_holds};
-ghost use Rattle.findings.specs.Extents.{extent_of, extents_of, least_of, first_missed};
+ghost use Rattle.findings.specs.Extents.{extent_of, extents_of, least_of, first_missed_address};
 
 use crate::region::LiveBar;
-use crate::row::holds_any;
+use crate::row::either_holds;
 use bridge_forward::Window;
 
 /// Returns the smaller of two addresses, or the only one that is given.
-pub(crate) fn lesser(one: Option<u64>, other: Option<u64>) -> Option<u64>
+pub(crate) fn min_of_present(one: Option<u64>, other: Option<u64>) -> Option<u64>
     ensures { result ≡ least_of one other }
 {
     match (one, other) {
@@ -20,7 +20,7 @@ pub(crate) fn lesser(one: Option<u64>, other: Option<u64>) -> Option<u64>
 }
 
 /// Returns the address if it is in the BAR and in neither window.
-fn if_lost(
+fn address_if_missed(
     region: &LiveBar,
     one: Option<Window>,
     other: Option<Window>,
@@ -31,7 +31,7 @@ fn if_lost(
         holds q.space n q && not (list_any (extent_holds n) (extents_of one other))) (option_to_list addr) }
 {
     let addr = addr?;
-    if region.holds(addr) && !holds_any(one, other, addr) {
+    if region.holds(addr) && !either_holds(one, other, addr) {
         Some(addr)
     } else {
         None
@@ -39,7 +39,7 @@ fn if_lost(
 }
 
 /// Returns the address after a window if it is in the BAR and in neither of the two windows.
-fn if_end_lost(
+fn window_end_if_missed(
     region: &LiveBar,
     one: Option<Window>,
     other: Option<Window>,
@@ -50,8 +50,8 @@ fn if_end_lost(
         holds q.space n q && not (list_any (extent_holds n) (extents_of one other)))
         (map (λ e. e.end) (option_to_list (option_map extent_of window))) }
 {
-    let end = region.end_held(window?)?;
-    if holds_any(one, other, end) {
+    let end = region.window_end_if_held(window?)?;
+    if either_holds(one, other, end) {
         None
     } else {
         Some(end)
@@ -59,15 +59,15 @@ fn if_end_lost(
 }
 
 /// Returns the lowest address of a BAR that is in neither window, if there is one.
-pub(crate) fn first_missed(
+pub(crate) fn first_missed_address(
     region: &LiveBar,
     one: Option<Window>,
     other: Option<Window>,
 ) -> Option<u64>
-    ensures { result ≡ first_missed (extents_of one other) region.now }
+    ensures { result ≡ first_missed_address (extents_of one other) region.now }
 {
-    let first = if_lost(region, one, other, Some(region.region.base));
-    let after_one = if_end_lost(region, one, other, one);
-    let after_other = if_end_lost(region, one, other, other);
-    lesser(first, lesser(after_one, after_other))
+    let first = address_if_missed(region, one, other, Some(region.region.base));
+    let after_one = window_end_if_missed(region, one, other, one);
+    let after_other = window_end_if_missed(region, one, other, other);
+    min_of_present(first, min_of_present(after_one, after_other))
 }

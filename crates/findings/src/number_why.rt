@@ -4,10 +4,10 @@ ghost use Rattle.std.specs.Prelude.{◌≡◌, map, option_map, IfOk};
 ghost use Rattle.model_board.specs.{Cycles.reached, State.BoardFunction, Routing.routing};
 ghost use Rattle.model_lines.specs.Ways.{takers_on_way, end_of, missing_at, why_number};
 ghost use Rattle.paths.specs.BusAddresses.{bus_address_of};
-ghost use Rattle.findings.specs.{WhyOnWay.{end_told, missing_by, is_unfound, unfound}, WhyTold.{missing_told, number_told}};
+ghost use Rattle.findings.specs.{WhyOnWay.{end_told, missing_by, has_bdf_but_not_reached, unreached}, WhyTold.{missing_told, number_told}};
 
-use crate::cycle_way::{Way, WayEnd, way_down};
-use crate::numbering::{address_now, is_there};
+use crate::cycle_way::{Way, WayEnd, follow_cycle_to_bus};
+use crate::numbering::{current_bdf, is_reached_path};
 use bridge_forward::{Path, RoutingRow};
 use host_bridge::{Bdf, Host};
 use std::alloc::{AllocError, Global};
@@ -41,7 +41,7 @@ pub struct WhyNumber {
 }
 
 /// Follows the configuration cycle for a BDF from bus 0.
-fn way_of(alloc: Global, host: &Host, at: Bdf) -> Result<Way, AllocError>
+fn follow_cycle_to_bdf(alloc: Global, host: &Host, at: Bdf) -> Result<Way, AllocError>
     ensures bridges { let fs = host.now.state.functions in
         let bridges = takers_on_way fs (bus_address_of at) in
         IfOk result (λ w. w.bridges.items ≡ map (λ (f : BoardFunction). f.path) bridges) }
@@ -54,7 +54,7 @@ fn way_of(alloc: Global, host: &Host, at: Bdf) -> Result<Way, AllocError>
             end: WayEnd::OnBus(None),
         });
     }
-    way_down(alloc, host, at.bus)
+    follow_cycle_to_bus(alloc, host, at.bus)
 }
 
 /// Returns the path of the function that a BDF reaches, if any.
@@ -63,7 +63,7 @@ fn path_reached(host: &mut Host, at: Bdf) -> Option<Path>
         ≡ option_map (λ (f : BoardFunction). f.path) (reached fs (bus_address_of at)) }
     ensures after { host.new ≡ host.old }
 {
-    let index = host.index_reached(at)?;
+    let index = host.index_reached_by_bdf(at)?;
     host.path_nth(index)
 }
 
@@ -86,7 +86,7 @@ fn missing_at(end: WayEnd, at: Bdf) -> Missing
 }
 
 /// Returns what is missing, or `None` if a function is reached.
-fn missing_if(reached: &Option<Path>, end: WayEnd, at: Bdf) -> Option<Missing>
+fn missing_unless_reached(reached: &Option<Path>, end: WayEnd, at: Bdf) -> Option<Missing>
     ensures { option_map missing_told result
         ≡ missing_by reached.now (end_told end) (bus_address_of at) }
 {
@@ -98,7 +98,7 @@ fn missing_if(reached: &Option<Path>, end: WayEnd, at: Bdf) -> Option<Missing>
 
 /// Returns whether a function has this BDF according to the bridge above it, but isn't the function
 /// that the BDF reaches.
-fn is_unfound(
+fn has_bdf_but_not_reached(
     host: &Host,
     rows: &[RoutingRow],
     at: Bdf,
@@ -107,26 +107,26 @@ fn is_unfound(
 ) -> bool
     requires { rows.now ≡ routing host.now.state.functions }
     ensures { let fs = host.now.state.functions in
-        result ≡ is_unfound fs (bus_address_of at) reached.now path.now }
+        result ≡ has_bdf_but_not_reached fs (bus_address_of at) reached.now path.now }
 {
-    address_now(host, rows, path) == at && !is_there(reached, path)
+    current_bdf(host, rows, path) == at && !is_reached_path(reached, path)
 }
 
 /// Returns the functions that have this BDF according to the bridges above them, but aren't reached
 /// by it.
-fn unfound(
+fn unreached(
     alloc: Global,
     host: &Host,
     at: Bdf,
     reached: &Option<Path>,
 ) -> Result<Vec<Path>, AllocError>
     ensures { let fs = host.now.state.functions in
-        IfOk result (λ v. v.items ≡ unfound fs (bus_address_of at) reached.now (routing fs)) }
+        IfOk result (λ v. v.items ≡ unreached fs (bus_address_of at) reached.now (routing fs)) }
 {
     let rows = host.routing(alloc)?;
     let mut told = Vec::new(alloc);
     for row in &rows {
-        if is_unfound(host, &rows, at, reached, &row.path) {
+        if has_bdf_but_not_reached(host, &rows, at, reached, &row.path) {
             told.push(row.path.copied())?;
         }
     }
@@ -142,10 +142,10 @@ pub fn why_number(alloc: Global, host: &mut Host, at: Bdf) -> Result<WhyNumber, 
         IfOk result (λ w. number_told w ≡ why_number fs (bus_address_of at)) }
     ensures after { host.new ≡ host.old }
 {
-    let way = way_of(alloc, host, at)?;
+    let way = follow_cycle_to_bdf(alloc, host, at)?;
     let reached = path_reached(host, at);
-    let not_found = unfound(alloc, host, at, &reached)?;
-    let missing = missing_if(&reached, way.end, at);
+    let not_found = unreached(alloc, host, at, &reached)?;
+    let missing = missing_unless_reached(&reached, way.end, at);
     Ok(WhyNumber {
         reached,
         bridges: way.bridges,

@@ -2,7 +2,7 @@
 //! 3).
 ghost use Rattle.std.specs.{Prelude.{◌≡◌, ◌++◌, map, position, slice_get, OnOk, option_map}, Option.{option_and_then, option_to_list}};
 ghost use Rattle.model_board.specs.Routing.{routing, RoutingRow as RowValue};
-ghost use Rattle.model_findings.specs.{Found.{bus_now, address_now}, Problems.numbering_problems};
+ghost use Rattle.model_findings.specs.{Found.{current_bus_number, current_bdf}, Problems.numbering_problems};
 ghost use Rattle.paths.specs.BusAddresses.{bus_address_of};
 ghost use Rattle.findings.specs.{Bridges.{is_bridge_row, is_there, lost_function}, Findings.problem_of};
 
@@ -17,7 +17,7 @@ fn is_bridge_at(row: &RoutingRow, bus: &[Part]) -> bool
 {
     match &row.ranges {
         Ranges::Regions(_) => false,
-        Ranges::Windows { .. } => row.path.has_parts(bus),
+        Ranges::Windows { .. } => row.path.equals_parts(bus),
     }
 }
 
@@ -30,35 +30,35 @@ fn bridge_index(rows: &[RoutingRow], bus: &[Part]) -> Option<usize>
 
 /// Returns the number of a bus: 0 for bus 0, and the Secondary Bus Number of the bridge above for
 /// other buses.
-fn bus_now(host: &Host, rows: &[RoutingRow], bus: &[Part]) -> u8
+fn current_bus_number(host: &Host, rows: &[RoutingRow], bus: &[Part]) -> u8
     requires { rows.now ≡ routing host.now.state.functions }
-    ensures { result ≡ bus_now host.now.state.functions bus.now }
+    ensures { result ≡ current_bus_number host.now.state.functions bus.now }
 {
     if bus.is_empty() {
         return 0;
     }
     match bridge_index(rows, bus) {
-        Some(index) => host.secondary_nth(index).unwrap_or(0),
+        Some(index) => host.secondary_bus_nth(index).unwrap_or(0),
         None => 0,
     }
 }
 
 /// Returns the BDF of a function, with the Secondary Bus Number of the bridge above as the bus
 /// number. The rows must be those of the host.
-pub(crate) fn address_now(host: &Host, rows: &[RoutingRow], path: &Path) -> Bdf
+pub(crate) fn current_bdf(host: &Host, rows: &[RoutingRow], path: &Path) -> Bdf
     requires { rows.now ≡ routing host.now.state.functions }
-    ensures { bus_address_of result ≡ address_now host.now.state.functions path.now }
+    ensures { bus_address_of result ≡ current_bdf host.now.state.functions path.now }
 {
     let part = path.last();
     Bdf {
-        bus: bus_now(host, rows, path.parent()),
+        bus: current_bus_number(host, rows, path.parent()),
         device: part.device(),
         function: part.function(),
     }
 }
 
 /// Returns the path of the function at an index, if there is one.
-fn path_at(rows: &[RoutingRow], index: Option<usize>) -> Option<Path>
+fn path_at_index(rows: &[RoutingRow], index: Option<usize>) -> Option<Path>
     ensures { result
         ≡ option_map (λ (r : RowValue). r.path) (option_and_then (slice_get rows.now) index) }
 {
@@ -71,7 +71,7 @@ fn path_at(rows: &[RoutingRow], index: Option<usize>) -> Option<Path>
 }
 
 /// Returns whether the function that was reached is the one at `path`.
-pub(crate) fn is_there(instead: &Option<Path>, path: &Path) -> bool
+pub(crate) fn is_reached_path(instead: &Option<Path>, path: &Path) -> bool
     ensures { result ≡ is_there path.now instead.now }
 {
     match instead {
@@ -87,10 +87,10 @@ fn numbering_problem(host: &mut Host, rows: &[RoutingRow], path: &Path) -> Optio
         ≡ lost_function host.old.state.functions path.now }
     ensures after { host.new ≡ host.old }
 {
-    let address = address_now(host, rows, path);
-    let reached = host.index_reached(address);
-    let instead = path_at(rows, reached);
-    if is_there(&instead, path) {
+    let address = current_bdf(host, rows, path);
+    let reached = host.index_reached_by_bdf(address);
+    let instead = path_at_index(rows, reached);
+    if is_reached_path(&instead, path) {
         return None;
     }
     Some(Problem::NotFound {
@@ -101,7 +101,7 @@ fn numbering_problem(host: &mut Host, rows: &[RoutingRow], path: &Path) -> Optio
 }
 
 /// Appends a problem for each function that no configuration cycle reaches.
-pub(crate) fn add_numbering(
+pub(crate) fn add_numbering_problems(
     told: &mut Vec<Problem>,
     host: &mut Host,
     rows: &[RoutingRow],

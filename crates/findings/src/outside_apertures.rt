@@ -4,7 +4,7 @@ ghost use Rattle.bars.specs.Kinds.{named_space};
 ghost use Rattle.model_findings.specs.ReadinessIssues.{aperture_extent, aperture_extents, outside_issue};
 ghost use Rattle.findings.specs.{Extents.{extent_of, extents_of}, Findings.issue_of};
 
-use crate::missed_address::first_missed;
+use crate::missed_address::first_missed_address;
 use crate::readiness_issue::ReadinessIssue;
 use crate::region::LiveBar;
 use bars::Space;
@@ -13,7 +13,7 @@ use headers::{Aperture, Apertures};
 use std::alloc::AllocError;
 
 /// Returns the addresses of an aperture.
-fn window_of(aperture: Aperture) -> Window
+fn aperture_window(aperture: Aperture) -> Window
     ensures { extent_of result ≡ aperture_extent aperture }
 {
     Window {
@@ -23,14 +23,14 @@ fn window_of(aperture: Aperture) -> Window
 }
 
 /// Returns the apertures of a space. Memory may have two.
-fn apertures_for(apertures: &Apertures, space: Space) -> (Option<Window>, Option<Window>)
+fn main_and_pref_apertures(apertures: &Apertures, space: Space) -> (Option<Window>, Option<Window>)
     ensures { extents_of result.0 result.1 ≡ aperture_extents apertures.now (named_space space) }
 {
     match space {
-        Space::Io => (Some(window_of(apertures.io())), None),
+        Space::Io => (Some(aperture_window(apertures.io())), None),
         Space::Mem => (
-            Some(window_of(apertures.mem())),
-            apertures.pref().map(window_of),
+            Some(aperture_window(apertures.mem())),
+            apertures.pref().map(aperture_window),
         ),
     }
 }
@@ -40,8 +40,8 @@ fn outside_issue(apertures: &Apertures, region: &LiveBar) -> Option<ReadinessIss
     ensures { option_to_list (option_map issue_of result)
         ≡ outside_issue apertures.now region.now }
 {
-    let (one, other) = apertures_for(apertures, region.region.kind.space());
-    let address = first_missed(region, one, other)?;
+    let (one, other) = main_and_pref_apertures(apertures, region.region.kind.space());
+    let address = first_missed_address(region, one, other)?;
     Some(ReadinessIssue::OutsideApertures {
         region: region.copied(),
         address,
@@ -49,7 +49,7 @@ fn outside_issue(apertures: &Apertures, region: &LiveBar) -> Option<ReadinessIss
 }
 
 /// Appends a readiness issue for each BAR that is partly outside the apertures.
-pub(crate) fn add_outside(
+pub(crate) fn add_outside_issues(
     told: &mut Vec<ReadinessIssue>,
     apertures: &Apertures,
     regions: &[LiveBar],

@@ -35,7 +35,7 @@ fn number_text(number: u8) -> &'static [u8]
     }
 }
 
-fn push_all(text: &mut PathBytes, bytes: &[u8])
+fn push_bytes(text: &mut PathBytes, bytes: &[u8])
     requires { length text.old.items + length bytes.now ≤ 79 }
     ensures items { text.new.items ≡ text.old.items ++ bytes.now }
     ensures len { length text.new.items ≡ length text.old.items + length bytes.now }
@@ -49,9 +49,9 @@ fn push_part(text: &mut PathBytes, part: Part)
     ensures items { text.new.items ≡ text.old.items ++ part_text part }
     ensures len { length text.new.items ≤ length text.old.items + 4 }
 {
-    push_all(text, number_text(part.device()));
-    push_all(text, b".");
-    push_all(text, number_text(part.function()));
+    push_bytes(text, number_text(part.device()));
+    push_bytes(text, b".");
+    push_bytes(text, number_text(part.function()));
 }
 
 /// Appends parts, separated by slashes.
@@ -64,7 +64,7 @@ fn push_parts(text: &mut PathBytes, parts: &[Part])
         [last] => push_part(text, *last),
         [first, rest @ ..] => {
             push_part(text, *first);
-            push_all(text, b"/");
+            push_bytes(text, b"/");
             push_parts(text, rest);
         }
     }

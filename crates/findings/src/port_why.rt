@@ -29,11 +29,11 @@ pub fn port_use(latch: Latch, port: u64) -> PortUse
     if port < 0xcfc || 0xcff < port {
         return PortUse::LikeOthers;
     }
-    if !latch.shows_data(port) {
+    if !latch.is_enabled_data_port(port) {
         return PortUse::HidesData;
     }
     PortUse::ShowsData {
-        at: latch.function(),
-        offset: latch.register() + (port - 0xcfc) as u8,
+        at: latch.selected_bdf(),
+        offset: latch.selected_offset() + (port - 0xcfc) as u8,
     }
 }

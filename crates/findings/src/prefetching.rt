@@ -2,14 +2,14 @@
 //! Bridge Architecture 1.2, chapter 4).
 ghost use Rattle.std.specs.{Prelude.{◌≡◌, [], ◌∷◌, ◌++◌, ◌&&◌, map, filter, OnOk}, Option.{option_map, option_to_list}};
 ghost use Rattle.model_set_up.specs.PlacedRegions.{holds};
-ghost use Rattle.model_findings.specs.ReadinessIssues.{prefetches, prefetch_edges, first_prefetched};
+ghost use Rattle.model_findings.specs.ReadinessIssues.{prefetches, prefetch_edges, first_prefetched_address};
 ghost use Rattle.findings.specs.{Extents.extent_of, BridgeViolations.prefetched_issue, Findings.issue_of};
 
 use crate::bridge_violation::BridgeViolation;
-use crate::missed_address::lesser;
+use crate::missed_address::min_of_present;
 use crate::readiness_issue::ReadinessIssue;
 use crate::region::LiveBar;
-use crate::row::{is_in, opens};
+use crate::row::{enables_space, is_in_window};
 use bars::Space;
 use bridge_forward::{Ranges, RoutingRow, Window};
 use std::alloc::AllocError;
@@ -22,7 +22,9 @@ fn prefetches(row: &RoutingRow, addr: u64) -> bool
     match &row.ranges {
         Ranges::Regions(_) => false,
         Ranges::Windows { io: _, mem, pref } => {
-            opens(row.command, Space::Mem) && is_in(*pref, addr) && !is_in(*mem, addr)
+            enables_space(row.command, Space::Mem)
+                && is_in_window(*pref, addr)
+                && !is_in_window(*mem, addr)
         }
     }
 }
@@ -40,7 +42,7 @@ fn memory_windows(row: &RoutingRow) -> (Option<Window>, Option<Window>)
 }
 
 /// Returns the address if it is in the BAR and the bridge prefetches it.
-fn if_prefetched(row: &RoutingRow, region: &LiveBar, addr: u64) -> Option<u64>
+fn address_if_prefetched(row: &RoutingRow, region: &LiveBar, addr: u64) -> Option<u64>
     ensures { let q = region.now in option_to_list result
         ≡ filter (λ n. holds q.space n q && prefetches n row.now) (addr ∷ []) }
 {
@@ -52,21 +54,29 @@ fn if_prefetched(row: &RoutingRow, region: &LiveBar, addr: u64) -> Option<u64>
 }
 
 /// Returns the first address of a window if it is in the BAR and the bridge prefetches it.
-fn if_first_prefetched(row: &RoutingRow, region: &LiveBar, window: Option<Window>) -> Option<u64>
+fn window_start_if_prefetched(
+    row: &RoutingRow,
+    region: &LiveBar,
+    window: Option<Window>,
+) -> Option<u64>
     ensures { let q = region.now in option_to_list result
         ≡ filter (λ n. holds q.space n q && prefetches n row.now)
         (map (λ e. e.first) (option_to_list (option_map extent_of window))) }
 {
-    if_prefetched(row, region, window?.first)
+    address_if_prefetched(row, region, window?.first)
 }
 
 /// Returns the address after a window if it is in the BAR and the bridge prefetches it.
-fn if_end_prefetched(row: &RoutingRow, region: &LiveBar, window: Option<Window>) -> Option<u64>
+fn window_end_if_prefetched(
+    row: &RoutingRow,
+    region: &LiveBar,
+    window: Option<Window>,
+) -> Option<u64>
     ensures { let q = region.now in option_to_list result
         ≡ filter (λ n. holds q.space n q && prefetches n row.now)
         (map (λ e. e.end) (option_to_list (option_map extent_of window))) }
 {
-    let end = region.end_held(window?)?;
+    let end = region.window_end_if_held(window?)?;
     if prefetches(row, end) {
         Some(end)
     } else {
@@ -75,19 +85,19 @@ fn if_end_prefetched(row: &RoutingRow, region: &LiveBar, window: Option<Window>)
 }
 
 /// Returns the lowest address of a BAR that a bridge prefetches, if there is one.
-pub(crate) fn first_prefetched(row: &RoutingRow, region: &LiveBar) -> Option<u64>
-    ensures { result ≡ first_prefetched row.now region.now }
+pub(crate) fn first_prefetched_address(row: &RoutingRow, region: &LiveBar) -> Option<u64>
+    ensures { result ≡ first_prefetched_address row.now region.now }
 {
     let (mem, pref) = memory_windows(row);
-    let base = if_prefetched(row, region, region.region.base);
-    let first = if_first_prefetched(row, region, pref);
-    let end = if_end_prefetched(row, region, mem);
-    lesser(base, lesser(first, end))
+    let base = address_if_prefetched(row, region, region.region.base);
+    let first = window_start_if_prefetched(row, region, pref);
+    let end = window_end_if_prefetched(row, region, mem);
+    min_of_present(base, min_of_present(first, end))
 }
 
 /// Appends a readiness issue for each of these violations: the BAR, the bridge that may prefetch
 /// it, and the address.
-pub(crate) fn add_prefetched(
+pub(crate) fn add_prefetched_issues(
     told: &mut Vec<ReadinessIssue>,
     blames: &[BridgeViolation],
 ) -> Result<(), AllocError>

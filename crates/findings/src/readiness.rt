@@ -4,19 +4,22 @@ ghost use Rattle.model_findings.specs.ReadinessIssues.{not_open, readiness_issue
 ghost use Rattle.findings.specs.Findings.{issue_of};
 
 use crate::audit::problems;
-use crate::bridge_violation::{ViolationKind, all_blames};
-use crate::outside_apertures::add_outside;
-use crate::prefetching::add_prefetched;
-use crate::primaries::add_primaries;
+use crate::bridge_violation::{ViolationKind, all_violations};
+use crate::outside_apertures::add_outside_issues;
+use crate::prefetching::add_prefetched_issues;
+use crate::primaries::add_primary_bus_issues;
 use crate::readiness_issue::ReadinessIssue;
 use crate::region::LiveBar;
-use crate::regions::{Sort, all_regions};
+use crate::regions::{Sort, all_selected_bars};
 use headers::Apertures;
 use host_bridge::Host;
 use std::alloc::{AllocError, Global};
 
 /// Appends a readiness issue for each disabled BAR.
-fn add_closed(told: &mut Vec<ReadinessIssue>, closed: &[LiveBar]) -> Result<(), AllocError>
+fn add_disabled_bar_issues(
+    told: &mut Vec<ReadinessIssue>,
+    closed: &[LiveBar],
+) -> Result<(), AllocError>
     ensures { OnOk result (map issue_of told.new.items
         ≡ map issue_of told.old.items ++ map not_open closed.now) }
 {
@@ -40,14 +43,14 @@ pub fn readiness_issues(
         IfOk result (λ v. map issue_of v.items ≡ readiness_issues apertures.now fs) }
 {
     let rows = host.routing(alloc)?;
-    let closed = all_regions(alloc, Sort::Closed, &rows)?;
-    let open = all_regions(alloc, Sort::Open, &rows)?;
-    let prefetched = all_blames(alloc, ViolationKind::Prefetched, &rows)?;
+    let closed = all_selected_bars(alloc, Sort::Closed, &rows)?;
+    let open = all_selected_bars(alloc, Sort::Open, &rows)?;
+    let prefetched = all_violations(alloc, ViolationKind::Prefetched, &rows)?;
     let mut told = Vec::new(alloc);
-    add_closed(&mut told, &closed)?;
-    add_outside(&mut told, apertures, &open)?;
-    add_prefetched(&mut told, &prefetched)?;
-    add_primaries(&mut told, host, &rows)?;
+    add_disabled_bar_issues(&mut told, &closed)?;
+    add_outside_issues(&mut told, apertures, &open)?;
+    add_prefetched_issues(&mut told, &prefetched)?;
+    add_primary_bus_issues(&mut told, host, &rows)?;
     Ok(told)
 }
 

@@ -2,12 +2,12 @@
 //! 6.2.5).
 ghost use Rattle.std.specs.Prelude.{◌≡◌, ◌++◌, map, IfOk, OnOk};
 ghost use Rattle.bars.specs.Kinds.{kind_of};
-ghost use Rattle.model_findings.specs.ReadinessIssues.{is_plain};
+ghost use Rattle.model_findings.specs.ReadinessIssues.{is_non_prefetchable_memory};
 ghost use Rattle.bridge_forward.specs.RoutingRows.{base_of};
-ghost use Rattle.findings.specs.Regions.{is_of_sort, regions_among, regions_of, all_regions};
+ghost use Rattle.findings.specs.Regions.{is_bar_selected, regions_among, regions_of, all_selected_bars};
 
 use crate::region::LiveBar;
-use crate::row::opens;
+use crate::row::enables_space;
 use bars::Kind;
 use bridge_forward::{Path, Ranges, RoutingRegion, RoutingRow};
 use std::alloc::{AllocError, Global};
@@ -22,8 +22,8 @@ pub(crate) enum Sort {
 }
 
 /// Returns whether this is the kind of a memory BAR that isn't prefetchable.
-fn is_plain(kind: Kind) -> bool
-    ensures { result ≡ is_plain (kind_of kind) }
+fn is_non_prefetchable_memory(kind: Kind) -> bool
+    ensures { result ≡ is_non_prefetchable_memory (kind_of kind) }
 {
     match kind {
         Kind::Io => false,
@@ -33,19 +33,19 @@ fn is_plain(kind: Kind) -> bool
 }
 
 /// Returns whether a BAR is to be selected, given the Command value of its function.
-fn is_of_sort(sort: Sort, command: u16, region: RoutingRegion) -> bool
-    ensures { result ≡ is_of_sort sort command (base_of region) }
+fn is_bar_selected(sort: Sort, command: u16, region: RoutingRegion) -> bool
+    ensures { result ≡ is_bar_selected sort command (base_of region) }
 {
-    let is_open = opens(command, region.kind.space());
+    let is_open = enables_space(command, region.kind.space());
     match sort {
         Sort::Open => is_open,
         Sort::Closed => !is_open,
-        Sort::Plain => is_plain(region.kind) && is_open,
+        Sort::Plain => is_non_prefetchable_memory(region.kind) && is_open,
     }
 }
 
 /// Appends each of these BARs that is to be selected.
-fn add_among(
+fn add_selected_bars(
     told: &mut Vec<LiveBar>,
     sort: Sort,
     path: &Path,
@@ -56,7 +56,7 @@ fn add_among(
         ++ regions_among sort path.now command (map base_of regions.now)) }
 {
     for region in regions {
-        if is_of_sort(sort, command, *region) {
+        if is_bar_selected(sort, command, *region) {
             let one = LiveBar {
                 path: path.copied(),
                 region: *region,
@@ -68,7 +68,7 @@ fn add_among(
 }
 
 /// Appends the selected BARs of a function.
-pub(crate) fn add_regions(
+pub(crate) fn add_selected_of_function(
     told: &mut Vec<LiveBar>,
     sort: Sort,
     row: &RoutingRow,
@@ -76,22 +76,22 @@ pub(crate) fn add_regions(
     ensures { OnOk result (told.new.items ≡ told.old.items ++ regions_of sort row.now) }
 {
     match &row.ranges {
-        Ranges::Regions(regions) => add_among(told, sort, &row.path, row.command, regions),
+        Ranges::Regions(regions) => add_selected_bars(told, sort, &row.path, row.command, regions),
         Ranges::Windows { .. } => Ok(()),
     }
 }
 
 /// Returns the selected BARs of all functions.
-pub(crate) fn all_regions(
+pub(crate) fn all_selected_bars(
     alloc: Global,
     sort: Sort,
     rows: &[RoutingRow],
 ) -> Result<Vec<LiveBar>, AllocError>
-    ensures { IfOk result (λ v. v.items ≡ all_regions sort rows.now) }
+    ensures { IfOk result (λ v. v.items ≡ all_selected_bars sort rows.now) }
 {
     let mut told = Vec::new(alloc);
     for row in rows {
-        add_regions(&mut told, sort, row)?;
+        add_selected_of_function(&mut told, sort, row)?;
     }
     Ok(told)
 }

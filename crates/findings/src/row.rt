@@ -11,7 +11,7 @@ use bars::Space;
 use bridge_forward::{Ranges, RoutingRow, Window};
 
 /// Returns whether a Command value enables the space.
-pub fn opens(command: u16, space: Space) -> bool
+pub fn enables_space(command: u16, space: Space) -> bool
     ensures { result ≡ opens_space command (named_space space) }
 {
     command & space.command_bit() != 0
@@ -32,7 +32,7 @@ pub(crate) fn holds(window: Window, addr: u64) -> bool
 }
 
 /// Returns whether there is a window and it contains the address.
-pub fn is_in(window: Option<Window>, addr: u64) -> bool
+pub fn is_in_window(window: Option<Window>, addr: u64) -> bool
     ensures { result ≡ is_in addr (option_map window_of window) }
 {
     match window {
@@ -42,7 +42,7 @@ pub fn is_in(window: Option<Window>, addr: u64) -> bool
 }
 
 /// Returns whether either of two windows contains an address.
-pub(crate) fn holds_any(one: Option<Window>, other: Option<Window>, addr: u64) -> bool
+pub(crate) fn either_holds(one: Option<Window>, other: Option<Window>, addr: u64) -> bool
     ensures { result ≡ list_any (extent_holds addr) (extents_of one other) }
 {
     one.is_some_and(|w| holds(w, addr)) || other.is_some_and(|w| holds(w, addr))
@@ -50,13 +50,13 @@ pub(crate) fn holds_any(one: Option<Window>, other: Option<Window>, addr: u64) -
 
 /// Returns the windows through which a bridge forwards accesses in a space: at most one for I/O,
 /// and at most two for memory.
-pub(crate) fn forwarded(row: &RoutingRow, space: Space) -> (Option<Window>, Option<Window>)
+pub(crate) fn forwarding_windows(row: &RoutingRow, space: Space) -> (Option<Window>, Option<Window>)
     ensures { extents_of result.0 result.1 ≡ forwarded_extents (named_space space) row.now }
 {
     match &row.ranges {
         Ranges::Regions(_) => (None, None),
         Ranges::Windows { io, mem, pref } => {
-            if !opens(row.command, space) {
+            if !enables_space(row.command, space) {
                 return (None, None);
             }
             match space {

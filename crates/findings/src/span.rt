@@ -2,7 +2,7 @@
 //! the buses on which addresses overlap.
 ghost use Rattle.std.specs.{Prelude.{◌≡◌, ℕ, ◌++◌, ◌^◌, ◌<◌, IfOk, OnOk, IsTrue, map, filter}, Option.option_to_list, List.Sorted.{IsNonDecreasingBy, IsPermutation}};
 ghost use Rattle.model_findings.specs.Problems.{contentions};
-ghost use Rattle.findings.specs.Spans.{bus_hash, bus_and_space_hash, key_of, window_span, agent_spans, spans_from, EndsBefore, crowds, AreApartBut, is_crowded};
+ghost use Rattle.findings.specs.Spans.{bus_hash, bus_and_space_hash, sort_key, window_span, agent_spans, spans_from, EndsBefore, contains_group, AreApartBut, is_crowded};
 
 use crate::agent::Agent;
 use bars::Space;
@@ -46,7 +46,7 @@ fn bus_and_space_hash(agent: &Agent) -> u64
 }
 
 /// Appends the addresses of a window, if there is one.
-fn add_span(
+fn add_span_if_any(
     spans: &mut Vec<Span>,
     agent: usize,
     group: u64,
@@ -67,12 +67,12 @@ fn add_span(
 }
 
 /// Appends the addresses that a responder claims.
-fn add_agent(spans: &mut Vec<Span>, index: usize, agent: &Agent) -> Result<(), AllocError>
+fn add_agent_spans(spans: &mut Vec<Span>, index: usize, agent: &Agent) -> Result<(), AllocError>
     ensures { OnOk result (spans.new.items ≡ spans.old.items ++ agent_spans index agent.now) }
 {
     let group = bus_and_space_hash(agent);
-    add_span(spans, index, group, agent.one)?;
-    add_span(spans, index, group, agent.other)
+    add_span_if_any(spans, index, group, agent.one)?;
+    add_span_if_any(spans, index, group, agent.other)
 }
 
 /// Returns the addresses that all responders claim.
@@ -81,14 +81,14 @@ fn spans_of(alloc: Global, agents: &[Agent]) -> Result<Vec<Span>, AllocError>
 {
     let mut spans = Vec::new(alloc);
     for (index, agent) in agents.iter().enumerate() {
-        add_agent(&mut spans, index, agent)?;
+        add_agent_spans(&mut spans, index, agent)?;
     }
     Ok(spans)
 }
 
 /// Returns the sort key of a span: its bus and space, then its first address.
-fn key_of(span: &Span) -> u128
-    ensures { result ≡ key_of span.now }
+fn sort_key(span: &Span) -> u128
+    ensures { result ≡ sort_key span.now }
 {
     u128::from(span.group) * 0x1_0000_0000_0000_0000 + u128::from(span.first)
 }
@@ -96,25 +96,25 @@ fn key_of(span: &Span) -> u128
 /// Returns the addresses that all responders claim, in ascending order within each bus and space.
 fn sorted_spans(alloc: Global, agents: &[Agent]) -> Result<Vec<Span>, AllocError>
     ensures all { IfOk result (λ v. IsPermutation (spans_from 0 agents.now) v.items) }
-    ensures rising { IfOk result (λ v. IsNonDecreasingBy key_of v.items) }
+    ensures rising { IfOk result (λ v. IsNonDecreasingBy sort_key v.items) }
 {
     let mut spans = spans_of(alloc, agents)?;
-    spans.sort_unstable_by_key(|span| key_of(span));
+    spans.sort_unstable_by_key(|span| sort_key(span));
     Ok(spans)
 }
 
 /// Returns whether a span ends before the next one begins, or belongs to another bus or space.
-fn is_before(before: Span, here: Span) -> bool
+fn ends_before(before: Span, here: Span) -> bool
     ensures { IsTrue result → EndsBefore before here }
 {
     before.group != here.group || before.last < here.first
 }
 
 /// Appends a group, unless it is the last one in the list.
-fn add_group(groups: &mut Vec<u64>, group: u64) -> Result<(), AllocError>
-    ensures added { OnOk result (IsTrue (crowds groups.new.items group)) }
-    ensures kept { OnOk result ((g : ℕ) → IsTrue (crowds groups.old.items g) →
-        IsTrue (crowds groups.new.items g)) }
+fn add_unless_last(groups: &mut Vec<u64>, group: u64) -> Result<(), AllocError>
+    ensures added { OnOk result (IsTrue (contains_group groups.new.items group)) }
+    ensures kept { OnOk result ((g : ℕ) → IsTrue (contains_group groups.old.items g) →
+        IsTrue (contains_group groups.new.items g)) }
 {
     if groups.last() == Some(&group) {
         return Ok(());
@@ -124,42 +124,49 @@ fn add_group(groups: &mut Vec<u64>, group: u64) -> Result<(), AllocError>
 }
 
 /// Returns the groups in which a span overlaps the next one.
-fn crowded_groups(alloc: Global, spans: &[Span]) -> Result<Vec<u64>, AllocError>
+fn groups_with_overlap(alloc: Global, spans: &[Span]) -> Result<Vec<u64>, AllocError>
     ensures { IfOk result (λ v. AreApartBut v.items spans.now) }
 {
     let mut groups = Vec::new(alloc);
     for index in 1..spans.len() {
-        if !is_before(spans[index - 1], spans[index]) {
-            add_group(&mut groups, spans[index].group)?;
+        if !ends_before(spans[index - 1], spans[index]) {
+            add_unless_last(&mut groups, spans[index].group)?;
         }
     }
     Ok(groups)
 }
 
 /// Returns whether the list contains a group.
-fn crowds(groups: &[u64], group: u64) -> bool
-    ensures { result ≡ crowds groups.now group }
+fn contains_group(groups: &[u64], group: u64) -> bool
+    ensures { result ≡ contains_group groups.now group }
 {
     groups.iter().any(|crowded| *crowded == group)
 }
 
 /// Returns the responders in groups whose addresses overlap. All other responders share no address
 /// with any responder on their bus.
-pub(crate) fn crowded(alloc: Global, agents: &[Agent]) -> Result<Vec<Agent>, AllocError>
+pub(crate) fn agents_in_overlapping_groups(
+    alloc: Global,
+    agents: &[Agent],
+) -> Result<Vec<Agent>, AllocError>
     ensures { IfOk result (λ v. contentions v.items ≡ contentions agents.now) }
 {
     let spans = sorted_spans(alloc, agents)?;
-    let groups = crowded_groups(alloc, &spans)?;
-    crowded_agents(alloc, agents, &groups)
+    let groups = groups_with_overlap(alloc, &spans)?;
+    agents_in_groups(alloc, agents, &groups)
 }
 
 /// Returns the responders in the given groups.
-fn crowded_agents(alloc: Global, agents: &[Agent], groups: &[u64]) -> Result<Vec<Agent>, AllocError>
+fn agents_in_groups(
+    alloc: Global,
+    agents: &[Agent],
+    groups: &[u64],
+) -> Result<Vec<Agent>, AllocError>
     ensures { IfOk result (λ v. v.items ≡ filter (is_crowded groups.now) agents.now) }
 {
     let mut crowded = Vec::new(alloc);
     for agent in agents {
-        if crowds(groups, bus_and_space_hash(agent)) {
+        if contains_group(groups, bus_and_space_hash(agent)) {
             crowded.push(agent.copied())?;
         }
     }

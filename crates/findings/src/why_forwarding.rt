@@ -5,7 +5,7 @@ ghost use Rattle.bars.specs.Kinds.{named_space};
 ghost use Rattle.model_board.specs.Routing.{routing, row_forwards, is_routed};
 ghost use Rattle.model_lines.specs.Why.{forwarders};
 ghost use Rattle.findings.specs.{WhyByRows.{row_forwarder, forwarders_among}, WhyTold.forwarder_told};
-ghost use Rattle.bridge_forward.specs.RoutingRows.{secondary_nth};
+ghost use Rattle.bridge_forward.specs.RoutingRows.{secondary_bus_nth};
 
 use crate::causes::Forwarder;
 use crate::hindering::forwards;
@@ -15,7 +15,7 @@ use host_bridge::Host;
 use std::alloc::{AllocError, Global};
 
 /// Returns whether every bridge above a path forwards the address.
-fn is_routed(rows: &[RoutingRow], asked: &AddressQuery, path: &Path) -> bool
+fn is_path_forwarded(rows: &[RoutingRow], asked: &AddressQuery, path: &Path) -> bool
     ensures { let space = named_space asked.now.space in
         result ≡ is_routed rows.now path.now space asked.now.addr }
 {
@@ -24,11 +24,11 @@ fn is_routed(rows: &[RoutingRow], asked: &AddressQuery, path: &Path) -> bool
 
 /// Returns whether the function is a bridge that forwards the address and that the address reaches
 /// from bus 0.
-fn passes_on(rows: &[RoutingRow], asked: &AddressQuery, row: &RoutingRow) -> bool
+fn reaches_and_forwards(rows: &[RoutingRow], asked: &AddressQuery, row: &RoutingRow) -> bool
     ensures { let space = named_space asked.now.space in let addr = asked.now.addr in result
         ≡ (row_forwards space addr row.now && is_routed rows.now row.now.path space addr) }
 {
-    forwards(row, asked.space, asked.addr) && is_routed(rows, asked, &row.path)
+    forwards(row, asked.space, asked.addr) && is_path_forwarded(rows, asked, &row.path)
 }
 
 /// Returns the function at an index as a forwarder, if the address passes through it. `row` must be
@@ -41,21 +41,21 @@ fn forwarder(
     row: &RoutingRow,
 ) -> Option<Forwarder>
     ensures { let space = named_space asked.now.space in
-        let bus = secondary_nth host.now.state.functions index in
+        let bus = secondary_bus_nth host.now.state.functions index in
         option_to_list (option_map forwarder_told result)
         ≡ row_forwarder space asked.now.addr rows.now bus row.now }
 {
-    if !passes_on(rows, asked, row) {
+    if !reaches_and_forwards(rows, asked, row) {
         return None;
     }
     Some(Forwarder {
         path: row.path.copied(),
-        bus: host.secondary_nth(index).unwrap_or(0),
+        bus: host.secondary_bus_nth(index).unwrap_or(0),
     })
 }
 
 /// Looks up the row of the function at an index and returns it as a forwarder, as `forwarder` does.
-fn forwarder_nth(
+fn forwarder_nth_if_reached(
     host: &Host,
     rows: &[RoutingRow],
     asked: &AddressQuery,
@@ -86,7 +86,7 @@ pub(crate) fn forwarders(
 {
     let mut told = Vec::new(alloc);
     for index in 0..rows.len() {
-        if let Some(forwarder) = forwarder_nth(host, rows, asked, index) {
+        if let Some(forwarder) = forwarder_nth_if_reached(host, rows, asked, index) {
             told.push(forwarder)?;
         }
     }

@@ -10,7 +10,7 @@ use crate::problem_lines::ProblemCount;
 use crate::region_texts::{Hexadecimal, ShownRegion, space_name};
 use findings::{LiveBar, ReadinessIssue};
 use paths::Path;
-use report::{ShownPath, TwoDigits};
+use report::{ShownPath, TwoHexDigits};
 use std::alloc::AllocError;
 
 /// Appends the description of a BAR that a bridge forwards as prefetchable but isn't.
@@ -52,8 +52,8 @@ fn push_description(text: &mut String, issue: &ReadinessIssue) -> Result<(), All
         } => push_prefetched(text, region, bridge, *address),
         ReadinessIssue::OtherPrimary { path, held, number } => {
             let path = ShownPath(path);
-            let held = TwoDigits(*held);
-            let number = TwoDigits(*number);
+            let held = TwoHexDigits(*held);
+            let number = TwoHexDigits(*number);
             write!(
                 text,
                 "{path}: Primary Bus Number is {held}, but the bridge is on bus {number}"

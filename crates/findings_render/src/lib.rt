@@ -25,6 +25,6 @@ pub use counted::CountedText;
 pub use findings::{Bdf, Problem, ReadinessIssue};
 pub use host_bridge::Host;
 pub use problem_lines::push_problem;
-pub use region_texts::numbers;
+pub use region_texts::shown_bdf;
 pub use why_parts::ShownDisabled;
-pub use why_texts::{host_why_text, push_use};
+pub use why_texts::{host_why_text, push_port_use_line};

@@ -51,7 +51,7 @@ impl fmt::Display for Hexadecimal {
 }
 
 /// Converts a BDF into a form that can be displayed.
-pub fn numbers(at: Bdf) -> Numbers
+pub fn shown_bdf(at: Bdf) -> Numbers
     ensures { result ≡ record { bus = at.bus; device = at.device; function = at.function } }
 {
     Numbers {

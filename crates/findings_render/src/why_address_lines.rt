@@ -13,7 +13,7 @@ use bars::Space;
 use bridge_forward::Claim;
 use findings::{BlockReason, Cause, Forwarder, UnansweredRegion, Why};
 use paths::Path;
-use report::{ShownPath, TwoDigits};
+use report::{ShownPath, TwoHexDigits};
 use std::alloc::AllocError;
 use std::fmt;
 
@@ -102,12 +102,12 @@ impl<'a> fmt::Display for ShownCauses<'a> {
 
 /// Displays a BAR that contains the address, with the reasons why it doesn't answer.
 #[derive(Clone, Copy)]
-pub(crate) struct ShownTold<'a> {
+pub(crate) struct ShownSilent<'a> {
     pub(crate) space: Space,
     pub(crate) told: &'a UnansweredRegion,
 }
 
-impl<'a> fmt::Display for ShownTold<'a> {
+impl<'a> fmt::Display for ShownSilent<'a> {
     ghost output = { λ t. Some (told_text (named_space t.space) (region_told t.told.now)) };
 
     fn fmt<W: fmt::Write>(&self, f: &mut fmt::Formatter<W>) -> fmt::Result {
@@ -138,7 +138,7 @@ impl<'a> fmt::Display for ShownClaim<'a> {
 
 /// Returns the text for an address that no BAR answers. It differs if a bridge forwards the
 /// address.
-fn no_claim(forwarders: &[Forwarder]) -> &'static str
+fn unclaimed_text(forwarders: &[Forwarder]) -> &'static str
     ensures { result.now ≡ no_claim_text (map forwarder_told forwarders.now) }
 {
     match forwarders {
@@ -157,7 +157,7 @@ impl<'a> fmt::Display for ShownAnswer<'a> {
     fn fmt<W: fmt::Write>(&self, f: &mut fmt::Formatter<W>) -> fmt::Result {
         match &self.0.answer {
             Some(claim) => write!(f, "{}", ShownClaim(claim)),
-            None => write!(f, "{}", no_claim(&self.0.forwarders)),
+            None => write!(f, "{}", unclaimed_text(&self.0.forwarders)),
         }
     }
 }
@@ -186,5 +186,5 @@ pub(crate) fn push_forwarder(text: &mut String, forwarder: &Forwarder) -> Result
         (forwarder_text (forwarder_told forwarder.now))) }
 {
     write!(text, "bridge {}", ShownPath(&forwarder.path))?;
-    write!(text, " forwards it to bus {}", TwoDigits(forwarder.bus))
+    write!(text, " forwards it to bus {}", TwoHexDigits(forwarder.bus))
 }

@@ -6,14 +6,14 @@ ghost use Rattle.model_lines.specs.WhyText.{why_line};
 ghost use Rattle.findings_render.specs.WhyLines.{line_text};
 
 use crate::counts::Counted;
-use crate::region_texts::{Reached, numbers};
-use crate::why_address_lines::{ShownAddress, ShownTold, push_forwarder};
+use crate::region_texts::{Reached, shown_bdf};
+use crate::why_address_lines::{ShownAddress, ShownSilent, push_forwarder};
 use crate::why_number_lines::ShownMissing;
-use crate::why_port_lines::push_port;
+use crate::why_port_lines::push_port_role;
 use bars::Space;
 use bridge_forward::Path;
 use findings::{Bdf, Forwarder, Missing, PortUse, UnansweredRegion, Why, WhyNumber};
-use report::{ShownPath, TwoDigits};
+use report::{ShownPath, TwoHexDigits};
 use std::alloc::AllocError;
 
 /// A line of an explanation, without the leading `why: `.
@@ -47,10 +47,10 @@ fn push_description(text: &mut String, line: Line) -> Result<(), AllocError>
     ensures { OnOk result (Adds text.old text.new (line_text line.entry)) }
 {
     match line {
-        Line::Port(latch, port, used) => push_port(text, latch, port, used),
+        Line::Port(latch, port, used) => push_port_role(text, latch, port, used),
         Line::Address(space, addr, why) => write!(text, "{}", ShownAddress { space, addr, why }),
         Line::Forwarder(forwarder) => push_forwarder(text, forwarder),
-        Line::Region(space, told) => write!(text, "{}", ShownTold { space, told }),
+        Line::Region(space, told) => write!(text, "{}", ShownSilent { space, told }),
         Line::AtReset(count) => {
             let bars = Counted {
                 count,
@@ -60,11 +60,11 @@ fn push_description(text: &mut String, line: Line) -> Result<(), AllocError>
             write!(text, "{bars} at 0x0 with decode disabled, as at reset")
         }
         Line::Number(at, why) => {
-            write!(text, "{} reaches {}", numbers(*at), Reached(&why.reached))
+            write!(text, "{} reaches {}", shown_bdf(*at), Reached(&why.reached))
         }
         Line::Taker(bus, path) => {
             let bridge = ShownPath(path);
-            write!(text, "bridge {bridge} claims bus {}", TwoDigits(bus))
+            write!(text, "bridge {bridge} claims bus {}", TwoHexDigits(bus))
         }
         Line::Missing(missing) => write!(text, "{}", ShownMissing(missing)),
         Line::NotFound(path) => {

@@ -13,7 +13,10 @@ use findings::{Bdf, Forwarder, PortUse, UnansweredRegion, Why, WhyNumber};
 use std::alloc::AllocError;
 
 /// Adds a line for each bridge that forwards an address.
-fn add_forwarders<'a>(lines: &mut Vec<Line<'a>>, all: &'a [Forwarder]) -> Result<(), AllocError>
+fn add_forwarder_lines<'a>(
+    lines: &mut Vec<Line<'a>>,
+    all: &'a [Forwarder],
+) -> Result<(), AllocError>
     ensures { OnOk result (map line_text lines.new.items ≡ map line_text lines.old.items
         ++ map forwarder_text (map forwarder_told all.now)) }
 {
@@ -24,7 +27,7 @@ fn add_forwarders<'a>(lines: &mut Vec<Line<'a>>, all: &'a [Forwarder]) -> Result
 }
 
 /// Adds a line for each other BAR that contains an address.
-fn add_regions<'a>(
+fn add_region_lines<'a>(
     lines: &mut Vec<Line<'a>>,
     space: Space,
     all: &'a [UnansweredRegion],
@@ -39,7 +42,7 @@ fn add_regions<'a>(
 }
 
 /// Adds the lines that explain an address.
-pub(crate) fn add_address<'a>(
+pub(crate) fn add_address_lines<'a>(
     lines: &mut Vec<Line<'a>>,
     space: Space,
     addr: u64,
@@ -49,8 +52,8 @@ pub(crate) fn add_address<'a>(
         ++ why_lines (named_space space) addr (why_told why.now)) }
 {
     lines.push(Line::Address(space, addr, why))?;
-    add_forwarders(lines, &why.forwarders)?;
-    add_regions(lines, space, &why.told)?;
+    add_forwarder_lines(lines, &why.forwarders)?;
+    add_region_lines(lines, space, &why.told)?;
     if why.at_reset > 0 {
         lines.push(Line::AtReset(why.at_reset))?;
     }
@@ -58,7 +61,7 @@ pub(crate) fn add_address<'a>(
 }
 
 /// Adds a line for each bridge that claims the configuration cycle for a BDF.
-fn add_takers<'a>(
+fn add_claiming_bridge_lines<'a>(
     lines: &mut Vec<Line<'a>>,
     at: &Bdf,
     bridges: &'a [Path],
@@ -73,7 +76,7 @@ fn add_takers<'a>(
 }
 
 /// Adds a line for each function that has a BDF but isn't reached by it.
-fn add_not_found<'a>(lines: &mut Vec<Line<'a>>, paths: &'a [Path]) -> Result<(), AllocError>
+fn add_not_found_lines<'a>(lines: &mut Vec<Line<'a>>, paths: &'a [Path]) -> Result<(), AllocError>
     ensures { OnOk result (map line_text lines.new.items ≡ map line_text lines.old.items
         ++ map not_found_text paths.now) }
 {
@@ -84,7 +87,7 @@ fn add_not_found<'a>(lines: &mut Vec<Line<'a>>, paths: &'a [Path]) -> Result<(),
 }
 
 /// Adds the lines that explain a BDF.
-pub(crate) fn add_number<'a>(
+pub(crate) fn add_bdf_lines<'a>(
     lines: &mut Vec<Line<'a>>,
     at: &'a Bdf,
     why: &'a WhyNumber,
@@ -93,16 +96,16 @@ pub(crate) fn add_number<'a>(
         ++ number_lines (bus_address_of at.now) (number_told why.now)) }
 {
     lines.push(Line::Number(at, why))?;
-    add_takers(lines, at, &why.bridges)?;
+    add_claiming_bridge_lines(lines, at, &why.bridges)?;
     if let Some(missing) = &why.missing {
         lines.push(Line::Missing(missing))?;
     }
-    add_not_found(lines, &why.not_found)
+    add_not_found_lines(lines, &why.not_found)
 }
 
 /// Adds the line about the role of a port in the configuration mechanism. Adds nothing for an
 /// ordinary port.
-pub(crate) fn add_use<'a>(
+pub(crate) fn add_port_use_line<'a>(
     lines: &mut Vec<Line<'a>>,
     latch: u32,
     port: u64,

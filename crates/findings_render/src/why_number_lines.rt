@@ -5,7 +5,7 @@ ghost use Rattle.findings.specs.WhyTold.{missing_told};
 
 use bridge_forward::Path;
 use findings::Missing;
-use report::{ShownPath, TwoDigits};
+use report::{ShownPath, TwoHexDigits};
 use std::fmt;
 
 /// Displays a bus by the bridge above it.
@@ -38,7 +38,7 @@ impl<'a> fmt::Display for ShownMissing<'a> {
         match self.0 {
             Missing::NoBridge { behind, bus } => {
                 let behind = ShownBus(behind);
-                write!(f, "no bridge {behind} claims bus {}", TwoDigits(*bus))
+                write!(f, "no bridge {behind} claims bus {}", TwoHexDigits(*bus))
             }
             Missing::NoFunction {
                 behind,

@@ -6,7 +6,7 @@ ghost use Rattle.findings.specs.WhyTold.{name_told, window_told, windows_told};
 
 use bridge_forward::Window;
 use findings::{NamedWindow, WindowName};
-use report::FourDigits;
+use report::FourHexDigits;
 use std::fmt;
 
 /// Displays that a Command register, given its value, disables decode.
@@ -17,7 +17,11 @@ impl fmt::Display for ShownDisabled {
     ghost output = { λ c. Some (disabled_text c.0) };
 
     fn fmt<W: fmt::Write>(&self, f: &mut fmt::Formatter<W>) -> fmt::Result {
-        write!(f, "decode is disabled (Command 0x{})", FourDigits(self.0))
+        write!(
+            f,
+            "decode is disabled (Command 0x{})",
+            FourHexDigits(self.0)
+        )
     }
 }
 

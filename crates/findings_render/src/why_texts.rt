@@ -10,7 +10,7 @@ ghost use Rattle.findings.specs.WhyTold.{use_told};
 ghost use Rattle.findings_render.specs.WhyLines.{line_text};
 
 use crate::why_line::{Line, push_lines};
-use crate::why_lines::{add_address, add_number, add_use};
+use crate::why_lines::{add_address_lines, add_bdf_lines, add_port_use_line};
 use accesses::HostAt;
 use bars::Space;
 use findings::{Bdf, PortUse, port_use, why_address, why_number};
@@ -20,7 +20,7 @@ use std::alloc::{AllocError, Global};
 
 /// Appends the line about the role of a port in the configuration mechanism. Appends nothing for an
 /// ordinary port.
-pub fn push_use(
+pub fn push_port_use_line(
     alloc: Global,
     text: &mut String,
     latch: Latch,
@@ -31,12 +31,12 @@ pub fn push_use(
         (text_of_lines (map why_line (use_lines latch port (use_told used))))) }
 {
     let mut lines = Vec::new(alloc);
-    add_use(&mut lines, latch.value(), port, &used)?;
+    add_port_use_line(&mut lines, latch.value(), port, &used)?;
     push_lines(text, &lines)
 }
 
 /// Renders the lines, followed by a line that counts them.
-fn counted_text(alloc: Global, lines: &mut Vec<Line>) -> Result<String, AllocError>
+fn render_with_count(alloc: Global, lines: &mut Vec<Line>) -> Result<String, AllocError>
     ensures { IfOk result (λ t.
         string_bytes t ≡ whole_text (map line_text lines.old.items)) }
 {
@@ -49,7 +49,7 @@ fn counted_text(alloc: Global, lines: &mut Vec<Line>) -> Result<String, AllocErr
 
 /// Renders the explanation of an address. If the address is a port with a role in the configuration
 /// mechanism, its line comes first.
-fn address_text(
+fn render_address_why(
     alloc: Global,
     host: &Host,
     space: Space,
@@ -62,14 +62,14 @@ fn address_text(
 {
     let why = why_address(alloc, host, space, addr)?;
     let mut lines = Vec::new(alloc);
-    add_use(&mut lines, host.latch().value(), addr, used)?;
-    add_address(&mut lines, space, addr, &why)?;
-    counted_text(alloc, &mut lines)
+    add_port_use_line(&mut lines, host.latch().value(), addr, used)?;
+    add_address_lines(&mut lines, space, addr, &why)?;
+    render_with_count(alloc, &mut lines)
 }
 
 /// Renders the explanation of a BDF. The line about the port that selects it comes first, if there
 /// is one.
-fn number_text(
+fn render_bdf_why(
     alloc: Global,
     host: &mut Host,
     at: Bdf,
@@ -83,23 +83,23 @@ fn number_text(
 {
     let why = why_number(alloc, host, at)?;
     let mut lines = Vec::new(alloc);
-    add_use(&mut lines, host.latch().value(), port, used)?;
-    add_number(&mut lines, &at, &why)?;
-    counted_text(alloc, &mut lines)
+    add_port_use_line(&mut lines, host.latch().value(), port, used)?;
+    add_bdf_lines(&mut lines, &at, &why)?;
+    render_with_count(alloc, &mut lines)
 }
 
 /// Explains where an access to a port goes in the current registers. For CONFIG_ADDRESS and
 /// CONFIG_DATA, the first line says so. Then explains the BDF in CONFIG_ADDRESS, if the access goes
 /// to a configuration register, and otherwise the port as an I/O address.
-fn port_text(alloc: Global, host: &mut Host, port: u64) -> Result<String, AllocError>
+fn render_port_why(alloc: Global, host: &mut Host, port: u64) -> Result<String, AllocError>
     ensures text { IfOk result (λ t. string_bytes t ≡ why_port_text host.old.state port) }
     ensures after { host.new ≡ host.old }
 {
     let used = port_use(host.latch(), port);
     match used {
-        PortUse::ShowsData { at, .. } => number_text(alloc, host, at, port, &used),
+        PortUse::ShowsData { at, .. } => render_bdf_why(alloc, host, at, port, &used),
         PortUse::HoldsLatch | PortUse::HidesData | PortUse::LikeOthers => {
-            address_text(alloc, host, Space::Io, port, &used)
+            render_address_why(alloc, host, Space::Io, port, &used)
         }
     }
 }
@@ -118,8 +118,8 @@ pub fn host_why_text(alloc: Global, host: &mut Host, at: HostAt) -> Result<Strin
 {
     let used = PortUse::LikeOthers;
     match at {
-        HostAt::Config { bdf, off: _ } => number_text(alloc, host, bdf, 0, &used),
-        HostAt::Io { port } => port_text(alloc, host, port),
-        HostAt::Mem { addr } => address_text(alloc, host, Space::Mem, addr, &used),
+        HostAt::Config { bdf, off: _ } => render_bdf_why(alloc, host, bdf, 0, &used),
+        HostAt::Io { port } => render_port_why(alloc, host, port),
+        HostAt::Mem { addr } => render_address_why(alloc, host, Space::Mem, addr, &used),
     }
 }

@@ -1,7 +1,7 @@
 -- What a guest's own copies hold: bytes, of which none rises. A file goes on holding them.
 use Rattle.std.{proofs.{Common.{◌≡◌, ℕ, zero, suc, ◌+◌, ◌/◌, ◌<◌, Bool, cond, List, [], ◌∷◌, refl, sym, ap, subst, ◌∙◌, arith}, Math.Nat.pow-suc}, specs.{Prelude.{bit_and, bit_or}, Int.Bits.{or_zero_r, and_zero_r}}}
 use Rattle.lists.{specs.Elements.Each, proofs.EachLemmas.each_append}
-use Rattle.model_registers.{proofs.{BareRegions.bare_lawful, Files.{write_none, config_has_no_block}, RegisterFiles.change_at_place, Owned.{none_else, own_writes}, ConstantCells.raised_none}, specs.{Cell.{Cell, raised}, Registers.{Place, config, block, after, PlacedCell, File, cell_at, write, raise, field}, FileLaws.{IsConfig, IsConfigFile}, Declarations.HasLawfulRegions, EndpointTable.{BaseAddress, base_file, command_cells, command_mask}, OwnCopies.{OwnCopies, own_file, handed_on}}}
+use Rattle.model_registers.{proofs.{BareRegions.bare_lawful, Files.{write_none, config_has_no_block}, RegisterFiles.change_at_place, Owned.{none_else, own_writes}, ConstantCells.raised_none}, specs.{Cell.{Cell, raised}, Registers.{Place, config, block, after, PlacedCell, File, cell_at, write, raise, field}, FileLaws.{IsConfig, IsConfigFile}, Declarations.HasLawfulRegions, EndpointTable.{BaseAddress, base_file, command_cells, command_mask}, OwnCopies.{OwnCopies, own_file, forwarded_byte_enables}}}
 use Rattle.guest_functions.{specs.CopyLaws.{CopiedRaise, HiddenRaise, CopiesStay, RaisedHeld, WrittenHeld, BlockWrittenHeld, LawfulCopies, SumOfBytes, EnabledBytesFit}, proofs.CopiedFiles.{own_change, other_change, hidden_change}}
 
 -- ---- what the copies are
@@ -67,7 +67,7 @@ raised_held own file holds m q p mine = grind (arith, change_at_place, raised_no
 pub written_held : WrittenHeld
 written_held own new file holds ons v q stored p mine =
     own_writes own file holds q p ons v
-    ∙ ap (λ (t : Bool). cond t (cell_at (write ons v q (own_file own)) p) (cell_at (write (handed_on q ons) v q file) p)) mine
+    ∙ ap (λ (t : Bool). cond t (cell_at (write ons v q (own_file own)) p) (cell_at (write (forwarded_byte_enables q ons) v q file) p)) mine
     ∙ ap (λ (f : File). cell_at f p) (sym stored)
 
 fields_config : (w a v m : ℕ) → IsConfigFile (field (config a) w v m 0)

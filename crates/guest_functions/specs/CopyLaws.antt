@@ -2,7 +2,7 @@
 -- that it keeps holding the copies.
 use Rattle.std.specs.Prelude.{◌≡◌, ◌<◌, ◌^◌, ◌+◌, ℕ, Bool, true, false, List, length, map}
 use Rattle.lists.specs.Elements.{Each}
-use Rattle.model_registers.specs.{Registers.{Place, block, PlacedCell, File, cell_at, read, write, raise}, ByteEnables.enabled_bytes, Declarations.{Region, HasLawfulRegions}, EndpointTable.opened, OwnCopies.{is_own, OwnCopies, own_file, HoldsOwn, handed_on, bare, IsLawfulOwn}, CopiedFiles.with_copies}
+use Rattle.model_registers.specs.{Registers.{Place, block, PlacedCell, File, cell_at, read, write, raise}, ByteEnables.enabled_bytes, Declarations.{Region, HasLawfulRegions}, EndpointTable.opened, OwnCopies.{is_own, OwnCopies, own_file, HoldsOwn, forwarded_byte_enables, bare, IsLawfulOwn}, CopiedFiles.with_copies}
 
 -- ---- reads
 
@@ -13,7 +13,7 @@ OtherCell = (own file : File) (p : Place) → is_own p ≡ false → cell_at (wi
 -- the forwarded bytes, and those of a region's block, come from the file
 abbrev pub HandedRead : Type 0
 HandedRead = (enables : List Bool) (p : Place) (own file : File)
-    → read (with_copies own file) p (handed_on p enables) ≡ read file p (handed_on p enables)
+    → read (with_copies own file) p (forwarded_byte_enables p enables) ≡ read file p (forwarded_byte_enables p enables)
 
 abbrev pub BlockRead : Type 0
 BlockRead = (enables : List Bool) (n a : ℕ) (own file : File)
@@ -25,7 +25,7 @@ BlockRead = (enables : List Bool) (n a : ℕ) (own file : File)
 abbrev pub CopiedWrite : Type 0
 CopiedWrite = (enables : List Bool) (v : ℕ) (p : Place) (own file : File)
     → write enables v p (with_copies own file)
-    ≡ with_copies (write enables v p own) (write (handed_on p enables) v p file)
+    ≡ with_copies (write enables v p own) (write (forwarded_byte_enables p enables) v p file)
 
 -- a region has no copied bytes
 abbrev pub BlockWrite : Type 0
@@ -78,7 +78,7 @@ LawfulCopies = (own : OwnCopies) (rs : List Region) → HasLawfulRegions rs → 
 -- the copied bytes and any forwarded bytes of a word add up to a number whose disabled bytes are 0
 abbrev pub SumOfBytes : Type 0
 SumOfBytes = (own : OwnCopies) → IsLawfulOwn own → (enables : List Bool) (p : Place) (n : ℕ)
-    → (let sum : ℕ = read (own_file own) p enables + enabled_bytes (handed_on p enables) n in
+    → (let sum : ℕ = read (own_file own) p enables + enabled_bytes (forwarded_byte_enables p enables) n in
     sum ≡ enabled_bytes enables sum)
 
 abbrev pub EnabledBytesFit : Type 0

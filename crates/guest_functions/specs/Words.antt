@@ -1,6 +1,6 @@
 -- The words of configuration space, by the copied registers that they contain.
 --     IsAt off w      the word at an offset is w
---     own_lanes w      the byte enables of the copied bytes
+--     copied_byte_enables w      the byte enables of the copied bytes
 use Rattle.std.specs.Prelude.{◌≡◌, ◌≤◌, ◌<◌, ℕ, ◌+◌, ◌*◌, ◌⊎◌}
 use Rattle.guest_functions.specs.declared.word.Word.{Word, TheVariants.{Command, HeaderType, Base, Other}}
 
@@ -15,8 +15,8 @@ IsAt off HeaderType = off ≡ 0x0c
 IsAt off (Base reg) = (off ≡ 0x10 + 4 * reg) × (reg < 6)
 IsAt off Other = IsOther off
 
-abbrev pub own_lanes : Word → ℕ
-own_lanes Command = 3
-own_lanes HeaderType = 4
-own_lanes (Base reg) = 15
-own_lanes Other = 0
+abbrev pub copied_byte_enables : Word → ℕ
+copied_byte_enables Command = 3
+copied_byte_enables HeaderType = 4
+copied_byte_enables (Base reg) = 15
+copied_byte_enables Other = 0

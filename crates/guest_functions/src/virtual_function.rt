@@ -1,7 +1,7 @@
 //! A guest's own copies of Command, Header Type and the base address registers.
 ghost use Rattle.std.specs.Prelude.{◌≡◌, ◌≤◌, ◌<◌, ◌+◌, ◌%◌, false, if◌then◌else◌, map, bit_and};
 ghost use Rattle.lists.specs.Elements.{Each};
-ghost use Rattle.model_registers.specs.{Registers.{Place, config, File, cell_at, read, write}, ByteEnables.{lanes, enabled_bits}, RegisterLaws.merged, Declarations.{Endpoint, HasLawfulRegions}, EndpointTable.{opened, closed, endpoint_reset, command_mask}, Decoding.{Function, lone_claim}, OwnCopies.{is_own, own_file, HoldsOwn, handed_on, bare}};
+ghost use Rattle.model_registers.specs.{Registers.{Place, config, File, cell_at, read, write}, ByteEnables.{lanes, enabled_bits}, RegisterLaws.merged, Declarations.{Endpoint, HasLawfulRegions}, EndpointTable.{opened, closed, endpoint_reset, command_mask}, Decoding.{Function, lone_claim}, OwnCopies.{is_own, own_file, HoldsOwn, forwarded_byte_enables, bare}};
 ghost use Rattle.bars.specs.{Kinds.named_space, Hits.named_hit, Resets.{at_reset, with_no_base}};
 
 use crate::word::Word;
@@ -31,11 +31,11 @@ impl Model for VirtualFunction {
 
 /// Returns Command after a write of the enabled bytes of its word (PCI Local Bus Specification 3.0,
 /// section 6.2.2).
-fn command_written(command: u16, enables: u8, value: u32) -> u16
+fn command_after_write(command: u16, enables: u8, value: u32) -> u16
     ensures { result
         ≡ merged 2 command value (bit_and command_mask (enabled_bits (lanes enables))) }
 {
-    let writable = u32::from(Command::of_endpoint().0);
+    let writable = u32::from(Command::writable_in_endpoint().0);
     let mask = writable & enabled_bits(enables);
     ((u32::from(command) & !mask) | (value & mask)) as u16
 }
@@ -61,7 +61,7 @@ impl VirtualFunction {
         requires aligned { off % 4 ≡ 0 }
         requires in_range { off < 256 }
         ensures own { result.0 ≡ read (own_file self.now) (config off) (lanes enables) }
-        ensures others { lanes result.1 ≡ handed_on (config off) (lanes enables) }
+        ensures others { lanes result.1 ≡ forwarded_byte_enables (config off) (lanes enables) }
         ensures four { result.1 < 16 }
         ensures together { (file : File) → HoldsOwn file self.now
             → read file (config off) (lanes enables)
@@ -73,7 +73,7 @@ impl VirtualFunction {
             Word::Base(reg) => self.bars.read(reg, enables),
             Word::HeaderType | Word::Other => 0,
         };
-        (own, word.handed_on(off, enables))
+        (own, word.forwarded_byte_enables(off, enables))
     }
 
     /// Writes those enabled bytes of a word that the guest has copies of. Returns the byte enables
@@ -84,7 +84,7 @@ impl VirtualFunction {
         ensures own { own_file self.new
             ≡ write (lanes enables) value (config off) (own_file self.old) }
         ensures regions { map opened self.new.bases ≡ map opened self.old.bases }
-        ensures others { lanes result ≡ handed_on (config off) (lanes enables) }
+        ensures others { lanes result ≡ forwarded_byte_enables (config off) (lanes enables) }
         ensures four { result < 16 }
         ensures together { (file : File) → HoldsOwn file self.old → (p : Place)
             → cell_at (write (lanes enables) value (config off) file) p
@@ -93,11 +93,11 @@ impl VirtualFunction {
     {
         let word = Word::at(off);
         match word {
-            Word::Command => self.command = command_written(self.command, enables, value),
+            Word::Command => self.command = command_after_write(self.command, enables, value),
             Word::Base(reg) => self.bars.write(reg, enables, value),
             Word::HeaderType | Word::Other => {}
         }
-        word.handed_on(off, enables)
+        word.forwarded_byte_enables(off, enables)
     }
 
     /// Returns the lowest base address register whose region decodes an address according to the

@@ -1,7 +1,7 @@
 //! The configuration words that contain copied registers.
 ghost use Rattle.std.specs.Prelude.{◌≡◌, ◌<◌, ◌%◌};
-ghost use Rattle.model_registers.specs.{Registers.config, ByteEnables.lanes, OwnCopies.handed_on};
-ghost use Rattle.guest_functions.specs.Words.{IsAt, own_lanes};
+ghost use Rattle.model_registers.specs.{Registers.config, ByteEnables.lanes, OwnCopies.forwarded_byte_enables};
+ghost use Rattle.guest_functions.specs.Words.{IsAt, copied_byte_enables};
 
 /// The copied register that a configuration word contains (PCI Local Bus Specification 3.0, section
 /// 6.1).
@@ -32,8 +32,8 @@ impl Word {
     }
 
     /// Returns the copied bytes of the word, as byte enables.
-    fn own_lanes(self) -> u8
-        ensures { result ≡ own_lanes self }
+    fn copied_byte_enables(self) -> u8
+        ensures { result ≡ copied_byte_enables self }
     {
         match self {
             Word::Command => 0b0011,
@@ -44,11 +44,11 @@ impl Word {
     }
 
     /// Returns the enabled bytes that are not copied, as byte enables.
-    pub fn handed_on(self, off: u16, enables: u8) -> u8
+    pub fn forwarded_byte_enables(self, off: u16, enables: u8) -> u8
         requires { IsAt off self }
-        ensures others { lanes result ≡ handed_on (config off) (lanes enables) }
+        ensures others { lanes result ≡ forwarded_byte_enables (config off) (lanes enables) }
         ensures four { result < 16 }
     {
-        enables & 0b1111 & !self.own_lanes()
+        enables & 0b1111 & !self.copied_byte_enables()
     }
 }

@@ -1,6 +1,6 @@
 //! The address apertures that set-up may assign from.
 ghost use Rattle.std.specs.Prelude.{◌≡◌, ◌↔◌, ◌<◌, is_ok, IsOk, IfOk};
-ghost use Rattle.model_registers.specs.Apertures.{is_of_units, is_io_aperture, is_mem_aperture, is_pref_aperture, has_lawful_pref, are_lawful, IsLawfulApertures};
+ghost use Rattle.model_registers.specs.Apertures.{is_whole_units, is_io_aperture, is_mem_aperture, is_pref_aperture, has_lawful_pref, are_lawful, IsLawfulApertures};
 
 use std::marker::Model;
 use thiserror::Error;
@@ -56,20 +56,20 @@ impl Model for Aperture {
 
 impl Aperture {
     /// Returns whether the aperture is nonempty and consists of whole units of `unit` bytes.
-    fn is_of_units(&self, unit: u64) -> bool
+    fn is_whole_units(&self, unit: u64) -> bool
         requires { 0 < unit }
-        ensures { result ≡ is_of_units unit self.now }
+        ensures { result ≡ is_whole_units unit self.now }
     {
         self.first <= self.last && self.first % unit == 0 && self.last % unit == unit - 1
     }
 
     /// Checks that the aperture is nonempty and consists of whole units of `unit` bytes. Fails with
     /// `fault` if it starts or ends inside a unit.
-    fn check_units(&self, unit: u64, fault: ApertureFault) -> Result<(), ApertureFault>
+    fn check_whole_units(&self, unit: u64, fault: ApertureFault) -> Result<(), ApertureFault>
         requires { 0 < unit }
-        ensures { is_ok result ≡ is_of_units unit self.now }
+        ensures { is_ok result ≡ is_whole_units unit self.now }
     {
-        if self.is_of_units(unit) {
+        if self.is_whole_units(unit) {
             Ok(())
         } else if self.last < self.first {
             Err(ApertureFault::Empty)
@@ -82,7 +82,7 @@ impl Aperture {
     pub fn check_io(&self) -> Result<(), ApertureFault>
         ensures { is_ok result ≡ is_io_aperture self.now }
     {
-        self.check_units(1 << 12, ApertureFault::Pages)?;
+        self.check_whole_units(1 << 12, ApertureFault::Pages)?;
         if self.first < 0x1000 {
             Err(ApertureFault::BelowIo)
         } else if self.last > 0xffff {
@@ -96,7 +96,7 @@ impl Aperture {
     pub fn check_mem(&self) -> Result<(), ApertureFault>
         ensures { is_ok result ≡ is_mem_aperture self.now }
     {
-        self.check_units(1 << 20, ApertureFault::Megabytes)?;
+        self.check_whole_units(1 << 20, ApertureFault::Megabytes)?;
         if self.last < 1 << 32 {
             Ok(())
         } else {
@@ -109,7 +109,7 @@ impl Aperture {
     pub fn check_pref(&self, mem: &Aperture) -> Result<(), ApertureFault>
         ensures { is_ok result ≡ is_pref_aperture mem.now self.now }
     {
-        self.check_units(1 << 20, ApertureFault::Megabytes)?;
+        self.check_whole_units(1 << 20, ApertureFault::Megabytes)?;
         if self.last >= 1 << 63 {
             Err(ApertureFault::AbovePref)
         } else if self.last >= 1 << 32 && self.first < 1 << 32 {

@@ -16,7 +16,7 @@ use std::alloc::{AllocError, Global};
 pub struct Bridge;
 
 /// Returns the header registers of a bridge, followed by those of its memory window.
-pub fn bridge_rows(decl: &BridgeDecl, multifunction: bool) -> [ConfigRegister; 16]
+pub fn required_bridge_rows(decl: &BridgeDecl, multifunction: bool) -> [ConfigRegister; 16]
     ensures cells { flat_map row_cells result
         ≡ bridge_header decl.now multifunction no_bridge_values ++ mem_cells no_window }
     ensures rows { Each IsRow result }
@@ -24,7 +24,7 @@ pub fn bridge_rows(decl: &BridgeDecl, multifunction: bool) -> [ConfigRegister; 1
     [
         ConfigRegister::new(0x00, 2, u64::from(decl.vendor()), 0, 0),
         ConfigRegister::new(0x02, 2, u64::from(decl.device()), 0, 0),
-        ConfigRegister::new(0x04, 2, 0, u64::from(Command::of_bridge().0), 0),
+        ConfigRegister::new(0x04, 2, 0, u64::from(Command::writable_in_bridge().0), 0),
         ConfigRegister::new(0x06, 2, 0, 0, 0xf900),
         ConfigRegister::new(0x08, 1, u64::from(decl.revision()), 0, 0),
         ConfigRegister::new(0x09, 3, 0x06_0400, 0, 0),
@@ -43,7 +43,7 @@ pub fn bridge_rows(decl: &BridgeDecl, multifunction: bool) -> [ConfigRegister; 1
 
 /// Returns the registers of the I/O window. An unimplemented register has width 0. The low bits of
 /// an implemented register encode the decode width.
-pub fn io_rows(decode: IoDecode) -> [ConfigRegister; 4]
+pub fn io_window_rows(decode: IoDecode) -> [ConfigRegister; 4]
     ensures cells { flat_map row_cells result ≡ io_cells (io_decode_of decode) no_window }
     ensures rows { Each IsRow result }
 {
@@ -62,7 +62,7 @@ pub fn io_rows(decode: IoDecode) -> [ConfigRegister; 4]
 
 /// Returns the registers of the prefetchable memory window. An unimplemented register has width 0.
 /// The low bits of an implemented register encode the decode width.
-pub fn pref_rows(decode: PrefDecode) -> [ConfigRegister; 4]
+pub fn pref_window_rows(decode: PrefDecode) -> [ConfigRegister; 4]
     ensures cells { flat_map row_cells result ≡ pref_cells (pref_decode_of decode) no_window }
     ensures rows { Each IsRow result }
 {
@@ -90,9 +90,9 @@ impl Bridge {
             }) }
     {
         let mut cells = Vec::with_capacity(alloc, 64)?;
-        push_rows(&mut cells, &bridge_rows(decl, multifunction))?;
-        push_rows(&mut cells, &io_rows(decl.io()))?;
-        push_rows(&mut cells, &pref_rows(decl.pref()))?;
+        push_rows(&mut cells, &required_bridge_rows(decl, multifunction))?;
+        push_rows(&mut cells, &io_window_rows(decl.io()))?;
+        push_rows(&mut cells, &pref_window_rows(decl.pref()))?;
         Cells::new(alloc, &cells)
     }
 }

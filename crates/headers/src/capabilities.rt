@@ -1,6 +1,6 @@
 //! Capability lists (PCI Local Bus 3.0, chapter 6.7).
 ghost use Rattle.std.specs.Prelude.{◌≡◌, ◌++◌, IfOk, OnOk};
-ghost use Rattle.model_registers.specs.Capabilities.{first_offset, structure, structures, pointer, with_capabilities, value_at, is_next, listed_block, listed_from, listed_in, listed};
+ghost use Rattle.model_registers.specs.Capabilities.{first_offset_or_zero, structure, structures, pointer, with_capabilities, value_at_or_zero, is_pointed_to, as_listed_capability, capabilities_from_pointer, capabilities_in_blocks, listed};
 
 use crate::config_block::ConfigBlock;
 use crate::endpoint_decl::{EndpointDecl, EndpointValues};
@@ -26,8 +26,8 @@ impl Model for Capability {
 }
 
 /// Returns the offset of the first structure, or 0 if there is none.
-fn first_offset(list: &[Capability]) -> u8
-    ensures { result ≡ first_offset list.now }
+fn first_offset_or_zero(list: &[Capability]) -> u8
+    ensures { result ≡ first_offset_or_zero list.now }
 {
     match list.split_first() {
         Some((first, _)) => first.off,
@@ -37,7 +37,11 @@ fn first_offset(list: &[Capability]) -> u8
 
 /// Returns the registers of a structure that is followed by one at offset `next`, or by none if
 /// that is 0.
-fn structure(alloc: Global, capability: &Capability, next: u8) -> Result<ConfigBlock, AllocError>
+fn capability_block(
+    alloc: Global,
+    capability: &Capability,
+    next: u8,
+) -> Result<ConfigBlock, AllocError>
     ensures { IfOk result (λ b. b ≡ structure capability.now next) }
 {
     let mut block = Vec::new(alloc);
@@ -60,7 +64,7 @@ fn push_structures(
 {
     let mut left = list;
     while let Some((first, rest)) = left.split_first() {
-        let block = structure(alloc, first, first_offset(rest))?;
+        let block = capability_block(alloc, first, first_offset_or_zero(rest))?;
         blocks.push(block)?;
         left = rest;
     }
@@ -68,11 +72,11 @@ fn push_structures(
 }
 
 /// Returns the Capabilities Pointer of a list.
-fn pointer(alloc: Global, list: &[Capability]) -> Result<ConfigBlock, AllocError>
+fn pointer_block(alloc: Global, list: &[Capability]) -> Result<ConfigBlock, AllocError>
     ensures { IfOk result (λ b. b ≡ pointer list.now) }
 {
     let mut block = Vec::new(alloc);
-    block.push(Cell::fixed(first_offset(list)))?;
+    block.push(Cell::fixed(first_offset_or_zero(list)))?;
     Ok(ConfigBlock { off: 0x34, block })
 }
 
@@ -92,7 +96,7 @@ impl EndpointValues {
         }
         let mut values = self;
         let mut blocks = Vec::new(alloc);
-        blocks.push(pointer(alloc, list)?)?;
+        blocks.push(pointer_block(alloc, list)?)?;
         push_structures(alloc, &mut blocks, list)?;
         blocks.append(&mut values.config)?;
         values.config = blocks;
@@ -119,45 +123,45 @@ impl Model for ListedCapability {
 }
 
 /// Returns the reset value of the byte at an index of a block, or 0 if the block is shorter.
-fn value_at(block: &ConfigBlock, index: usize) -> u8
-    ensures { result ≡ value_at index block.now }
+fn value_at_or_zero(block: &ConfigBlock, index: usize) -> u8
+    ensures { result ≡ value_at_or_zero index block.now }
 {
     block.block.get(index).map_or(0, |cell| cell.value())
 }
 
 /// Returns whether a pointer with the value `at` points to the block. The value 0 ends a list.
-fn is_next(at: u8, block: &ConfigBlock) -> bool
-    ensures { result ≡ is_next at block.now }
+fn is_pointed_to(at: u8, block: &ConfigBlock) -> bool
+    ensures { result ≡ is_pointed_to at block.now }
 {
     at != 0 && block.off == u16::from(at)
 }
 
 /// Returns a block as a structure of a list.
-fn listed_block(block: &ConfigBlock) -> ListedCapability
-    ensures { result ≡ listed_block block.now }
+fn as_listed_capability(block: &ConfigBlock) -> ListedCapability
+    ensures { result ≡ as_listed_capability block.now }
 {
     ListedCapability {
-        id: value_at(block, 0),
+        id: value_at_or_zero(block, 0),
         off: block.off,
         size: block.block.len(),
     }
 }
 
 /// Returns the structures among these blocks that a pointer with the value `first` leads to.
-fn listed_from(
+fn capabilities_from_pointer(
     alloc: Global,
     first: u8,
     blocks: &[ConfigBlock],
 ) -> Result<Vec<ListedCapability>, AllocError>
-    ensures { IfOk result (λ v. v.items ≡ listed_from first blocks.now) }
+    ensures { IfOk result (λ v. v.items ≡ capabilities_from_pointer first blocks.now) }
 {
     let mut found = Vec::new(alloc);
     let mut at = first;
     let mut left = blocks;
     while let Some((block, rest)) = left.split_first() {
-        if is_next(at, block) {
-            found.push(listed_block(block))?;
-            at = value_at(block, 1);
+        if is_pointed_to(at, block) {
+            found.push(as_listed_capability(block))?;
+            at = value_at_or_zero(block, 1);
         }
         left = rest;
     }
@@ -166,13 +170,16 @@ fn listed_from(
 
 /// Returns the structures that the Capabilities Pointer leads to, if the first block is that
 /// register.
-fn listed_in(alloc: Global, blocks: &[ConfigBlock]) -> Result<Vec<ListedCapability>, AllocError>
-    ensures { IfOk result (λ v. v.items ≡ listed_in blocks.now) }
+fn capabilities_in_blocks(
+    alloc: Global,
+    blocks: &[ConfigBlock],
+) -> Result<Vec<ListedCapability>, AllocError>
+    ensures { IfOk result (λ v. v.items ≡ capabilities_in_blocks blocks.now) }
 {
     match blocks.split_first() {
         Some((first, rest)) => {
             if first.off == 0x34 {
-                listed_from(alloc, value_at(first, 0), rest)
+                capabilities_from_pointer(alloc, value_at_or_zero(first, 0), rest)
             } else {
                 Ok(Vec::new(alloc))
             }
@@ -191,6 +198,6 @@ impl EndpointDecl {
         if values.status & 0x10 == 0 {
             return Ok(Vec::new(alloc));
         }
-        listed_in(alloc, &values.config)
+        capabilities_in_blocks(alloc, &values.config)
     }
 }

@@ -1,7 +1,7 @@
 //! Device-specific registers in configuration space.
 ghost use Rattle.std.specs.{Prelude.◌≡◌, List.{list_all, list_any}};
 ghost use Rattle.lists.specs.Elements.{all_pairs};
-ghost use Rattle.model_registers.specs.DeclarationRules.{is_read_only, is_pointer, is_config_block, list_bit, blocks_apart};
+ghost use Rattle.model_registers.specs.DeclarationRules.{is_read_only, is_capabilities_pointer, is_config_block, capabilities_list_bit, blocks_apart};
 
 use config_bytes::Cell;
 use std::marker::Model;
@@ -30,8 +30,8 @@ fn are_read_only(cells: &[Cell]) -> bool
 }
 
 impl ConfigBlock {
-    fn is_pointer(&self) -> bool
-        ensures { result ≡ is_pointer self.now }
+    fn is_capabilities_pointer(&self) -> bool
+        ensures { result ≡ is_capabilities_pointer self.now }
     {
         self.off == 0x34 && self.block.len() == 1 && are_read_only(&self.block)
     }
@@ -41,10 +41,10 @@ impl ConfigBlock {
     {
         let off = usize::from(self.off);
         let len = self.block.len();
-        (off >= 0x40 || self.is_pointer()) && len > 0 && off + len <= 0x100
+        (off >= 0x40 || self.is_capabilities_pointer()) && len > 0 && off + len <= 0x100
     }
 
-    fn is_apart(&self, other: &ConfigBlock) -> bool
+    fn is_disjoint_from(&self, other: &ConfigBlock) -> bool
         ensures { result ≡ blocks_apart self.now other.now }
     {
         let off = usize::from(self.off);
@@ -52,10 +52,10 @@ impl ConfigBlock {
         off + self.block.len() <= other_off || other_off + other.block.len() <= off
     }
 
-    fn is_apart_from_all(&self, others: &[ConfigBlock]) -> bool
+    fn is_disjoint_from_all(&self, others: &[ConfigBlock]) -> bool
         ensures { result ≡ list_all (blocks_apart self.now) others.now }
     {
-        others.iter().all(|other| self.is_apart(other))
+        others.iter().all(|other| self.is_disjoint_from(other))
     }
 }
 
@@ -66,26 +66,30 @@ pub(crate) fn are_lawful(blocks: &[ConfigBlock]) -> bool
     blocks.iter().all(|block| block.is_lawful())
 }
 
-fn have_pointer(blocks: &[ConfigBlock]) -> bool
-    ensures { result ≡ list_any is_pointer blocks.now }
+fn have_capabilities_pointer(blocks: &[ConfigBlock]) -> bool
+    ensures { result ≡ list_any is_capabilities_pointer blocks.now }
 {
-    blocks.iter().any(|block| block.is_pointer())
+    blocks.iter().any(|block| block.is_capabilities_pointer())
 }
 
 /// Returns bit 4 of Status, which is set if one of the blocks is the Capabilities Pointer.
-pub(crate) fn list_bit(blocks: &[ConfigBlock]) -> u16
-    ensures { result ≡ list_bit blocks.now }
+pub(crate) fn capabilities_list_bit(blocks: &[ConfigBlock]) -> u16
+    ensures { result ≡ capabilities_list_bit blocks.now }
 {
-    if have_pointer(blocks) { 0x10 } else { 0 }
+    if have_capabilities_pointer(blocks) {
+        0x10
+    } else {
+        0
+    }
 }
 
 /// Returns whether no two blocks overlap.
-pub(crate) fn are_apart(blocks: &[ConfigBlock]) -> bool
+pub(crate) fn are_disjoint(blocks: &[ConfigBlock]) -> bool
     ensures { result ≡ all_pairs blocks_apart blocks.now }
 {
     let mut left = blocks;
     while let Some((first, rest)) = left.split_first() {
-        if !first.is_apart_from_all(rest) {
+        if !first.is_disjoint_from_all(rest) {
             return false;
         }
         left = rest;

@@ -43,7 +43,7 @@ impl ConfigRegister {
     }
 
     /// Returns the cell of the lowest byte.
-    pub(crate) fn cell(self) -> Cell
+    pub(crate) fn lowest_byte_cell(self) -> Cell
         requires { IsRow self }
         ensures { result
             ≡ record {
@@ -61,7 +61,7 @@ impl ConfigRegister {
     }
 
     /// Returns the rest of the register above its lowest byte.
-    pub fn above(self) -> ConfigRegister
+    pub fn without_lowest_byte(self) -> ConfigRegister
         requires some { 0 < self.width }
         requires row { IsRow self }
         ensures rest { result

@@ -31,7 +31,7 @@ fn push_blocks(cells: &mut Vec<(u16, Cell)>, blocks: &[ConfigBlock]) -> Result<(
 }
 
 /// Returns the header registers of an endpoint, without its BARs.
-pub fn endpoint_rows(decl: &EndpointDecl, multifunction: bool) -> [ConfigRegister; 14]
+pub fn endpoint_header_rows(decl: &EndpointDecl, multifunction: bool) -> [ConfigRegister; 14]
     ensures cells { flat_map row_cells result ≡ header_cells decl.now multifunction 0 }
     ensures rows { Each IsRow result }
 {
@@ -39,7 +39,7 @@ pub fn endpoint_rows(decl: &EndpointDecl, multifunction: bool) -> [ConfigRegiste
     [
         ConfigRegister::new(0x00, 2, u64::from(values.vendor), 0, 0),
         ConfigRegister::new(0x02, 2, u64::from(values.device), 0, 0),
-        ConfigRegister::new(0x04, 2, 0, u64::from(Command::of_endpoint().0), 0),
+        ConfigRegister::new(0x04, 2, 0, u64::from(Command::writable_in_endpoint().0), 0),
         ConfigRegister::new(0x06, 2, u64::from(values.status), 0, 0xf900),
         ConfigRegister::new(0x08, 1, u64::from(values.revision), 0, 0),
         ConfigRegister::new(0x09, 3, u64::from(values.class), 0, 0),
@@ -69,7 +69,7 @@ impl Endpoint {
             }) }
     {
         let mut cells = Vec::with_capacity(alloc, 64)?;
-        push_rows(&mut cells, &endpoint_rows(decl, multifunction))?;
+        push_rows(&mut cells, &endpoint_header_rows(decl, multifunction))?;
         push_blocks(&mut cells, &decl.values().config)?;
         Cells::new(alloc, &cells)
     }

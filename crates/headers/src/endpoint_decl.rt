@@ -7,7 +7,7 @@ ghost use Rattle.headers.specs.Faults.{number_of};
 
 use crate::config_block::{self, ConfigBlock};
 use crate::fault::DeclFault;
-use crate::own_registers::have_own_registers;
+use crate::own_registers::have_distinct_bar_registers;
 use crate::region::{self, Region};
 use bars::BarDecl;
 use std::alloc::Global;
@@ -73,29 +73,30 @@ impl EndpointValues {
         self.vendor < 0xffff
             && self.class < 1 << 24
             && self.pin <= 4
-            && self.status & 0xf900 | config_block::list_bit(&self.config) == self.status
-            && region::blocks_are_short(&self.bar)
+            && self.status & 0xf900 | config_block::capabilities_list_bit(&self.config)
+                == self.status
+            && region::blocks_are_within_limit(&self.bar)
             && config_block::are_lawful(&self.config)
     }
 
-    fn has_own_registers(&self) -> bool
+    fn has_distinct_bar_registers(&self) -> bool
         ensures { result ≡ has_own_registers self.now.regions }
     {
-        have_own_registers(&self.bar)
+        have_distinct_bar_registers(&self.bar)
     }
 
     /// Returns the first rule that the values break.
-    fn broken_rule(&self) -> Option<DeclFault>
+    fn first_broken_rule(&self) -> Option<DeclFault>
         ensures first { option_map number_of result ≡ first_broken (endpoint_rules self.now) }
         ensures sizes { IfNone result (Each (λ r. IsLawfulSize r.kind r.size) self.now.regions) }
     {
         if !self.has_lawful_numbers() {
             Some(DeclFault::Number)
-        } else if !self.has_own_registers() {
+        } else if !self.has_distinct_bar_registers() {
             Some(DeclFault::Register)
-        } else if !region::blocks_fit(&self.bar) {
+        } else if !region::blocks_fit_regions(&self.bar) {
             Some(DeclFault::Size)
-        } else if !config_block::are_apart(&self.config) {
+        } else if !config_block::are_disjoint(&self.config) {
             Some(DeclFault::CellMasks)
         } else {
             None
@@ -129,7 +130,7 @@ impl EndpointDecl {
         ensures lawful { IfOk result IsLawfulEndpoint }
         ensures complete { IsLawfulEndpoint values → result ≡ Ok values }
     {
-        if let Some(fault) = values.broken_rule() {
+        if let Some(fault) = values.first_broken_rule() {
             return Err(fault);
         }
         let mut values = values;

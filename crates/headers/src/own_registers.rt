@@ -19,20 +19,20 @@ pub trait UsesBars {
 }
 
 /// Returns the number of base address registers that a region of this kind uses.
-fn registers(kind: Kind) -> u64
+fn register_count(kind: Kind) -> u64
     ensures value { result ≡ registers_of (kind_of kind) }
     ensures some { 0 < result }
     ensures few { result ≤ 2 }
 {
-    if kind.is_wide() { 2 } else { 1 }
+    if kind.uses_two_registers() { 2 } else { 1 }
 }
 
-fn is_in_header<T: UsesBars>(region: &T) -> bool
+fn is_within_bar_registers<T: UsesBars>(region: &T) -> bool
     ensures { result
         ≡ nat_le ((T.region region.now).index + registers_of (T.region region.now).kind) 6 }
 {
     let index = region.index();
-    index <= 5 && index + registers(region.kind()) <= 6
+    index <= 5 && index + register_count(region.kind()) <= 6
 }
 
 fn uses<T: UsesBars>(region: &T, register: u64) -> bool
@@ -40,18 +40,18 @@ fn uses<T: UsesBars>(region: &T, register: u64) -> bool
     ensures { result ≡ uses register (T.region region.now) }
 {
     let index = region.index();
-    index <= register && register < index + registers(region.kind())
+    index <= register && register < index + register_count(region.kind())
 }
 
 /// Returns whether each region's registers are among the six.
-fn are_in_header<T: UsesBars>(regions: &[T]) -> bool
+fn are_within_bar_registers<T: UsesBars>(regions: &[T]) -> bool
     ensures { result ≡ list_all (λ r.
         nat_le ((T.region r).index + registers_of (T.region r).kind) 6) regions.now }
 {
-    regions.iter().all(|region| is_in_header(region))
+    regions.iter().all(|region| is_within_bar_registers(region))
 }
 
-fn is_used_once<T: UsesBars>(regions: &[T], register: u64) -> bool
+fn is_used_at_most_once<T: UsesBars>(regions: &[T], register: u64) -> bool
     requires { register ≤ 5 }
     ensures { result ≡ nat_le (count_by (λ r. uses register (T.region r)) regions.now) 1 }
 {
@@ -63,22 +63,22 @@ fn is_used_once<T: UsesBars>(regions: &[T], register: u64) -> bool
 }
 
 /// Returns whether no register is used twice.
-fn use_registers_once<T: UsesBars>(regions: &[T]) -> bool
+fn use_registers_at_most_once<T: UsesBars>(regions: &[T]) -> bool
     ensures { result
         ≡ list_all (λ n. nat_le (count_by (λ r. uses n (T.region r)) regions.now) 1) (0 ∷ 1
         ∷ 2 ∷ 3 ∷ 4 ∷ 5 ∷ []) }
 {
-    is_used_once(regions, 0)
-        && is_used_once(regions, 1)
-        && is_used_once(regions, 2)
-        && is_used_once(regions, 3)
-        && is_used_once(regions, 4)
-        && is_used_once(regions, 5)
+    is_used_at_most_once(regions, 0)
+        && is_used_at_most_once(regions, 1)
+        && is_used_at_most_once(regions, 2)
+        && is_used_at_most_once(regions, 3)
+        && is_used_at_most_once(regions, 4)
+        && is_used_at_most_once(regions, 5)
 }
 
 /// Returns whether each region's registers are among the six, and no register is used twice.
-pub fn have_own_registers<T: UsesBars>(regions: &[T]) -> bool
+pub fn have_distinct_bar_registers<T: UsesBars>(regions: &[T]) -> bool
     ensures { result ≡ has_own_registers (map T.region regions.now) }
 {
-    are_in_header(regions) && use_registers_once(regions)
+    are_within_bar_registers(regions) && use_registers_at_most_once(regions)
 }

@@ -42,7 +42,7 @@ impl UsesBars for Region {
 }
 
 /// Returns the size of a BAR of this kind in bytes.
-pub fn register_width(kind: Kind) -> u8
+pub fn bar_width_in_bytes(kind: Kind) -> u8
     ensures { result ≡ 4 * registers_of (kind_of kind) }
 {
     match kind {
@@ -53,7 +53,7 @@ pub fn register_width(kind: Kind) -> u8
 
 impl Region {
     /// Returns the BAR of the region as a register row.
-    pub fn base_row(&self) -> ConfigRegister
+    pub fn bar_register_row(&self) -> ConfigRegister
         requires { IsLawfulRegion self.now }
         ensures cells { row_cells result
             ≡ base_cells self.now.index self.now.kind self.now.size 0 }
@@ -61,10 +61,10 @@ impl Region {
     {
         let kind = self.bar.kind();
         let off = 0x10 + 4 * u16::from(self.index);
-        let writable = kind.base_bits() - (self.bar.size() - 1);
+        let writable = kind.bar_width_mask() - (self.bar.size() - 1);
         ConfigRegister::new(
             off,
-            register_width(kind),
+            bar_width_in_bytes(kind),
             u64::from(kind.type_bits()),
             writable,
             0,
@@ -80,14 +80,14 @@ impl Region {
 }
 
 /// Returns whether no block has more than 4096 cells.
-pub(crate) fn blocks_are_short(regions: &[Region]) -> bool
+pub(crate) fn blocks_are_within_limit(regions: &[Region]) -> bool
     ensures { result ≡ list_all (λ r. nat_le (length r.cells) 4096) regions.now }
 {
     regions.iter().all(|region| region.block.len() <= 4096)
 }
 
 /// Returns whether each block fits its region.
-pub(crate) fn blocks_fit(regions: &[Region]) -> bool
+pub(crate) fn blocks_fit_regions(regions: &[Region]) -> bool
     ensures value { result ≡ list_all (λ r. nat_le (length r.cells) r.size) regions.now }
     ensures sizes { OnTrue result (Each (λ r. IsLawfulSize r.kind r.size) regions.now) }
 {

@@ -6,7 +6,7 @@ use crate::registers::{Command, Status};
 use config_bytes::{Cells, enables_of, from_lanes};
 
 /// Reads the little-endian value of `width` bytes at `off`. All of them must lie in one word.
-pub(crate) fn number(cells: &Cells, off: u16, width: u16) -> u32
+pub(crate) fn read_register(cells: &Cells, off: u16, width: u16) -> u32
     requires { LiesInWord off width }
     ensures value { result ≡ number cells.now.now (config off) width }
     ensures fits { result < 256 ^ width }
@@ -19,12 +19,12 @@ pub(crate) fn number(cells: &Cells, off: u16, width: u16) -> u32
 pub fn command(cells: &Cells) -> Command
     ensures { result.0 ≡ number cells.now.now (config 0x04) 2 }
 {
-    Command(number(cells, 0x04, 2) as u16)
+    Command(read_register(cells, 0x04, 2) as u16)
 }
 
 /// Returns the Status register, at 06h (PCI Local Bus 3.0, chapter 6.2.3).
 pub fn status(cells: &Cells) -> Status
     ensures { result.0 ≡ number cells.now.now (config 0x06) 2 }
 {
-    Status(number(cells, 0x06, 2) as u16)
+    Status(read_register(cells, 0x06, 2) as u16)
 }

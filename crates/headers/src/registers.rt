@@ -45,23 +45,23 @@ impl Flags for Command {
 
 impl Command {
     /// Returns the bits that are writable in an endpoint: all named bits.
-    pub fn of_endpoint() -> Command
+    pub fn writable_in_endpoint() -> Command
         ensures { result.0 ≡ command_mask }
     {
-        Command(Command::of_bridge().0 | Command::INTERRUPT_DISABLE.0)
+        Command(Command::writable_in_bridge().0 | Command::INTERRUPT_DISABLE.0)
     }
 
     /// Returns the bits that are writable in a bridge.
-    pub fn of_bridge() -> Command
+    pub fn writable_in_bridge() -> Command
         ensures { result.0 ≡ 0x0147 }
     {
-        let transfers = Command::both_spaces().0 | Command::BUS_MASTER.0;
+        let transfers = Command::both_space_enables().0 | Command::BUS_MASTER.0;
         let errors = Command::PARITY_ERROR_RESPONSE.0 | Command::SERR_ENABLE.0;
         Command(transfers | errors)
     }
 
     /// Returns the bits that enable I/O and memory decoding.
-    pub fn both_spaces() -> Command
+    pub fn both_space_enables() -> Command
         ensures { result.0 ≡ 3 }
     {
         Command(Command::IO_SPACE.0 | Command::MEMORY_SPACE.0)

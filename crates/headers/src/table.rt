@@ -24,8 +24,8 @@ fn push_row(cells: &mut Vec<(u16, Cell)>, row: ConfigRegister) -> Result<(), All
 {
     let mut left = row;
     while left.width > 0 {
-        cells.push((left.off, left.cell()))?;
-        left = left.above();
+        cells.push((left.off, left.lowest_byte_cell()))?;
+        left = left.without_lowest_byte();
     }
     Ok(())
 }

@@ -8,11 +8,11 @@ ghost use Rattle.headers.specs.WindowPairs.{pair_of};
 
 use crate::bridge_decl::BridgeDecl;
 use crate::decodes::{IoDecode, PrefDecode};
-use crate::register_words::number;
+use crate::register_words::read_register;
 use config_bytes::Cells;
 
 /// Returns the window from `first` to `last`, or `None` if the base is above the limit.
-fn window(first: u64, last: u64) -> Option<(u64, u64)>
+fn window_if_open(first: u64, last: u64) -> Option<(u64, u64)>
     ensures { result ≡ option_map pair_of (window first last) }
 {
     if first <= last {
@@ -23,14 +23,14 @@ fn window(first: u64, last: u64) -> Option<(u64, u64)>
 }
 
 /// Returns the address that the register's bits above bit 3 encode, in units of `unit` bytes.
-fn address(cells: &Cells, off: u16, width: u16, unit: u64) -> u64
+fn window_address(cells: &Cells, off: u16, width: u16, unit: u64) -> u64
     requires lane { LiesInWord off width }
     requires width { width ≤ 2 }
     requires unit { unit ≤ 2 ^ 20 }
     ensures value { result ≡ window_bits cells.now.now off width unit }
     ensures fits { result < 2 ^ 32 }
 {
-    u64::from(number(cells, off, width)) / 16 * unit
+    u64::from(read_register(cells, off, width)) / 16 * unit
 }
 
 /// Returns the I/O window. With 16-bit decoding, the upper address bits are 0.
@@ -40,20 +40,20 @@ pub fn io_window(cells: &Cells, decl: &BridgeDecl) -> Option<(u64, u64)>
     let (upper_first, upper_last) = match decl.io() {
         IoDecode::Unimplemented => return None,
         IoDecode::Bits16 => (0, 0),
-        IoDecode::Bits32 => (number(cells, 0x30, 2), number(cells, 0x32, 2)),
+        IoDecode::Bits32 => (read_register(cells, 0x30, 2), read_register(cells, 0x32, 2)),
     };
-    let first = (u64::from(upper_first) << 16) + address(cells, 0x1c, 1, 1 << 12);
-    let last = (u64::from(upper_last) << 16) + address(cells, 0x1d, 1, 1 << 12) + 0xfff;
-    window(first, last)
+    let first = (u64::from(upper_first) << 16) + window_address(cells, 0x1c, 1, 1 << 12);
+    let last = (u64::from(upper_last) << 16) + window_address(cells, 0x1d, 1, 1 << 12) + 0xfff;
+    window_if_open(first, last)
 }
 
 /// Returns the memory window.
 pub fn mem_window(cells: &Cells, _decl: &BridgeDecl) -> Option<(u64, u64)>
     ensures { result ≡ option_map pair_of (mem_window cells.now.now) }
 {
-    window(
-        address(cells, 0x20, 2, 1 << 20),
-        address(cells, 0x22, 2, 1 << 20) + 0xf_ffff,
+    window_if_open(
+        window_address(cells, 0x20, 2, 1 << 20),
+        window_address(cells, 0x22, 2, 1 << 20) + 0xf_ffff,
     )
 }
 
@@ -64,9 +64,9 @@ pub fn pref_window(cells: &Cells, decl: &BridgeDecl) -> Option<(u64, u64)>
     let (upper_first, upper_last) = match decl.pref() {
         PrefDecode::Unimplemented => return None,
         PrefDecode::Bits32 => (0, 0),
-        PrefDecode::Bits64 => (number(cells, 0x28, 4), number(cells, 0x2c, 4)),
+        PrefDecode::Bits64 => (read_register(cells, 0x28, 4), read_register(cells, 0x2c, 4)),
     };
-    let first = (u64::from(upper_first) << 32) + address(cells, 0x24, 2, 1 << 20);
-    let last = (u64::from(upper_last) << 32) + address(cells, 0x26, 2, 1 << 20) + 0xf_ffff;
-    window(first, last)
+    let first = (u64::from(upper_first) << 32) + window_address(cells, 0x24, 2, 1 << 20);
+    let last = (u64::from(upper_last) << 32) + window_address(cells, 0x26, 2, 1 << 20) + 0xf_ffff;
+    window_if_open(first, last)
 }

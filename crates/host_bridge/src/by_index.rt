@@ -3,7 +3,7 @@ ghost use Rattle.std.specs.{Prelude.{◌≡◌, ◌%◌, IsSome, IsTrue, length,
 ghost use Rattle.model_registers.specs.{Registers.{cell_at, config, number, raise, read, write}, ByteEnables.{LiesInWord, lanes}, DeviceBytes.{is_device_byte, set_value}};
 ghost use Rattle.model_board.specs.State.{BoardFunction};
 ghost use Rattle.headers.specs.Places.{place_of};
-ghost use Rattle.bridge_forward.specs.{BridgeDecls.declared_bridge_nth, ByIndex.{ranges_told, ranges_nth}, Lending.endpoint_nth};
+ghost use Rattle.bridge_forward.specs.{BridgeDecls.declared_bridge_nth, ByIndex.{ranges_told, live_ranges_nth}, Lending.endpoint_nth};
 ghost use Rattle.host_bridge.specs.{ByIndex.{file_nth, with_file_nth, with_reset_nth}, HostState.with_functions, Landings.IsReached};
 
 use crate::host::Host;
@@ -15,7 +15,7 @@ impl Host {
     pub fn count(&self) -> usize
         ensures { result ≡ length self.now.state.functions }
     {
-        self.root.count()
+        self.root.function_count()
     }
 
     /// Returns the path of the function at an index, in path order.
@@ -29,13 +29,13 @@ impl Host {
 
     /// Returns the value of the `width` bytes of configuration space at offset `off` of the
     /// function at an index. The bytes must not cross a word boundary.
-    pub fn number_nth(&self, index: usize, off: u8, width: u64) -> Option<u32>
+    pub fn peek_config_nth(&self, index: usize, off: u8, width: u64) -> Option<u32>
         requires { LiesInWord off width }
         ensures { let fs = self.now.state.functions in
             result ≡ option_map (λ (f : BoardFunction). number f.file (config off) width)
             (slice_get fs index) }
     {
-        self.root.number_nth(index, off, width)
+        self.root.config_value_nth(index, off, width)
     }
 
     /// Returns the declaration of the bridge at an index, or `None` if there is no bridge.
@@ -53,10 +53,10 @@ impl Host {
     }
 
     /// Returns the regions or windows of the function at an index.
-    pub fn ranges_nth(&self, index: usize) -> Option<LiveRanges>
-        ensures { option_map ranges_told result ≡ ranges_nth self.now.state.functions index }
+    pub fn live_ranges_nth(&self, index: usize) -> Option<LiveRanges>
+        ensures { option_map ranges_told result ≡ live_ranges_nth self.now.state.functions index }
     {
-        self.root.ranges_nth(index)
+        self.root.live_ranges_nth(index)
     }
 
     /// Reads the enabled bytes of the configuration word at `off`, a multiple of 4, of the endpoint
@@ -94,7 +94,7 @@ impl Host {
 
     /// Sets the W1C bits of `mask` in one register byte of the endpoint at an index. Other bits,
     /// and other register bytes, don't change.
-    pub fn raise_nth(&mut self, index: usize, place: Place, off: u64, mask: u8)
+    pub fn raise_w1c_bits_nth(&mut self, index: usize, place: Place, off: u64, mask: u8)
         requires { IsSome (endpoint_nth self.old.state.functions index) }
         ensures { let raised = with_file_nth
             (raise mask (place_of place off)) index self.old.state.functions in
@@ -108,7 +108,7 @@ impl Host {
 
     /// Returns the value of a register byte that belongs to the device, or 0 if it isn't
     /// implemented.
-    pub fn device_value_nth(&mut self, index: usize, place: Place, off: u64) -> u8
+    pub fn device_byte_or_zero_nth(&mut self, index: usize, place: Place, off: u64) -> u8
         requires there { IsSome (endpoint_nth self.old.state.functions index) }
         requires own { IsTrue (is_device_byte (place_of place off)) }
         ensures value { result
@@ -124,7 +124,7 @@ impl Host {
     /// Sets the value of a register byte that belongs to the device, ignoring its write mask and
     /// W1C mask, which stay the same. Other register bytes don't change. Does nothing if the byte
     /// isn't implemented.
-    pub fn set_device_value_nth(&mut self, index: usize, place: Place, off: u64, value: u8)
+    pub fn set_device_byte_nth(&mut self, index: usize, place: Place, off: u64, value: u8)
         requires there { IsSome (endpoint_nth self.old.state.functions index) }
         requires own { IsTrue (is_device_byte (place_of place off)) }
         ensures { let set = with_file_nth
@@ -139,7 +139,7 @@ impl Host {
 
     /// Resets the endpoint at an index, except for its Command register and BARs. Does nothing if
     /// there is no endpoint. Other functions, CONFIG_ADDRESS and the apertures don't change.
-    pub fn reset_nth(&mut self, index: usize)
+    pub fn reset_endpoint_nth(&mut self, index: usize)
         ensures { self.new
             ≡ with_functions (with_reset_nth index self.old.state.functions) self.old }
     {

@@ -20,7 +20,7 @@ impl Host {
             self.new ≡ with_functions raised self.old }
     {
         match self.index_of(path) {
-            Some(index) => self.raise_nth(index, place, off, mask),
+            Some(index) => self.raise_w1c_bits_nth(index, place, off, mask),
             None => unreachable!(),
         }
     }
@@ -32,7 +32,7 @@ impl Host {
             self.new ≡ with_functions (with_endpoint_reset path.now fs) self.old }
     {
         match self.index_of(path) {
-            Some(index) => self.reset_nth(index),
+            Some(index) => self.reset_endpoint_nth(index),
             None => {}
         }
     }

@@ -4,15 +4,15 @@ ghost use Rattle.lists.specs.Elements.{EachPair};
 ghost use Rattle.model_registers.specs.ByteEnables.{lanes, IsWidth};
 ghost use Rattle.bars.specs.{Kinds.named_space, Slots.bases_from};
 ghost use Rattle.model_board.specs.{Paths.{path_before, path_eq}, Board.IsBoard, AtReset.{board_at, IsAtReset}, Cycles.reached, Routing.routing, Claims.first_claim, Ports.{selected, selected_register, config_reply, after_config_write, claim_reply, after_claim_write, port_reply, after_port_write, memory_reply, after_memory_write}};
-ghost use Rattle.bridge_forward.specs.{Locating.located_claim, BasesNow.bases_nth, RoutingRows.{primary_nth, secondary_nth}};
+ghost use Rattle.bridge_forward.specs.{Locating.located_claim, BasesNow.bases_nth, RoutingRows.{primary_bus_nth, secondary_bus_nth}};
 ghost use Rattle.paths.specs.BusAddresses.{bus_address_of};
 ghost use Rattle.host_bridge.specs.{HostState.{with_functions, with_latch}, Landings.IsLanding};
 
-use crate::latch::{Target, cycle_of, target_of};
+use crate::latch::{Target, cycle_of, port_access_target};
 use crate::route::Route;
 use bars::{BarWithBase, Space, enabled_bits};
 use bridge_forward::{BarOffset, Bus, Claim, Path, RoutingRow};
-use config_bytes::{Op, all_ones, enables_of, lowered, to_lanes};
+use config_bytes::{Op, all_ones, enables_of, shift_lanes_down, to_lanes};
 use headers::Apertures;
 use paths::{Bdf, Latch};
 use std::alloc::{AllocError, Global};
@@ -55,14 +55,14 @@ impl Host {
     }
 
     /// Creates the same board at reset, from the declarations of its functions.
-    pub fn at_reset(&self, alloc: Global) -> Result<Host, AllocError>
+    pub fn copy_at_reset(&self, alloc: Global) -> Result<Host, AllocError>
         requires { IsBoard (board_at self.now.state.functions) }
         ensures board { let board = board_at self.now.state.functions in
             IfOk result (λ h. board_at h.state.functions ≡ board) }
         ensures apertures { IfOk result (λ h. h.apertures ≡ self.now.apertures) }
         ensures at_reset { IfOk result (λ h. IsAtReset h.state) }
     {
-        let root = self.root.at_reset(alloc)?;
+        let root = self.root.rebuild_at_reset(alloc)?;
         Ok(Host::new(root, self.apertures))
     }
 
@@ -74,7 +74,7 @@ impl Host {
     }
 
     /// Reads the enabled bytes of CONFIG_DATA: the configuration word that CONFIG_ADDRESS selects.
-    fn read_data(&mut self, enables: u8) -> u32
+    fn read_config_data(&mut self, enables: u8) -> u32
         ensures value { let s = self.old.state in let off = selected_register s.latch in
             result ≡ config_reply s.functions (selected s.latch) off (lanes enables) }
         ensures after { self.new ≡ self.old }
@@ -85,7 +85,7 @@ impl Host {
     }
 
     /// Writes the enabled bytes of CONFIG_DATA.
-    fn write_data(&mut self, enables: u8, data: u32)
+    fn write_config_data(&mut self, enables: u8, data: u32)
         ensures { let s = self.old.state in let off = selected_register s.latch in
             let fs = after_config_write s.functions (selected s.latch) off (lanes enables) «data» in
             self.new ≡ with_functions fs self.old }
@@ -106,7 +106,7 @@ impl Host {
         ensures after { self.new ≡ with_latch 0 self.old }
     {
         self.latch = Latch::selecting(at, off);
-        let word = self.read_data(enables);
+        let word = self.read_config_data(enables);
         self.latch = Latch::new();
         word
     }
@@ -121,7 +121,7 @@ impl Host {
             self.new ≡ with_latch 0 (with_functions changed self.old) }
     {
         self.latch = Latch::selecting(at, off);
-        self.write_data(enables, data);
+        self.write_config_data(enables, data);
         self.latch = Latch::new();
     }
 
@@ -148,7 +148,7 @@ impl Host {
     }
 
     /// Returns the first claim of an address, with the index of its endpoint.
-    pub(crate) fn locate(&self, space: Space, addr: u64) -> Option<BarOffset>
+    pub(crate) fn find_bar_offset(&self, space: Space, addr: u64) -> Option<BarOffset>
         ensures claim { let fs = self.now.state.functions in
             located_claim fs result ≡ first_claim fs (named_space space) addr }
         ensures within { IfSome result (λ l. l.index < length self.now.state.functions) }
@@ -171,43 +171,43 @@ impl Host {
         ensures in_order { EachPair (λ f g.
             IsTrue (path_before f.path g.path)) self.now.state.functions }
     {
-        self.root.routing(alloc)
+        self.root.routing_rows(alloc)
     }
 
     /// Returns the Secondary Bus Number of the bridge at an index, or `None` if there is no bridge,
     /// for an audit.
-    pub fn secondary_nth(&self, index: usize) -> Option<u8>
-        ensures { result ≡ secondary_nth self.now.state.functions index }
+    pub fn secondary_bus_nth(&self, index: usize) -> Option<u8>
+        ensures { result ≡ secondary_bus_nth self.now.state.functions index }
     {
-        self.root.secondary_nth(index)
+        self.root.secondary_bus_nth(index)
     }
 
     /// Returns the Primary Bus Number of the bridge at an index, or `None` if there is no bridge,
     /// for an audit.
-    pub fn primary_nth(&self, index: usize) -> Option<u8>
-        ensures { result ≡ primary_nth self.now.state.functions index }
+    pub fn primary_bus_nth(&self, index: usize) -> Option<u8>
+        ensures { result ≡ primary_bus_nth self.now.state.functions index }
     {
-        self.root.primary_nth(index)
+        self.root.primary_bus_nth(index)
     }
 
     /// Returns the regions of the endpoint at an index with their base addresses, each at the index
     /// of its first BAR register. All entries are `None` if there is no endpoint.
-    pub fn placed_nth(&self, index: usize) -> [Option<BarWithBase>; 6]
+    pub fn bars_with_base_nth(&self, index: usize) -> [Option<BarWithBase>; 6]
         ensures { bases_from 0 result ≡ bases_nth self.now.state.functions index }
     {
-        self.root.placed_nth(index)
+        self.root.bars_with_bases_nth(index)
     }
 
     /// Returns the index of the function that configuration accesses to a BDF reach, for an audit.
     /// Changes nothing.
-    pub fn index_reached(&mut self, at: Bdf) -> Option<usize>
+    pub fn index_reached_by_bdf(&mut self, at: Bdf) -> Option<usize>
         ensures function { let fs = self.old.state.functions in
             option_and_then (slice_get fs) result ≡ reached fs (bus_address_of at) }
         ensures within { IfSome result (λ i. i < length self.old.state.functions) }
         ensures after { self.new ≡ self.old }
     {
         let cycle = cycle_of(Latch::selecting(at, 0), 0, Op::Read);
-        self.root.reached(&cycle)
+        self.root.index_reached_by(&cycle)
     }
 
     /// Reads 1, 2 or 4 bytes at a claim that is known already, so that no address has to be looked
@@ -227,7 +227,10 @@ impl Host {
         } = from;
         let enables = enables_of(offset, width);
         match self.root.endpoint_nth(index) {
-            Some(endpoint) => lowered(offset, endpoint.read(region, offset / 4 * 4, enables)),
+            Some(endpoint) => shift_lanes_down(
+                offset,
+                endpoint.read(region, offset / 4 * 4, enables),
+            ),
             None => unreachable!(),
         }
     }
@@ -256,7 +259,13 @@ impl Host {
     }
 
     /// Reads `width` bytes at an address. An unclaimed address reads all ones.
-    fn read_claimed<R: Route>(&mut self, route: &R, space: Space, addr: u64, width: u64) -> u32
+    fn read_claimed_or_ones<R: Route>(
+        &mut self,
+        route: &R,
+        space: Space,
+        addr: u64,
+        width: u64,
+    ) -> u32
         requires fits { R.fits route.now self.old }
         requires width { IsWidth width }
         requires aligned { addr % width ≡ 0 }
@@ -264,7 +273,7 @@ impl Host {
             result ≡ claim_reply fs width (first_claim fs (named_space space) addr) }
         ensures after { self.new ≡ self.old }
     {
-        match route.located(self, space, addr) {
+        match route.claimed_bar_offset(self, space, addr) {
             Some(from) => self.region_read(from, width),
             None => all_ones(width),
         }
@@ -272,7 +281,7 @@ impl Host {
 
     /// Writes the low `width` bytes of a value at an address. Drops the write if no region claims
     /// the address.
-    fn write_claimed<R: Route>(
+    fn write_if_claimed<R: Route>(
         &mut self,
         route: &R,
         space: Space,
@@ -287,7 +296,7 @@ impl Host {
             let claim = first_claim fs (named_space space) addr in
             self.new ≡ with_functions (after_claim_write fs width value claim) self.old }
     {
-        match route.located(self, space, addr) {
+        match route.claimed_bar_offset(self, space, addr) {
             Some(to) => self.region_write(to, width, value),
             None => {}
         }
@@ -304,10 +313,13 @@ impl Host {
         ensures after { self.new ≡ self.old }
     {
         let addr = u64::from(port);
-        match target_of(self.latch, port, width) {
+        match port_access_target(self.latch, port, width) {
             Target::ConfigAddress => self.latch.value(),
-            Target::ConfigData => lowered(addr, self.read_data(enables_of(addr, width))),
-            Target::Ordinary => self.read_claimed(route, Space::Io, addr, width),
+            Target::ConfigData => shift_lanes_down(
+                addr,
+                self.read_config_data(enables_of(addr, width)),
+            ),
+            Target::Ordinary => self.read_claimed_or_ones(route, Space::Io, addr, width),
         }
     }
 
@@ -323,12 +335,12 @@ impl Host {
             self.new ≡ record self.old { state = state } }
     {
         let addr = u64::from(port);
-        match target_of(self.latch, port, width) {
+        match port_access_target(self.latch, port, width) {
             Target::ConfigAddress => self.latch.write(value),
             Target::ConfigData => {
-                self.write_data(enables_of(addr, width), to_lanes(addr, value));
+                self.write_config_data(enables_of(addr, width), to_lanes(addr, value));
             }
-            Target::Ordinary => self.write_claimed(route, Space::Io, addr, width, value),
+            Target::Ordinary => self.write_if_claimed(route, Space::Io, addr, width, value),
         }
     }
 
@@ -340,7 +352,7 @@ impl Host {
         ensures value { result ≡ memory_reply self.old.state addr width }
         ensures after { self.new ≡ self.old }
     {
-        self.read_claimed(route, Space::Mem, addr, width)
+        self.read_claimed_or_ones(route, Space::Mem, addr, width)
     }
 
     /// Writes the low 1, 2 or 4 bytes of a value at a memory address. Drops the write if no region
@@ -352,6 +364,6 @@ impl Host {
         ensures { let state = after_memory_write self.old.state addr width value in
             self.new ≡ record self.old { state = state } }
     {
-        self.write_claimed(route, Space::Mem, addr, width, value);
+        self.write_if_claimed(route, Space::Mem, addr, width, value);
     }
 }

@@ -31,7 +31,7 @@ pub(crate) fn cycle_of(latch: Latch, enables: u8, op: Op) -> Cycle
         bus,
         device,
         function,
-    } = latch.function();
+    } = latch.selected_bdf();
     let kind = if bus == 0 {
         CycleType::Type0
     } else {
@@ -41,20 +41,20 @@ pub(crate) fn cycle_of(latch: Latch, enables: u8, op: Op) -> Cycle
         kind,
         device,
         function,
-        offset: latch.register(),
+        offset: latch.selected_offset(),
         enables,
         op,
     }
 }
 
 /// Returns the target of a port access of `width` bytes.
-pub(crate) fn target_of(latch: Latch, port: u32, width: u64) -> Target
+pub(crate) fn port_access_target(latch: Latch, port: u32, width: u64) -> Target
     ensures { named_target latch port result ≡ port_target latch port width }
 {
     let port = u64::from(port);
     if is_address_port(port, width) {
         Target::ConfigAddress
-    } else if latch.shows_data(port) {
+    } else if latch.is_enabled_data_port(port) {
         Target::ConfigData
     } else {
         Target::Ordinary

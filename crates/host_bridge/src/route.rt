@@ -21,7 +21,7 @@ pub trait Route {
 
     /// Returns the first claim of the address, with the index of its endpoint in the host's list of
     /// functions.
-    fn located(&self, host: &Host, space: Space, addr: u64) -> Option<BarOffset>
+    fn claimed_bar_offset(&self, host: &Host, space: Space, addr: u64) -> Option<BarOffset>
         requires { fits self.now host.now }
         ensures claim { let fs = host.now.state.functions in
             located_claim fs result ≡ first_claim fs (named_space space) addr }
@@ -60,7 +60,7 @@ impl Route for TreeWalk {
         host.claimant(space, addr)
     }
 
-    fn located(&self, host: &Host, space: Space, addr: u64) -> Option<BarOffset> {
-        host.locate(space, addr)
+    fn claimed_bar_offset(&self, host: &Host, space: Space, addr: u64) -> Option<BarOffset> {
+        host.find_bar_offset(space, addr)
     }
 }

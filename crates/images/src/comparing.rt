@@ -6,13 +6,13 @@ ghost use Rattle.model_images.specs.{ImageBytes.declaration_bytes, LoadedBytes.a
 ghost use Rattle.images.specs.{Faults.number_of, Parts.{block_bytes, cell_bytes, counted_blocks, declared_bytes, region_bytes, rest_bytes}};
 
 use crate::fault::ImageFault;
-use crate::parts::{block_head, cell_bytes, endpoint_head, region_head};
+use crate::parts::{block_head_bytes, cell_bytes, endpoint_head_bytes, region_head_bytes};
 use config_bytes::Cell;
 use headers::{ConfigBlock, EndpointDecl, EndpointValues, Region};
 
 /// Strips the expected bytes from the front of `bytes`, and returns the rest. Refuses bytes that
 /// end early (905) or differ (906).
-pub(crate) fn after<'a>(own: &[u8], bytes: &'a [u8]) -> Result<&'a [u8], ImageFault>
+pub(crate) fn strip_expected_bytes<'a>(own: &[u8], bytes: &'a [u8]) -> Result<&'a [u8], ImageFault>
     ensures left { IfOk result (λ rest. after_bytes 906 own.now bytes.now ≡ Ok rest.now) }
     ensures refused { IfErr result (λ why.
         after_bytes 906 own.now bytes.now ≡ Err (number_of why)) }
@@ -27,7 +27,7 @@ pub(crate) fn after<'a>(own: &[u8], bytes: &'a [u8]) -> Result<&'a [u8], ImageFa
     }
 }
 
-fn after_cells<'a>(cells: &[Cell], bytes: &'a [u8]) -> Result<&'a [u8], ImageFault>
+fn strip_cells<'a>(cells: &[Cell], bytes: &'a [u8]) -> Result<&'a [u8], ImageFault>
     ensures left { IfOk result (λ rest.
         after_bytes 906 (flat_map cell_bytes cells.now) bytes.now ≡ Ok rest.now) }
     ensures refused { IfErr result (λ why.
@@ -36,13 +36,13 @@ fn after_cells<'a>(cells: &[Cell], bytes: &'a [u8]) -> Result<&'a [u8], ImageFau
     let mut left = cells;
     let mut bytes = bytes;
     while let Some((cell, rest)) = left.split_first() {
-        bytes = after(&cell_bytes(cell), bytes)?;
+        bytes = strip_expected_bytes(&cell_bytes(cell), bytes)?;
         left = rest;
     }
     Ok(bytes)
 }
 
-fn after_region<'a>(region: &Region, bytes: &'a [u8]) -> Result<&'a [u8], ImageFault>
+fn strip_region<'a>(region: &Region, bytes: &'a [u8]) -> Result<&'a [u8], ImageFault>
     requires lawful { IsLawfulRegion region.now }
     requires count { length region.now.cells ≤ 4096 }
     ensures left { IfOk result (λ rest.
@@ -50,11 +50,11 @@ fn after_region<'a>(region: &Region, bytes: &'a [u8]) -> Result<&'a [u8], ImageF
     ensures refused { IfErr result (λ why.
         after_bytes 906 (region_bytes region.now) bytes.now ≡ Err (number_of why)) }
 {
-    let bytes = after(&region_head(region), bytes)?;
-    after_cells(&region.block, bytes)
+    let bytes = strip_expected_bytes(&region_head_bytes(region), bytes)?;
+    strip_cells(&region.block, bytes)
 }
 
-fn after_regions<'a>(regions: &[Region], bytes: &'a [u8]) -> Result<&'a [u8], ImageFault>
+fn strip_regions<'a>(regions: &[Region], bytes: &'a [u8]) -> Result<&'a [u8], ImageFault>
     requires lawful { Each IsLawfulRegion regions.now }
     requires counts { Each (λ r. length r.cells ≤ 4096) regions.now }
     ensures left { IfOk result (λ rest.
@@ -65,24 +65,24 @@ fn after_regions<'a>(regions: &[Region], bytes: &'a [u8]) -> Result<&'a [u8], Im
     let mut left = regions;
     let mut bytes = bytes;
     while let Some((region, rest)) = left.split_first() {
-        bytes = after_region(region, bytes)?;
+        bytes = strip_region(region, bytes)?;
         left = rest;
     }
     Ok(bytes)
 }
 
-fn after_block<'a>(block: &ConfigBlock, bytes: &'a [u8]) -> Result<&'a [u8], ImageFault>
+fn strip_block<'a>(block: &ConfigBlock, bytes: &'a [u8]) -> Result<&'a [u8], ImageFault>
     requires { IsConfigBlock block.now }
     ensures left { IfOk result (λ rest.
         after_bytes 906 (block_bytes block.now) bytes.now ≡ Ok rest.now) }
     ensures refused { IfErr result (λ why.
         after_bytes 906 (block_bytes block.now) bytes.now ≡ Err (number_of why)) }
 {
-    let bytes = after(&block_head(block), bytes)?;
-    after_cells(&block.block, bytes)
+    let bytes = strip_expected_bytes(&block_head_bytes(block), bytes)?;
+    strip_cells(&block.block, bytes)
 }
 
-fn after_blocks<'a>(blocks: &[ConfigBlock], bytes: &'a [u8]) -> Result<&'a [u8], ImageFault>
+fn strip_blocks<'a>(blocks: &[ConfigBlock], bytes: &'a [u8]) -> Result<&'a [u8], ImageFault>
     requires { Each IsConfigBlock blocks.now }
     ensures left { IfOk result (λ rest.
         after_bytes 906 (flat_map block_bytes blocks.now) bytes.now ≡ Ok rest.now) }
@@ -92,14 +92,14 @@ fn after_blocks<'a>(blocks: &[ConfigBlock], bytes: &'a [u8]) -> Result<&'a [u8],
     let mut left = blocks;
     let mut bytes = bytes;
     while let Some((block, rest)) = left.split_first() {
-        bytes = after_block(block, bytes)?;
+        bytes = strip_block(block, bytes)?;
         left = rest;
     }
     Ok(bytes)
 }
 
 /// Strips the number of blocks and the blocks themselves.
-fn after_counted<'a>(blocks: &[ConfigBlock], bytes: &'a [u8]) -> Result<&'a [u8], ImageFault>
+fn strip_counted_blocks<'a>(blocks: &[ConfigBlock], bytes: &'a [u8]) -> Result<&'a [u8], ImageFault>
     requires lawful { Each IsConfigBlock blocks.now }
     requires count { length blocks.now < 256 }
     ensures left { IfOk result (λ rest.
@@ -107,38 +107,41 @@ fn after_counted<'a>(blocks: &[ConfigBlock], bytes: &'a [u8]) -> Result<&'a [u8]
     ensures refused { IfErr result (λ why.
         after_bytes 906 (counted_blocks blocks.now) bytes.now ≡ Err (number_of why)) }
 {
-    let bytes = after(&[blocks.len() as u8], bytes)?;
-    after_blocks(blocks, bytes)
+    let bytes = strip_expected_bytes(&[blocks.len() as u8], bytes)?;
+    strip_blocks(blocks, bytes)
 }
 
 /// Strips the regions and the blocks of a declaration.
-fn after_rest<'a>(values: &EndpointValues, bytes: &'a [u8]) -> Result<&'a [u8], ImageFault>
+fn strip_regions_and_blocks<'a>(
+    values: &EndpointValues,
+    bytes: &'a [u8],
+) -> Result<&'a [u8], ImageFault>
     requires { IsLawfulEndpoint values.now }
     ensures left { IfOk result (λ rest.
         after_bytes 906 (rest_bytes values.now) bytes.now ≡ Ok rest.now) }
     ensures refused { IfErr result (λ why.
         after_bytes 906 (rest_bytes values.now) bytes.now ≡ Err (number_of why)) }
 {
-    let bytes = after_regions(&values.bar, bytes)?;
-    after_counted(&values.config, bytes)
+    let bytes = strip_regions(&values.bar, bytes)?;
+    strip_counted_blocks(&values.config, bytes)
 }
 
 /// Strips all parts of a declaration.
-fn after_parts<'a>(decl: &EndpointDecl, bytes: &'a [u8]) -> Result<&'a [u8], ImageFault>
+fn strip_declaration_parts<'a>(decl: &EndpointDecl, bytes: &'a [u8]) -> Result<&'a [u8], ImageFault>
     ensures left { IfOk result (λ rest.
         after_bytes 906 (declared_bytes decl.now) bytes.now ≡ Ok rest.now) }
     ensures refused { IfErr result (λ why.
         after_bytes 906 (declared_bytes decl.now) bytes.now ≡ Err (number_of why)) }
 {
     let values = decl.values();
-    let bytes = after(&endpoint_head(decl), bytes)?;
-    after_rest(values, bytes)
+    let bytes = strip_expected_bytes(&endpoint_head_bytes(decl), bytes)?;
+    strip_regions_and_blocks(values, bytes)
 }
 
 /// Strips a declaration from the front of `bytes`, and returns the rest. Refuses bytes that end
 /// early (905) or belong to a different declaration (906).
 #[tactic(auto, using(crate::proofs::DeclaredBytes::declared_is))]
-pub(crate) fn after_declaration<'a>(
+pub(crate) fn strip_declaration<'a>(
     decl: &EndpointDecl,
     bytes: &'a [u8],
 ) -> Result<&'a [u8], ImageFault>
@@ -147,5 +150,5 @@ pub(crate) fn after_declaration<'a>(
     ensures refused { IfErr result (λ why.
         after_bytes 906 (declaration_bytes decl.now) bytes.now ≡ Err (number_of why)) }
 {
-    after_parts(decl, bytes)
+    strip_declaration_parts(decl, bytes)
 }

@@ -8,54 +8,54 @@ ghost use Rattle.model_registers.specs.Cell.{IsCell};
 ghost use Rattle.model_board.specs.State.{BoardFunction};
 ghost use Rattle.model_images.specs.{ByteLaws.IsDeclared, SavedLaws.{AreDeclared, CanBeDeclared}};
 
-use config_bytes::are_cells;
+use config_bytes::prove_cells_are_lawful;
 use headers::{ConfigBlock, EndpointDecl, Region};
 use host_bridge::Host;
 
-fn regions_have_cells(regions: &[Region])
+fn prove_region_cells_are_bytes(regions: &[Region])
     ensures { Each (λ r. Each IsCell r.cells) regions.now }
 {
     let mut left = regions;
     while let Some((region, rest)) = left.split_first() {
-        are_cells(&region.block);
+        prove_cells_are_lawful(&region.block);
         left = rest;
     }
 }
 
-fn blocks_have_cells(blocks: &[ConfigBlock])
+fn prove_block_cells_are_bytes(blocks: &[ConfigBlock])
     ensures { Each (λ b. Each IsCell b.cells) blocks.now }
 {
     let mut left = blocks;
     while let Some((block, rest)) = left.split_first() {
-        are_cells(&block.block);
+        prove_cells_are_lawful(&block.block);
         left = rest;
     }
 }
 
-fn is_declared(decl: &EndpointDecl)
+fn prove_endpoint_can_be_saved(decl: &EndpointDecl)
     ensures { IsDeclared decl.now }
 {
     let values = decl.values();
-    regions_have_cells(&values.bar);
-    blocks_have_cells(&values.config);
+    prove_region_cells_are_bytes(&values.bar);
+    prove_block_cells_are_bytes(&values.config);
 }
 
 /// Establishes that the declaration of the function at an index can be saved. For a bridge there is
 /// nothing to check.
-fn row_can_be_declared(host: &Host, index: usize)
+fn prove_function_can_be_saved(host: &Host, index: usize)
     ensures { (f : BoardFunction) → slice_get host.now.state.functions index ≡ Some f
         → CanBeDeclared f.decl }
 {
     if let Some(endpoint) = host.endpoint_ref_nth(index) {
-        is_declared(endpoint.decl());
+        prove_endpoint_can_be_saved(endpoint.decl());
     }
 }
 
 /// Establishes that every declaration on the board can be saved.
-pub fn read_declarations(host: &Host)
+pub fn prove_board_can_be_saved(host: &Host)
     ensures { AreDeclared host.now.state.functions }
 {
     for index in 0..host.count() {
-        row_can_be_declared(host, index);
+        prove_function_can_be_saved(host, index);
     }
 }

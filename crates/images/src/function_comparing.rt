@@ -2,23 +2,23 @@
 ghost use Rattle.std.specs.Prelude.{◌≡◌, Ok, Err, IfErr, IfOk};
 ghost use Rattle.images.specs.{Faults.number_of, Shown.after_filled};
 
-use crate::comparing::after_declaration;
+use crate::comparing::strip_declaration;
 use crate::fault::ImageFault;
-use crate::heading::after_slot_tag;
-use crate::values::after_values;
+use crate::heading::strip_slot_tag;
+use crate::values::strip_values_of_endpoint;
 use bridge_forward::EndpointFn;
 
 /// Strips a slot that contains this function, with any values that its registers can hold, and
 /// returns the rest. Refuses with 906 if the slot is empty or its function has a different
 /// declaration, or with 905 if the bytes end early or a register can't hold its value.
-pub fn after_function<'a>(endpoint: &EndpointFn, bytes: &'a [u8]) -> Result<&'a [u8], ImageFault>
+pub fn strip_function<'a>(endpoint: &EndpointFn, bytes: &'a [u8]) -> Result<&'a [u8], ImageFault>
     ensures left { IfOk result (λ rest.
         after_filled endpoint.now.decl bytes.now ≡ Ok rest.now) }
     ensures refused { IfErr result (λ why.
         after_filled endpoint.now.decl bytes.now ≡ Err (number_of why)) }
 {
     let decl = endpoint.decl();
-    let bytes = after_slot_tag(true, bytes)?;
-    let bytes = after_declaration(decl, bytes)?;
-    after_values(decl, bytes)
+    let bytes = strip_slot_tag(true, bytes)?;
+    let bytes = strip_declaration(decl, bytes)?;
+    strip_values_of_endpoint(decl, bytes)
 }

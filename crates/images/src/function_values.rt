@@ -5,15 +5,15 @@ ghost use Rattle.model_registers.specs.{Declarations.IsLawfulRegion, Declaration
 ghost use Rattle.headers.specs.{declared.place.Place.TheVariants.Cfg, Places.place_of};
 ghost use Rattle.images.specs.{Puts.put, Shown.{block_values, bytes_from, header_values, region_values, shown_values}};
 
-use crate::function_bytes::byte_at;
-use crate::writing::put;
+use crate::function_bytes::read_register_byte;
+use crate::writing::put_bytes_and_advance;
 use bridge_forward::EndpointFn;
 use guest_functions::VirtualFunction;
-use headers::{ConfigBlock, Place, Region, register_width};
+use headers::{ConfigBlock, Place, Region, bar_width_in_bytes};
 
 /// Writes `count` register values from the offset `first` into the buffer, and returns the index
 /// after them.
-fn put_run(
+fn put_shown_and_advance(
     endpoint: &EndpointFn,
     own: &VirtualFunction,
     place: Place,
@@ -33,7 +33,7 @@ fn put_run(
     let mut off = first;
     let mut left = count;
     while left > 0 {
-        next = put(out, next, &[byte_at(endpoint, own, place, off)]);
+        next = put_bytes_and_advance(out, next, &[read_register_byte(endpoint, own, place, off)]);
         off += 1;
         left -= 1;
     }
@@ -41,17 +41,22 @@ fn put_run(
 }
 
 /// Writes the 23 bytes of the header that are outside the base address registers.
-fn put_header(endpoint: &EndpointFn, own: &VirtualFunction, out: &mut [u8], at: usize) -> usize
+fn put_header_and_advance(
+    endpoint: &EndpointFn,
+    own: &VirtualFunction,
+    out: &mut [u8],
+    at: usize,
+) -> usize
     requires { at + 23 ≤ length out.old }
     ensures bytes { out.new ≡ put at (header_values endpoint.now own.now) out.old }
     ensures end { result ≡ at + 23 }
 {
-    let next = put_run(endpoint, own, Place::Cfg, 0, 15, out, at);
-    let next = put_run(endpoint, own, Place::Cfg, 0x2c, 4, out, next);
-    put_run(endpoint, own, Place::Cfg, 0x3c, 4, out, next)
+    let next = put_shown_and_advance(endpoint, own, Place::Cfg, 0, 15, out, at);
+    let next = put_shown_and_advance(endpoint, own, Place::Cfg, 0x2c, 4, out, next);
+    put_shown_and_advance(endpoint, own, Place::Cfg, 0x3c, 4, out, next)
 }
 
-fn put_block(
+fn put_block_and_advance(
     endpoint: &EndpointFn,
     own: &VirtualFunction,
     block: &ConfigBlock,
@@ -64,10 +69,10 @@ fn put_block(
     ensures end { result ≡ at + length (block_values endpoint.now own.now block.now) }
 {
     let first = u64::from(block.off);
-    put_run(endpoint, own, Place::Cfg, first, block.block.len(), out, at)
+    put_shown_and_advance(endpoint, own, Place::Cfg, first, block.block.len(), out, at)
 }
 
-fn put_blocks(
+fn put_blocks_and_advance(
     endpoint: &EndpointFn,
     own: &VirtualFunction,
     blocks: &[ConfigBlock],
@@ -85,14 +90,14 @@ fn put_blocks(
     let mut left = blocks;
     let mut next = at;
     while let Some((block, rest)) = left.split_first() {
-        next = put_block(endpoint, own, block, out, next);
+        next = put_block_and_advance(endpoint, own, block, out, next);
         left = rest;
     }
     next
 }
 
 /// Writes the values of a region's base address register and of the declared bytes at its start.
-fn put_region(
+fn put_region_and_advance(
     endpoint: &EndpointFn,
     own: &VirtualFunction,
     region: &Region,
@@ -107,13 +112,13 @@ fn put_region(
 {
     let first = 0x10 + 4 * u64::from(region.index);
     let kind = region.bar.kind();
-    let width = usize::from(register_width(kind));
-    let next = put_run(endpoint, own, Place::Cfg, first, width, out, at);
+    let width = usize::from(bar_width_in_bytes(kind));
+    let next = put_shown_and_advance(endpoint, own, Place::Cfg, first, width, out, at);
     let place = Place::Bar(region.index);
-    put_run(endpoint, own, place, 0, region.block.len(), out, next)
+    put_shown_and_advance(endpoint, own, place, 0, region.block.len(), out, next)
 }
 
-fn put_regions(
+fn put_regions_and_advance(
     endpoint: &EndpointFn,
     own: &VirtualFunction,
     regions: &[Region],
@@ -132,14 +137,14 @@ fn put_regions(
     let mut left = regions;
     let mut next = at;
     while let Some((region, rest)) = left.split_first() {
-        next = put_region(endpoint, own, region, out, next);
+        next = put_region_and_advance(endpoint, own, region, out, next);
         left = rest;
     }
     next
 }
 
 /// Writes a byte for each declared register byte of an endpoint, in the order of its reset values.
-pub(crate) fn put_values(
+pub(crate) fn put_all_values_and_advance(
     endpoint: &EndpointFn,
     own: &VirtualFunction,
     out: &mut [u8],
@@ -154,7 +159,7 @@ pub(crate) fn put_values(
     ensures lawful { IsLawfulEndpoint endpoint.now.decl }
 {
     let values = endpoint.decl().values();
-    let next = put_header(endpoint, own, out, at);
-    let next = put_blocks(endpoint, own, &values.config, out, next);
-    put_regions(endpoint, own, &values.bar, out, next)
+    let next = put_header_and_advance(endpoint, own, out, at);
+    let next = put_blocks_and_advance(endpoint, own, &values.config, out, next);
+    put_regions_and_advance(endpoint, own, &values.bar, out, next)
 }

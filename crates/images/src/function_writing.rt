@@ -4,27 +4,27 @@ ghost use Rattle.std.specs.Prelude.{◌≡◌, ◌≤◌, ◌+◌, length};
 ghost use Rattle.model_registers.specs.OwnCopies.{OwnCopies};
 ghost use Rattle.images.specs.{Puts.put, Shown.{HasDeclaredPlaces, function_bytes, seen}};
 
-use crate::function_values::put_values;
-use crate::sizes::{declaration_size, values_size};
-use crate::writing::write_declaration;
+use crate::function_values::put_all_values_and_advance;
+use crate::sizes::{count_endpoint_cells, encoded_declaration_size};
+use crate::writing::put_declaration_and_advance;
 use bridge_forward::EndpointFn;
 use guest_functions::VirtualFunction;
 
 /// Returns the size of a function in a saved state, in bytes. The values in the guest's copies
 /// don't affect the size.
-pub fn function_size(endpoint: &EndpointFn) -> usize
+pub fn saved_function_size(endpoint: &EndpointFn) -> usize
     requires { HasDeclaredPlaces endpoint.now }
     ensures size { (own : OwnCopies)
         → result ≡ length (function_bytes (seen endpoint.now own)) }
     ensures bound { result ≤ 99600 }
 {
     let decl = endpoint.decl();
-    declaration_size(decl) + values_size(decl)
+    encoded_declaration_size(decl) + count_endpoint_cells(decl)
 }
 
 /// Writes a function with a guest's copies into the buffer from index `at`, and returns the index
 /// after it.
-pub fn write_function(
+pub fn put_function_and_advance(
     endpoint: &EndpointFn,
     own: &VirtualFunction,
     out: &mut [u8],
@@ -35,6 +35,6 @@ pub fn write_function(
     ensures bytes { out.new ≡ put at (function_bytes (seen endpoint.now own.now)) out.old }
     ensures end { result ≡ at + length (function_bytes (seen endpoint.now own.now)) }
 {
-    let next = write_declaration(endpoint.decl(), out, at);
-    put_values(endpoint, own, out, next)
+    let next = put_declaration_and_advance(endpoint.decl(), out, at);
+    put_all_values_and_advance(endpoint, own, out, next)
 }

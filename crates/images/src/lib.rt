@@ -19,10 +19,13 @@ mod sizes;
 mod values;
 mod writing;
 
-pub use declarations::read_declarations;
+pub use declarations::prove_board_can_be_saved;
 pub use fault::ImageFault;
-pub use function_comparing::after_function;
-pub use function_writing::{function_size, write_function};
-pub use heading::{after_header, after_latch, after_slot_tag, at_end, header, latch_bytes};
-pub use sizes::{declaration_size, values_size};
-pub use writing::put;
+pub use function_comparing::strip_function;
+pub use function_writing::{put_function_and_advance, saved_function_size};
+pub use heading::{
+    image_header_bytes, latch_to_le_bytes, refuse_trailing_bytes, split_off_latch,
+    strip_image_header, strip_slot_tag,
+};
+pub use sizes::{count_endpoint_cells, encoded_declaration_size};
+pub use writing::put_bytes_and_advance;

@@ -11,7 +11,7 @@ use config_bytes::Cell;
 use headers::{ConfigBlock, EndpointDecl, Region};
 
 /// Returns the bytes of a 16-bit number.
-fn two(number: u16) -> [u8; 2]
+fn u16_to_le_bytes(number: u16) -> [u8; 2]
     ensures { result ≡ le_bytes 2 number }
 {
     let mut bytes = [0; 2];
@@ -20,7 +20,7 @@ fn two(number: u16) -> [u8; 2]
 }
 
 /// Returns the bytes of the low 24 bits of a number.
-fn three(number: u32) -> [u8; 3]
+fn low_u24_to_le_bytes(number: u32) -> [u8; 3]
     ensures { result ≡ le_bytes 3 number }
 {
     let mut bytes = [0; 4];
@@ -30,7 +30,7 @@ fn three(number: u32) -> [u8; 3]
 }
 
 /// Returns the bytes of a 64-bit number.
-fn eight(number: u64) -> [u8; 8]
+fn u64_to_le_bytes(number: u64) -> [u8; 8]
     ensures { result ≡ le_bytes 8 number }
 {
     let mut bytes = [0; 8];
@@ -39,14 +39,14 @@ fn eight(number: u64) -> [u8; 8]
 }
 
 /// Returns the write mask of a register byte.
-fn writable(cell: &Cell) -> u8
+fn write_mask(cell: &Cell) -> u8
     ensures { result ≡ cell.now.writable }
 {
     cell.with_value(0).written(0xff).value()
 }
 
 /// Returns the W1C mask of a register byte.
-fn clearable(cell: &Cell) -> u8
+fn w1c_mask(cell: &Cell) -> u8
     ensures { result ≡ cell.now.clearable }
 {
     cell.with_value(0).raised(0xff).value()
@@ -59,7 +59,7 @@ pub(crate) fn cell_bytes(cell: &Cell) -> [u8; 3]
     ensures bytes { result ≡ cell_bytes cell.now }
     ensures lawful { IsCell cell.now }
 {
-    [cell.value(), writable(cell), clearable(cell)]
+    [cell.value(), write_mask(cell), w1c_mask(cell)]
 }
 
 /// Returns the number of a region's kind in the saved state.
@@ -75,22 +75,22 @@ fn kind_number(kind: Kind) -> u8
 
 /// Returns the bytes in front of a region's declared bytes: its first register, its kind, its size,
 /// and the number of declared bytes.
-pub(crate) fn region_head(region: &Region) -> [u8; 12]
+pub(crate) fn region_head_bytes(region: &Region) -> [u8; 12]
     requires index { region.now.index < 256 }
     requires count { length region.now.cells ≤ 4096 }
     ensures { result ≡ region_head region.now }
 {
     let index = region.index;
     let kind = kind_number(region.bar.kind());
-    let [a, b, c, d, e, f, g, h] = eight(region.bar.size());
-    let [low, high] = two(region.block.len() as u16);
+    let [a, b, c, d, e, f, g, h] = u64_to_le_bytes(region.bar.size());
+    let [low, high] = u16_to_le_bytes(region.block.len() as u16);
     [index, kind, a, b, c, d, e, f, g, h, low, high]
 }
 
 /// Returns the bytes in front of a block's declared bytes: the offset of the first one, and how
 /// many there are.
 #[tactic(auto, unfolding(crate::specs::Parts::block_head))]
-pub(crate) fn block_head(block: &ConfigBlock) -> [u8; 2]
+pub(crate) fn block_head_bytes(block: &ConfigBlock) -> [u8; 2]
     requires offset { block.now.offset < 256 }
     requires count { length block.now.cells < 256 }
     ensures { result ≡ block_head block.now }
@@ -101,17 +101,17 @@ pub(crate) fn block_head(block: &ConfigBlock) -> [u8; 2]
 /// Returns the bytes in front of an endpoint's regions: its identity and other header values, and
 /// the number of regions.
 #[tactic(auto, unfolding(crate::specs::Parts::endpoint_head))]
-pub(crate) fn endpoint_head(decl: &EndpointDecl) -> [u8; 18]
+pub(crate) fn endpoint_head_bytes(decl: &EndpointDecl) -> [u8; 18]
     requires { length decl.now.regions < 256 }
     ensures { result ≡ endpoint_head decl.now }
 {
     let values = decl.values();
-    let [v0, v1] = two(values.vendor);
-    let [d0, d1] = two(values.device);
-    let [c0, c1, c2] = three(values.class);
-    let [m0, m1] = two(values.subvendor);
-    let [n0, n1] = two(values.subsystem);
-    let [s0, s1] = two(values.status);
+    let [v0, v1] = u16_to_le_bytes(values.vendor);
+    let [d0, d1] = u16_to_le_bytes(values.device);
+    let [c0, c1, c2] = low_u24_to_le_bytes(values.class);
+    let [m0, m1] = u16_to_le_bytes(values.subvendor);
+    let [n0, n1] = u16_to_le_bytes(values.subsystem);
+    let [s0, s1] = u16_to_le_bytes(values.status);
     let count = values.bar.len() as u8;
     [
         v0,

@@ -5,9 +5,9 @@ ghost use Rattle.model_registers.specs.{DeclarationRules.IsConfigBlock, Endpoint
 ghost use Rattle.model_images.specs.ImageBytes.{declaration_bytes};
 ghost use Rattle.images.specs.Parts.{block_bytes, declared_bytes, region_bytes};
 
-use headers::{ConfigBlock, EndpointDecl, Region, register_width};
+use headers::{ConfigBlock, EndpointDecl, Region, bar_width_in_bytes};
 
-fn regions_size(regions: &[Region]) -> usize
+fn encoded_regions_size(regions: &[Region]) -> usize
     requires counts { Each (λ r. length r.cells ≤ 4096) regions.now }
     requires few { length regions.now ≤ 6 }
     ensures size { result ≡ length (flat_map region_bytes regions.now) }
@@ -22,7 +22,7 @@ fn regions_size(regions: &[Region]) -> usize
     size
 }
 
-fn blocks_size(blocks: &[ConfigBlock]) -> usize
+fn encoded_blocks_size(blocks: &[ConfigBlock]) -> usize
     requires lawful { Each IsConfigBlock blocks.now }
     requires few { length (flat_map block_bytes blocks.now) ≤ 965 }
     ensures size { result ≡ length (flat_map block_bytes blocks.now) }
@@ -38,25 +38,25 @@ fn blocks_size(blocks: &[ConfigBlock]) -> usize
 }
 
 /// Returns the total size of the parts of a declaration, in bytes.
-fn parts_size(decl: &EndpointDecl) -> usize
+fn encoded_parts_size(decl: &EndpointDecl) -> usize
     ensures size { result ≡ length (declared_bytes decl.now) }
     ensures bound { result ≤ 74784 }
 {
     let values = decl.values();
-    19 + regions_size(&values.bar) + blocks_size(&values.config)
+    19 + encoded_regions_size(&values.bar) + encoded_blocks_size(&values.config)
 }
 
 /// Returns the size of a declaration in a saved state, in bytes.
 #[tactic(auto, using(crate::proofs::DeclaredBytes::declared_is))]
-pub fn declaration_size(decl: &EndpointDecl) -> usize
+pub fn encoded_declaration_size(decl: &EndpointDecl) -> usize
     ensures size { result ≡ length (declaration_bytes decl.now) }
     ensures bound { result ≤ 74784 }
 {
-    parts_size(decl)
+    encoded_parts_size(decl)
 }
 
 /// Returns how many register bytes the regions have, including their base address registers.
-fn regions_cells(regions: &[Region]) -> usize
+fn count_region_cells(regions: &[Region]) -> usize
     requires counts { Each (λ r. length r.cells ≤ 4096) regions.now }
     requires few { length (flat_map (region_cells (λ r. 0)) regions.now) ≤ 24600 }
     ensures size { result ≡ length (flat_map (region_cells (λ r. 0)) regions.now) }
@@ -65,13 +65,13 @@ fn regions_cells(regions: &[Region]) -> usize
     let mut left = regions;
     let mut size = 0;
     while let Some((region, rest)) = left.split_first() {
-        size += usize::from(register_width(region.bar.kind())) + region.block.len();
+        size += usize::from(bar_width_in_bytes(region.bar.kind())) + region.block.len();
         left = rest;
     }
     size
 }
 
-fn blocks_cells(blocks: &[ConfigBlock]) -> usize
+fn count_block_cells(blocks: &[ConfigBlock]) -> usize
     requires lawful { Each IsConfigBlock blocks.now }
     requires few { length (flat_map block_cells blocks.now) ≤ 193 }
     ensures size { result ≡ length (flat_map block_cells blocks.now) }
@@ -87,10 +87,10 @@ fn blocks_cells(blocks: &[ConfigBlock]) -> usize
 }
 
 /// Returns how many register bytes a declared endpoint has. Each takes one byte in a saved state.
-pub fn values_size(decl: &EndpointDecl) -> usize
+pub fn count_endpoint_cells(decl: &EndpointDecl) -> usize
     ensures size { result ≡ length (endpoint_reset decl.now false) }
     ensures bound { result ≤ 24816 }
 {
     let values = decl.values();
-    23 + blocks_cells(&values.config) + regions_cells(&values.bar)
+    23 + count_block_cells(&values.config) + count_region_cells(&values.bar)
 }

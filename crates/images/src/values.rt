@@ -7,11 +7,11 @@ ghost use Rattle.headers.specs.Rows.{IsRow, row_cells};
 ghost use Rattle.images.specs.Faults.{number_of};
 
 use crate::fault::ImageFault;
-use headers::{ConfigBlock, ConfigRegister, EndpointDecl, Region, endpoint_rows};
+use headers::{ConfigBlock, ConfigRegister, EndpointDecl, Region, endpoint_header_rows};
 
 /// Returns whether the lowest byte of a register can hold a value. Status and device-specific
 /// registers can hold any; elsewhere bits outside the masks must be as declared.
-fn can_hold(row: &ConfigRegister, byte: u8) -> bool
+fn low_byte_can_hold(row: &ConfigRegister, byte: u8) -> bool
     ensures { result ≡ can_hold (record {
       place = config row.now.off;
       cell = record {
@@ -30,7 +30,7 @@ fn can_hold(row: &ConfigRegister, byte: u8) -> bool
 }
 
 /// Checks the saved value of each byte of a register, and returns the bytes after them.
-fn after_row(row: ConfigRegister, bytes: &[u8]) -> Result<&[u8], ImageFault>
+fn strip_values_of_row(row: ConfigRegister, bytes: &[u8]) -> Result<&[u8], ImageFault>
     requires { IsRow row }
     ensures left { IfOk result (λ rest. after_values (row_cells row) bytes.now ≡ Ok rest.now) }
     ensures refused { IfErr result (λ why.
@@ -42,17 +42,17 @@ fn after_row(row: ConfigRegister, bytes: &[u8]) -> Result<&[u8], ImageFault>
         let Some((byte, rest)) = tail.split_first() else {
             return Err(ImageFault::NoImage);
         };
-        if !can_hold(&left, *byte) {
+        if !low_byte_can_hold(&left, *byte) {
             return Err(ImageFault::NoImage);
         }
-        left = left.above();
+        left = left.without_lowest_byte();
         tail = rest;
     }
     Ok(tail)
 }
 
 /// Returns the bytes after the first `count`, whatever the values of these are.
-fn after_any(count: usize, bytes: &[u8]) -> Result<&[u8], ImageFault>
+fn skip_bytes(count: usize, bytes: &[u8]) -> Result<&[u8], ImageFault>
     ensures room { IfOk result (λ _. count ≤ length bytes.now) }
     ensures left { IfOk result (λ rest. rest.now ≡ drop count bytes.now) }
     ensures missing { IfErr result (λ why. (number_of why ≡ 905) × (length bytes.now < count)) }
@@ -64,7 +64,10 @@ fn after_any(count: usize, bytes: &[u8]) -> Result<&[u8], ImageFault>
 }
 
 /// Checks the saved values of a list of registers, and returns the bytes after them.
-fn after_rows<'a>(rows: &[ConfigRegister], bytes: &'a [u8]) -> Result<&'a [u8], ImageFault>
+fn strip_values_of_rows<'a>(
+    rows: &[ConfigRegister],
+    bytes: &'a [u8],
+) -> Result<&'a [u8], ImageFault>
     requires { Each IsRow rows.now }
     ensures left { IfOk result (λ rest.
         after_values (flat_map row_cells rows.now) bytes.now ≡ Ok rest.now) }
@@ -74,7 +77,7 @@ fn after_rows<'a>(rows: &[ConfigRegister], bytes: &'a [u8]) -> Result<&'a [u8], 
     let mut left = rows;
     let mut bytes = bytes;
     while let Some((row, rest)) = left.split_first() {
-        bytes = after_row(*row, bytes)?;
+        bytes = strip_values_of_row(*row, bytes)?;
         left = rest;
     }
     Ok(bytes)
@@ -82,7 +85,10 @@ fn after_rows<'a>(rows: &[ConfigRegister], bytes: &'a [u8]) -> Result<&'a [u8], 
 
 /// Returns the bytes after the saved values of the device-specific configuration registers, which
 /// can hold any value.
-fn after_blocks<'a>(blocks: &[ConfigBlock], bytes: &'a [u8]) -> Result<&'a [u8], ImageFault>
+fn strip_values_of_blocks<'a>(
+    blocks: &[ConfigBlock],
+    bytes: &'a [u8],
+) -> Result<&'a [u8], ImageFault>
     requires { Each IsConfigBlock blocks.now }
     ensures left { IfOk result (λ rest.
         after_values (flat_map block_cells blocks.now) bytes.now ≡ Ok rest.now) }
@@ -92,7 +98,7 @@ fn after_blocks<'a>(blocks: &[ConfigBlock], bytes: &'a [u8]) -> Result<&'a [u8],
     let mut left = blocks;
     let mut bytes = bytes;
     while let Some((block, rest)) = left.split_first() {
-        bytes = after_any(block.block.len(), bytes)?;
+        bytes = skip_bytes(block.block.len(), bytes)?;
         left = rest;
     }
     Ok(bytes)
@@ -100,7 +106,7 @@ fn after_blocks<'a>(blocks: &[ConfigBlock], bytes: &'a [u8]) -> Result<&'a [u8],
 
 /// Checks the saved values of the regions, and returns the bytes after them. The values of a region
 /// are those of its base address register, and then its declared bytes.
-fn after_regions<'a>(regions: &[Region], bytes: &'a [u8]) -> Result<&'a [u8], ImageFault>
+fn strip_values_of_regions<'a>(regions: &[Region], bytes: &'a [u8]) -> Result<&'a [u8], ImageFault>
     requires { Each IsLawfulRegion regions.now }
     ensures left { IfOk result (λ rest.
         after_values (flat_map (region_cells (λ r. 0)) regions.now) bytes.now ≡ Ok rest.now) }
@@ -111,8 +117,8 @@ fn after_regions<'a>(regions: &[Region], bytes: &'a [u8]) -> Result<&'a [u8], Im
     let mut left = regions;
     let mut bytes = bytes;
     while let Some((region, rest)) = left.split_first() {
-        let cells = after_row(region.base_row(), bytes)?;
-        bytes = after_any(region.block.len(), cells)?;
+        let cells = strip_values_of_row(region.bar_register_row(), bytes)?;
+        bytes = skip_bytes(region.block.len(), cells)?;
         left = rest;
     }
     Ok(bytes)
@@ -120,14 +126,17 @@ fn after_regions<'a>(regions: &[Region], bytes: &'a [u8]) -> Result<&'a [u8], Im
 
 /// Checks a saved value for each register byte of an endpoint, and returns the bytes after them.
 /// Refuses with 905 if the bytes end early or a register can't hold its value.
-pub(crate) fn after_values<'a>(decl: &EndpointDecl, bytes: &'a [u8]) -> Result<&'a [u8], ImageFault>
+pub(crate) fn strip_values_of_endpoint<'a>(
+    decl: &EndpointDecl,
+    bytes: &'a [u8],
+) -> Result<&'a [u8], ImageFault>
     ensures left { IfOk result (λ rest.
         after_values (endpoint_reset decl.now false) bytes.now ≡ Ok rest.now) }
     ensures refused { IfErr result (λ why.
         after_values (endpoint_reset decl.now false) bytes.now ≡ Err (number_of why)) }
 {
     let values = decl.values();
-    let bytes = after_rows(&endpoint_rows(decl, false), bytes)?;
-    let bytes = after_blocks(&values.config, bytes)?;
-    after_regions(&values.bar, bytes)
+    let bytes = strip_values_of_rows(&endpoint_header_rows(decl, false), bytes)?;
+    let bytes = strip_values_of_blocks(&values.config, bytes)?;
+    strip_values_of_regions(&values.bar, bytes)
 }

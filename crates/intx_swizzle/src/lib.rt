@@ -9,7 +9,7 @@ ghost use Rattle.model_board.specs.Interrupts.{root_device, root_pin};
 use paths::{Part, Path};
 
 /// Returns the sum of the device numbers of some parts of a path.
-fn devices(parts: &[Part]) -> u32
+fn sum_of_device_numbers(parts: &[Part]) -> u32
     requires { length parts.now ≤ 16 }
     ensures value { result ≡ sum_by (λ p. p.device) parts.now }
     ensures bound { result < 256 }
@@ -31,7 +31,7 @@ pub fn at_root(path: &Path, pin: u8) -> (u8, u8)
     ensures pin { result.1 ≡ root_pin path.now pin }
 {
     let parts = path.parts();
-    let sum = devices(&parts[1..]);
+    let sum = sum_of_device_numbers(&parts[1..]);
     let pin = (u32::from(pin) - 1 + sum) % 4 + 1;
     (parts[0].device(), pin as u8)
 }

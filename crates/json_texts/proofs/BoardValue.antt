@@ -8,24 +8,24 @@ use Rattle.model_set_up.{specs.{Reach.address_of, Pools.{Pool, io_pool, mem_pool
 use Rattle.model_guests.specs.World.{World}
 use Rattle.model_handoff.{specs.{FoundReport.{SetUpBoard, set_up_board, IsSetUpOf}, ReportLaws.{is_closed, is_empty, AreClosedWithoutItems}}, proofs.ReportLaws.closed_without_items}
 use Rattle.bridge_forward.specs.Lending.{as_endpoint}
-use Rattle.json_texts.specs.{ReportValue.{region_value, capability_value, interrupt_value, windows_value, items_window, pool_window, bridge_windows, buses_value, endpoint_value, bridge_value, row_value, board_value, report_value, value_line, report_json_text}, FoundValue.{known_interrupt, named_window, written_windows, capabilities_nth, decl_value, function_values, found_value}}
+use Rattle.json_texts.specs.{ReportValue.{region_value, capability_value, interrupt_value, windows_value, items_window, pool_window, bridge_windows, bus_numbers_value, endpoint_value, bridge_value, row_value, board_value, report_value, value_line, report_json_text}, FoundValue.{pin_route_or_null, enabled_window_or_null, windows_of_bridge_or_null, capability_values_nth, decl_value, function_values, found_value}}
 
 window_is : (unit closed first : ℕ) (is : List PlacementItem) → is_closed (window_of unit closed first is) ≡ is_empty is
-    → named_window (window_of unit closed first is) ≡ items_window unit first is
+    → enabled_window_or_null (window_of unit closed first is) ≡ items_window unit first is
 window_is unit closed first [] e = rw e refl
 window_is unit closed first (i ∷ is) e = rw e refl
 
 window_of_pool : (b : Board) (a : Apertures) (p : Path) (pool : Pool) (closed : ℕ) → is_closed (set_up_window b a pool closed p) ≡ is_empty (items_on b a pool p)
-    → named_window (set_up_window b a pool closed p) ≡ pool_window b a p pool
+    → enabled_window_or_null (set_up_window b a pool closed p) ≡ pool_window b a p pool
 window_of_pool b a p pool closed e = window_is (unit_of pool) closed (bus_first b a pool p) (items_on b a pool p) e
 
-windows_are : (b : Board) (a : Apertures) (p : Path) → AreClosedWithoutItems b a p → written_windows (to_bridge (windows_of b a p)) ≡ bridge_windows b a p
+windows_are : (b : Board) (a : Apertures) (p : Path) → AreClosedWithoutItems b a p → windows_of_bridge_or_null (to_bridge (windows_of b a p)) ≡ bridge_windows b a p
 windows_are b a p h =
-    ap (λ (io : Data). windows_value io (named_window (windows_of b a p).mem) (named_window (windows_of b a p).pref)) (window_of_pool b a p io_pool 0xf h.io)
+    ap (λ (io : Data). windows_value io (enabled_window_or_null (windows_of b a p).mem) (enabled_window_or_null (windows_of b a p).pref)) (window_of_pool b a p io_pool 0xf h.io)
     ∙ ap₂ (λ (mem pref : Data). windows_value (pool_window b a p io_pool) mem pref)
     (window_of_pool b a p mem_pool 0xfff h.mem) (window_of_pool b a p pref_pool 0xfff h.pref)
 
-interrupt_is : (p : Path) (d : Endpoint) → IsLawfulEndpoint d → known_interrupt p d.pin ≡ interrupt_value p d.pin
+interrupt_is : (p : Path) (d : Endpoint) → IsLawfulEndpoint d → pin_route_or_null p d.pin ≡ interrupt_value p d.pin
 interrupt_is p d lawful = let few = lawful.pin in grind (arith, ne_eqb, le-ltb)
 
 regions_are : (b : Board) (a : Apertures) (p : Path) (rs : List Region) → map region_value (map (placed_base b a p) rs) ≡ map (λ r. region_value (placed_base b a p r)) rs
@@ -51,7 +51,7 @@ rest_at zero (x ∷ xs) y ys e = grind arith
 rest_at (suc n) [] y ys e = grind arith
 rest_at (suc n) (x ∷ xs) y ys e = rest_at n xs y ys e
 
-declared_nth : (fs : List BoardFunction) (n : ℕ) (f : BoardFunction) → slice_get fs n ≡ Some f → capabilities_nth fs n ≡ declared f.decl
+declared_nth : (fs : List BoardFunction) (n : ℕ) (f : BoardFunction) → slice_get fs n ≡ Some f → capability_values_nth fs n ≡ declared f.decl
 declared_nth fs n f e = ap (λ (o : Option BoardFunction). lists_of (option_map_or as_endpoint o None)) e ∙ of_decl f f.decl
 
 -- ---- functions
@@ -59,10 +59,10 @@ declared_nth fs n f e = ap (λ (o : Option BoardFunction). lists_of (option_map_
 function_is : (b : Board) (a : Apertures) → HasLawfulDecls b → (p : Path) (d : Decl) (capabilities : List Data) → capabilities ≡ declared d → IsLawfulDecl d
     → decl_value (bus_of b p) (range_behind b p d) p (found_decl d) capabilities (writes_of b a p d) ≡ row_value b a (record { path = p; decl = d })
 function_is b a lawful p (endpoint d) capabilities own one =
-    ap (λ (cs : List Data). endpoint_value (bus_of b p) p d.vendor d.device cs (known_interrupt p d.pin) (map region_value (map (placed_base b a p) d.regions))) own
+    ap (λ (cs : List Data). endpoint_value (bus_of b p) p d.vendor d.device cs (pin_route_or_null p d.pin) (map region_value (map (placed_base b a p) d.regions))) own
     ∙ ap₂ (λ (interrupt : Data) (regions : List Data). endpoint_value (bus_of b p) p d.vendor d.device (declared (endpoint d)) interrupt regions) (interrupt_is p d one) (regions_are b a p d.regions)
 function_is b a lawful p (bridge d) capabilities own one =
-    ap (λ (windows : Data). bridge_value (bus_of b p) p d.vendor d.device (buses_value (bus_of b p) (secondary b p) (subordinate b p)) windows)
+    ap (λ (windows : Data). bridge_value (bus_of b p) p d.vendor d.device (bus_numbers_value (bus_of b p) (secondary b p) (subordinate b p)) windows)
     (windows_are b a p (closed_without_items b a lawful p))
 
 -- the rows of a board, from that of the function at index n on
@@ -78,7 +78,7 @@ functions_are whole a lawful fs n (f ∷ gs) e each =
     let there = rest_at n fs f gs e in
     let next : n + 1 ≡ suc n = omega arith in
     ap₂ (λ (v : Data) (vs : List Data). v ∷ vs)
-    (function_is whole a lawful f.path f.decl (capabilities_nth fs n) (declared_nth fs n f there.0) each.0)
+    (function_is whole a lawful f.path f.decl (capability_values_nth fs n) (declared_nth fs n f there.0) each.0)
     (functions_are whole a lawful fs (n + 1) gs (ap (λ k. drop k fs) next ∙ there.1) each.1)
 
 bridges_are : (whole b : Board) → count_by (λ r. is_bridge r.decl) (map (table_row whole found_decl) b) ≡ count_by (λ r. is_bridge r.decl) b

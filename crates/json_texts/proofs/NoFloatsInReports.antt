@@ -7,7 +7,7 @@ use Rattle.model_set_up.specs.{FunctionTable.{BusRange, TableRow}, SetUpWrites.{
 use Rattle.model_guests.specs.World.{Guest}
 use Rattle.model_handoff.specs.FoundReport.{SetUpBoard}
 use Rattle.bridge_forward.specs.Lending.{endpoint_nth}
-use Rattle.json_texts.specs.{ReportValue.{region_value, capability_value, slot_values, guest_value}, FoundValue.{known_interrupt, named_window, written_regions, written_windows, capabilities_nth, found_buses, decl_value, function_values, found_value}}
+use Rattle.json_texts.specs.{ReportValue.{region_value, capability_value, slot_values, guest_value}, FoundValue.{pin_route_or_null, enabled_window_or_null, region_values_if_endpoint, windows_of_bridge_or_null, capability_values_nth, found_buses, decl_value, function_values, found_value}}
 
 -- ---- lists of values, and null where there is none
 
@@ -30,17 +30,17 @@ either : (b : Bool) (d e : Data) → has_float d ≡ false → has_float e ≡ f
 either true d e h k = h
 either false d e h k = k
 
-none_in_interrupt : (p : Path) (pin : ℕ) → has_float (known_interrupt p pin) ≡ false
+none_in_interrupt : (p : Path) (pin : ℕ) → has_float (pin_route_or_null p pin) ≡ false
 none_in_interrupt p pin = either (pin == 0 || nat_lt 4 pin) _ _ refl refl
 
-none_in_window : (w : Window) → has_float (named_window w) ≡ false
+none_in_window : (w : Window) → has_float (enabled_window_or_null w) ≡ false
 none_in_window w = either (nat_lt w.last w.first) _ _ refl refl
 
-none_in_regions : (w : RegisterValues) → items_have_float (items_of (written_regions w)) ≡ false
+none_in_regions : (w : RegisterValues) → items_have_float (items_of (region_values_if_endpoint w)) ≡ false
 none_in_regions (to_endpoint command bases) = none_mapped region_value (λ r. refl) bases
 none_in_regions (to_bridge w) = refl
 
-none_in_windows : (w : RegisterValues) → has_float (written_windows w) ≡ false
+none_in_windows : (w : RegisterValues) → has_float (windows_of_bridge_or_null w) ≡ false
 none_in_windows (to_endpoint command bases) = refl
 none_in_windows (to_bridge w) = rw (none_in_window w.io, none_in_window w.mem, none_in_window w.pref) refl
 
@@ -54,7 +54,7 @@ none_declared : (o : Option Function) → items_have_float (items_of (option_map
 none_declared None = refl
 none_declared (Some e) = none_mapped capability_value (λ c. refl) (listed e.decl)
 
-none_in_function : (bus : ℕ) (behind : Option BusRange) (p : Path) (d : Decl) (fs : List BoardFunction) (n : ℕ) (w : RegisterValues) → has_float (decl_value bus behind p d (capabilities_nth fs n) w) ≡ false
+none_in_function : (bus : ℕ) (behind : Option BusRange) (p : Path) (d : Decl) (fs : List BoardFunction) (n : ℕ) (w : RegisterValues) → has_float (decl_value bus behind p d (capability_values_nth fs n) w) ≡ false
 none_in_function bus behind p (endpoint d) fs n w = rw (none_declared (endpoint_nth fs n), none_in_interrupt p d.pin, none_in_regions w) refl
 none_in_function bus behind p (bridge d) fs n w = rw (none_in_buses bus behind, none_in_windows w) refl
 

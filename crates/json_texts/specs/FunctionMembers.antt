@@ -1,6 +1,6 @@
 -- The members of a function's value, put together in parts.
 --     vendor_of, device_id_of      Vendor ID and Device ID
---     place_members, with_identity      a function's numbers and its path; with its type and identity beside others
+--     bdf_and_path_members, with_identity      a function's numbers and its path; with its type and identity beside others
 use Rattle.std.specs.Prelude.{ℕ, codes}
 use Rattle.serde_json.specs.Data.{string, Members, member, no_members, put}
 use Rattle.model_board.specs.{Paths.{Path, last_part}, Board.{Decl, endpoint, bridge}}
@@ -15,8 +15,8 @@ abbrev pub device_id_of : Decl → ℕ
 device_id_of (endpoint d) = d.device
 device_id_of (bridge d) = d.device
 
-abbrev pub place_members : ℕ → Path → Members
-place_members bus p =
+abbrev pub bdf_and_path_members : ℕ → Path → Members
+bdf_and_path_members bus p =
     member (codes "bus") (natural bus) (
     member (codes "device") (natural (last_part p).device) (
     member (codes "function") (natural (last_part p).function) (

@@ -4,7 +4,7 @@
 --     natural, array_of      a number; values one after the other
 --     region_value      a region, from its base address register
 --     capability_value      a structure of a capability list
---     pin_value, interrupt_value      a pin, with the device of bus 0 that it reaches and the pin there; null for pin 0
+--     pin_route_value, interrupt_value      a pin, with the device of bus 0 that it reaches and the pin there; null for pin 0
 --     pool_window, bridge_windows      the windows of a bridge, each null where nothing is placed behind it
 --     endpoint_value, bridge_value      a function, from its description
 --     row_value b a r      a function of a board, with its regions or windows where they are placed
@@ -41,15 +41,15 @@ capability_value c = object (
     member (codes "size") (natural c.size) no_members)))
 
 -- a pin from 1 to 4
-abbrev pub pin_value : Path → ℕ → Data
-pin_value p pin = object (
+abbrev pub pin_route_value : Path → ℕ → Data
+pin_route_value p pin = object (
     member (codes "pin") (string (pin_text pin)) (
     member (codes "root_device") (natural (root_device p)) (
     member (codes "root_pin") (string (pin_text (root_pin p pin))) no_members)))
 
 -- pin 0 says that there is none
 abbrev pub interrupt_value : Path → ℕ → Data
-interrupt_value p pin = if pin == 0 then null else pin_value p pin
+interrupt_value p pin = if pin == 0 then null else pin_route_value p pin
 
 -- the addresses from the first to the last
 abbrev pub range_value : ℕ → ℕ → Data
@@ -74,8 +74,8 @@ pool_window b a p pool = items_window (unit_of pool) (bus_first b a pool p) (ite
 abbrev pub bridge_windows : Board → Apertures → Path → Data
 bridge_windows b a p = windows_value (pool_window b a p io_pool) (pool_window b a p mem_pool) (pool_window b a p pref_pool)
 
-abbrev pub buses_value : ℕ → ℕ → ℕ → Data
-buses_value primary secondary subordinate = object (
+abbrev pub bus_numbers_value : ℕ → ℕ → ℕ → Data
+bus_numbers_value primary secondary subordinate = object (
     member (codes "primary") (natural primary) (
     member (codes "secondary") (natural secondary) (
     member (codes "subordinate") (natural subordinate) no_members)))
@@ -116,7 +116,7 @@ row_value b a r =
           (interrupt_value r.path d.pin) (map (λ q. region_value (placed_base b a r.path q)) d.regions)
       | bridge d ↦
           bridge_value (bus_of b r.path) r.path d.vendor d.device
-          (buses_value (bus_of b r.path) (secondary b r.path) (subordinate b r.path)) (bridge_windows b a r.path)
+          (bus_numbers_value (bus_of b r.path) (secondary b r.path) (subordinate b r.path)) (bridge_windows b a r.path)
     ]
 
 -- ---- guests

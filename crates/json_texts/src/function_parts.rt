@@ -5,7 +5,7 @@ ghost use Rattle.model_registers.specs.Capabilities.{Listed};
 ghost use Rattle.bars.specs.Slots.{placed, bases_from};
 ghost use Rattle.bridge_forward.specs.RoutingRows.{window_of};
 ghost use Rattle.window_packing.specs.Plans.{writes_of};
-ghost use Rattle.json_texts.specs.{ReportValue.{region_value, capability_value, pin_value, range_value, windows_value}, WhyValue.window_range, FoundValue.{known_interrupt, named_window, written_regions, written_windows, capabilities_nth}};
+ghost use Rattle.json_texts.specs.{ReportValue.{region_value, capability_value, pin_route_value, range_value, windows_value}, WhyValue.window_range_or_null, FoundValue.{pin_route_or_null, enabled_window_or_null, region_values_if_endpoint, windows_of_bridge_or_null, capability_values_nth}};
 
 use crate::has_value::{HasValue, values};
 use bars::BarWithBase;
@@ -43,11 +43,12 @@ fn region_values(alloc: Global, bases: &[Option<BarWithBase>]) -> Result<Vec<Val
 }
 
 /// Returns, as JSON, the BARs that set-up wrote into an endpoint. Returns none for a bridge.
-pub(crate) fn written_regions(
+pub(crate) fn region_values_if_endpoint(
     alloc: Global,
     writes: &RegisterValues,
 ) -> Result<Vec<Value>, AllocError>
-    ensures { IfOk result (λ v. map view v.items ≡ written_regions (writes_of writes.now)) }
+    ensures { IfOk result (λ v.
+        map view v.items ≡ region_values_if_endpoint (writes_of writes.now)) }
 {
     match writes {
         RegisterValues::Endpoint { bases, .. } => region_values(alloc, bases),
@@ -68,13 +69,13 @@ impl HasValue for ListedCapability {
 }
 
 /// Returns, as JSON, the capability list of the function at an index. Returns none for a bridge.
-pub(crate) fn capabilities_nth(
+pub(crate) fn capability_values_nth(
     alloc: Global,
     host: &Host,
     index: usize,
 ) -> Result<Vec<Value>, AllocError>
     ensures { let fs = host.now.state.functions in
-        IfOk result (λ v. map view v.items ≡ capabilities_nth fs index) }
+        IfOk result (λ v. map view v.items ≡ capability_values_nth fs index) }
 {
     let Some(endpoint) = host.endpoint_ref_nth(index) else {
         return Ok(Vec::new(alloc));
@@ -84,10 +85,10 @@ pub(crate) fn capabilities_nth(
 }
 
 /// Returns an interrupt pin as JSON, with the device and the pin on bus 0 that it reaches.
-fn pin_value(alloc: Global, path: &Path, pin: u8) -> Result<Value, AllocError>
+fn pin_route_value(alloc: Global, path: &Path, pin: u8) -> Result<Value, AllocError>
     requires least { 1 ≤ pin }
     requires most { pin ≤ 4 }
-    ensures { IfOk result (λ v. view v ≡ pin_value path.now pin) }
+    ensures { IfOk result (λ v. view v ≡ pin_route_value path.now pin) }
 {
     let (device, root) = at_root(path, pin);
     let pin = pin_text(pin);
@@ -97,13 +98,13 @@ fn pin_value(alloc: Global, path: &Path, pin: u8) -> Result<Value, AllocError>
 
 /// Returns an interrupt pin as JSON. Returns `null` for pin 0, which means no pin, and for the
 /// invalid pins above 4.
-pub(crate) fn known_interrupt(alloc: Global, path: &Path, pin: u8) -> Result<Value, AllocError>
-    ensures { IfOk result (λ v. view v ≡ known_interrupt path.now pin) }
+pub(crate) fn pin_route_or_null(alloc: Global, path: &Path, pin: u8) -> Result<Value, AllocError>
+    ensures { IfOk result (λ v. view v ≡ pin_route_or_null path.now pin) }
 {
     if pin == 0 || pin > 4 {
         return Ok(Value::Null);
     }
-    pin_value(alloc, path, pin)
+    pin_route_value(alloc, path, pin)
 }
 
 /// Returns a range of addresses as JSON. `last` is inclusive.
@@ -114,8 +115,11 @@ fn range_value(alloc: Global, first: u64, last: u64) -> Result<Value, AllocError
 }
 
 /// Returns the addresses of a window as JSON, or `null` if the window is closed.
-pub(crate) fn window_range(alloc: Global, window: Option<Window>) -> Result<Value, AllocError>
-    ensures { IfOk result (λ v. view v ≡ window_range (option_map window_of window)) }
+pub(crate) fn window_range_or_null(
+    alloc: Global,
+    window: Option<Window>,
+) -> Result<Value, AllocError>
+    ensures { IfOk result (λ v. view v ≡ window_range_or_null (option_map window_of window)) }
 {
     match window {
         Some(Window { first, last }) => range_value(alloc, first, last),
@@ -124,8 +128,8 @@ pub(crate) fn window_range(alloc: Global, window: Option<Window>) -> Result<Valu
 }
 
 /// Returns a window as JSON, or `null` if its base is above its limit.
-fn named_window(alloc: Global, window: &WindowSetting) -> Result<Value, AllocError>
-    ensures { IfOk result (λ v. view v ≡ named_window window.now) }
+fn enabled_window_or_null(alloc: Global, window: &WindowSetting) -> Result<Value, AllocError>
+    ensures { IfOk result (λ v. view v ≡ enabled_window_or_null window.now) }
 {
     let first = window.first;
     let last = window.last;
@@ -143,17 +147,21 @@ fn windows_value(
     pref: &WindowSetting,
 ) -> Result<Value, AllocError>
     ensures { IfOk result (λ v. view v
-        ≡ windows_value (named_window io.now) (named_window mem.now) (named_window pref.now)) }
+        ≡ windows_value (enabled_window_or_null io.now) (enabled_window_or_null mem.now)
+        (enabled_window_or_null pref.now)) }
 {
-    let io = named_window(alloc, io)?;
-    let mem = named_window(alloc, mem)?;
-    let pref = named_window(alloc, pref)?;
+    let io = enabled_window_or_null(alloc, io)?;
+    let mem = enabled_window_or_null(alloc, mem)?;
+    let pref = enabled_window_or_null(alloc, pref)?;
     json!(in alloc; {"io": io, "mem": mem, "pref": pref})
 }
 
 /// Returns, as JSON, the windows that set-up wrote into a bridge, or `null` for an endpoint.
-pub(crate) fn written_windows(alloc: Global, writes: &RegisterValues) -> Result<Value, AllocError>
-    ensures { IfOk result (λ v. view v ≡ written_windows (writes_of writes.now)) }
+pub(crate) fn windows_of_bridge_or_null(
+    alloc: Global,
+    writes: &RegisterValues,
+) -> Result<Value, AllocError>
+    ensures { IfOk result (λ v. view v ≡ windows_of_bridge_or_null (writes_of writes.now)) }
 {
     match writes {
         RegisterValues::Endpoint { .. } => Ok(Value::Null),

@@ -3,9 +3,11 @@
 ghost use Rattle.std.specs.Prelude.{◌≡◌, IfOk, OnOk, map};
 ghost use Rattle.serde_json.specs.View.{view, members_view};
 ghost use Rattle.window_packing.specs.Plans.{writes_of};
-ghost use Rattle.json_texts.specs.{ReportValue.{buses_value, endpoint_value, bridge_value}, FoundValue.{known_interrupt, written_regions, written_windows, function_value, function_values}, FunctionMembers.{place_members, with_identity, vendor_of, device_id_of}};
+ghost use Rattle.json_texts.specs.{ReportValue.{bus_numbers_value, endpoint_value, bridge_value}, FoundValue.{pin_route_or_null, region_values_if_endpoint, windows_of_bridge_or_null, function_value, function_values}, FunctionMembers.{bdf_and_path_members, with_identity, vendor_of, device_id_of}};
 
-use crate::function_parts::{capabilities_nth, known_interrupt, written_regions, written_windows};
+use crate::function_parts::{
+    capability_values_nth, pin_route_or_null, region_values_if_endpoint, windows_of_bridge_or_null,
+};
 use crate::problem_parts::path_value;
 use bus_scan::{Enumerated, EnumeratedFunction};
 use host_bridge::Host;
@@ -14,9 +16,12 @@ use std::alloc::{AllocError, Global};
 use window_packing::{FunctionProgram, RegisterValues};
 
 /// Returns the members for a function's BDF and path.
-fn place_members(alloc: Global, row: &EnumeratedFunction) -> Result<Map<String, Value>, AllocError>
+fn bdf_and_path_members(
+    alloc: Global,
+    row: &EnumeratedFunction,
+) -> Result<Map<String, Value>, AllocError>
     ensures { IfOk result
-        (λ m. members_view m.entries ≡ place_members row.now.bus row.now.path) }
+        (λ m. members_view m.entries ≡ bdf_and_path_members row.now.bus row.now.path) }
 {
     let part = row.path.last();
     let device = part.device();
@@ -31,7 +36,7 @@ fn place_members(alloc: Global, row: &EnumeratedFunction) -> Result<Map<String, 
 }
 
 /// Adds a function's type, Vendor ID and Device ID to other members.
-fn put_identity(
+fn put_type_and_ids(
     members: &mut Map<String, Value>,
     alloc: Global,
     row: &EnumeratedFunction,
@@ -57,12 +62,12 @@ fn endpoint_value(
     ensures { IfOk result (λ v. view v
         ≡ endpoint_value row.now.bus row.now.path (vendor_of row.now.decl)
         (device_id_of row.now.decl) (map view capabilities.items)
-        (known_interrupt row.now.path pin) (written_regions (writes_of writes.now))) }
+        (pin_route_or_null row.now.path pin) (region_values_if_endpoint (writes_of writes.now))) }
 {
-    let regions = written_regions(alloc, writes)?;
-    let interrupt = known_interrupt(alloc, &row.path, pin)?;
-    let mut members = place_members(alloc, row)?;
-    put_identity(&mut members, alloc, row, "endpoint")?;
+    let regions = region_values_if_endpoint(alloc, writes)?;
+    let interrupt = pin_route_or_null(alloc, &row.path, pin)?;
+    let mut members = bdf_and_path_members(alloc, row)?;
+    put_type_and_ids(&mut members, alloc, row, "endpoint")?;
     put(
         &mut members,
         alloc,
@@ -75,13 +80,13 @@ fn endpoint_value(
 }
 
 /// Returns a bridge's Primary, Secondary and Subordinate Bus Numbers as JSON.
-fn buses_value(
+fn bus_numbers_value(
     alloc: Global,
     primary: u8,
     secondary: u8,
     subordinate: u8,
 ) -> Result<Value, AllocError>
-    ensures { IfOk result (λ v. view v ≡ buses_value primary secondary subordinate) }
+    ensures { IfOk result (λ v. view v ≡ bus_numbers_value primary secondary subordinate) }
 {
     json!(in alloc; {"primary": primary, "secondary": secondary, "subordinate": subordinate})
 }
@@ -96,13 +101,13 @@ fn bridge_value(
 ) -> Result<Value, AllocError>
     ensures { IfOk result (λ v. view v
         ≡ bridge_value row.now.bus row.now.path (vendor_of row.now.decl)
-        (device_id_of row.now.decl) (buses_value row.now.bus secondary subordinate)
-        (written_windows (writes_of writes.now))) }
+        (device_id_of row.now.decl) (bus_numbers_value row.now.bus secondary subordinate)
+        (windows_of_bridge_or_null (writes_of writes.now))) }
 {
-    let buses = buses_value(alloc, row.bus, secondary, subordinate)?;
-    let windows = written_windows(alloc, writes)?;
-    let mut members = place_members(alloc, row)?;
-    put_identity(&mut members, alloc, row, "bridge")?;
+    let buses = bus_numbers_value(alloc, row.bus, secondary, subordinate)?;
+    let windows = windows_of_bridge_or_null(alloc, writes)?;
+    let mut members = bdf_and_path_members(alloc, row)?;
+    put_type_and_ids(&mut members, alloc, row, "bridge")?;
     put(&mut members, alloc, "buses", buses)?;
     put(&mut members, alloc, "windows", windows)?;
     Ok(Value::Object(members))
@@ -142,7 +147,7 @@ pub(crate) fn function_values(
 {
     let mut values = Vec::new(alloc);
     for (row, setting) in rows.iter().zip(settings) {
-        let capabilities = capabilities_nth(alloc, host, values.len())?;
+        let capabilities = capability_values_nth(alloc, host, values.len())?;
         values.push(function_value(alloc, row, capabilities, &setting.writes)?)?;
     }
     Ok(values)

@@ -18,7 +18,7 @@ mod why;
 
 pub use findings::{Problem, ReadinessIssue};
 pub use has_value::{HasValue, values};
-pub use problem_parts::number_value;
-pub use problems_object::{lacks_json, problems_json};
+pub use problem_parts::bdf_value;
+pub use problems_object::{problems_json, readiness_json};
 pub use report_object::report_json;
-pub use why::{host_why_json, why_json};
+pub use why::{explanation_json, host_explanation_json};

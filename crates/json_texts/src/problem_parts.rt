@@ -3,7 +3,7 @@ ghost use Rattle.std.specs.Prelude.{◌≡◌, IfOk};
 ghost use Rattle.serde_json.specs.View.{view};
 ghost use Rattle.bars.specs.Kinds.{named_space};
 ghost use Rattle.paths.specs.BusAddresses.{bus_address_of};
-ghost use Rattle.json_texts.specs.AuditValue.{path_value, space_text, register_value, reached_value, region_value, agent_value, blame_value, number_value};
+ghost use Rattle.json_texts.specs.AuditValue.{path_value, space_text, bar_index_or_null, path_or_null, region_value, agent_value, bridge_finding_value, bdf_value};
 
 use bars::Space;
 use findings::{Agent, LiveBar};
@@ -21,8 +21,8 @@ pub(crate) fn path_value(alloc: Global, path: &Path) -> Result<Value, AllocError
 }
 
 /// Returns, as JSON, the path of the function that was reached, or `null` if none was.
-pub(crate) fn reached_value(alloc: Global, path: &Option<Path>) -> Result<Value, AllocError>
-    ensures { IfOk result (λ v. view v ≡ reached_value path.now) }
+pub(crate) fn path_or_null(alloc: Global, path: &Option<Path>) -> Result<Value, AllocError>
+    ensures { IfOk result (λ v. view v ≡ path_or_null path.now) }
 {
     match path {
         Some(path) => path_value(alloc, path),
@@ -41,8 +41,8 @@ pub(crate) fn space_text(space: Space) -> &'static str
 }
 
 /// Returns the BAR index of a responder as JSON, or `null` for a bridge.
-fn register_value(register: Option<u8>) -> Value
-    ensures { view result ≡ register_value register }
+fn bar_index_or_null(register: Option<u8>) -> Value
+    ensures { view result ≡ bar_index_or_null register }
 {
     match register {
         Some(index) => Value::from(index),
@@ -67,12 +67,12 @@ pub(crate) fn agent_value(alloc: Global, agent: &Agent) -> Result<Value, AllocEr
     ensures { IfOk result (λ v. view v ≡ agent_value agent.now) }
 {
     let path = path_value(alloc, &agent.path)?;
-    let bar = register_value(agent.register);
+    let bar = bar_index_or_null(agent.register);
     json!(in alloc; {"bar": bar, "path": path})
 }
 
 /// Returns a finding of the given type, which blames a bridge for an address of a BAR, as JSON.
-pub(crate) fn blame_value(
+pub(crate) fn bridge_finding_value(
     alloc: Global,
     region: &LiveBar,
     bridge: &Path,
@@ -80,7 +80,7 @@ pub(crate) fn blame_value(
     kind: &str,
 ) -> Result<Value, AllocError>
     ensures { IfOk result (λ v.
-        view v ≡ blame_value region.now bridge.now address kind.now) }
+        view v ≡ bridge_finding_value region.now bridge.now address kind.now) }
 {
     let region = region_value(alloc, region)?;
     let bridge = path_value(alloc, bridge)?;
@@ -88,8 +88,8 @@ pub(crate) fn blame_value(
 }
 
 /// Returns a BDF as JSON.
-pub fn number_value(alloc: Global, at: Bdf) -> Result<Value, AllocError>
-    ensures { IfOk result (λ v. view v ≡ number_value (bus_address_of at)) }
+pub fn bdf_value(alloc: Global, at: Bdf) -> Result<Value, AllocError>
+    ensures { IfOk result (λ v. view v ≡ bdf_value (bus_address_of at)) }
 {
     let Bdf {
         bus,

@@ -9,7 +9,7 @@ ghost use Rattle.json_texts.specs.AuditValue.{problem_value};
 
 use crate::has_value::HasValue;
 use crate::problem_parts::{
-    agent_value, blame_value, number_value, path_value, reached_value, space_text,
+    agent_value, bdf_value, bridge_finding_value, path_or_null, path_value, space_text,
 };
 use findings::{Agent, Problem};
 use paths::{Bdf, Path};
@@ -17,7 +17,12 @@ use serde_json::{Value, json};
 use std::alloc::{AllocError, Global};
 
 /// Returns, as JSON, the address conflict between two responders.
-fn contended(alloc: Global, one: &Agent, other: &Agent, address: u64) -> Result<Value, AllocError>
+fn contended_problem_value(
+    alloc: Global,
+    one: &Agent,
+    other: &Agent,
+    address: u64,
+) -> Result<Value, AllocError>
     ensures { IfOk result (λ v. view v ≡ problem_value (contended one.now other.now address)) }
 {
     let space = space_text(one.space);
@@ -28,7 +33,7 @@ fn contended(alloc: Global, one: &Agent, other: &Agent, address: u64) -> Result<
 }
 
 /// Returns, as JSON, the problem that a function isn't reached by its BDF.
-fn not_found(
+fn not_found_problem_value(
     alloc: Global,
     path: &Path,
     at: Bdf,
@@ -37,9 +42,9 @@ fn not_found(
     ensures { IfOk result (λ v. view v
         ≡ problem_value (not_found path.now (bus_address_of at) instead.now)) }
 {
-    let number = number_value(alloc, at)?;
+    let number = bdf_value(alloc, at)?;
     let path = path_value(alloc, path)?;
-    let reached = reached_value(alloc, instead)?;
+    let reached = path_or_null(alloc, instead)?;
     json!(in alloc; {"number": number, "path": path, "reached": reached, "type": "not found"})
 }
 
@@ -56,17 +61,17 @@ impl HasValue for Problem {
                 region,
                 bridge,
                 address,
-            } => blame_value(alloc, region, bridge, *address, "not forwarded"),
+            } => bridge_finding_value(alloc, region, bridge, *address, "not forwarded"),
             Problem::Contended {
                 one,
                 other,
                 address,
-            } => contended(alloc, one, other, *address),
+            } => contended_problem_value(alloc, one, other, *address),
             Problem::NotFound {
                 path,
                 address,
                 instead,
-            } => not_found(alloc, path, *address, instead),
+            } => not_found_problem_value(alloc, path, *address, instead),
         }
     }
 }

@@ -2,7 +2,7 @@
 ghost use Rattle.std.specs.Prelude.{◌≡◌, ◌++◌, ◌∷◌, [], false, IfOk, map, string_bytes};
 ghost use Rattle.serde_json.specs.{View.view, Written.{compact_text, has_float}};
 ghost use Rattle.findings.specs.Findings.{problem_of, issue_of};
-ghost use Rattle.json_texts.specs.AuditValue.{problems_value, problems_json, issues_value, lacks_json};
+ghost use Rattle.json_texts.specs.AuditValue.{problems_value, problems_json, readiness_value, readiness_json};
 
 use crate::has_value::values;
 use findings::{Problem, ReadinessIssue};
@@ -18,13 +18,13 @@ fn problems_value(alloc: Global, problems: &[Problem]) -> Result<Value, AllocErr
 }
 
 /// Returns the JSON object for the problems and the readiness issues.
-fn issues_value(
+fn readiness_value(
     alloc: Global,
     problems: &[Problem],
     readiness_issues: &[ReadinessIssue],
 ) -> Result<Value, AllocError>
     ensures { IfOk result (λ v. view v
-        ≡ issues_value (map problem_of problems.now) (map issue_of readiness_issues.now)) }
+        ≡ readiness_value (map problem_of problems.now) (map issue_of readiness_issues.now)) }
 {
     let readiness_issues = values(alloc, readiness_issues)?;
     let wrong = values(alloc, problems)?;
@@ -32,7 +32,7 @@ fn issues_value(
 }
 
 /// Renders a JSON value on one line. The value must not contain floating-point numbers.
-pub(crate) fn line_of(alloc: Global, value: &Value) -> Result<String, AllocError>
+pub(crate) fn render_json_line(alloc: Global, value: &Value) -> Result<String, AllocError>
     requires { has_float (view value.now) ≡ false }
     ensures { IfOk result (λ t. string_bytes t ≡ compact_text (view value.now) ++ 10 ∷ []) }
 {
@@ -48,20 +48,20 @@ pub fn problems_json(alloc: Global, problems: &[Problem]) -> Result<String, Allo
     ensures { IfOk result (λ t. string_bytes t ≡ problems_json (map problem_of problems.now)) }
 {
     let value = problems_value(alloc, problems)?;
-    line_of(alloc, &value)
+    render_json_line(alloc, &value)
 }
 
 /// Renders the problems and the readiness issues as a JSON object on one line, each in their order.
 /// Fails only if memory is exhausted.
 #[tactic(auto, using(crate::proofs::NoFloatsInAudits::none_in_issues))]
-pub fn lacks_json(
+pub fn readiness_json(
     alloc: Global,
     problems: &[Problem],
     readiness_issues: &[ReadinessIssue],
 ) -> Result<String, AllocError>
     ensures { IfOk result (λ t. string_bytes t
-        ≡ lacks_json (map problem_of problems.now) (map issue_of readiness_issues.now)) }
+        ≡ readiness_json (map problem_of problems.now) (map issue_of readiness_issues.now)) }
 {
-    let value = issues_value(alloc, problems, readiness_issues)?;
-    line_of(alloc, &value)
+    let value = readiness_value(alloc, problems, readiness_issues)?;
+    render_json_line(alloc, &value)
 }

@@ -7,14 +7,14 @@ ghost use Rattle.findings.specs.Findings.{issue_of};
 ghost use Rattle.json_texts.specs.AuditValue.{issue_value};
 
 use crate::has_value::HasValue;
-use crate::problem_parts::{blame_value, path_value, region_value};
+use crate::problem_parts::{bridge_finding_value, path_value, region_value};
 use findings::{LiveBar, ReadinessIssue};
 use paths::Path;
 use serde_json::{Value, json};
 use std::alloc::{AllocError, Global};
 
 /// Returns, as JSON, the readiness issue that a BAR is disabled.
-fn not_open(alloc: Global, region: &LiveBar) -> Result<Value, AllocError>
+fn disabled_bar_issue_value(alloc: Global, region: &LiveBar) -> Result<Value, AllocError>
     ensures { IfOk result (λ v. view v ≡ issue_value (not_open region.now)) }
 {
     let region = region_value(alloc, region)?;
@@ -22,7 +22,7 @@ fn not_open(alloc: Global, region: &LiveBar) -> Result<Value, AllocError>
 }
 
 /// Returns, as JSON, the readiness issue that a BAR is partly outside the apertures.
-fn outside(alloc: Global, region: &LiveBar, address: u64) -> Result<Value, AllocError>
+fn aperture_issue_value(alloc: Global, region: &LiveBar, address: u64) -> Result<Value, AllocError>
     ensures { IfOk result (λ v. view v ≡ issue_value (outside_apertures region.now address)) }
 {
     let region = region_value(alloc, region)?;
@@ -30,7 +30,12 @@ fn outside(alloc: Global, region: &LiveBar, address: u64) -> Result<Value, Alloc
 }
 
 /// Returns, as JSON, the readiness issue that a bridge has a wrong Primary Bus Number.
-fn primary(alloc: Global, path: &Path, held: u8, number: u8) -> Result<Value, AllocError>
+fn wrong_primary_issue_value(
+    alloc: Global,
+    path: &Path,
+    held: u8,
+    number: u8,
+) -> Result<Value, AllocError>
     ensures { IfOk result (λ v. view v ≡ issue_value (other_primary path.now held number)) }
 {
     let path = path_value(alloc, path)?;
@@ -46,16 +51,16 @@ impl HasValue for ReadinessIssue {
 
     fn value(&self, alloc: Global) -> Result<Value, AllocError> {
         match self {
-            ReadinessIssue::NotOpen { region } => not_open(alloc, region),
-            ReadinessIssue::OutsideApertures { region, address } => outside(
+            ReadinessIssue::NotOpen { region } => disabled_bar_issue_value(alloc, region),
+            ReadinessIssue::OutsideApertures { region, address } => aperture_issue_value(
                 alloc, region, *address,
             ),
             ReadinessIssue::Prefetched {
                 region,
                 bridge,
                 address,
-            } => blame_value(alloc, region, bridge, *address, "prefetched"),
-            ReadinessIssue::OtherPrimary { path, held, number } => primary(
+            } => bridge_finding_value(alloc, region, bridge, *address, "prefetched"),
+            ReadinessIssue::OtherPrimary { path, held, number } => wrong_primary_issue_value(
                 alloc, path, *held, *number,
             ),
         }

@@ -11,7 +11,7 @@ use crate::has_value::values;
 use accesses::GuestDecl;
 use bus_scan::FunctionTable;
 use host_bridge::Host;
-use report::{bridges, endpoints};
+use report::{count_bridges, count_endpoints};
 use serde_json::{Value, json};
 use std::alloc::{AllocError, Global};
 use window_packing::Plan;
@@ -28,8 +28,8 @@ fn report_value(
         ≡ found_value host.now.state.functions
         (record { functions = table.now; plan = plan.now; guests = guests.now })) }
 {
-    let bridges = bridges(table.rows());
-    let endpoints = endpoints(table.rows());
+    let bridges = count_bridges(table.rows());
+    let endpoints = count_endpoints(table.rows());
     let functions = function_values(alloc, host, table.rows(), plan.settings())?;
     let guests = values(alloc, guests)?;
     json!(in alloc; {

@@ -8,12 +8,12 @@ ghost use Rattle.model_lines.specs.{Why.why, Ways.why_number, WhyPorts.port_use}
 ghost use Rattle.findings.specs.WhyTold.{name_told, window_told, windows_told, cause_told, region_told, forwarder_told, missing_told, use_told};
 ghost use Rattle.model_board.specs.Paths as board;
 ghost use Rattle.model_lines.specs.Why as model;
-ghost use Rattle.json_texts.specs.{AuditValue.path_value, WhyValue.{name_text, window_value, cause_value, told_value, forwarder_value, claim_value, address_value, behind_value, missing_value, way_value, latch_value, why_value, why_json, port_json, host_why_json}};
+ghost use Rattle.json_texts.specs.{AuditValue.path_value, WhyValue.{name_text, window_value, cause_value, told_value, forwarder_value, claim_value, address_explanation_value, bridge_path_or_null, missing_value, bdf_explanation_value, port_use_or_null, explanation_value, explanation_json, port_explanation_json, host_explanation_json}};
 
-use crate::function_parts::window_range;
+use crate::function_parts::window_range_or_null;
 use crate::has_value::{HasValue, values};
-use crate::problem_parts::{number_value, path_value, reached_value, region_value};
-use crate::problems_object::line_of;
+use crate::problem_parts::{bdf_value, path_or_null, path_value, region_value};
+use crate::problems_object::render_json_line;
 use accesses::HostAt;
 use bars::Space;
 use bridge_forward::Claim;
@@ -39,7 +39,7 @@ impl HasValue for Path {
 }
 
 /// Returns the name of a window's address space.
-fn window_name(name: WindowName) -> &'static str
+fn window_name_text(name: WindowName) -> &'static str
     ensures { result.now ≡ name_text (name_told name) }
 {
     match name {
@@ -57,8 +57,8 @@ impl HasValue for NamedWindow {
     ghost shown = { window_value };
 
     fn value(&self, alloc: Global) -> Result<Value, AllocError> {
-        let range = window_range(alloc, self.window)?;
-        json!(in alloc; {"range": range, "space": window_name(self.name)})
+        let range = window_range_or_null(alloc, self.window)?;
+        json!(in alloc; {"range": range, "space": window_name_text(self.name)})
     }
 }
 
@@ -138,7 +138,7 @@ impl HasValue for Forwarder {
 }
 
 /// Returns, as JSON, the BAR that answers, or `null` if none does.
-fn answer_value(alloc: Global, answer: &Option<Claim>) -> Result<Value, AllocError>
+fn claim_or_null(alloc: Global, answer: &Option<Claim>) -> Result<Value, AllocError>
     ensures { IfOk result (λ v. view v ≡ option_map_or claim_value answer.now null) }
 {
     let Some(claim) = answer else {
@@ -149,12 +149,17 @@ fn answer_value(alloc: Global, answer: &Option<Claim>) -> Result<Value, AllocErr
 }
 
 /// Explains an address as JSON.
-fn address_value(alloc: Global, host: &Host, space: Space, addr: u64) -> Result<Value, AllocError>
+fn address_explanation_value(
+    alloc: Global,
+    host: &Host,
+    space: Space,
+    addr: u64,
+) -> Result<Value, AllocError>
     ensures { let fs = host.now.state.functions in
-        IfOk result (λ v. view v ≡ address_value (why fs (named_space space) addr)) }
+        IfOk result (λ v. view v ≡ address_explanation_value (why fs (named_space space) addr)) }
 {
     let why = why_address(alloc, host, space, addr)?;
-    let answer = answer_value(alloc, &why.answer)?;
+    let answer = claim_or_null(alloc, &why.answer)?;
     let forwards = values(alloc, &why.forwarders)?;
     let regions = values(alloc, &why.told)?;
     json!(in alloc; {
@@ -166,8 +171,8 @@ fn address_value(alloc: Global, host: &Host, space: Space, addr: u64) -> Result<
 }
 
 /// Returns, as JSON, the path of the bridge above a bus, or `null` for bus 0.
-fn behind_value(alloc: Global, behind: &Option<Path>) -> Result<Value, AllocError>
-    ensures { IfOk result (λ v. view v ≡ behind_value (unwrap_or behind.now [])) }
+fn bridge_path_or_null(alloc: Global, behind: &Option<Path>) -> Result<Value, AllocError>
+    ensures { IfOk result (λ v. view v ≡ bridge_path_or_null (unwrap_or behind.now [])) }
 {
     let Some(path) = behind else {
         return Ok(Value::Null);
@@ -178,13 +183,13 @@ fn behind_value(alloc: Global, behind: &Option<Path>) -> Result<Value, AllocErro
 }
 
 /// Returns, as JSON, what is missing at the end of a configuration cycle, or `null` if nothing is.
-fn missing_value(alloc: Global, missing: &Option<Missing>) -> Result<Value, AllocError>
+fn missing_or_null(alloc: Global, missing: &Option<Missing>) -> Result<Value, AllocError>
     ensures { IfOk result (λ v.
         view v ≡ option_map_or missing_value (option_map missing_told missing.now) null) }
 {
     match missing {
         Some(Missing::NoBridge { behind, bus }) => {
-            let behind = behind_value(alloc, behind)?;
+            let behind = bridge_path_or_null(alloc, behind)?;
             json!(in alloc; {"behind": behind, "bus": *bus})
         }
         Some(
@@ -194,7 +199,7 @@ fn missing_value(alloc: Global, missing: &Option<Missing>) -> Result<Value, Allo
                 function,
             },
         ) => {
-            let behind = behind_value(alloc, behind)?;
+            let behind = bridge_path_or_null(alloc, behind)?;
             json!(in alloc; {"behind": behind, "device": *device, "function": *function})
         }
         None => Ok(Value::Null),
@@ -202,15 +207,15 @@ fn missing_value(alloc: Global, missing: &Option<Missing>) -> Result<Value, Allo
 }
 
 /// Explains a BDF as JSON.
-fn way_value(alloc: Global, host: &mut Host, at: Bdf) -> Result<Value, AllocError>
+fn bdf_explanation_value(alloc: Global, host: &mut Host, at: Bdf) -> Result<Value, AllocError>
     ensures value { let fs = host.old.state.functions in
-        IfOk result (λ v. view v ≡ way_value (why_number fs (bus_address_of at))) }
+        IfOk result (λ v. view v ≡ bdf_explanation_value (why_number fs (bus_address_of at))) }
     ensures kept { host.new ≡ host.old }
 {
     let why = why_number(alloc, host, at)?;
-    let missing = missing_value(alloc, &why.missing)?;
+    let missing = missing_or_null(alloc, &why.missing)?;
     let not_found = values(alloc, &why.not_found)?;
-    let reached = reached_value(alloc, &why.reached)?;
+    let reached = path_or_null(alloc, &why.reached)?;
     let takers = values(alloc, &why.bridges)?;
     json!(in alloc; {
         "missing": missing,
@@ -222,13 +227,13 @@ fn way_value(alloc: Global, host: &mut Host, at: Bdf) -> Result<Value, AllocErro
 
 /// Returns, as JSON, the port's role in the configuration mechanism, or `null` for an ordinary
 /// port.
-fn latch_value(alloc: Global, used: PortUse) -> Result<Value, AllocError>
-    ensures { IfOk result (λ v. view v ≡ latch_value (use_told used)) }
+fn port_use_or_null(alloc: Global, used: PortUse) -> Result<Value, AllocError>
+    ensures { IfOk result (λ v. view v ≡ port_use_or_null (use_told used)) }
 {
     match used {
         PortUse::HoldsLatch => json!(in alloc; {"type": "held"}),
         PortUse::ShowsData { at, offset } => {
-            let number = number_value(alloc, at)?;
+            let number = bdf_value(alloc, at)?;
             json!(in alloc; {"number": number, "offset": offset, "type": "selected"})
         }
         PortUse::HidesData => json!(in alloc; {"type": "not enabled"}),
@@ -237,35 +242,44 @@ fn latch_value(alloc: Global, used: PortUse) -> Result<Value, AllocError>
 }
 
 /// Combines an explanation with the port's role in the configuration mechanism in one JSON object.
-fn why_value(alloc: Global, used: PortUse, found: Value) -> Result<Value, AllocError>
-    ensures { IfOk result (λ v. view v ≡ why_value (use_told used) (view found)) }
+fn explanation_value(alloc: Global, used: PortUse, found: Value) -> Result<Value, AllocError>
+    ensures { IfOk result (λ v. view v ≡ explanation_value (use_told used) (view found)) }
 {
-    let latch = latch_value(alloc, used)?;
+    let latch = port_use_or_null(alloc, used)?;
     json!(in alloc; {"found": found, "latch": latch})
 }
 
 /// Renders an explanation and the port's role in the configuration mechanism as a JSON object on
 /// one line. Fails only if memory is exhausted.
 #[tactic(auto, using(crate::proofs::NoFloatsInWhy::none_in_why))]
-pub fn why_json(alloc: Global, used: PortUse, found: Value) -> Result<String, AllocError>
+pub fn explanation_json(alloc: Global, used: PortUse, found: Value) -> Result<String, AllocError>
     requires { has_float (view found) ≡ false }
-    ensures { IfOk result (λ t. string_bytes t ≡ why_json (use_told used) (view found)) }
+    ensures { IfOk result (λ t. string_bytes t ≡ explanation_json (use_told used) (view found)) }
 {
-    let value = why_value(alloc, used, found)?;
-    line_of(alloc, &value)
+    let value = explanation_value(alloc, used, found)?;
+    render_json_line(alloc, &value)
 }
 
 /// Renders the explanation of a port.
-fn port_json(alloc: Global, host: &mut Host, port: u64) -> Result<String, AllocError>
+fn port_explanation_json(alloc: Global, host: &mut Host, port: u64) -> Result<String, AllocError>
     ensures text { let s = host.old.state in
-        IfOk result (λ t. string_bytes t ≡ port_json s port (port_use s.latch port)) }
+        IfOk result (λ t.
+        string_bytes t ≡ port_explanation_json s port (port_use s.latch port)) }
     ensures kept { host.new ≡ host.old }
 {
     let used = port_use(host.latch(), port);
     match used {
-        PortUse::ShowsData { at, .. } => why_json(alloc, used, way_value(alloc, host, at)?),
+        PortUse::ShowsData { at, .. } => explanation_json(
+            alloc,
+            used,
+            bdf_explanation_value(alloc, host, at)?,
+        ),
         PortUse::HoldsLatch | PortUse::HidesData | PortUse::LikeOthers => {
-            why_json(alloc, used, address_value(alloc, host, Space::Io, port)?)
+            explanation_json(
+                alloc,
+                used,
+                address_explanation_value(alloc, host, Space::Io, port)?,
+            )
         }
     }
 }
@@ -273,17 +287,29 @@ fn port_json(alloc: Global, host: &mut Host, port: u64) -> Result<String, AllocE
 /// Explains an address, a port or a BDF in the current registers, as a JSON object on one line. The
 /// offset into configuration space doesn't matter. Leaves the host unchanged, even if memory is
 /// exhausted.
-pub fn host_why_json(alloc: Global, host: &mut Host, at: HostAt) -> Result<String, AllocError>
+pub fn host_explanation_json(
+    alloc: Global,
+    host: &mut Host,
+    at: HostAt,
+) -> Result<String, AllocError>
     ensures text { IfOk result (λ t.
-        string_bytes t ≡ host_why_json host.old.state (host_target_of at)) }
+        string_bytes t ≡ host_explanation_json host.old.state (host_target_of at)) }
     ensures kept { host.new ≡ host.old }
 {
     let used = PortUse::LikeOthers;
     match at {
-        HostAt::Config { bdf, off: _ } => why_json(alloc, used, way_value(alloc, host, bdf)?),
-        HostAt::Io { port } => port_json(alloc, host, port),
+        HostAt::Config { bdf, off: _ } => explanation_json(
+            alloc,
+            used,
+            bdf_explanation_value(alloc, host, bdf)?,
+        ),
+        HostAt::Io { port } => port_explanation_json(alloc, host, port),
         HostAt::Mem { addr } => {
-            why_json(alloc, used, address_value(alloc, host, Space::Mem, addr)?)
+            explanation_json(
+                alloc,
+                used,
+                address_explanation_value(alloc, host, Space::Mem, addr)?,
+            )
         }
     }
 }

@@ -18,7 +18,7 @@ pub struct Answer {
 
 impl Answer {
     /// Returns the outcome of a line that writes at most one output line.
-    pub fn short(refused: Option<u16>) -> Answer
+    pub fn one_line_at_most(refused: Option<u16>) -> Answer
         ensures { result ≡ record { more = None; refused = refused } }
     {
         Answer {

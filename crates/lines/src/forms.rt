@@ -5,9 +5,12 @@ ghost use Rattle.paths.specs.BusAddresses.{bus_address_of};
 ghost use Rattle.accesses.specs.Accesses.{access_of, target_of, op_of, part_of, host_access_of};
 ghost use Rattle.lines.specs.Forms.{event_asked, placed, operated};
 
-use crate::cursor::{first_number, is_end, op_word, other_number, short_number};
-use crate::numbers::{digit_in, number_of};
-use crate::words::first_words;
+use crate::cursor::{
+    has_no_more_words, parse_first_number, parse_first_number_outlined, parse_likely_short_number,
+    split_op_word,
+};
+use crate::numbers::{digit_value, parse_number};
+use crate::words::split_first_words;
 use accesses::{Access, At, Bdf, HostAccess, HostAt, Op, Place};
 
 /// A guest's request.
@@ -19,14 +22,14 @@ pub(crate) enum GuestRequest {
 }
 
 /// Parses an 8-bit mask.
-pub(crate) fn mask(word: &[u8]) -> Option<u8>
+pub(crate) fn parse_mask(word: &[u8]) -> Option<u8>
     ensures { result ≡ below 256 (number_of word.now) }
 {
-    u8::try_from(number_of(word)?).ok()
+    u8::try_from(parse_number(word)?).ok()
 }
 
 /// Parses `cfg` or `bar0` to `bar5`.
-pub(crate) fn place(word: &[u8]) -> Option<Place>
+pub(crate) fn parse_place(word: &[u8]) -> Option<Place>
     ensures { option_map part_of result ≡ raise_part word.now }
 {
     match word {
@@ -42,24 +45,24 @@ pub(crate) fn place(word: &[u8]) -> Option<Place>
 }
 
 /// Parses the arguments of `raise SLOT P OFF MASK`.
-fn to_raise(slot: &[u8], part: &[u8], off: &[u8], bits: &[u8]) -> Option<GuestRequest>
+fn parse_raise_arguments(slot: &[u8], part: &[u8], off: &[u8], bits: &[u8]) -> Option<GuestRequest>
     ensures { option_map event_asked result ≡ to_raise slot.now part.now off.now bits.now }
 {
-    let slot = number_of(slot)?;
-    let place = place(part)?;
-    let off = number_of(off)?;
-    let mask = mask(bits)?;
+    let slot = parse_number(slot)?;
+    let place = parse_place(part)?;
+    let off = parse_number(off)?;
+    let mask = parse_mask(bits)?;
     Some(GuestRequest::Raise(slot, place, off, mask))
 }
 
 /// Parses the words after `raise`, which are `SLOT P OFF MASK`.
 #[tactic(auto, using(crate::proofs::Counts::raise_of_few, crate::proofs::Counts::raise_of_many))]
-fn raise_form(words: &[&[u8]]) -> Option<GuestRequest>
+fn parse_raise(words: &[&[u8]]) -> Option<GuestRequest>
     ensures { option_map event_asked result
         ≡ event_of (codes "raise" ∷ map (λ w. w.now) words.now) }
 {
     match words {
-        [slot, part, off, bits] => to_raise(slot, part, off, bits),
+        [slot, part, off, bits] => parse_raise_arguments(slot, part, off, bits),
         _ => None,
     }
 }
@@ -68,17 +71,17 @@ fn raise_form(words: &[&[u8]]) -> Option<GuestRequest>
 /// space. Returns the target and the text after it. Every target begins with a number. Parsing that
 /// number before the match on the letter leaves fewer inlined copies of its loop.
 #[inline(always)]
-fn placed(space: u8, text: &[u8]) -> Option<(At, &[u8])>
+fn parse_access_target(space: u8, text: &[u8]) -> Option<(At, &[u8])>
     ensures { MatchOption result (placed space (words text.now) ≡ None) (λ p.
         placed space (words text.now)
         ≡ Some (record { target = target_of p.0; rest = words p.1.now })) }
 {
-    let (number, rest) = first_number(text)?;
+    let (number, rest) = parse_first_number(text)?;
     match space {
         b'm' => Some((At::Mem { addr: number }, rest)),
         b'i' => Some((At::Io { port: number }, rest)),
         b'c' => {
-            let (off, rest) = other_number(rest)?;
+            let (off, rest) = parse_first_number_outlined(rest)?;
             Some((At::Config { slot: number, off }, rest))
         }
         _ => None,
@@ -88,14 +91,14 @@ fn placed(space: u8, text: &[u8]) -> Option<(At, &[u8])>
 /// Parses the operation of an access, given its letter: `r`, or `w V` with a 32-bit value. Returns
 /// the operation and the text after it.
 #[inline(always)]
-fn operated(kind: u8, text: &[u8]) -> Option<(Op, &[u8])>
+fn parse_operation(kind: u8, text: &[u8]) -> Option<(Op, &[u8])>
     ensures { MatchOption result (operated kind (words text.now) ≡ None) (λ p.
         operated kind (words text.now) ≡ Some (record { op = op_of p.0; rest = words p.1.now })) }
 {
     match kind {
         b'r' => Some((Op::Read, text)),
         b'w' => {
-            let (number, rest) = first_number(text)?;
+            let (number, rest) = parse_first_number(text)?;
             let value = u32::try_from(number).ok()?;
             Some((Op::Write(value), rest))
         }
@@ -106,14 +109,14 @@ fn operated(kind: u8, text: &[u8]) -> Option<(Op, &[u8])>
 /// Parses an access, given the letters of its space and of its operation and the text after them.
 #[inline(always)]
 #[tactic(auto, using(crate::proofs::GuestForms::accesses_are))]
-fn access_form(space: u8, kind: u8, text: &[u8]) -> Option<Access>
+fn parse_access(space: u8, kind: u8, text: &[u8]) -> Option<Access>
     ensures { option_map (λ a. access (access_of a)) result
         ≡ event_of ((space ∷ kind ∷ []) ∷ words text.now) }
 {
-    let (at, rest) = placed(space, text)?;
-    let (width, rest) = short_number(rest)?;
-    let (op, rest) = operated(kind, rest)?;
-    if !is_end(rest) {
+    let (at, rest) = parse_access_target(space, text)?;
+    let (width, rest) = parse_likely_short_number(rest)?;
+    let (op, rest) = parse_operation(kind, rest)?;
+    if !has_no_more_words(rest) {
         return None;
     }
     Some(Access { at, width, op })
@@ -122,102 +125,102 @@ fn access_form(space: u8, kind: u8, text: &[u8]) -> Option<Access>
 /// Parses a guest's request, given its first word, which doesn't have two letters, and the words
 /// after it.
 #[tactic(auto, using(crate::proofs::GuestForms::other_length, crate::proofs::GuestForms::no_form))]
-fn raise_or_none(op: &[u8], words: &[&[u8]]) -> Option<GuestRequest>
+fn parse_if_raise(op: &[u8], words: &[&[u8]]) -> Option<GuestRequest>
     requires { length op.now ≡ 2 → ⊥ }
     ensures { option_map event_asked result ≡ event_of (op.now ∷ map (λ w. w.now) words.now) }
 {
     if op == b"raise".as_slice() {
-        return raise_form(words);
+        return parse_raise(words);
     }
     None
 }
 
 /// Parses the text after a guest's name as an access. Other requests return `None`.
 #[inline(always)]
-pub(crate) fn guest_access_form(text: &[u8]) -> Option<Access>
+pub(crate) fn parse_guest_access(text: &[u8]) -> Option<Access>
     ensures { IfSome result (λ a. event_of (words text.now) ≡ Some (access (access_of a))) }
 {
-    let (op, rest) = op_word(text)?;
+    let (op, rest) = split_op_word(text)?;
     match op {
-        [space, kind] => access_form(*space, *kind, rest),
+        [space, kind] => parse_access(*space, *kind, rest),
         _ => None,
     }
 }
 
 /// Parses the text after a guest's name as an access or a raise.
-pub(crate) fn guest_form(text: &[u8]) -> Option<GuestRequest>
+pub(crate) fn parse_guest_request(text: &[u8]) -> Option<GuestRequest>
     ensures { option_map event_asked result ≡ event_of (words text.now) }
 {
-    let (op, rest) = op_word(text)?;
+    let (op, rest) = split_op_word(text)?;
     match op {
-        [space, kind] => access_form(*space, *kind, rest).map(GuestRequest::Access),
-        _ => raise_or_none(op, first_words(rest).as_slice()),
+        [space, kind] => parse_access(*space, *kind, rest).map(GuestRequest::Access),
+        _ => parse_if_raise(op, split_first_words(rest).as_slice()),
     }
 }
 
 /// Returns the number that two hexadecimal digits represent.
-fn hex_pair(high: u8, low: u8) -> Option<u8>
+fn parse_two_hex_digits(high: u8, low: u8) -> Option<u8>
     ensures { result ≡ hex_pair high low }
 {
-    Some(16 * digit_in(16, high)? + digit_in(16, low)?)
+    Some(16 * digit_value(16, high)? + digit_value(16, low)?)
 }
 
 /// Parses a BDF in the form `BB:DD.F`.
-pub(crate) fn bus_address(word: &[u8]) -> Option<Bdf>
+pub(crate) fn parse_bdf(word: &[u8]) -> Option<Bdf>
     ensures { option_map bus_address_of result ≡ bus_address word.now }
 {
     let [b1, b0, b':', d1, d0, b'.', f] = word else {
         return None;
     };
     Some(Bdf {
-        bus: hex_pair(*b1, *b0)?,
-        device: hex_pair(*d1, *d0).filter(|device| *device < 32)?,
-        function: digit_in(8, *f)?,
+        bus: parse_two_hex_digits(*b1, *b0)?,
+        device: parse_two_hex_digits(*d1, *d0).filter(|device| *device < 32)?,
+        function: digit_value(8, *f)?,
     })
 }
 
 /// Parses an I/O or memory read by the host from the three words after `host`.
-fn host_of_three(op: &[u8], at: &[u8], width: &[u8]) -> Option<HostAccess>
+fn parse_three_word_read(op: &[u8], at: &[u8], width: &[u8]) -> Option<HostAccess>
     ensures { option_map host_access_of result
         ≡ host_read_of (op.now ∷ at.now ∷ width.now ∷ []) }
 {
     let at = match op {
         b"ir" => HostAt::Io {
-            port: number_of(at)?,
+            port: parse_number(at)?,
         },
         b"mr" => HostAt::Mem {
-            addr: number_of(at)?,
+            addr: parse_number(at)?,
         },
         _ => return None,
     };
-    let width = number_of(width)?;
+    let width = parse_number(width)?;
     Some(HostAccess { at, width })
 }
 
 /// Parses a configuration read by the host from the four words after `host`.
-fn host_of_four(op: &[u8], bdf: &[u8], off: &[u8], width: &[u8]) -> Option<HostAccess>
+fn parse_four_word_read(op: &[u8], bdf: &[u8], off: &[u8], width: &[u8]) -> Option<HostAccess>
     ensures { option_map host_access_of result
         ≡ host_read_of (op.now ∷ bdf.now ∷ off.now ∷ width.now ∷ []) }
 {
     let at = match op {
         b"cr" => HostAt::Config {
-            bdf: bus_address(bdf)?,
-            off: number_of(off)?,
+            bdf: parse_bdf(bdf)?,
+            off: parse_number(off)?,
         },
         _ => return None,
     };
-    let width = number_of(width)?;
+    let width = parse_number(width)?;
     Some(HostAccess { at, width })
 }
 
 /// Parses the words after `host` as a read.
 #[tactic(auto, using(crate::proofs::Counts::host_read_of_few, crate::proofs::Counts::host_read_of_many))]
-pub(crate) fn host_form(words: &[&[u8]]) -> Option<HostAccess>
+pub(crate) fn parse_host_read(words: &[&[u8]]) -> Option<HostAccess>
     ensures { option_map host_access_of result ≡ host_read_of (map (λ w. w.now) words.now) }
 {
     match words {
-        [op, at, width] => host_of_three(op, at, width),
-        [op, bdf, off, width] => host_of_four(op, bdf, off, width),
+        [op, at, width] => parse_three_word_read(op, at, width),
+        [op, bdf, off, width] => parse_four_word_read(op, bdf, off, width),
         _ => None,
     }
 }

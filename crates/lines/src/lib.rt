@@ -22,11 +22,11 @@ mod watching;
 mod words;
 
 pub use answers::{Answer, Answers};
-pub use firmware_line::{FirmwareCommand, firmware_meaning};
-pub use line::{LONGEST_LINE, Line, What, Who, line_meaning, parse_line};
-pub use reasons::{Reason, reason_of};
-pub use replies::{LONGEST_REPLY, LineText, line_text, push_line, push_named};
+pub use firmware_line::{FirmwareCommand, parse_firmware_line};
+pub use line::{LONGEST_LINE, Line, What, Who, parse_line, parse_line_meaning};
+pub use reasons::{Reason, find_line_error};
+pub use replies::{LONGEST_REPLY, LineText, push_reply, push_reply_of_name, reply_line_text};
 pub use requests::{HostRequest, Report};
 pub use runs::{RunFault, run};
 pub use watching::{BadLine, RunStats, run_watched};
-pub use words::line_feed_in;
+pub use words::find_line_feed;

@@ -3,10 +3,10 @@ ghost use Rattle.std.specs.{Prelude.{◌≡◌, ◌<◌, ◌∷◌, [], List, le
 ghost use Rattle.model_guests.specs.{Text.{Text, words}, Grammar.{has_name, is_comment, event_of, host_read_of}, Lines.{host_move, event_or_bad, read_or_move, between_guests, move_of, meaning_of_words, meaning}};
 ghost use Rattle.lines.specs.Lines.{texts, name_of, meaning_of, GuestsAre, IsFirst};
 
-use crate::cursor::name_word;
-use crate::forms::{GuestRequest, guest_access_form, guest_form, host_form};
-use crate::numbers::number_of;
-use crate::words::first_words;
+use crate::cursor::split_name_word;
+use crate::forms::{GuestRequest, parse_guest_access, parse_guest_request, parse_host_read};
+use crate::numbers::parse_number;
+use crate::words::split_first_words;
 use accesses::{Access, HostAccess, Names, Place, Refusal};
 use arrayvec::ArrayVec;
 
@@ -48,7 +48,7 @@ pub struct Line<'a> {
 }
 
 /// Returns whether a line with this first word is a comment.
-pub(crate) fn is_comment(word: &[u8]) -> bool
+pub(crate) fn is_comment_word(word: &[u8]) -> bool
     ensures { result ≡ is_comment word.now }
 {
     word.first() == Some(&b'#')
@@ -57,7 +57,7 @@ pub(crate) fn is_comment(word: &[u8]) -> bool
 /// Returns the index of the first guest with this name. The names are few and short, so a linear
 /// search is as fast as a table.
 #[inline]
-fn guest_named(word: &[u8], names: &Names) -> Option<usize>
+fn find_guest_index(word: &[u8], names: &Names) -> Option<usize>
     ensures { result ≡ position (λ n. bytes_eq n.bytes word.now) names.now.items }
 {
     names.iter().position(|name| name.as_bytes() == word)
@@ -65,19 +65,19 @@ fn guest_named(word: &[u8], names: &Names) -> Option<usize>
 
 /// Returns whether a guest has this name.
 #[tactic(auto, using(crate::proofs::NameLemmas::is_there))]
-pub(crate) fn is_guest(word: &[u8], names: &Names) -> bool
+pub(crate) fn is_guest_name(word: &[u8], names: &Names) -> bool
     ensures { result ≡ has_name (texts names.now) word.now }
 {
-    guest_named(word, names).is_some()
+    find_guest_index(word, names).is_some()
 }
 
 /// Parses a guest's line, given the text after the name.
-fn guest_line(guest: usize, text: &[u8]) -> What
+fn parse_guest_line(guest: usize, text: &[u8]) -> What
     ensures meaning { (names : List Text) →
         meaning_of names result ≡ event_or_bad (name_of names guest) (event_of (words text.now)) }
     ensures guest { GuestsAre (λ g. g ≡ guest) result }
 {
-    match guest_form(text) {
+    match parse_guest_request(text) {
         Some(GuestRequest::Access(access)) => What::Guest(guest, access),
         Some(GuestRequest::Raise(slot, place, off, mask)) => What::Raise(
             guest, slot, place, off, mask,
@@ -87,18 +87,24 @@ fn guest_line(guest: usize, text: &[u8]) -> What
 }
 
 /// Looks up the two guests of a move by their names. Returns `None` if either is unknown.
-fn between_guests(from: &[u8], slot: u64, to: &[u8], target: u64, names: &Names) -> Option<What>
+fn resolve_move_guests(
+    from: &[u8],
+    slot: u64,
+    to: &[u8],
+    target: u64,
+    names: &Names,
+) -> Option<What>
     ensures meaning { option_map (meaning_of (texts names.now)) result ≡ option_map host_move
         (between_guests (texts names.now) (record { from = from.now; slot = slot; to = to.now; target = target })) }
     ensures first { IfSome result (GuestsAre (IsFirst (texts names.now))) }
 {
-    let from = guest_named(from, names)?;
-    let to = guest_named(to, names)?;
+    let from = find_guest_index(from, names)?;
+    let to = find_guest_index(to, names)?;
     Some(What::Move(from, slot, to, target))
 }
 
 /// Parses `move A S B T`, which moves the function in slot S of guest A to slot T of guest B.
-fn to_move(
+fn parse_move_words(
     op: &[u8],
     from: &[u8],
     slot: &[u8],
@@ -111,65 +117,65 @@ fn to_move(
     ensures first { IfSome result (GuestsAre (IsFirst (texts names.now))) }
 {
     match op {
-        b"move" => between_guests(from, number_of(slot)?, to, number_of(target)?, names),
+        b"move" => resolve_move_guests(from, parse_number(slot)?, to, parse_number(target)?, names),
         _ => None,
     }
 }
 
 /// Parses the words after `host` as a move.
 #[tactic(auto, using(crate::proofs::Counts::move_of_few, crate::proofs::Counts::move_of_many))]
-fn move_form(words: &[&[u8]], names: &Names) -> Option<What>
+fn parse_move(words: &[&[u8]], names: &Names) -> Option<What>
     ensures meaning { option_map (meaning_of (texts names.now)) result ≡ option_map host_move
         (move_of (texts names.now) (map (λ w. w.now) words.now)) }
     ensures first { IfSome result (GuestsAre (IsFirst (texts names.now))) }
 {
     match words {
-        [op, from, slot, to, target] => to_move(op, from, slot, to, target, names),
+        [op, from, slot, to, target] => parse_move_words(op, from, slot, to, target, names),
         _ => None,
     }
 }
 
 /// Parses a line of the host, given the words after `host`.
-fn of_host_words(words: &[&[u8]], names: &Names) -> What
+fn parse_host_words(words: &[&[u8]], names: &Names) -> What
     ensures meaning { let ws = map (λ w. w.now) words.now in
         meaning_of (texts names.now) result
         ≡ read_or_move (host_read_of ws) (move_of (texts names.now) ws) }
     ensures first { GuestsAre (IsFirst (texts names.now)) result }
 {
-    if let Some(read) = host_form(words) {
+    if let Some(read) = parse_host_read(words) {
         return What::Host(read);
     }
-    match move_form(words, names) {
+    match parse_move(words, names) {
         Some(moved) => moved,
         None => What::Bad(Who::Host, Refusal::BadLine),
     }
 }
 
 /// Parses a line of the host, given the text after `host`.
-fn host_line(text: &[u8], names: &Names) -> What
+fn parse_host_line(text: &[u8], names: &Names) -> What
     ensures meaning { let ws = words text.now in
         meaning_of (texts names.now) result
         ≡ read_or_move (host_read_of ws) (move_of (texts names.now) ws) }
     ensures first { GuestsAre (IsFirst (texts names.now)) result }
 {
-    of_host_words(first_words(text).as_slice(), names)
+    parse_host_words(split_first_words(text).as_slice(), names)
 }
 
 /// Returns the meaning of a line, given its first word and the text after the word.
 #[tactic(auto, using(crate::proofs::NameLemmas::meaning_of_guest, crate::proofs::NameLemmas::meaning_of_unknown))]
-fn named_line(first: &[u8], text: &[u8], names: &Names) -> What
+fn parse_line_by_first_word(first: &[u8], text: &[u8], names: &Names) -> What
     ensures meaning { let ws = first.now ∷ words text.now in
         meaning_of (texts names.now) result ≡ meaning_of_words (texts names.now) ws }
     ensures first { GuestsAre (IsFirst (texts names.now)) result }
 {
-    if is_comment(first) {
+    if is_comment_word(first) {
         return What::Nothing;
     }
     if first == b"host".as_slice() {
-        return host_line(text, names);
+        return parse_host_line(text, names);
     }
-    match guest_named(first, names) {
-        Some(guest) => guest_line(guest, text),
+    match find_guest_index(first, names) {
+        Some(guest) => parse_guest_line(guest, text),
         None => What::Bad(Who::Unknown, Refusal::UnknownGuest),
     }
 }
@@ -178,7 +184,7 @@ fn named_line(first: &[u8], text: &[u8], names: &Names) -> What
 /// splitting the line first.
 #[inline(never)]
 #[tactic(auto, using(std::proofs::lemmas::Bool::Decides::nat_tests))]
-fn any_meaning(line: &[u8], names: &Names) -> What
+fn parse_any_line(line: &[u8], names: &Names) -> What
     ensures meaning { meaning_of (texts names.now) result ≡ meaning (texts names.now) line.now }
     ensures guests { GuestsAre (λ g. g < length names.now.items) result }
     ensures first { GuestsAre (IsFirst (texts names.now)) result }
@@ -186,15 +192,15 @@ fn any_meaning(line: &[u8], names: &Names) -> What
     if line.len() > LONGEST_LINE {
         return What::Bad(Who::Unknown, Refusal::LongLine);
     }
-    match name_word(line) {
-        Some((first, text)) => named_line(first, text, names),
+    match split_name_word(line) {
+        Some((first, text)) => parse_line_by_first_word(first, text, names),
         None => What::Nothing,
     }
 }
 
 /// Returns the guest and its access, if the line is an access by a guest.
 #[inline(always)]
-fn guest_access(line: &[u8], names: &Names) -> Option<(usize, Access)>
+fn parse_if_guest_access(line: &[u8], names: &Names) -> Option<(usize, Access)>
     ensures meaning { IfSome result (λ p.
         meaning_of (texts names.now) (What.Guest p.0 p.1) ≡ meaning (texts names.now) line.now) }
     ensures first { IfSome result (λ p. IsFirst (texts names.now) p.0) }
@@ -202,26 +208,26 @@ fn guest_access(line: &[u8], names: &Names) -> Option<(usize, Access)>
     if line.len() > LONGEST_LINE {
         return None;
     }
-    let (first, text) = name_word(line)?;
-    if is_comment(first) || first == b"host".as_slice() {
+    let (first, text) = split_name_word(line)?;
+    if is_comment_word(first) || first == b"host".as_slice() {
         return None;
     }
-    let guest = guest_named(first, names)?;
-    let access = guest_access_form(text)?;
+    let guest = find_guest_index(first, names)?;
+    let access = parse_guest_access(text)?;
     Some((guest, access))
 }
 
 /// Parses a line, given without its line feed. If several guests have the same name, the first one
 /// is meant. Most lines are accesses by guests, which take a fast path.
 #[inline(always)]
-pub fn line_meaning(line: &[u8], names: &Names) -> What
+pub fn parse_line_meaning(line: &[u8], names: &Names) -> What
     ensures meaning { meaning_of (texts names.now) result ≡ meaning (texts names.now) line.now }
     ensures guests { GuestsAre (λ g. g < length names.now.items) result }
     ensures first { GuestsAre (IsFirst (texts names.now)) result }
 {
-    match guest_access(line, names) {
+    match parse_if_guest_access(line, names) {
         Some((guest, access)) => What::Guest(guest, access),
-        None => any_meaning(line, names),
+        None => parse_any_line(line, names),
     }
 }
 
@@ -235,7 +241,7 @@ pub fn parse_line<'a>(line: &'a [u8], names: &Names) -> Line<'a>
     ensures first { GuestsAre (IsFirst (texts names.now)) result.what }
 {
     Line {
-        words: first_words(line),
-        what: line_meaning(line, names),
+        words: split_first_words(line),
+        what: parse_line_meaning(line, names),
     }
 }

@@ -26,7 +26,7 @@ static DIGITS: [u8; 256] = [
 
 /// Returns the value of a digit, if it is a digit in this base.
 #[inline]
-pub(crate) fn digit_in(base: u8, byte: u8) -> Option<u8>
+pub(crate) fn digit_value(base: u8, byte: u8) -> Option<u8>
     ensures { result ≡ below base (digit_of byte) }
 {
     let digit = DIGITS[byte as usize];
@@ -35,11 +35,11 @@ pub(crate) fn digit_in(base: u8, byte: u8) -> Option<u8>
 
 /// Appends a digit to a number, if the result stays below 2^64.
 #[inline]
-pub(crate) fn with_digit(base: u8, number: u64, byte: u8) -> Option<u64>
+pub(crate) fn append_digit(base: u8, number: u64, byte: u8) -> Option<u64>
     ensures { result
         ≡ below (2 ^ 64) (option_map (λ d. number * base + d) (below base (digit_of byte))) }
 {
-    let digit = digit_in(base, byte)?;
+    let digit = digit_value(base, byte)?;
     // In base 16 one comparison is enough, since adding the digit can't carry.
     if base == 16 {
         return if number < 1 << 60 {
@@ -55,7 +55,7 @@ pub(crate) fn with_digit(base: u8, number: u64, byte: u8) -> Option<u64>
 
 /// Parses one or more digits as a number below 2^64. Inlined, so that each base gets its own code.
 #[inline(always)]
-fn digits_in(base: u8, digits: &[u8]) -> Option<u64>
+fn parse_digits(base: u8, digits: &[u8]) -> Option<u64>
     requires { 1 ≤ base }
     ensures { result ≡ below (2 ^ 64) (digits_in base digits.now) }
 {
@@ -64,17 +64,17 @@ fn digits_in(base: u8, digits: &[u8]) -> Option<u64>
     }
     let mut number = 0;
     for byte in digits {
-        number = with_digit(base, number, *byte)?;
+        number = append_digit(base, number, *byte)?;
     }
     Some(number)
 }
 
 /// Parses a word as a number below 2^64: decimal digits, or `0x` or `0X` and hexadecimal digits.
-pub(crate) fn number_of(word: &[u8]) -> Option<u64>
+pub(crate) fn parse_number(word: &[u8]) -> Option<u64>
     ensures { result ≡ number_of word.now }
 {
     match word {
-        [b'0', b'x' | b'X', digits @ ..] => digits_in(16, digits),
-        _ => digits_in(10, word),
+        [b'0', b'x' | b'X', digits @ ..] => parse_digits(16, digits),
+        _ => parse_digits(10, word),
     }
 }

@@ -32,7 +32,11 @@ impl Model for Pending {
 }
 
 /// Reads some bytes into `buffer` from the index `start` on, and returns their number.
-fn read_from<R: Reader>(reader: &mut R, buffer: &mut [u8], start: usize) -> Result<usize, Failed>
+fn read_at_offset<R: Reader>(
+    reader: &mut R,
+    buffer: &mut [u8],
+    start: usize,
+) -> Result<usize, Failed>
     requires start { start < length buffer.old }
     requires room { R.failures reader.old < 2 ^ 64 - 1 }
     ensures bound { IfOk result (λ n. start + n ≤ length buffer.new) }
@@ -77,7 +81,7 @@ impl Pending {
 
     /// Reads more bytes behind the pending ones. Returns whether any were read, which is false only
     /// at the end of the script.
-    pub(crate) fn fill<R: Reader>(&mut self, reader: &mut R) -> Result<bool, Failed>
+    pub(crate) fn read_more<R: Reader>(&mut self, reader: &mut R) -> Result<bool, Failed>
         requires few { length self.old.text ≤ 200 }
         requires room { R.failures reader.old < 2 ^ 64 - 1 }
         ensures bytes { IfOk result (λ _.
@@ -90,13 +94,13 @@ impl Pending {
         ensures falls { IfOk result (λ more.
             IsTrue more → R.reads_left reader.new < R.reads_left reader.old) }
     {
-        let n = read_from(reader, &mut self.bytes, self.length)?;
+        let n = read_at_offset(reader, &mut self.bytes, self.length)?;
         self.length += n;
         Ok(n > 0)
     }
 
     /// Skips all pending bytes.
-    fn pass_over(&mut self)
+    fn skip_all(&mut self)
         ensures { self.new ≡ record { text = []; long = true } }
     {
         self.length = 0;
@@ -115,7 +119,7 @@ impl Pending {
 
     /// Keeps only the last `count` bytes, which belong to one line, or skips them if the line is
     /// too long.
-    pub(crate) fn keep(&mut self, count: usize, long: bool)
+    pub(crate) fn keep_last_or_skip(&mut self, count: usize, long: bool)
         requires { count ≤ length self.old.text }
         ensures text { (before : Text) → IsBefore long before →
             (passed : Text) × IsBefore self.new.long passed
@@ -124,9 +128,9 @@ impl Pending {
         ensures few { length self.new.text ≤ 200 }
     {
         if long {
-            self.pass_over();
+            self.skip_all();
         } else if count > LONGEST_LINE {
-            self.pass_over();
+            self.skip_all();
         } else {
             self.keep_last(count);
         }

@@ -7,17 +7,17 @@ ghost use Rattle.lines.specs.{Faults.stop_failures_of, Pieces.{IsBefore, rest_of
 use crate::answers::Answers;
 use crate::pending::Pending;
 use crate::replies::LineText;
-use crate::words::line_feed_in;
+use crate::words::find_line_feed;
 use streams::{Failed, Writer, write_all};
 
 /// Returns the first line that ends with a line feed, without the line feed, and the text after it.
 /// Inlined into the loop over lines.
 #[inline(always)]
-fn whole_line(text: &[u8]) -> Option<(&[u8], &[u8])>
+fn split_complete_line(text: &[u8]) -> Option<(&[u8], &[u8])>
     ensures line { MatchOption result (HasNoEnd text.now) (λ p.
         HasNoEnd p.0.now × (text.now ≡ p.0.now ++ 10 ∷ p.1.now)) }
 {
-    let end = line_feed_in(text)?;
+    let end = find_line_feed(text)?;
     Some((&text[..end], &text[end + 1..]))
 }
 
@@ -60,7 +60,7 @@ fn write_answer<W: Writer>(writer: &mut W, text: &[u8], more: &Option<String>) -
 
 /// Executes a line, writes its output, and returns whether there was any.
 #[inline(always)]
-fn answer_line<L, S: Answers<L>, W: Writer>(
+fn run_line_if_output<L, S: Answers<L>, W: Writer>(
     server: &mut S,
     line: &[u8],
     long: bool,
@@ -113,7 +113,7 @@ fn flush_if<W: Writer>(writer: &mut W, wrote: bool) -> Result<(), Failed>
 
 /// Flushes earlier output after memory was exhausted. Returns the reason for stopping: `Memory`, or
 /// `Failed` if the flush failed.
-fn flushed<W: Writer>(writer: &mut W, wrote: bool) -> Stop
+fn stop_after_flush<W: Writer>(writer: &mut W, wrote: bool) -> Stop
     requires { W.failures writer.old < 2 ^ 64 - 1 }
     ensures bytes { Keeps (W.written writer.old) (W.written writer.new) }
     ensures wrote { result ≡ Stop.Failed → IsTrue wrote }
@@ -132,7 +132,7 @@ fn flushed<W: Writer>(writer: &mut W, wrote: bool) -> Stop
 /// Executes the lines of a piece that end with a line feed, and writes the output of each line
 /// before looking at the next one. If `long` is set, the first line is a long line whose earlier
 /// bytes were skipped. If memory is exhausted, flushes the output of the earlier lines.
-fn run_lines<L, S: Answers<L>, W: Writer>(
+fn run_complete_lines<L, S: Answers<L>, W: Writer>(
     server: &mut S,
     text: &[u8],
     long: bool,
@@ -163,11 +163,11 @@ fn run_lines<L, S: Answers<L>, W: Writer>(
     let mut rest = text;
     let mut long = long;
     let mut wrote = false;
-    while let Some((line, after)) = whole_line(rest) {
-        let answered = match answer_line(server, line, long, writer) {
+    while let Some((line, after)) = split_complete_line(rest) {
+        let answered = match run_line_if_output(server, line, long, writer) {
             Ok(answered) => answered,
             Err(Stop::Failed) => return Err(Stop::Failed),
-            Err(Stop::Memory) => return Err(flushed(writer, wrote)),
+            Err(Stop::Memory) => return Err(stop_after_flush(writer, wrote)),
         };
         wrote = wrote || answered;
         long = false;
@@ -182,7 +182,7 @@ fn run_lines<L, S: Answers<L>, W: Writer>(
 
 /// Executes the pending lines that end with a line feed, and keeps the rest. Flushes the output, so
 /// that it can be read before more of the script is requested.
-pub(crate) fn run_piece<L, S: Answers<L>, W: Writer>(
+pub(crate) fn run_pending_lines<L, S: Answers<L>, W: Writer>(
     server: &mut S,
     pending: &mut Pending,
     writer: &mut W,
@@ -209,16 +209,16 @@ pub(crate) fn run_piece<L, S: Answers<L>, W: Writer>(
         (W.flushed writer.new ≡ W.written writer.new) ⊎ (writer.new ≡ writer.old) }
     ensures failures { W.failures writer.new ≡ W.failures writer.old + stop_failures_of result }
 {
-    let left = run_lines(server, pending.text(), pending.is_long(), writer)?;
+    let left = run_complete_lines(server, pending.text(), pending.is_long(), writer)?;
     if flush_if(writer, left.wrote).is_err() {
         return Err(Stop::Failed);
     }
-    pending.keep(left.length, left.long);
+    pending.keep_last_or_skip(left.length, left.long);
     Ok(())
 }
 
 /// Returns whether a last line without a line feed is left at the end of a script.
-fn is_line_left(text: &[u8], long: bool) -> bool
+fn has_unfinished_line(text: &[u8], long: bool) -> bool
     ensures some { IsTrue result → (before : Text) → IsBefore long before →
         0 < length (before ++ text.now) }
     ensures none { IsFalse result → (before : Text) → IsBefore long before →
@@ -256,10 +256,10 @@ fn answer_last<L, S: Answers<L>, W: Writer>(
     ensures memory { IsErrOf result Stop.Memory → S.TakesMemory }
     ensures failures { W.failures writer.new ≡ W.failures writer.old + stop_failures_of result }
 {
-    if !is_line_left(text, long) {
+    if !has_unfinished_line(text, long) {
         return Ok(());
     }
-    answer_line(server, text, long, writer)?;
+    run_line_if_output(server, text, long, writer)?;
     Ok(())
 }
 

@@ -2,13 +2,13 @@
 ghost use Rattle.std.specs.Prelude.{◌≡◌};
 ghost use Rattle.lines.specs.Refusals.{is_marked};
 
-use crate::cursor::name_word;
-use crate::firmware_line::value;
-use crate::forms::{bus_address, mask, place};
-use crate::line::{LONGEST_LINE, is_comment, is_guest};
-use crate::numbers::number_of;
+use crate::cursor::split_name_word;
+use crate::firmware_line::parse_u32;
+use crate::forms::{parse_bdf, parse_mask, parse_place};
+use crate::line::{LONGEST_LINE, is_comment_word, is_guest_name};
+use crate::numbers::parse_number;
 use crate::requests::Report;
-use crate::words::first_words;
+use crate::words::split_first_words;
 use accesses::Names;
 use arrayvec::ArrayString;
 use std::fmt::{self, Write};
@@ -83,7 +83,7 @@ impl<'a> fmt::Display for Form<'a> {
         write!(f, "{}", Word(self.0))?;
         for role in self.1 {
             write!(f, " ")?;
-            for byte in words_of(*role).0.as_bytes() {
+            for byte in describe_word_kind(*role).0.as_bytes() {
                 write!(f, "{}", char::from(*byte).to_ascii_uppercase())?;
             }
         }
@@ -92,7 +92,7 @@ impl<'a> fmt::Display for Form<'a> {
 }
 
 /// Returns what a word of this kind is called, and what it must be.
-fn words_of(role: ArgKind) -> (&'static str, &'static str) {
+fn describe_word_kind(role: ArgKind) -> (&'static str, &'static str) {
     let number = "a decimal or 0x-prefixed number below 2^64";
     let short = "a decimal or 0x-prefixed number below 2^32";
     match role {
@@ -113,7 +113,7 @@ fn words_of(role: ArgKind) -> (&'static str, &'static str) {
 }
 
 /// Returns the commands of a speaker.
-fn commands(speaker: Dialect) -> &'static str {
+fn command_names(speaker: Dialect) -> &'static str {
     match speaker {
         Dialect::Guest => "cr, cw, ir, iw, mr, mw or raise",
         Dialect::Host => "cr, ir, mr or move",
@@ -122,7 +122,7 @@ fn commands(speaker: Dialect) -> &'static str {
 }
 
 /// Returns the kinds of the words after `verb`, or `None` if the speaker has no such verb.
-fn roles_after(speaker: Dialect, verb: &[u8]) -> Option<&'static [ArgKind]> {
+fn arg_kinds_of_command(speaker: Dialect, verb: &[u8]) -> Option<&'static [ArgKind]> {
     use ArgKind::{Address, Function, Mask, Offset, Part, Place, Port, Slot, Space, Value, Width};
     use Dialect::{Firmware, Guest, Host};
     match (speaker, verb) {
@@ -138,13 +138,13 @@ fn roles_after(speaker: Dialect, verb: &[u8]) -> Option<&'static [ArgKind]> {
         (Host, b"move") => Some(&[ArgKind::Guest, Slot, ArgKind::Guest, Slot]),
         (Firmware, b"why") => Some(&[Space, Place]),
         (Firmware, b"guests") => Some(&[]),
-        (Firmware, _) if Report::named(verb).is_some() => Some(&[]),
+        (Firmware, _) if Report::from_word(verb).is_some() => Some(&[]),
         _ => None,
     }
 }
 
 /// Returns the kind of a word, given the word before it, which determines the kind of a place.
-fn role_after(role: ArgKind, before: &[u8]) -> ArgKind {
+fn arg_kind_in_context(role: ArgKind, before: &[u8]) -> ArgKind {
     match (role, before) {
         (ArgKind::Place, b"io") => ArgKind::AskedPort,
         (ArgKind::Place, b"cfg") => ArgKind::Function,
@@ -154,46 +154,46 @@ fn role_after(role: ArgKind, before: &[u8]) -> ArgKind {
 }
 
 /// Returns whether a word is of the given kind.
-fn fits(role: ArgKind, names: &Names, word: &[u8]) -> bool {
+fn is_word_of_kind(role: ArgKind, names: &Names, word: &[u8]) -> bool {
     match role {
-        ArgKind::Function => bus_address(word).is_some(),
+        ArgKind::Function => parse_bdf(word).is_some(),
         ArgKind::Slot | ArgKind::Offset | ArgKind::Width | ArgKind::Port => {
-            number_of(word).is_some()
+            parse_number(word).is_some()
         }
-        ArgKind::Address | ArgKind::Place => number_of(word).is_some(),
-        ArgKind::Value | ArgKind::AskedPort => value(word).is_some(),
-        ArgKind::Mask => mask(word).is_some(),
-        ArgKind::Part => place(word).is_some(),
+        ArgKind::Address | ArgKind::Place => parse_number(word).is_some(),
+        ArgKind::Value | ArgKind::AskedPort => parse_u32(word).is_some(),
+        ArgKind::Mask => parse_mask(word).is_some(),
+        ArgKind::Part => parse_place(word).is_some(),
         ArgKind::Space => matches!(word, b"mem" | b"io" | b"cfg"),
-        ArgKind::Guest => is_guest(word, names),
+        ArgKind::Guest => is_guest_name(word, names),
     }
 }
 
 /// Appends the first error in the words after a name, and returns the position of the wrong word.
-fn push_wrong(
+fn push_first_error(
     text: &mut ArrayString<128>,
     speaker: Dialect,
     names: &Names,
     words: &[&[u8]],
 ) -> Result<usize, fmt::Error> {
-    let verbs = commands(speaker);
+    let verbs = command_names(speaker);
     let [verb, words @ ..] = words else {
         write!(text, "missing command (expected {verbs})")?;
         return Ok(1);
     };
-    let Some(roles) = roles_after(speaker, verb) else {
+    let Some(roles) = arg_kinds_of_command(speaker, verb) else {
         write!(text, "unknown command '{}' (expected {verbs})", Word(verb))?;
         return Ok(1);
     };
     let mut before = *verb;
     for (i, role) in roles.iter().enumerate() {
-        let role = role_after(*role, before);
-        let (name, wanted) = words_of(role);
+        let role = arg_kind_in_context(*role, before);
+        let (name, wanted) = describe_word_kind(role);
         let Some(word) = words.get(i) else {
             write!(text, "missing {name} (expected '{}')", Form(verb, roles))?;
             return Ok(i + 2);
         };
-        if !fits(role, names, word) {
+        if !is_word_of_kind(role, names, word) {
             write!(text, "invalid {name} '{}' (expected {wanted})", Word(word))?;
             return Ok(i + 2);
         }
@@ -207,7 +207,7 @@ fn push_wrong(
 }
 
 /// Returns whether a line begins with the UTF-8 byte order mark.
-pub(crate) fn is_marked(line: &[u8]) -> bool
+pub(crate) fn starts_with_bom(line: &[u8]) -> bool
     ensures { result ≡ is_marked line.now }
 {
     match line {
@@ -217,7 +217,7 @@ pub(crate) fn is_marked(line: &[u8]) -> bool
 }
 
 /// Appends the error in a line, and returns the position of the wrong word.
-fn push_reason(
+fn push_line_error(
     text: &mut ArrayString<128>,
     guests: Option<&Names>,
     line: &[u8],
@@ -230,21 +230,26 @@ fn push_reason(
         )?;
         return Ok(0);
     }
-    let Some((name, rest)) = name_word(line) else {
+    let Some((name, rest)) = split_name_word(line) else {
         return Ok(0);
     };
-    if is_marked(line) {
+    if starts_with_bom(line) {
         write!(text, "the line begins with a byte order mark")?;
         return Ok(0);
     }
-    let words = first_words(rest);
+    let words = split_first_words(rest);
     let words = words.as_slice();
     let is_host = name == b"host".as_slice();
     match guests {
-        _ if is_comment(name) => Ok(0),
-        None if is_host => push_wrong(text, Dialect::Firmware, &Names::new(), words),
-        Some(names) if is_host => push_wrong(text, Dialect::Host, names, words),
-        Some(names) if is_guest(name, names) => push_wrong(text, Dialect::Guest, names, words),
+        _ if is_comment_word(name) => Ok(0),
+        None if is_host => push_first_error(text, Dialect::Firmware, &Names::new(), words),
+        Some(names) if is_host => push_first_error(text, Dialect::Host, names, words),
+        Some(names) if is_guest_name(name, names) => push_first_error(
+            text,
+            Dialect::Guest,
+            names,
+            words,
+        ),
         _ => {
             let names = match guests {
                 None => "host",
@@ -259,8 +264,8 @@ fn push_reason(
 /// Returns why a line is malformed, too long, or not from a guest. The valid forms are those of
 /// guests with these names and of their host, or those of firmware if `guests` is `None`. No form
 /// has more than five words after the name, so the first seven are enough.
-pub fn reason_of(guests: Option<&Names>, line: &[u8]) -> Reason {
+pub fn find_line_error(guests: Option<&Names>, line: &[u8]) -> Reason {
     let mut text = ArrayString::new();
-    let at = push_reason(&mut text, guests, line).unwrap_or(0);
+    let at = push_line_error(&mut text, guests, line).unwrap_or(0);
     Reason { at, text }
 }

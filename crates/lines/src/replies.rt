@@ -58,7 +58,7 @@ fn push_name(text: &mut LineText, name: &[u8])
 
 /// Appends the two hexadecimal digits of a byte.
 #[inline]
-fn push_byte(text: &mut LineText, byte: u8)
+fn push_hex_byte(text: &mut LineText, byte: u8)
     requires { length text.old.items + 2 ≤ 48 }
     ensures items { text.new.items ≡ text.old.items ++ hex_digits 2 byte }
     ensures len { length text.new.items ≡ length text.old.items + 2 }
@@ -77,21 +77,21 @@ fn push_hex(text: &mut LineText, value: u32, width: u64)
     ensures len { length text.new.items ≡ length text.old.items + 2 * width }
 {
     if width > 3 {
-        push_byte(text, (value >> 24) as u8);
+        push_hex_byte(text, (value >> 24) as u8);
     }
     if width > 2 {
-        push_byte(text, ((value >> 16) % 256) as u8);
+        push_hex_byte(text, ((value >> 16) % 256) as u8);
     }
     if width > 1 {
-        push_byte(text, ((value >> 8) % 256) as u8);
+        push_hex_byte(text, ((value >> 8) % 256) as u8);
     }
     if width > 0 {
-        push_byte(text, (value % 256) as u8);
+        push_hex_byte(text, (value % 256) as u8);
     }
 }
 
 /// Returns the name under which a line is answered.
-fn name_of<'a>(who: Who, names: &'a Names) -> &'a [u8]
+fn answer_name<'a>(who: Who, names: &'a Names) -> &'a [u8]
     requires { GuestIs (λ g. g < length names.now.items) who }
     ensures name { result.now ≡ who_text (who_of (texts names.now) who) }
     ensures short { length result.now ≤ 16 }
@@ -106,7 +106,7 @@ fn name_of<'a>(who: Who, names: &'a Names) -> &'a [u8]
 /// Writes a reply to `text` as an output line that begins with `name`, with its line feed. `text`
 /// must be empty.
 #[inline(always)]
-pub fn push_named(text: &mut LineText, name: &[u8], reply: Reply)
+pub fn push_reply_of_name(text: &mut LineText, name: &[u8], reply: Reply)
     requires empty { text.old.items ≡ [] }
     requires short { length name.now ≤ 16 }
     requires reply { IsShown reply }
@@ -130,24 +130,24 @@ pub fn push_named(text: &mut LineText, name: &[u8], reply: Reply)
 
 /// Writes a reply to `text` as an output line with its line feed. `text` must be empty.
 #[inline(always)]
-pub fn push_line(text: &mut LineText, who: Who, names: &Names, reply: Reply)
+pub fn push_reply(text: &mut LineText, who: Who, names: &Names, reply: Reply)
     requires empty { text.old.items ≡ [] }
     requires who { GuestIs (λ g. g < length names.now.items) who }
     requires reply { IsShown reply }
     ensures { text.new.items
         ≡ line_text (who_of (texts names.now) who) (reply_of reply) ++ 10 ∷ [] }
 {
-    push_named(text, name_of(who, names), reply);
+    push_reply_of_name(text, answer_name(who, names), reply);
 }
 
 /// Returns a reply as an output line, with its line feed.
-pub fn line_text(who: Who, names: &Names, reply: Reply) -> LineText
+pub fn reply_line_text(who: Who, names: &Names, reply: Reply) -> LineText
     requires who { GuestIs (λ g. g < length names.now.items) who }
     requires reply { IsShown reply }
     ensures { result.items
         ≡ line_text (who_of (texts names.now) who) (reply_of reply) ++ 10 ∷ [] }
 {
     let mut text = LineText::new();
-    push_line(&mut text, who, names, reply);
+    push_reply(&mut text, who, names, reply);
     text
 }

@@ -4,9 +4,9 @@ ghost use Rattle.model_lines.specs.{Reports.report_named, Requests.{why_place, r
 ghost use Rattle.accesses.specs.Accesses.{host_target_of};
 ghost use Rattle.lines.specs.Requests.{report_of, request_of};
 
-use crate::firmware_line::value;
-use crate::forms::bus_address;
-use crate::numbers::number_of;
+use crate::firmware_line::parse_u32;
+use crate::forms::parse_bdf;
+use crate::numbers::parse_number;
 use accesses::HostAt;
 
 /// A report about the current registers of a board.
@@ -20,7 +20,7 @@ pub enum Report {
 
 impl Report {
     /// Returns the report that a word asks for, in a line or as a command of the program.
-    pub fn named(word: &[u8]) -> Option<Report>
+    pub fn from_word(word: &[u8]) -> Option<Report>
         ensures { option_map report_of result ≡ report_named word.now }
     {
         if word == b"audit".as_slice() {
@@ -45,55 +45,55 @@ pub enum HostRequest {
 }
 
 /// Parses the arguments of `why`: a space, and an address, a port or a BDF in it.
-pub(crate) fn why_place(space: &[u8], at: &[u8]) -> Option<HostAt>
+pub(crate) fn parse_why_arguments(space: &[u8], at: &[u8]) -> Option<HostAt>
     ensures { option_map host_target_of result ≡ why_place space.now at.now }
 {
     if space == b"mem".as_slice() {
-        let addr = number_of(at)?;
+        let addr = parse_number(at)?;
         return Some(HostAt::Mem { addr });
     }
     if space == b"io".as_slice() {
-        let port = u64::from(value(at)?);
+        let port = u64::from(parse_u32(at)?);
         return Some(HostAt::Io { port });
     }
     if space == b"cfg".as_slice() {
-        let bdf = bus_address(at)?;
+        let bdf = parse_bdf(at)?;
         return Some(HostAt::Config { bdf, off: 0 });
     }
     None
 }
 
 /// Parses a request of one word.
-pub(crate) fn request_of_word(word: &[u8]) -> Option<HostRequest>
+pub(crate) fn parse_one_word_request(word: &[u8]) -> Option<HostRequest>
     ensures { option_map request_of result ≡ request_of_word word.now }
 {
     if word == b"guests".as_slice() {
         return Some(HostRequest::Guests);
     }
-    let report = Report::named(word)?;
+    let report = Report::from_word(word)?;
     Some(HostRequest::Report(report))
 }
 
 /// Parses `why` and its two arguments.
-fn why_form(word: &[u8], space: &[u8], at: &[u8]) -> Option<HostRequest>
+fn parse_why(word: &[u8], space: &[u8], at: &[u8]) -> Option<HostRequest>
     ensures { option_map request_of result
         ≡ request_of_words (word.now ∷ space.now ∷ at.now ∷ []) }
 {
     if word != b"why".as_slice() {
         return None;
     }
-    let asked = why_place(space, at)?;
+    let asked = parse_why_arguments(space, at)?;
     Some(HostRequest::Why(asked))
 }
 
 /// Parses the words after `host` as a request.
 #[tactic(auto, using(crate::proofs::RequestCounts::no_request_of_few, crate::proofs::RequestCounts::no_request_of_many))]
-pub(crate) fn request_form(words: &[&[u8]]) -> Option<HostRequest>
+pub(crate) fn parse_host_request(words: &[&[u8]]) -> Option<HostRequest>
     ensures { option_map request_of result ≡ request_of_words (map (λ w. w.now) words.now) }
 {
     match words {
-        [word] => request_of_word(word),
-        [word, space, at] => why_form(word, space, at),
+        [word] => parse_one_word_request(word),
+        [word, space, at] => parse_why(word, space, at),
         _ => None,
     }
 }

@@ -5,7 +5,7 @@ ghost use Rattle.lines.specs.{Faults.{read_failures_of, write_failures_of, numbe
 
 use crate::answers::Answers;
 use crate::pending::Pending;
-use crate::pieces::{Stop, run_last, run_piece};
+use crate::pieces::{Stop, run_last, run_pending_lines};
 use streams::{Reader, Writer};
 use thiserror::Error;
 
@@ -49,7 +49,7 @@ impl From<Stop> for RunFault {
 
 /// Executes the lines of a script that end with a line feed, as they are read. The text after the
 /// last line feed stays in `pending`.
-fn run_pieces<L, S: Answers<L>, R: Reader, W: Writer>(
+fn run_until_input_ends<L, S: Answers<L>, R: Reader, W: Writer>(
     server: &mut S,
     pending: &mut Pending,
     reader: &mut R,
@@ -76,13 +76,13 @@ fn run_pieces<L, S: Answers<L>, R: Reader, W: Writer>(
         (W.flushed writer.new ≡ W.written writer.new) ⊎ (writer.new ≡ writer.old) }
 {
     loop {
-        let Ok(more) = pending.fill(reader) else {
+        let Ok(more) = pending.read_more(reader) else {
             return Err(RunFault::Read);
         };
         if !more {
             return Ok(());
         }
-        run_piece(server, pending, writer)?;
+        run_pending_lines(server, pending, writer)?;
     }
 }
 
@@ -113,7 +113,7 @@ pub fn run<L, S: Answers<L>, R: Reader, W: Writer>(
     ensures memory { IsErrOf result RunFault.Memory → S.TakesMemory }
 {
     let mut pending = Pending::new();
-    run_pieces(server, &mut pending, reader, writer)?;
+    run_until_input_ends(server, &mut pending, reader, writer)?;
     run_last(server, &pending, writer)?;
     Ok(())
 }

@@ -5,7 +5,7 @@ ghost use Rattle.lines.specs.{Faults.{read_failures_of, write_failures_of}, Piec
 
 use crate::answers::{Answer, Answers};
 use crate::line::LONGEST_LINE;
-use crate::reasons::{is_marked, reason_of};
+use crate::reasons::{find_line_error, starts_with_bom};
 use crate::replies::LineText;
 use crate::runs::{RunFault, run};
 use accesses::Names;
@@ -54,7 +54,7 @@ pub struct RunStats {
 
 impl RunStats {
     /// Returns the statistics of a run that has read no lines yet.
-    pub fn none() -> RunStats
+    pub fn new() -> RunStats
         ensures { result ≡ none_seen }
     {
         RunStats {
@@ -66,7 +66,7 @@ impl RunStats {
     }
 
     /// Records a bad line. `guests` are the names of the guests, or `None` for a firmware line.
-    fn push_bad(&mut self, guests: Option<&Names>, line: &[u8])
+    fn record_bad_line(&mut self, guests: Option<&Names>, line: &[u8])
         ensures { self.new ≡ with_bad self.old }
     {
         self.bad = self.bad.wrapping_add(1);
@@ -75,20 +75,20 @@ impl RunStats {
         }
         self.first.push(BadLine {
             line: self.lines,
-            reason: reason_of(guests, line).text,
+            reason: find_line_error(guests, line).text,
         });
     }
 
     /// Records that the current line was refused with `number`. If `long` is set, earlier bytes of
     /// the line were skipped.
     #[inline(never)]
-    fn push_refused(&mut self, guests: Option<&Names>, long: bool, line: &[u8], number: u16)
+    fn record_refusal(&mut self, guests: Option<&Names>, long: bool, line: &[u8], number: u16)
         ensures { (before : Text) → IsBefore long before →
             self.new ≡ with_refused (before ++ line.now) number self.old }
     {
         self.refused = true;
-        if !long && line.len() <= LONGEST_LINE && (number == 401 || is_marked(line)) {
-            self.push_bad(guests, line);
+        if !long && line.len() <= LONGEST_LINE && (number == 401 || starts_with_bom(line)) {
+            self.record_bad_line(guests, line);
         }
     }
 
@@ -96,13 +96,13 @@ impl RunStats {
     /// bytes of the line were skipped. Inlined into the loop over lines, since few lines are
     /// refused.
     #[inline(always)]
-    fn push(&mut self, guests: Option<&Names>, long: bool, line: &[u8], refused: Option<u16>)
+    fn record_line(&mut self, guests: Option<&Names>, long: bool, line: &[u8], refused: Option<u16>)
         ensures { (before : Text) → IsBefore long before →
             self.new ≡ with_line (before ++ line.now) refused self.old }
     {
         self.lines = self.lines.wrapping_add(1);
         if let Some(number) = refused {
-            self.push_refused(guests, long, line, number);
+            self.record_refusal(guests, long, line, number);
         }
     }
 }
@@ -130,7 +130,7 @@ impl<L, S: Answers<L>> Answers<L> for Counted<S> {
     ) -> Result<Answer, AllocError> {
         let answer = self.server.answer(line, long, text)?;
         self.seen
-            .push(self.server.guests(), long, line, answer.refused);
+            .record_line(self.server.guests(), long, line, answer.refused);
         Ok(answer)
     }
 
@@ -160,7 +160,7 @@ pub fn run_watched<L, S: Answers<L> + Drop, R: Reader, W: Writer>(
 {
     let mut watched = Counted {
         server,
-        seen: RunStats::none(),
+        seen: RunStats::new(),
     };
     run::<L, Counted<S>, R, W>(&mut watched, reader, writer)?;
     let Counted { server, seen } = watched;

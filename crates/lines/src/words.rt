@@ -7,7 +7,7 @@ use memchr::memchr;
 
 /// Returns the index of the first line feed. Uses a vectorised search, since most lines of a script
 /// have some twenty bytes.
-pub fn line_feed_in(script: &[u8]) -> Option<usize>
+pub fn find_line_feed(script: &[u8]) -> Option<usize>
     ensures { result ≡ position (λ b. b == 10) script.now }
 {
     memchr(b'\n', script)
@@ -45,7 +45,7 @@ pub(crate) fn is_blank(byte: u8) -> bool
 
 /// Returns the index of the first blank.
 #[inline]
-fn blank_in(text: &[u8]) -> Option<usize>
+fn find_blank(text: &[u8]) -> Option<usize>
     ensures { result ≡ position is_blank text.now }
 {
     text.iter().position(|byte| is_blank(*byte))
@@ -54,7 +54,7 @@ fn blank_in(text: &[u8]) -> Option<usize>
 /// Returns the bytes before the first blank and the bytes after it. The first part is empty if the
 /// text begins with a blank.
 #[inline]
-pub(crate) fn next_piece(text: &[u8]) -> Option<(&[u8], &[u8])>
+pub(crate) fn split_at_blank(text: &[u8]) -> Option<(&[u8], &[u8])>
     ensures piece { MatchOption result (pieces is_blank text.now ≡ [])
         (λ p. pieces is_blank text.now ≡ p.0.now ∷ pieces is_blank p.1.now) }
     ensures shorter { IfSome result (λ p. length p.1.now < length text.now) }
@@ -62,7 +62,7 @@ pub(crate) fn next_piece(text: &[u8]) -> Option<(&[u8], &[u8])>
     if text.is_empty() {
         return None;
     }
-    match blank_in(text) {
+    match find_blank(text) {
         Some(end) => Some((&text[..end], &text[end + 1..])),
         None => Some((text, &[])),
     }
@@ -70,12 +70,12 @@ pub(crate) fn next_piece(text: &[u8]) -> Option<(&[u8], &[u8])>
 
 /// Returns the first words of a line, at most seven. A loop is faster here than a chain of
 /// iterators.
-pub(crate) fn first_words(line: &[u8]) -> ArrayVec<&[u8], 7>
+pub(crate) fn split_first_words(line: &[u8]) -> ArrayVec<&[u8], 7>
     ensures { map (λ w. w.now) result.items ≡ take 7 (words line.now) }
 {
     let mut first = ArrayVec::new();
     let mut rest = line;
-    while let Some((piece, after)) = next_piece(rest) {
+    while let Some((piece, after)) = split_at_blank(rest) {
         if !piece.is_empty() {
             if first.is_full() {
                 return first;

@@ -8,19 +8,19 @@ ghost use Rattle.model_board.specs.{Numbering.Numbering, Places.LawfulPlacesAreB
 
 /// Proves that functions declared in any order are at lawful places if and only if their rows,
 /// sorted in path order, form a board.
-pub fn lawful_places()
+pub fn lawful_places_form_a_board()
     ensures { LawfulPlacesAreBoards }
 {}
 
 /// Proves that the bus numbers behind a bridge are those of the bridges below it.
-pub fn numbering()
+pub fn bus_range_covers_bridges_below()
     ensures { Numbering }
 {}
 
 /// Proves that the routing registers alone decide where an address goes: the paths that it is
 /// forwarded to, all its claims, and the first claim. Two states whose routing registers hold the
 /// same bytes route addresses alike, so changing any other register leaves routing unchanged.
-pub fn routing_decides()
+pub fn routing_registers_decide_claims()
     ensures forwarded { ForwardedByRouting }
     ensures claims { ClaimsByRouting }
     ensures first { FirstByRouting }
@@ -33,7 +33,7 @@ pub fn routing_decides()
 /// and that an offset in a region selects the same byte lanes as the address that it was decoded
 /// from. While CONFIG_ADDRESS doesn't enable CONFIG_DATA, every port except CONFIG_ADDRESS itself
 /// is an ordinary port.
-pub fn port_accesses()
+pub fn port_access_selects_byte_lanes()
     ensures config_read { ConfigReadByLanes }
     ensures config_write { ConfigWriteByLanes }
     ensures claims { ClaimsKeepLanes }

@@ -45,8 +45,8 @@ module _ (rows : List RoutingRow) (orderly : Each (IsForwarded rows) (open_regio
 offset_is : (first k : ℕ) → first + k - first ≡ k
 offset_is first k = omega arith
 
-pub orderly_claims : OrderlyClaims
-orderly_claims fs state orderly = record {
+pub consistent_claims_are_unique : OrderlyClaims
+consistent_claims_are_unique fs state orderly = record {
   only = only;
   first = first;
   each_byte = each_from (λ q. (k : ℕ) → k < q.size → IsClaimed fs q k) (open_regions (routing fs)) byte;

@@ -4,7 +4,7 @@ use Rattle.lists.{specs.Elements.{IsIn, Each, first_some}, proofs.{Members.{each
 use Rattle.model_registers.specs.{Apertures.Apertures, Decoding.opens_space}
 use Rattle.model_board.specs.{Paths.is_ancestor_of, State.BoardFunction, Routing.{RoutingRow, routing}}
 use Rattle.model_set_up.specs.PlacedRegions.{PlacedRegion}
-use Rattle.model_findings.{specs.{OpenRegions.{regions_of, closed_of, open_regions, closed_regions}, Agents.Extent, ReadinessIssues.{aperture_extents, is_in_apertures, plain_regions, prefetches, prefetch_edges, first_outside, first_prefetched, ReadinessIssue, not_open, outside_apertures, prefetched_by, outside_issue, prefetch_blame, prefetch_issue, primary_issue, routing_issues, readiness_issues}, ReadyLaws.{IsWithinApertures, PrefetchesNone, IsClosed, IsRealLack, LacksAreReal, LacksNothing, LacksDecide, ReadyDecides}}, proofs.{Witnesses.problems_decide, Told.{first_none, none_first, map_none}, LeastHeld.{IsLeastHeld, least_is, least_finds, outside_begins, prefetch_begins}}}
+use Rattle.model_findings.{specs.{OpenRegions.{regions_of, closed_of, open_regions, closed_regions}, Agents.Extent, ReadinessIssues.{aperture_extents, is_in_apertures, plain_regions, prefetches, prefetch_edges, first_outside, first_prefetched_address, ReadinessIssue, not_open, outside_apertures, prefetched_by, outside_issue, prefetch_blame, prefetch_issue, primary_bus_issue, routing_issues, readiness_issues}, ReadyLaws.{IsWithinApertures, PrefetchesNone, IsClosed, IsRealLack, LacksAreReal, LacksNothing, LacksDecide, ReadyDecides}}, proofs.{Witnesses.problems_are_real_and_complete, Told.{first_none, none_first, map_none}, LeastHeld.{IsLeastHeld, least_is, least_finds, outside_begins, prefetch_begins}}}
 
 -- ---- closed regions
 
@@ -44,13 +44,13 @@ no_outside a q h = by (first_outside a q) refl
 
 -- ---- addresses that a bridge prefetches
 
-prefetched_is : (r : RoutingRow) (q : PlacedRegion) (n : ℕ) → first_prefetched r q ≡ Some n → IsLeastHeld (λ m. prefetches m r) q n
+prefetched_is : (r : RoutingRow) (q : PlacedRegion) (n : ℕ) → first_prefetched_address r q ≡ Some n → IsLeastHeld (λ m. prefetches m r) q n
 prefetched_is r q n e = least_is (λ m. prefetches m r) (prefetch_edges r) q (prefetch_begins r) n e
 
-blamed : (q : PlacedRegion) (r : RoutingRow) (l : ReadinessIssue) → prefetch_blame q r ≡ Some l → (is_ancestor_of r.path q.path ≡ true) × (n : ℕ) × (first_prefetched r q ≡ Some n) × (l ≡ prefetched_by q r.path n)
-blamed q r l h = by (is_ancestor_of r.path q.path) (first_prefetched r q) refl refl h
+blamed : (q : PlacedRegion) (r : RoutingRow) (l : ReadinessIssue) → prefetch_blame q r ≡ Some l → (is_ancestor_of r.path q.path ≡ true) × (n : ℕ) × (first_prefetched_address r q ≡ Some n) × (l ≡ prefetched_by q r.path n)
+blamed q r l h = by (is_ancestor_of r.path q.path) (first_prefetched_address r q) refl refl h
   where
-    by : (t : Bool) (o : Option ℕ) → is_ancestor_of r.path q.path ≡ t → first_prefetched r q ≡ o → cond t (option_map (prefetched_by q r.path) o) None ≡ Some l → (is_ancestor_of r.path q.path ≡ true) × (n : ℕ) × (first_prefetched r q ≡ Some n) × (l ≡ prefetched_by q r.path n)
+    by : (t : Bool) (o : Option ℕ) → is_ancestor_of r.path q.path ≡ t → first_prefetched_address r q ≡ o → cond t (option_map (prefetched_by q r.path) o) None ≡ Some l → (is_ancestor_of r.path q.path ≡ true) × (n : ℕ) × (first_prefetched_address r q ≡ Some n) × (l ≡ prefetched_by q r.path n)
     by t o h k g = grind arith
 
 not_blamed : (q : PlacedRegion) (r : RoutingRow) → prefetch_blame q r ≡ None → PrefetchesNone q r
@@ -63,12 +63,12 @@ not_blamed q r none over n h = by (prefetches n r) refl
     by false e = refl
     by true e =
         let f = least_finds (λ m. prefetches m r) (prefetch_edges r) q (prefetch_begins r) n h e in
-        absurd (told (is_ancestor_of r.path q.path) (first_prefetched r q) f.0 over f.1 none)
+        absurd (told (is_ancestor_of r.path q.path) (first_prefetched_address r q) f.0 over f.1 none)
 
 blameless : (q : PlacedRegion) (r : RoutingRow) → PrefetchesNone q r → prefetch_blame q r ≡ None
-blameless q r h = by (is_ancestor_of r.path q.path) (first_prefetched r q) refl refl
+blameless q r h = by (is_ancestor_of r.path q.path) (first_prefetched_address r q) refl refl
   where
-    by : (t : Bool) (o : Option ℕ) → is_ancestor_of r.path q.path ≡ t → first_prefetched r q ≡ o → cond t (option_map (prefetched_by q r.path) o) None ≡ None
+    by : (t : Bool) (o : Option ℕ) → is_ancestor_of r.path q.path ≡ t → first_prefetched_address r q ≡ o → cond t (option_map (prefetched_by q r.path) o) None ≡ None
     by false o e f = refl
     by true None e f = refl
     by true (Some n) e f = grind (arith, prefetched_is r q n f)
@@ -79,7 +79,7 @@ prefetch_real a fs q l m k = of (first_from (prefetch_blame q) (routing fs) l (f
     of : IsFirstTold (prefetch_blame q) (routing fs) l → IsRealLack a fs l
     of t = told (blamed q t.element l t.told)
       where
-        told : (is_ancestor_of t.element.path q.path ≡ true) × (n : ℕ) × (first_prefetched t.element q ≡ Some n) × (l ≡ prefetched_by q t.element.path n) → IsRealLack a fs l
+        told : (is_ancestor_of t.element.path q.path ≡ true) × (n : ℕ) × (first_prefetched_address t.element q ≡ Some n) × (l ≡ prefetched_by q t.element.path n) → IsRealLack a fs l
         told (over, n, e, is) = grind (arith, prefetched_is t.element q n e, each_map, not_blamed)
 
 no_list : {A : Type 0} (o : Option A) → option_to_list o ≡ [] → o ≡ None
@@ -109,9 +109,9 @@ routing_real a fs l m = by (front_or_back l (map not_open (closed_regions (routi
     by (inr k) = let f = from_flat_map (prefetch_issue (routing fs)) l (plain_regions (routing fs)) k in prefetch_real a fs f.0 l f.1 f.2
 
 pub lacks_are_real : LacksAreReal
-lacks_are_real a fs = each_from (IsRealLack a fs) (readiness_issues a fs) (λ l m. by l (front_or_back l (routing_issues a (routing fs)) (flat_map (primary_issue fs) fs) m))
+lacks_are_real a fs = each_from (IsRealLack a fs) (readiness_issues a fs) (λ l m. by l (front_or_back l (routing_issues a (routing fs)) (flat_map (primary_bus_issue fs) fs) m))
   where
-    by : (l : ReadinessIssue) → IsIn l (routing_issues a (routing fs)) ⊎ IsIn l (flat_map (primary_issue fs) fs) → IsRealLack a fs l
+    by : (l : ReadinessIssue) → IsIn l (routing_issues a (routing fs)) ⊎ IsIn l (flat_map (primary_bus_issue fs) fs) → IsRealLack a fs l
     by l h = grind (arith, routing_real, from_flat_map)
 
 all_open : (r : RoutingRow) → closed_of r ≡ [] → Each (λ q. IsTrue (opens_space r.command q.space)) (regions_of r)
@@ -136,11 +136,11 @@ nothing_lacking a fs h =
     pre : flat_map (prefetch_issue (routing fs)) (plain_regions (routing fs)) ≡ []
     pre = each_none (prefetch_issue (routing fs)) (plain_regions (routing fs)) (each_map (λ q. Each (PrefetchesNone q) (routing fs)) (λ q. prefetch_issue (routing fs) q ≡ []) (plain_regions (routing fs)) (no_prefetch (routing fs)) h.unprefetched)
 
-    primary : flat_map (primary_issue fs) fs ≡ []
+    primary : flat_map (primary_bus_issue fs) fs ≡ []
     primary = grind (arith, each_none, each_map)
 
-pub lacks_decide : LacksDecide
-lacks_decide a fs = (lacking_nothing a fs, nothing_lacking a fs)
+pub readiness_issues_are_complete : LacksDecide
+readiness_issues_are_complete a fs = (lacking_nothing a fs, nothing_lacking a fs)
 
 -- ---- ready, as a test and as facts
 
@@ -149,4 +149,4 @@ no_length [] h = refl
 no_length (x ∷ xs) h = absurd (omega arith)
 
 pub ready_decides : ReadyDecides
-ready_decides a fs = grind (arith, problems_decide, lacking_nothing, nothing_lacking, no_length)
+ready_decides a fs = grind (arith, problems_are_real_and_complete, lacking_nothing, nothing_lacking, no_length)

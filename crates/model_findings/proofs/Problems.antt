@@ -4,7 +4,7 @@ use Rattle.lists.{specs.Elements.{Each, EachPair, first_some, IsIn}, proofs.{Tes
 use Rattle.model_registers.{specs.Decoding.{Space, same_space}, proofs.HitRegions.space_same}
 use Rattle.model_board.specs.{Paths.is_ancestor_of, Routing.{RoutingRow, row_forwards}}
 use Rattle.model_set_up.{specs.PlacedRegions.{PlacedRegion, holds}, proofs.Holders.{Holds, holds_is, is_held, self_space}}
-use Rattle.model_findings.{specs.{OpenRegions.open_regions, Agents.{Extent, extent_holds, forwarded_extents, Agent, agents, answers}, Orderly.{IsForwarded, AreAlone, IsOrderly}, Problems.{least, unforwarded, shared, Problem, not_forwarded, contended, not_found, blame, forwarding_problem, contention, contentions, routing_problems}, Witnesses.{ForwardsAll, IsNotForwarded, IsBefore, IsContended, RoutingDecides}}, proofs.Answering.forwards_extents}
+use Rattle.model_findings.{specs.{OpenRegions.open_regions, Agents.{Extent, extent_holds, forwarded_extents, Agent, agents, answers}, Orderly.{IsForwarded, AreAlone, IsOrderly}, Problems.{least, first_unforwarded_address, shared, Problem, not_forwarded, contended, not_found, blame, forwarding_problem, contention, contentions, routing_problems}, Witnesses.{ForwardsAll, IsNotForwarded, IsBefore, IsContended, RoutingDecides}}, proofs.Answering.forwards_extents}
 
 -- ---- the least of some numbers
 
@@ -84,7 +84,7 @@ module _ (r : RoutingRow) (q : PlacedRegion) (n : ℕ) (h : holds q.space n q �
       by (inl s) more = s
       by (inr (x, i, later, fits)) more = more x i (omega arith) fits (omega arith)
 
-unforwarded_finds : (r : RoutingRow) (q : PlacedRegion) (n : ℕ) → holds q.space n q ≡ true → row_forwards q.space n r ≡ false → (c : ℕ) × (unforwarded r q ≡ Some c)
+unforwarded_finds : (r : RoutingRow) (q : PlacedRegion) (n : ℕ) → holds q.space n q ≡ true → row_forwards q.space n r ≡ false → (c : ℕ) × (first_unforwarded_address r q ≡ Some c)
 unforwarded_finds r q n h gone =
     let held : Holds q.space n q = holds_is q.space n q h in
     let f = lost_start r q n h gone n q.first (inl refl) (omega arith) held.from (omega arith) in
@@ -102,10 +102,10 @@ all_false : {A : Type 0} (t : A → Bool) (x : A) (xs : List A) → IsIn x xs �
 all_false t x [] m h = absurd m
 all_false t x (y ∷ xs) m h = grind (arith, all_false t x xs)
 
-blamed : (q : PlacedRegion) (r : RoutingRow) (p : Problem) → blame q r ≡ Some p → (is_ancestor_of r.path q.path ≡ true) × (n : ℕ) × (unforwarded r q ≡ Some n) × (p ≡ not_forwarded q r.path n)
-blamed q r p h = by (is_ancestor_of r.path q.path) (unforwarded r q) refl refl h
+blamed : (q : PlacedRegion) (r : RoutingRow) (p : Problem) → blame q r ≡ Some p → (is_ancestor_of r.path q.path ≡ true) × (n : ℕ) × (first_unforwarded_address r q ≡ Some n) × (p ≡ not_forwarded q r.path n)
+blamed q r p h = by (is_ancestor_of r.path q.path) (first_unforwarded_address r q) refl refl h
   where
-    by : (t : Bool) (o : Option ℕ) → is_ancestor_of r.path q.path ≡ t → unforwarded r q ≡ o → cond t (option_map (not_forwarded q r.path) o) None ≡ Some p → (is_ancestor_of r.path q.path ≡ true) × (n : ℕ) × (unforwarded r q ≡ Some n) × (p ≡ not_forwarded q r.path n)
+    by : (t : Bool) (o : Option ℕ) → is_ancestor_of r.path q.path ≡ t → first_unforwarded_address r q ≡ o → cond t (option_map (not_forwarded q r.path) o) None ≡ Some p → (is_ancestor_of r.path q.path ≡ true) × (n : ℕ) × (first_unforwarded_address r q ≡ Some n) × (p ≡ not_forwarded q r.path n)
     by t o h k g = grind arith
 
 -- what a problem of the first two kinds says
@@ -118,14 +118,14 @@ IsRouted rows (not_found p at instead) = ⊥
 forwards_rest : (q : PlacedRegion) (r : RoutingRow) → blame q r ≡ None → IsTrue (is_ancestor_of r.path q.path) → ForwardsAll q r
 forwards_rest q r none over n h = grind (arith, unforwarded_finds)
 
-lost_byte : (q : PlacedRegion) (r : RoutingRow) (n : ℕ) → unforwarded r q ≡ Some n → (holds q.space n q ≡ true) × (row_forwards q.space n r ≡ false)
+lost_byte : (q : PlacedRegion) (r : RoutingRow) (n : ℕ) → first_unforwarded_address r q ≡ Some n → (holds q.space n q ≡ true) × (row_forwards q.space n r ≡ false)
 lost_byte q r n found =
     let l : IsLeast n (filter (lost r q) (starts r q)) = found_least (lost r q) (starts r q) n found in
     let passes : lost r q n ≡ true = (from_filter (lost r q) n (starts r q) l.there).1 in
     (left_true (holds q.space n q) (not (row_forwards q.space n r)) passes, not-true (row_forwards q.space n r) (right_true (holds q.space n q) (not (row_forwards q.space n r)) passes))
 
 lost_is : (rows before after : List RoutingRow) (q : PlacedRegion) (r : RoutingRow) (n : ℕ) → IsIn q (open_regions rows) → rows ≡ before ++ r ∷ after
-    → Each (λ s. blame q s ≡ None) before → is_ancestor_of r.path q.path ≡ true → unforwarded r q ≡ Some n → IsNotForwarded rows q r.path n
+    → Each (λ s. blame q s ≡ None) before → is_ancestor_of r.path q.path ≡ true → first_unforwarded_address r q ≡ Some n → IsNotForwarded rows q r.path n
 lost_is rows before after q r n m split none over found =
     let l : IsLeast n (filter (lost r q) (starts r q)) = found_least (lost r q) (starts r q) n found in
     record {

@@ -2,7 +2,7 @@
 use Rattle.std.{proofs.Common.{◌≡◌, ℕ, zero, suc, ◌+◌, ◌*◌, ◌/◌, ◌%◌, ◌<◌, inl, inr, List, [], ◌∷◌, length, Option, Some, None, refl, sym, subst, arith}, specs.{Prelude.{map, find}, List.range_with_len, Option.{option_to_list, option_map_or}}}
 use Rattle.lists.{specs.Elements.{Each, IsIn}, proofs.{Members.{each_in, each_from, in_map, in_flat_map}, FirstFound.found_in}}
 use Rattle.model_board.specs.{Paths.{Path, parent, last_part, IsPart, IsPath}, Board.Row, State.{BoardFunction, row_at}, Cycles.{secondary_register, BusAddress, reached}}
-use Rattle.model_findings.{specs.Found.{is_bridge_at, bus_now, address_now, IsFoundOnce, address_at, scan_order, scanned, ScanFindsAll}, proofs.Found.found_once}
+use Rattle.model_findings.{specs.Found.{is_bridge_at, current_bus_number, current_bdf, IsFoundOnce, address_at, scan_order, scanned, ScanFindsAll}, proofs.Found.found_once}
 
 in_range : (a n k : ℕ) → k < n → IsIn (a + k) (range_with_len a n)
 in_range a zero k h = absurd (omega arith)
@@ -35,7 +35,7 @@ last_lawful [] h k = absurd (omega arith)
 last_lawful (p ∷ []) h k = k.0
 last_lawful (p ∷ q ∷ ps) h k = last_lawful (q ∷ ps) (omega arith) k.1
 
-small_bus : (fs : List BoardFunction) → Each (λ f. secondary_register f.file < 256) fs → (bus : Path) → bus_now fs bus < 256
+small_bus : (fs : List BoardFunction) → Each (λ f. secondary_register f.file < 256) fs → (bus : Path) → current_bus_number fs bus < 256
 small_bus fs small [] = omega arith
 small_bus fs small (p ∷ ps) = by (find (is_bridge_at (p ∷ ps)) fs) refl
   where
@@ -50,6 +50,6 @@ scan_finds_all fs state numbered small = each_from (λ f. IsIn f (scanned fs)) f
     here f m =
         let once : IsFoundOnce fs f = each_in (IsFoundOnce fs) f fs (found_once fs state numbered) m in
         let path : IsPath f.path = each_in (λ (r : Row). IsPath r.path) (row_at f) (map row_at fs) state.places.paths (in_map row_at f fs m) in
-        let at : IsIn (address_now fs f.path) scan_order = in_scan (address_now fs f.path) (small_bus fs small (parent f.path)) (last_lawful f.path path.some path.parts) in
-        in_flat_map (λ at. option_to_list (reached fs at)) (address_now fs f.path) f scan_order at
+        let at : IsIn (current_bdf fs f.path) scan_order = in_scan (current_bdf fs f.path) (small_bus fs small (parent f.path)) (last_lawful f.path path.some path.parts) in
+        in_flat_map (λ at. option_to_list (reached fs at)) (current_bdf fs f.path) f scan_order at
         (subst (λ o. IsIn f (option_to_list o)) (sym once.by_address) (inl refl))

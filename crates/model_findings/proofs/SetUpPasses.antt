@@ -3,8 +3,8 @@ use Rattle.std.{proofs.Common.{◌≡◌, ◌+◌, ◌-◌, ◌<◌, List, [], �
 use Rattle.lists.{proofs.{Members.{pairs_of_map, each_in, each_from, in_flat_map, from_flat_map, from_map, from_filter, pairs_weaker, pairs_flat_map, pairs_of_part}, EachLemmas.pairs_filter}, specs.Elements.{Each, EachPair, IsIn}}
 use Rattle.model_registers.specs.{Decoding.opens_space, Apertures.Apertures}
 use Rattle.model_board.{specs.{Board.{Board, Row, Decl}, Paths.{Path, path_before}, State.BoardFunction, Routing.{RoutingRow, row_of, routing}}, proofs.{PathOrder.path_same, Routing.forwarded_by_routing}}
-use Rattle.model_set_up.{specs.{Layout.{IsLawful, layout}, PlacementLaws.HasRows, SetUp.set_up_state, PlacedRegions.{PlacedRegion, placed_at, placed_regions}, UniqueClaimant.{CanBePlaced, HasUniqueClaims}, WindowLaws.HasPlacedWindows}, proofs.{Holders.{Holds, holds_is}, LawfulPlacement.layout_is_lawful, DeclaredRows.rows_are_declared, BoardWindows.set_up_windows, SetUpNumbers.set_up_has_numbers, UniqueClaimant.{unique_claimant, left}}}
-use Rattle.model_findings.{specs.{OpenRegions.{open_of, open_regions, regions_of}, Agents.{Agent, agents_of, agents}, Orderly.{IsForwarded, AreAlone, IsOrderly}, SetUpPasses.{SetUpPasses, RoutedAsSetUp}}, proofs.{Answering.region_answers, Found.numbers_of_board, Witnesses.problems_decide, Placing.regions_placed, Holding.{one_holds, agent_held}}}
+use Rattle.model_set_up.{specs.{Layout.{IsLawful, layout}, PlacementLaws.HasRows, SetUp.set_up_state, PlacedRegions.{PlacedRegion, placed_at, placed_regions}, UniqueClaimant.{CanBePlaced, HasUniqueClaims}, WindowLaws.HasPlacedWindows}, proofs.{Holders.{Holds, holds_is}, LawfulPlacement.layout_is_lawful, DeclaredRows.one_row_per_region_or_window, BoardWindows.set_up_windows, SetUpNumbers.set_up_has_numbers, UniqueClaimant.{set_up_gives_unique_claimants, left}}}
+use Rattle.model_findings.{specs.{OpenRegions.{open_of, open_regions, regions_of}, Agents.{Agent, agents_of, agents}, Orderly.{IsForwarded, AreAlone, IsOrderly}, SetUpPasses.{SetUpPasses, RoutedAsSetUp}}, proofs.{Answering.region_answers, Found.numbers_of_board, Witnesses.problems_are_real_and_complete, Placing.regions_placed, Holding.{one_holds, agent_held}}}
 
 module _ (b : Board) (a : Apertures) (can : CanBePlaced b a) (lawful : IsLawful b a (layout b a)) (has : HasRows b a) (windows : Each (λ r. HasPlacedWindows b a r.path r.decl) b) (unique : HasUniqueClaims b a (set_up_state b a).functions) where
   abbrev fs : List BoardFunction
@@ -60,11 +60,11 @@ module _ (b : Board) (a : Apertures) (can : CanBePlaced b a) (lawful : IsLawful 
 
 pub set_up_orderly : (b : Board) (a : Apertures) → CanBePlaced b a → IsOrderly (routing (set_up_state b a).functions)
 set_up_orderly b a can =
-    orderly b a can (layout_is_lawful b a can.places can.declarations can.room) (rows_are_declared b a can.places can.declarations)
-    (set_up_windows b a can.places can.declarations can.apertures can.io_paths can.room) (unique_claimant b a can (set_up_state b a).functions refl)
+    orderly b a can (layout_is_lawful b a can.places can.declarations can.room) (one_row_per_region_or_window b a can.places can.declarations)
+    (set_up_windows b a can.places can.declarations can.apertures can.io_paths can.room) (set_up_gives_unique_claimants b a can (set_up_state b a).functions refl)
 
 pub routed_as_set_up : RoutedAsSetUp
-routed_as_set_up b a can fs same numbers = grind (arith, problems_decide, set_up_orderly, numbers_of_board b can.places fs numbers)
+routed_as_set_up b a can fs same numbers = grind (arith, problems_are_real_and_complete, set_up_orderly, numbers_of_board b can.places fs numbers)
 
-pub set_up_passes : SetUpPasses
-set_up_passes b a few can = routed_as_set_up b a can (set_up_state b a).functions refl (set_up_has_numbers b a few)
+pub set_up_passes_the_audit : SetUpPasses
+set_up_passes_the_audit b a few can = routed_as_set_up b a can (set_up_state b a).functions refl (set_up_has_numbers b a few)

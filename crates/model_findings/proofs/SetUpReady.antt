@@ -3,8 +3,8 @@ use Rattle.std.{proofs.{Common.{◌≡◌, ℕ, ◌+◌, ◌≤◌, ◌<◌, ◌
 use Rattle.lists.{specs.Elements.{Each, IsIn}, proofs.Members.{each_in, each_from, from_flat_map, from_map, from_filter, any_in, none_front, each_none}}
 use Rattle.model_registers.specs.{Apertures.{Aperture, Apertures}, Declarations.{Region, Endpoint}, Decoding.{Space, base_address, space_of, same_space, opens_space}, EndpointTable.BaseAddress, Registers.File}
 use Rattle.model_board.specs.{Board.{Board, Row, Decl, endpoint, bridge, is_bridge, is_bridge_at, is_multifunction}, BusNumbers.{Enumerates, bus_behind}, Paths.{Path, IsPath, parent}, State.BoardFunction, Routing.{RoutingRow, row_of, routing}, Windows.is_in}
-use Rattle.model_set_up.{specs.{Pools.{Pool, pref_pool, bridges_above}, Layout.{LayoutRow, IsLawful, layout}, PlacementLaws.{pool_at, region_row, HasRows}, PlacedRegions.{PlacedRegion, placed, pool_space, holds}, SetUp.{first_of, set_up_file, set_up_state}, UniqueClaimant.CanBePlaced, WindowLaws.{placed_window, HasPlacedWindows}}, proofs.{Holders.{Holds, holds_is, self_space}, PlacedApart.pool_of_space, PlacedReads.InAperture, PlacedRegions.region_there, SetUpNumbers.{numbers_small, set_up_has_numbers}, SetUpRegisters.endpoint_opens, UniqueClaimant.{bases, left}, LawfulPlacement.layout_is_lawful, DeclaredRows.rows_are_declared, BoardWindows.set_up_windows}}
-use Rattle.model_findings.{specs.{OpenRegions.{region_now, regions_of, open_of, open_regions}, Found.bus_now, ReadinessIssues.{primary_register, is_in_apertures, is_plain, plain_of, plain_regions, prefetches, primary_issue, readiness_issues}, ReadyLaws.{IsWithinApertures, PrefetchesNone, LacksNothing, SetUpIsReady, ReadyAsSetUp}}, proofs.{Found.numbers_of_board, Holding.window_row_held, Placing.regions_placed, SetUpPasses.{set_up_passes, routed_as_set_up}, Lacks.nothing_lacking}}
+use Rattle.model_set_up.{specs.{Pools.{Pool, pref_pool, bridges_above}, Layout.{LayoutRow, IsLawful, layout}, PlacementLaws.{pool_at, region_row, HasRows}, PlacedRegions.{PlacedRegion, placed, pool_space, holds}, SetUp.{first_of, set_up_file, set_up_state}, UniqueClaimant.CanBePlaced, WindowLaws.{placed_window, HasPlacedWindows}}, proofs.{Holders.{Holds, holds_is, self_space}, PlacedApart.pool_of_space, PlacedReads.InAperture, PlacedRegions.region_there, SetUpNumbers.{numbers_small, set_up_has_numbers}, SetUpRegisters.endpoint_opens, UniqueClaimant.{bases, left}, LawfulPlacement.layout_is_lawful, DeclaredRows.one_row_per_region_or_window, BoardWindows.set_up_windows}}
+use Rattle.model_findings.{specs.{OpenRegions.{region_now, regions_of, open_of, open_regions}, Found.current_bus_number, ReadinessIssues.{primary_register, is_in_apertures, is_non_prefetchable_memory, plain_of, plain_regions, prefetches, primary_bus_issue, readiness_issues}, ReadyLaws.{IsWithinApertures, PrefetchesNone, LacksNothing, SetUpIsReady, ReadyAsSetUp}}, proofs.{Found.numbers_of_board, Holding.window_row_held, Placing.regions_placed, SetUpPasses.{set_up_passes_the_audit, routed_as_set_up}, Lacks.nothing_lacking}}
 
 -- ---- apertures
 
@@ -57,11 +57,11 @@ module _ (b : Board) (a : Apertures) (few : Enumerates b) (can : CanBePlaced b a
   -- ---- what isn't prefetchable isn't prefetched
 
   -- no prefetchable window has an address of a region that isn't prefetchable
-  no_window : (p t : Path) (d : Endpoint) (g : Region) (n : ℕ) → IsIn (record { path = p; decl = endpoint d }) b → IsIn g d.regions → is_plain g.kind ≡ true → holds (space_of g.kind) n (placed b a p g) ≡ true → IsPath t → is_in n (placed_window b a pref_pool t) ≡ false
+  no_window : (p t : Path) (d : Endpoint) (g : Region) (n : ℕ) → IsIn (record { path = p; decl = endpoint d }) b → IsIn g d.regions → is_non_prefetchable_memory g.kind ≡ true → holds (space_of g.kind) n (placed b a p g) ≡ true → IsPath t → is_in n (placed_window b a pref_pool t) ≡ false
   no_window p t d g n m k plain h path =
       grind (arith, holds_is (space_of g.kind) n (placed b a p g) h, region_inside p d g m k, window_row_held b a can t pref_pool n path, each_in)
 
-  bridge_prefetches_none : (p t : Path) (d : Endpoint) (e : Decl) (g : Region) (n : ℕ) → IsIn (record { path = p; decl = endpoint d }) b → IsIn (record { path = t; decl = e }) b → IsIn g d.regions → is_plain g.kind ≡ true → holds (space_of g.kind) n (placed b a p g) ≡ true → prefetches n (row_of (left b a (record { path = t; decl = e }))) ≡ false
+  bridge_prefetches_none : (p t : Path) (d : Endpoint) (e : Decl) (g : Region) (n : ℕ) → IsIn (record { path = p; decl = endpoint d }) b → IsIn (record { path = t; decl = e }) b → IsIn g d.regions → is_non_prefetchable_memory g.kind ≡ true → holds (space_of g.kind) n (placed b a p g) ≡ true → prefetches n (row_of (left b a (record { path = t; decl = e }))) ≡ false
   bridge_prefetches_none p t d (endpoint e) g n m l k plain h = refl
   bridge_prefetches_none p t d (bridge e) g n m l k plain h = grind (arith, each_in, no_window p t d g n m k plain h)
 
@@ -69,11 +69,11 @@ module _ (b : Board) (a : Apertures) (few : Enumerates b) (can : CanBePlaced b a
   record Plain (p : Path) (d : Endpoint) (q : PlacedRegion) : Type 0 where
     region : Region
     declared : IsIn region d.regions
-    plain : is_plain region.kind ≡ true
+    plain : is_non_prefetchable_memory region.kind ≡ true
     is : q ≡ placed b a p region
 
   plain_source : (p : Path) (d : Endpoint) (q : PlacedRegion) → IsIn (record { path = p; decl = endpoint d }) b → IsIn q (plain_of (row_of (left b a (record { path = p; decl = endpoint d })))) → Plain p d q
-  plain_source p d q m k = of_filter (from_filter (λ (x : PlacedRegion). opens_space (row_of (left b a (record { path = p; decl = endpoint d }))).command x.space) q (map (region_now p) (filter (λ (x : BaseAddress). is_plain x.kind) (map (base_address (set_up_file b a p (endpoint d))) d.regions))) k).0
+  plain_source p d q m k = of_filter (from_filter (λ (x : PlacedRegion). opens_space (row_of (left b a (record { path = p; decl = endpoint d }))).command x.space) q (map (region_now p) (filter (λ (x : BaseAddress). is_non_prefetchable_memory x.kind) (map (base_address (set_up_file b a p (endpoint d))) d.regions))) k).0
     where
       file : File
       file = set_up_file b a p (endpoint d)
@@ -81,12 +81,12 @@ module _ (b : Board) (a : Apertures) (few : Enumerates b) (can : CanBePlaced b a
       placed_is : (g : Region) → IsIn g d.regions → region_now p (base_address (set_up_file b a p (endpoint d)) g) ≡ placed b a p g
       placed_is g l = grind (arith, each_in, bases b a can lawful has (record { path = p; decl = endpoint d }) d m refl)
 
-      of_region : (x : BaseAddress) → q ≡ region_now p x → is_plain x.kind ≡ true → (g : Region) × IsIn g d.regions × (x ≡ base_address (set_up_file b a p (endpoint d)) g) → Plain p d q
+      of_region : (x : BaseAddress) → q ≡ region_now p x → is_non_prefetchable_memory x.kind ≡ true → (g : Region) × IsIn g d.regions × (x ≡ base_address (set_up_file b a p (endpoint d)) g) → Plain p d q
       of_region x e plain (g, l, i) = grind (arith, placed_is)
 
-      of_filter : IsIn q (map (region_now p) (filter (λ (x : BaseAddress). is_plain x.kind) (map (base_address (set_up_file b a p (endpoint d))) d.regions))) → Plain p d q
+      of_filter : IsIn q (map (region_now p) (filter (λ (x : BaseAddress). is_non_prefetchable_memory x.kind) (map (base_address (set_up_file b a p (endpoint d))) d.regions))) → Plain p d q
       of_filter l =
-          let f = from_map (region_now p) q (filter (λ (x : BaseAddress). is_plain x.kind) (map (base_address (set_up_file b a p (endpoint d))) d.regions)) l in
+          let f = from_map (region_now p) q (filter (λ (x : BaseAddress). is_non_prefetchable_memory x.kind) (map (base_address (set_up_file b a p (endpoint d))) d.regions)) l in
           grind (arith, from_filter, of_region, from_map (base_address (set_up_file b a p (endpoint d))) f.0 d.regions)
 
   plain_unprefetched : (p : Path) (d : Decl) (q : PlacedRegion) → IsIn (record { path = p; decl = d }) b → IsIn q (plain_of (row_of (left b a (record { path = p; decl = d })))) → Each (PrefetchesNone q) (routing fs)
@@ -102,7 +102,7 @@ module _ (b : Board) (a : Apertures) (few : Enumerates b) (can : CanBePlaced b a
   bus_small [] h = omega arith
   bus_small (x ∷ p) h = search (rules, numbers_small)
 
-  primary : (f : BoardFunction) → IsIn f fs → is_bridge f.decl ≡ true → primary_register f.file ≡ bus_now fs (parent f.path)
+  primary : (f : BoardFunction) → IsIn f fs → is_bridge f.decl ≡ true → primary_register f.file ≡ current_bus_number fs (parent f.path)
   primary f m is = grind (arith, of_function, bus_small, each_in, numbers_of_board b can.places fs (set_up_has_numbers b a few))
 
   -- ---- nothing is lacking
@@ -112,7 +112,7 @@ module _ (b : Board) (a : Apertures) (few : Enumerates b) (can : CanBePlaced b a
     open_all = each_from (λ r. Each (λ q. IsTrue (opens_space r.command q.space)) (regions_of r)) (routing fs) open_row;
     within = each_from (IsWithinApertures a) (open_regions (routing fs)) within;
     unprefetched = each_from (λ q. Each (PrefetchesNone q) (routing fs)) (plain_regions (routing fs)) unprefetched;
-    primaries = each_from (λ f. IsTrue (is_bridge f.decl) → primary_register f.file ≡ bus_now fs (parent f.path)) fs primary;
+    primaries = each_from (λ f. IsTrue (is_bridge f.decl) → primary_register f.file ≡ current_bus_number fs (parent f.path)) fs primary;
   }
     where
       open_row : (r : RoutingRow) → IsIn r (routing fs) → Each (λ q. IsTrue (opens_space r.command q.space)) (regions_of r)
@@ -131,11 +131,11 @@ module _ (b : Board) (a : Apertures) (few : Enumerates b) (can : CanBePlaced b a
           plain_unprefetched s.0.path s.0.decl q s.1 (subst (λ (x : RoutingRow). IsIn q (plain_of x)) s.2 f.2)
 
 routing_ready : (b : Board) (a : Apertures) → Enumerates b → CanBePlaced b a → readiness_issues a (set_up_state b a).functions ≡ []
-routing_ready b a few can = grind (arith, nothing_lacking, lacks_nothing, layout_is_lawful, rows_are_declared, set_up_windows)
+routing_ready b a few can = grind (arith, nothing_lacking, lacks_nothing, layout_is_lawful, one_row_per_region_or_window, set_up_windows)
 
-pub set_up_is_ready : SetUpIsReady
-set_up_is_ready b a few can = record { no_problems = set_up_passes b a few can; no_issues = routing_ready b a few can }
+pub set_up_leaves_board_ready : SetUpIsReady
+set_up_leaves_board_ready b a few can = record { no_problems = set_up_passes_the_audit b a few can; no_issues = routing_ready b a few can }
 
 pub ready_as_set_up : ReadyAsSetUp
 ready_as_set_up b a few can fs same numbers primaries =
-    grind (arith, routed_as_set_up, none_front, routing_ready b a few can, each_none (primary_issue fs) fs, each_from, each_in, numbers_of_board b can.places fs numbers)
+    grind (arith, routed_as_set_up, none_front, routing_ready b a few can, each_none (primary_bus_issue fs) fs, each_from, each_in, numbers_of_board b can.places fs numbers)

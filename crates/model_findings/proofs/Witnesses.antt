@@ -13,5 +13,5 @@ of_numbering fs p m = grind (arith, from_flat_map, lost_function)
 pub problems_are_real : ProblemsAreReal
 problems_are_real fs = grind (arith, each_from, front_or_back, of_routing, routing_is_real, of_numbering)
 
-pub problems_decide : ProblemsDecide
-problems_decide fs = grind (arith, routing_decides, none_front, numbering_decides, none_back)
+pub problems_are_real_and_complete : ProblemsDecide
+problems_are_real_and_complete fs = grind (arith, routing_decides, none_front, numbering_decides, none_back)

@@ -1,8 +1,8 @@
 -- Whether configuration cycles find each function with the bus numbers in the bridges, in any register state:
 -- PCI-to-PCI Bridge Architecture 1.2, chapter 3.
 --     is_bridge_at bus f      the bridge above the bus
---     bus_now fs bus      the number of a bus: the Secondary Bus Number of that bridge, and 0 for bus 0
---     address_now fs p      the BDF of the function: its bus's number, and its device and function number
+--     current_bus_number fs bus      the number of a bus: the Secondary Bus Number of that bridge, and 0 for bus 0
+--     current_bdf fs p      the BDF of the function: its bus's number, and its device and function number
 --     path_reached fs p      the path that a cycle to that BDF reaches
 --     IsNumbered fs      each function is reached by its BDF
 --     IsFoundOnce fs f, FoundOnce      then it is reached by that BDF only
@@ -18,23 +18,23 @@ abbrev pub is_bridge_at : Path → BoardFunction → Bool
 is_bridge_at bus f = is_bridge f.decl && path_eq f.path bus
 
 -- [] means bus 0
-abbrev pub bus_now : List BoardFunction → Path → ℕ
-bus_now fs [] = 0
-bus_now fs (p ∷ ps) =
+abbrev pub current_bus_number : List BoardFunction → Path → ℕ
+current_bus_number fs [] = 0
+current_bus_number fs (p ∷ ps) =
     option_map_or (λ (f : BoardFunction). secondary_register f.file) (find (is_bridge_at (p ∷ ps)) fs) 0
 
-abbrev pub address_now : List BoardFunction → Path → BusAddress
-address_now fs p = record { bus = bus_now fs (parent p); part = last_part p }
+abbrev pub current_bdf : List BoardFunction → Path → BusAddress
+current_bdf fs p = record { bus = current_bus_number fs (parent p); part = last_part p }
 
 abbrev pub path_reached : List BoardFunction → Path → Option Path
-path_reached fs p = option_map (λ (f : BoardFunction). f.path) (reached fs (address_now fs p))
+path_reached fs p = option_map (λ (f : BoardFunction). f.path) (reached fs (current_bdf fs p))
 
 pub record IsNumbered (fs : List BoardFunction) : Type 0 where
   pub each : Each (λ f. path_reached fs f.path ≡ Some f.path) fs
 
 pub record IsFoundOnce (fs : List BoardFunction) (f : BoardFunction) : Type 0 where
-  pub by_address : reached fs (address_now fs f.path) ≡ Some f
-  pub by_no_other : (at : BusAddress) → reached fs at ≡ Some f → at ≡ address_now fs f.path
+  pub by_address : reached fs (current_bdf fs f.path) ≡ Some f
+  pub by_no_other : (at : BusAddress) → reached fs at ≡ Some f → at ≡ current_bdf fs f.path
 
 abbrev pub FoundOnce : Type 0
 FoundOnce = (fs : List BoardFunction) → IsStateOfBoard fs → IsNumbered fs → Each (IsFoundOnce fs) fs
@@ -56,4 +56,4 @@ ScanFindsAll = (fs : List BoardFunction) → IsStateOfBoard fs → IsNumbered fs
 
 abbrev pub NumbersOfBoard : Type 0
 NumbersOfBoard = (b : Board) → IsBoard b → (fs : List BoardFunction) → HasNumbers b fs
-    → IsNumbered fs × Each (λ f. address_now fs f.path ≡ address_of b f.path) fs
+    → IsNumbered fs × Each (λ f. current_bdf fs f.path ≡ address_of b f.path) fs

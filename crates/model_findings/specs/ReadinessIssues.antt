@@ -4,7 +4,7 @@
 --     plain_regions      enabled memory regions that aren't prefetchable
 --     prefetches n r      a bridge forwards an address through its prefetchable window only
 --     least_held test edges q      the least address of a region that passes a test, if it starts to pass only at these edges
---     first_outside, first_prefetched      the least address outside the apertures, or that a bridge prefetches
+--     first_outside, first_prefetched_address      the least address outside the apertures, or that a bridge prefetches
 --     ReadinessIssue      a region that is disabled, outside the apertures or prefetched, or a wrong Primary Bus Number; with a witness
 --     primary_register file      the Primary Bus Number of a bridge
 --     routing_issues a rows      the readiness issues of regions: those that are disabled, outside or prefetched
@@ -16,7 +16,7 @@ use Rattle.lists.specs.Elements.{first_some}
 use Rattle.model_registers.specs.{Registers.{config, File, number}, Apertures.{Aperture, Apertures}, Declarations.{Kind, io_kind, mem32, mem64}, Decoding.{Space, io, memory, opens_space}, EndpointTable.BaseAddress}
 use Rattle.model_board.specs.{Paths.{Path, is_ancestor_of, parent}, Board.is_bridge, State.BoardFunction, Windows.is_in, Routing.{RoutingRow, regions, windows, routing}}
 use Rattle.model_set_up.specs.PlacedRegions.{PlacedRegion, holds}
-use Rattle.model_findings.specs.{OpenRegions.{region_now, open_regions, closed_regions}, Agents.{Extent, extent_holds, window_extent}, Problems.{least, problems}, Found.bus_now}
+use Rattle.model_findings.specs.{OpenRegions.{region_now, open_regions, closed_regions}, Agents.{Extent, extent_holds, window_extent}, Problems.{least, problems}, Found.current_bus_number}
 
 -- ---- apertures
 
@@ -33,16 +33,16 @@ is_in_apertures a space n = list_any (extent_holds n) (aperture_extents a space)
 
 -- ---- memory that is not prefetchable
 
-abbrev pub is_plain : Kind → Bool
-is_plain io_kind = false
-is_plain (mem32 pref) = not pref
-is_plain (mem64 pref) = not pref
+abbrev pub is_non_prefetchable_memory : Kind → Bool
+is_non_prefetchable_memory io_kind = false
+is_non_prefetchable_memory (mem32 pref) = not pref
+is_non_prefetchable_memory (mem64 pref) = not pref
 
 abbrev pub plain_of : RoutingRow → List PlacedRegion
 plain_of r = elim r.ranges [
   | regions bs ↦
       filter (λ q. opens_space r.command q.space)
-      (map (region_now r.path) (filter (λ (b : BaseAddress). is_plain b.kind) bs))
+      (map (region_now r.path) (filter (λ (b : BaseAddress). is_non_prefetchable_memory b.kind) bs))
   | windows wio wmem wpref ↦ []
 ]
 
@@ -75,8 +75,8 @@ prefetch_edges r = elim r.ranges [
       map (λ (e : Extent). e.first) (window_extent wpref) ++ map (λ (e : Extent). e.end) (window_extent wmem)
 ]
 
-abbrev pub first_prefetched : RoutingRow → PlacedRegion → Option ℕ
-first_prefetched r q = least_held (λ n. prefetches n r) (prefetch_edges r) q
+abbrev pub first_prefetched_address : RoutingRow → PlacedRegion → Option ℕ
+first_prefetched_address r q = least_held (λ n. prefetches n r) (prefetch_edges r) q
 
 -- ---- readiness issues
 
@@ -95,7 +95,7 @@ abbrev pub outside_issue : Apertures → PlacedRegion → List ReadinessIssue
 outside_issue a q = option_to_list (option_map (outside_apertures q) (first_outside a q))
 
 abbrev pub prefetch_blame : PlacedRegion → RoutingRow → Option ReadinessIssue
-prefetch_blame q r = if is_ancestor_of r.path q.path then option_map (prefetched_by q r.path) (first_prefetched r q) else None
+prefetch_blame q r = if is_ancestor_of r.path q.path then option_map (prefetched_by q r.path) (first_prefetched_address r q) else None
 
 abbrev pub prefetch_issue : List RoutingRow → PlacedRegion → List ReadinessIssue
 prefetch_issue rows q = option_to_list (first_some (prefetch_blame q) rows)
@@ -104,10 +104,10 @@ prefetch_issue rows q = option_to_list (first_some (prefetch_blame q) rows)
 abbrev pub primary_register : File → ℕ
 primary_register file = number file (config 0x18) 1
 
-abbrev pub primary_issue : List BoardFunction → BoardFunction → List ReadinessIssue
-primary_issue fs f =
-    if is_bridge f.decl && not (primary_register f.file == bus_now fs (parent f.path))
-    then other_primary f.path (primary_register f.file) (bus_now fs (parent f.path)) ∷ [] else []
+abbrev pub primary_bus_issue : List BoardFunction → BoardFunction → List ReadinessIssue
+primary_bus_issue fs f =
+    if is_bridge f.decl && not (primary_register f.file == current_bus_number fs (parent f.path))
+    then other_primary f.path (primary_register f.file) (current_bus_number fs (parent f.path)) ∷ [] else []
 
 -- the issues that routing registers show
 abbrev pub routing_issues : Apertures → List RoutingRow → List ReadinessIssue
@@ -116,7 +116,7 @@ routing_issues a rows =
     ++ flat_map (prefetch_issue rows) (plain_regions rows)
 
 abbrev pub readiness_issues : Apertures → List BoardFunction → List ReadinessIssue
-readiness_issues a fs = routing_issues a (routing fs) ++ flat_map (primary_issue fs) fs
+readiness_issues a fs = routing_issues a (routing fs) ++ flat_map (primary_bus_issue fs) fs
 
 abbrev pub issue_count : Apertures → List BoardFunction → ℕ
 issue_count a fs = length (problems fs) + length (readiness_issues a fs)

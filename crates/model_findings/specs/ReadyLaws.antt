@@ -14,7 +14,7 @@ use Rattle.lists.specs.Elements.{IsIn, Each}
 use Rattle.model_registers.specs.{Apertures.Apertures, Declarations.{Region, Endpoint}, Decoding.{opens_space, is_open, space_of, base_address}}
 use Rattle.model_board.specs.{Paths.{Path, is_ancestor_of, parent}, Board.{Board, endpoint, is_bridge}, BusNumbers.{bus_of, Enumerates}, State.BoardFunction, Routing.{RoutingRow, routing}}
 use Rattle.model_set_up.specs.{PlacedRegions.{PlacedRegion, holds}, Reach.HasNumbers, SetUp.set_up_state, UniqueClaimant.{CanBePlaced, IsClaimed}}
-use Rattle.model_findings.specs.{OpenRegions.{region_now, regions_of, open_regions}, Orderly.IsStateOfBoard, Found.{bus_now, IsFoundOnce}, Witnesses.IsInOrder, ReadinessIssues.{is_in_apertures, is_plain, plain_regions, prefetches, ReadinessIssue, primary_register, not_open, outside_apertures, prefetched_by, other_primary, readiness_issues, is_ready, IsReady}}
+use Rattle.model_findings.specs.{OpenRegions.{region_now, regions_of, open_regions}, Orderly.IsStateOfBoard, Found.{current_bus_number, IsFoundOnce}, Witnesses.IsInOrder, ReadinessIssues.{is_in_apertures, is_non_prefetchable_memory, plain_regions, prefetches, ReadinessIssue, primary_register, not_open, outside_apertures, prefetched_by, other_primary, readiness_issues, is_ready, IsReady}}
 
 abbrev pub IsWithinApertures : Apertures → PlacedRegion → Type 0
 IsWithinApertures a q = (n : ℕ) → IsTrue (holds q.space n q) → IsTrue (is_in_apertures a q.space n)
@@ -56,7 +56,7 @@ pub record HasOtherPrimary (fs : List BoardFunction) (p : Path) (held number : �
   pub is_one : IsTrue (is_bridge bridge.decl)
   pub path_is : bridge.path ≡ p
   pub held_is : held ≡ primary_register bridge.file
-  pub number_is : number ≡ bus_now fs (parent p)
+  pub number_is : number ≡ current_bus_number fs (parent p)
   pub other : held ≡ number → ⊥
 
 abbrev pub IsRealLack : Apertures → List BoardFunction → ReadinessIssue → Type 0
@@ -74,7 +74,7 @@ pub record LacksNothing (a : Apertures) (fs : List BoardFunction) : Type 0 where
   pub open_all : Each (λ r. Each (λ q. IsTrue (opens_space r.command q.space)) (regions_of r)) (routing fs)
   pub within : Each (IsWithinApertures a) (open_regions (routing fs))
   pub unprefetched : Each (λ q. Each (PrefetchesNone q) (routing fs)) (plain_regions (routing fs))
-  pub primaries : Each (λ f. IsTrue (is_bridge f.decl) → primary_register f.file ≡ bus_now fs (parent f.path)) fs
+  pub primaries : Each (λ f. IsTrue (is_bridge f.decl) → primary_register f.file ≡ current_bus_number fs (parent f.path)) fs
 
 abbrev pub LacksDecide : Type 0
 LacksDecide = (a : Apertures) (fs : List BoardFunction) → (readiness_issues a fs ≡ []) ↔ LacksNothing a fs
@@ -91,7 +91,7 @@ pub record IsUsable (a : Apertures) (fs : List BoardFunction) (f : BoardFunction
   pub each_byte : (k : ℕ) → k < g.size → IsClaimed fs (region_now f.path (base_address f.file g)) k
   pub within : IsWithinApertures a (region_now f.path (base_address f.file g))
   -- no bridge above prefetches a region that isn't prefetchable
-  pub unprefetched : IsTrue (is_plain g.kind)
+  pub unprefetched : IsTrue (is_non_prefetchable_memory g.kind)
       → Each (PrefetchesNone (region_now f.path (base_address f.file g))) (routing fs)
 
 abbrev pub ReadyIsUsable : Type 0

@@ -9,7 +9,7 @@ use Rattle.std.specs.{Prelude.{List, [], ◌∷◌, ◌++◌, ◌≡◌, ℕ, �
 use Rattle.lists.specs.Elements.{IsIn, Each}
 use Rattle.model_board.specs.{Paths.{Path, is_ancestor_of}, State.BoardFunction, Cycles.{BusAddress, reached}, Routing.{RoutingRow, routing, row_forwards}}
 use Rattle.model_set_up.specs.PlacedRegions.{PlacedRegion, holds}
-use Rattle.model_findings.specs.{OpenRegions.open_regions, Agents.{Agent, agents, answers, on_one_bus}, Orderly.IsOrderly, Found.{address_now, IsNumbered}, Problems.{Problem, not_forwarded, contended, not_found, routing_problems, numbering_problems, problems}}
+use Rattle.model_findings.specs.{OpenRegions.open_regions, Agents.{Agent, agents, answers, on_one_bus}, Orderly.IsOrderly, Found.{current_bdf, IsNumbered}, Problems.{Problem, not_forwarded, contended, not_found, routing_problems, numbering_problems, problems}}
 
 abbrev pub ForwardsAll : PlacedRegion → RoutingRow → Type 0
 ForwardsAll q r = (n : ℕ) → IsTrue (holds q.space n q) → IsTrue (row_forwards q.space n r)
@@ -42,7 +42,7 @@ pub record IsContended (rows : List RoutingRow) (a b : Agent) (n : ℕ) : Type 0
 
 pub record IsNotFound (fs : List BoardFunction) (p : Path) (at : BusAddress) (instead : Option Path) : Type 0 where
   pub function : (f : BoardFunction) × IsIn f fs × (f.path ≡ p)
-  pub address : at ≡ address_now fs p
+  pub address : at ≡ current_bdf fs p
   pub reached : instead ≡ option_map (λ (f : BoardFunction). f.path) (reached fs at)
   pub other : instead ≡ Some p → ⊥
 

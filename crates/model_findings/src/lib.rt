@@ -13,14 +13,14 @@ ghost use Rattle.model_findings.specs.{AuditExamples.WorkedExamples, Found.{Foun
 /// Proves that in a consistent state an address is claimed by the enabled region that contains it
 /// and by no other, and that each byte of an enabled region is claimed through every bridge above
 /// the region.
-pub fn orderly_claims()
+pub fn consistent_claims_are_unique()
     ensures { OrderlyClaims }
 {}
 
 /// Proves that if the audit reports no function as not found, each function is reached by its BDF
 /// and by no other, and a scan of all BDFs finds every function. This includes every board whose
 /// bridges hold its own bus numbers.
-pub fn numbers_find_all()
+pub fn bus_numbers_reach_all()
     ensures once { FoundOnce }
     ensures scan { ScanFindsAll }
     ensures board { NumbersOfBoard }
@@ -28,7 +28,7 @@ pub fn numbers_find_all()
 
 /// Proves that each reported problem is real, as its witness shows, and that a state has no
 /// problems if and only if it is consistent and each function is reached by its BDF.
-pub fn problems_decide()
+pub fn problems_are_real_and_complete()
     ensures real { ProblemsAreReal }
     ensures decide { ProblemsDecide }
     ensures routing { RoutingDecides }
@@ -42,7 +42,7 @@ pub fn worked_audit_examples()
 
 /// Proves that set-up leaves every board that it accepts without problems. The same holds for any
 /// later state with the same routing registers and bus numbers.
-pub fn set_up_passes()
+pub fn set_up_passes_the_audit()
     ensures set_up { SetUpPasses }
     ensures later { RoutedAsSetUp }
 {}
@@ -51,7 +51,7 @@ pub fn set_up_passes()
 /// readiness issues if and only if every BAR is enabled and within the apertures, no bridge
 /// prefetches a BAR that isn't prefetchable, and every bridge has the right Primary Bus Number. The
 /// state is ready if it also has no problems.
-pub fn lacks_decide()
+pub fn readiness_issues_are_complete()
     ensures real { LacksAreReal }
     ensures decide { LacksDecide }
     ensures ready { ReadyDecides }
@@ -59,19 +59,19 @@ pub fn lacks_decide()
 
 /// Proves that in a ready state each byte of each endpoint's regions is claimed at its programmed
 /// address, within the apertures, and that each function is reached by its own BDF and no other.
-pub fn ready_is_usable()
+pub fn ready_board_is_reachable()
     ensures regions { ReadyIsUsable }
     ensures functions { ReadyIsFound }
 {}
 
 /// Proves that set-up leaves every board that it accepts ready. The same holds for any later state
 /// with the same routing registers and bus numbers.
-pub fn set_up_is_ready()
+pub fn set_up_leaves_board_ready()
     ensures set_up { SetUpIsReady }
     ensures later { ReadyAsSetUp }
 {}
 
 /// Proves the readiness check's output for some example states.
-pub fn worked_ready_examples()
+pub fn worked_readiness_examples()
     ensures { ReadyExamples }
 {}

@@ -1,5 +1,5 @@
 -- The worked example, by computation.
 use Rattle.model_guests.specs.DeviceExamples.{CountingDevice}
 
-pub counting_device : CountingDevice
-counting_device = assumption
+pub worked_counting_device_example : CountingDevice
+worked_counting_device_example = assumption

@@ -1,7 +1,7 @@
 -- Worked examples that no row of tests/rows can ask: of all bytes of configuration space a guest's own copies, and what an access
 -- hands on to the board.
 use Rattle.std.{proofs.Common.{◌≡◌, [], ◌∷◌, true, false, refl}, specs.{Prelude.filter, List.range_with_len}}
-use Rattle.model_registers.specs.{Registers.{config, block}, ByteEnables.lanes, OwnCopies.{is_own, handed_on}}
+use Rattle.model_registers.specs.{Registers.{config, block}, ByteEnables.lanes, OwnCopies.{is_own, forwarded_byte_enables}}
 
 -- Command, Header Type and the base address registers
 pub own_copies : filter (λ off. is_own (config off)) (range_with_len 0 256)
@@ -11,8 +11,8 @@ own_copies = refl
 
 -- of Command and Status the board gets Status, of 0Ch to 0Fh all but the header type, and of a block every byte
 pub handed_on_by_a_dword :
-    handed_on (config 0x04) (lanes 15) ∷ handed_on (config 0x0c) (lanes 15) ∷ handed_on (config 0x10) (lanes 15)
-    ∷ handed_on (config 0x28) (lanes 15) ∷ handed_on (block 0 4) (lanes 15) ∷ []
+    forwarded_byte_enables (config 0x04) (lanes 15) ∷ forwarded_byte_enables (config 0x0c) (lanes 15) ∷ forwarded_byte_enables (config 0x10) (lanes 15)
+    ∷ forwarded_byte_enables (config 0x28) (lanes 15) ∷ forwarded_byte_enables (block 0 4) (lanes 15) ∷ []
     ≡ lanes 12 ∷ lanes 11 ∷ lanes 0 ∷ lanes 15 ∷ lanes 15 ∷ []
 handed_on_by_a_dword = refl
 

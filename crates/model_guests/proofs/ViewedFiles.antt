@@ -11,8 +11,8 @@ module _ (full copies : File) (held : (p : Place) → IsTrue (is_own p) → cell
   entries_are (l ∷ ls) [] same found = cc
   entries_are (l ∷ ls) (o ∷ os) same found = grind (arith, entries_are ls os)
 
-pub view_is_file : ViewIsFile
-view_is_file left own copies distinct same held = entries_are own copies held left own same (found_entries own distinct)
+pub overlay_gives_guest_registers : ViewIsFile
+overlay_gives_guest_registers left own copies distinct same held = entries_are own copies held left own same (found_entries own distinct)
 
 -- ---- the board agrees with its view
 

@@ -4,7 +4,7 @@
 --     CopiesNeverRise      no device raises bits in the registers that a guest has copies of
 --     FileOfSeat      the file found for a path is that of the slot with the path
 use Rattle.std.specs.Prelude.{List, [], ◌∷◌, ◌≡◌, ℕ, Bool, Option, Some, ⊤, IsTrue, IsFalse, MatchOption}
-use Rattle.model_registers.specs.{Registers.{Place, File, cell_at, read, raise}, OwnCopies.{is_own, handed_on}, Decoding.Function, CopiedFiles.{places_of, agreed_file}}
+use Rattle.model_registers.specs.{Registers.{Place, File, cell_at, read, raise}, OwnCopies.{is_own, forwarded_byte_enables}, Decoding.Function, CopiedFiles.{places_of, agreed_file}}
 use Rattle.model_board.specs.{Paths.Path, Board.Board, Lawful.HasLawfulDecls, State.{BoardFunction, State}}
 use Rattle.model_guests.specs.{Text.Text, Guests.{GuestsNow, path_in, function_in, file_of}, Seated.AreSeated}
 
@@ -36,7 +36,7 @@ pub record Agrees (s : State) (gs : GuestsNow) (now : State) : Type 0 where
 -- a file with the places of the handoff's file
 abbrev pub ShowsFile : Type 0
 ShowsFile = (left own : File) → places_of own ≡ places_of left → (p : Place) (enables : List Bool)
-    → read (agreed_file left own) p (handed_on p enables) ≡ read own p (handed_on p enables)
+    → read (agreed_file left own) p (forwarded_byte_enables p enables) ≡ read own p (forwarded_byte_enables p enables)
 
 -- raising bits in a register that the guest has a copy of doesn't change the guest's file either
 abbrev pub CopiesNeverRise : Type 0

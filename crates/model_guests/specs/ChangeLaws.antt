@@ -6,7 +6,7 @@
 --     MoveResetsOneFunction      a move resets the function, except for the bytes that guests have copies of
 --     lands, EventReachesBoard      the slot and place that an event changes, and its effect on the board there
 use Rattle.std.specs.{Prelude.{List, ◌≡◌, ℕ, Bool, false, if◌then◌else◌, Option, Some, None, option_map, is_some, IsFalse, IsSome}, Option.option_map_or}
-use Rattle.model_registers.specs.{Registers.{Place, File, write, raise, all_bytes}, Declarations.Endpoint, Decoding.Function, EndpointTable.endpoint_reset, OwnCopies.{is_own, handed_on}, CopiedFiles.{agreed_file, after_reset}}
+use Rattle.model_registers.specs.{Registers.{Place, File, write, raise, all_bytes}, Declarations.Endpoint, Decoding.Function, EndpointTable.endpoint_reset, OwnCopies.{is_own, forwarded_byte_enables}, CopiedFiles.{agreed_file, after_reset}}
 use Rattle.model_board.specs.{Paths.{Path, path_eq}, AtReset.board_at, State.State}
 use Rattle.model_guests.specs.{Accesses.{Event, access, raises, Op, reads, writes}, Slots.{slot_at, with_file, Landing, landing, raise_landing, event_fault}, Text.Text, Lone.{LoneGuest, Destination, own_latch, no_function, at_target, destination}, Guests.{GuestNow, GuestsNow, guest_named, lone_of, with_guest, after_guest_event, function_in, path_in, Move, move_fault, after_move}, AgreedBoard.{with_files, state_over, with_change_at}, Seated.AreSeated}
 
@@ -17,7 +17,7 @@ ChangesAlike own_change board_change = (left own : File)
 -- a write reaches the board through the bytes that the guest has no copies of
 abbrev pub WritesAlike : Type 0
 WritesAlike = (enables : List Bool) (v : ℕ) (p : Place)
-    → ChangesAlike (write enables v p) (write (handed_on p enables) v p)
+    → ChangesAlike (write enables v p) (write (forwarded_byte_enables p enables) v p)
 
 -- a raise reaches the board, except for the guest's copies
 abbrev pub RaisesAlike : Type 0
@@ -87,7 +87,7 @@ own_effect (raises r) p file = raise r.mask p file
 
 abbrev pub board_write : Op → ℕ → Place → File → File
 board_write reads w p file = file
-board_write (writes v) w p file = write (handed_on p (all_bytes w)) v p file
+board_write (writes v) w p file = write (forwarded_byte_enables p (all_bytes w)) v p file
 
 -- the effect on the board's file: the bytes that the guest has no copies of
 abbrev pub board_effect : Event → Place → File → File

@@ -9,7 +9,7 @@ ghost use Rattle.model_guests.specs.{Isolation.{Isolated, IsolatedByOwnLines, Ow
 /// Proves isolation over any handoff: a script's replies to a guest, and the guest's state
 /// afterwards, depend only on the guest's own functions and CONFIG_ADDRESS, its own lines, and the
 /// moves that involve it.
-pub fn isolated()
+pub fn guests_are_isolated()
     ensures { Isolated }
 {}
 
@@ -21,7 +21,7 @@ pub fn two_worlds()
 
 /// Proves isolation for scripts without moves, over any handoff: a guest's inputs are then exactly
 /// its own lines.
-pub fn own_lines_decide()
+pub fn own_lines_alone_decide_replies()
     ensures inputs { OwnLinesAlone }
     ensures isolated { IsolatedByOwnLines }
     ensures two_worlds { TwoWorldsByOwnLines }
@@ -30,7 +30,7 @@ pub fn own_lines_decide()
 /// Proves that each assigned function is always in exactly one slot and remains the endpoint at its
 /// path, whatever guests do and wherever functions are moved. Guest names and the handoff never
 /// change.
-pub fn guests_stay_seated()
+pub fn functions_stay_in_one_slot()
     ensures first { SeatedAtFirst }
     ensures events { SeatedAfterEvents }
     ensures moves { SeatedAfterMoves }
@@ -43,7 +43,7 @@ pub fn guests_stay_seated()
 
 /// Proves that an event in a guest's function changes the board in that function only. A write, a
 /// raise or a reset changes on the board only bytes that the guest has no copies of.
-pub fn agreement_follows()
+pub fn event_changes_one_function()
     ensures writes { WritesAlike }
     ensures raises { RaisesAlike }
     ensures resets { ResetsAlike }
@@ -56,7 +56,7 @@ pub fn agreement_follows()
 
 /// Proves that the board holds the guest's value for each byte that the guest has no copy of, and
 /// that no device raises bits in the copied bytes.
-pub fn agreement_shows()
+pub fn board_holds_uncopied_bytes()
     ensures shows { ShowsFile }
     ensures copies { CopiesNeverRise }
     ensures files { FileOfSeat }
@@ -64,14 +64,14 @@ pub fn agreement_shows()
 
 /// Proves that overlaying a guest's copies on the board's register file gives the guest's register
 /// file.
-pub fn view_is_file()
+pub fn overlay_gives_guest_registers()
     ensures file { ViewIsFile }
     ensures agrees { ViewAgrees }
 {}
 
 /// Proves that a move empties one slot and fills another, within one guest or between two guests.
 /// Afterwards the function is at reset in its new slot, and its former slot is empty.
-pub fn moves_by_index()
+pub fn move_empties_and_fills_a_slot()
     ensures within { MoveWithin }
     ensures between { MoveBetween }
     ensures inputs { InputsWithin }
@@ -80,7 +80,7 @@ pub fn moves_by_index()
 
 /// Proves that running a script in pieces has the same output and result as running the whole
 /// script, and that a run that fails has written a prefix of the output.
-pub fn runs_in_pieces()
+pub fn script_in_pieces_runs_alike()
     ensures output { OutputAlong world_protocol }
     ensures after { AfterAlong world_protocol }
     ensures lines { LinesOfPieces }
@@ -91,14 +91,14 @@ pub fn runs_in_pieces()
 
 /// Proves that resetting a function has the same effect as moving the function to an empty slot and
 /// back. The reset reaches the board through the bytes that the guest has no copies of.
-pub fn resets_as_moves()
+pub fn reset_is_a_move_out_and_back()
     ensures moves { ResetByMoves }
     ensures board { ResetReachesBoard }
 {}
 
 /// Proves that a guest's state after an event at its device depends only on its state before, and
 /// that no other guest changes. Functions keep their slots, and guests keep their names.
-pub fn devices_keep_guests()
+pub fn device_event_changes_one_guest()
     ensures own { OwnAfterDevice }
     ensures others { OthersAfterDevice }
     ensures seated { SeatedAfterDevices }
@@ -107,7 +107,7 @@ pub fn devices_keep_guests()
 
 /// Proves that a device's reads change nothing. A byte that a device writes to an existing cell is
 /// read back, and changes that one byte of its function on the board.
-pub fn devices_own_bytes()
+pub fn device_write_changes_one_byte()
     ensures reads { ReadsLeaveGuests }
     ensures written { ReadsWritten }
     ensures board { WriteReachesBoard }
@@ -115,14 +115,14 @@ pub fn devices_own_bytes()
 
 /// Proves the behavior of an example device, which counts in a register that is read-only to its
 /// driver.
-pub fn counting_device()
+pub fn worked_counting_device_example()
     ensures { CountingDevice }
 {}
 
 /// Proves that a guest that walks the capability list of a function in a slot finds the declared
 /// structures, in order, after any of its own lines and any moves; and that the list on the board
 /// is the same one.
-pub fn capability_lists()
+pub fn guests_find_capability_lists()
     ensures guests { GuestsFindLists }
     ensures board { BoardShowsLists }
 {}

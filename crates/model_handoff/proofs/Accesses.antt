@@ -1,14 +1,14 @@
 -- Reads and writes of the board over a handoff, where a guest has a function.
 use Rattle.std.{proofs.Common.{◌≡◌, ℕ, ◌+◌, Bool, List, [], ◌∷◌, Some, Option, refl, sym, ap, ◌∙◌, subst, arith}, specs.{Prelude.{find, option_map}, Option.option_map_or}}
 use Rattle.lists.{specs.Elements.{Each, IsIn}, proofs.{Members.each_in, FirstFound.found_in}}
-use Rattle.model_registers.specs.{Registers.{config, block, File, read, write, all_bytes, number}, ByteEnables.enabled_bits, Decoding.Function, OwnCopies.handed_on, CopiedFiles.{agreed_file, places_of}}
+use Rattle.model_registers.specs.{Registers.{config, block, File, read, write, all_bytes, number}, ByteEnables.enabled_bits, Decoding.Function, OwnCopies.forwarded_byte_enables, CopiedFiles.{agreed_file, places_of}}
 use Rattle.model_board.specs.{Paths.{Path, path_eq}, Board.{endpoint, Board}, AtReset.board_at, Claims.Claim, Cycles.reached, Ports.{file_at, claim_reply, after_claim_write, target_reply, after_target_write}, State.{BoardFunction, State}}
-use Rattle.model_findings.specs.{Found.{address_now, IsNumbered}, Orderly.IsStateOfBoard}
+use Rattle.model_findings.specs.{Found.{current_bdf, IsNumbered}, Orderly.IsStateOfBoard}
 use Rattle.model_guests.{specs.{Guests.{GuestsNow, file_of}, AgreedBoard.{agreed_function, state_over}, ChangeLaws.ChangesAlike, Seated.{AreSeated, IsSeatedAt}, Text.Text}, proofs.{AgreedChanges.agreed_by, AgreedFiles.{writes_alike, shows_file}, KeptCopies.file_of_seat, Changes.changes_slot, DeclaredRows.declared_row}}
 use Rattle.model_handoff.{specs.{Handoffs.HasDeclaredShape, Regions.base_in, RegionLaws.{HitActs, ActsOver, ReachesOver, RegionReads, RegionWrites, MemoryBySpace, PortsBySpace, CycleReads, CycleWrites, HasSlot}}, proofs.{Functions.{Facts, facts, path_stays, decl_stays}, Agreement.places_in, Keeping.{find_path, keeps_reach}, Standing.{at_path, endpoint_at, StandsAt, found, stands}, Regions.{hit_reaches_over, region_is_claimed, seat_of}}}
 
 -- in a region there are no copies
-all_handed : (n a : ℕ) (ons : List Bool) → handed_on (block n a) ons ≡ ons
+all_handed : (n a : ℕ) (ons : List Bool) → forwarded_byte_enables (block n a) ons ≡ ons
 all_handed n a [] = refl
 all_handed n a (on ∷ ons) = grind (arith, all_handed n (a + 1) ons)
 
@@ -56,15 +56,15 @@ module _ (s : State) (state : IsStateOfBoard s.functions) (gs : GuestsNow) (seat
       grind (arith, found_now, all_handed k a ons, shows_file left f.file (places_are shapes) (block k a) ons, places_are shapes)
 
   -- the cycle for its address
-  pub reached_is : IsNumbered s.functions → reached (state_over s gs).functions (address_now s.functions p) ≡ Some (endpoint_at p f.decl (agreed_file left f.file))
+  pub reached_is : IsNumbered s.functions → reached (state_over s gs).functions (current_bdf s.functions p) ≡ Some (endpoint_at p f.decl (agreed_file left f.file))
   reached_is numbered =
-      keeps_reach s state gs seated (address_now s.functions p) ∙ ap (option_map (agreed_function (file_of gs))) handed ∙ ap Some now_is
+      keeps_reach s state gs seated (current_bdf s.functions p) ∙ ap (option_map (agreed_function (file_of gs))) handed ∙ ap Some now_is
     where
-      among : (o : Option BoardFunction) → reached s.functions (address_now s.functions p) ≡ o → option_map (λ (g : BoardFunction). g.path) o ≡ Some p → reached s.functions (address_now s.functions p) ≡ Some (endpoint_at p f.decl left)
+      among : (o : Option BoardFunction) → reached s.functions (current_bdf s.functions p) ≡ o → option_map (λ (g : BoardFunction). g.path) o ≡ Some p → reached s.functions (current_bdf s.functions p) ≡ Some (endpoint_at p f.decl left)
       among o e h = grind (arith, found s.functions state, there, found_in)
 
-      handed : reached s.functions (address_now s.functions p) ≡ Some (endpoint_at p f.decl left)
-      handed = grind (arith, among (reached s.functions (address_now s.functions p)) refl, each_in, there)
+      handed : reached s.functions (current_bdf s.functions p) ≡ Some (endpoint_at p f.decl left)
+      handed = grind (arith, among (reached s.functions (current_bdf s.functions p)) refl, each_in, there)
 
 pub region_reads : RegionReads
 region_reads s handoff orderly gs seated name n p f has r declared opened k small w =
@@ -94,10 +94,10 @@ ports_by_space s a w v h = (ap (target_reply s a w) h, ap (after_target_write s 
 
 pub cycle_reads : CycleReads
 cycle_reads s handoff numbered gs seated name n p f has off ons =
-    ap (λ (o : Option BoardFunction). option_map_or (λ (g : BoardFunction). read g.file (config off) (handed_on (config off) ons)) o (enabled_bits (handed_on (config off) ons)))
+    ap (λ (o : Option BoardFunction). option_map_or (λ (g : BoardFunction). read g.file (config off) (forwarded_byte_enables (config off) ons)) o (enabled_bits (forwarded_byte_enables (config off) ons)))
     (reached_is s handoff.board gs seated name n p f has numbered)
     ∙ shows_file (left s handoff.board gs seated name n p f has) f.file (places_are s handoff.board gs seated name n p f has handoff.shapes) (config off) ons
 
 pub cycle_writes : CycleWrites
 cycle_writes s state numbered gs seated name n p f has off ons v =
-    grind (arith, reached_is s state gs seated name n p f has numbered, changes_slot (board_at s.functions) s gs seated name n p f has.path has.function (write ons v (config off)) (write (handed_on (config off) ons) v (config off)) (writes_alike ons v (config off)), writes_alike ons v (config off))
+    grind (arith, reached_is s state gs seated name n p f has numbered, changes_slot (board_at s.functions) s gs seated name n p f has.path has.function (write ons v (config off)) (write (forwarded_byte_enables (config off) ons) v (config off)) (writes_alike ons v (config off)), writes_alike ons v (config off))

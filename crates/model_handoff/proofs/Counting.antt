@@ -8,7 +8,7 @@
 use Rattle.std.{proofs.{Common.{◌≡◌, ◌<◌, ◌+◌, ◌^◌, ◌%◌, ℕ, Bool, true, false, ◌&&◌, ◌||◌, not, cond, eqb, List, [], ◌∷◌, Some, None, Option, refl, sym, ap, ap₂, ◌∙◌, subst, arith, zero-add}, lemmas.Bool.and_parts}, specs.{Prelude.{is_some, IsSome, slice_get}, Option.option_map_or, Str.bytes_eq}}
 use Rattle.model_board.specs.AtReset.{board_at}
 use Rattle.model_guests.{specs.{Accesses.{Event, access, raises, Access}, Slots.{Landing, fault_of}, Text.Text, Lone.{LoneGuest, after_event, changed_by}, Guests.{GuestsNow, guest_named, lone_of, guest_after, move_fault}, Lines.{nothing, guest_event, host_read, host_move, bad}, WorldNow.{names_of, WorldNow, names_now}, DeviceEvents.{resets, device_reads, device_writes, slot_fault, device_after, after_device_event, reset_in}, Calls.{Call, asks, at_device, after_call}}, proofs.{Along.{names_with, names_meaning}, Names.{equal_texts, same_text}, OneGuest.lone_by}}
-use Rattle.model_handoff.{specs.{GuestRegions.region_answer, Located.located, StayLaws.{any_tells, is_write, rewrites, touches, moves_regions}, Kept.IsLawfulOver, Actions.{Action, after_action, after_actions}, Changes.{moves_own, moves_by_call, changes, changes_along, after_change, counts_where, MachineNow, after_on_machine, after_all_on_machine}, CountLaws.{HaveSameAnswers, RegionsStayAlong, ChangesTouchSlots, IsCounted, CountsGrow, AnswersStay}}, proofs.{Staying.regions_stay, DevicesOver.lawful_after_devices, Kept.lawful_after_meaning, Actions.there_after, Giving.{lawful_after_gift, lawful_after_taking, others_after_gift, others_after_taking}}}
+use Rattle.model_handoff.{specs.{GuestRegions.region_answer, Located.located, StayLaws.{any_tells, is_write, rewrites, touches, moves_regions}, Kept.IsLawfulOver, Actions.{Action, after_action, after_actions}, Changes.{moves_own, moves_by_call, changes, changes_along, after_change, counts_where, MachineNow, after_on_machine, after_all_on_machine}, CountLaws.{HaveSameAnswers, RegionsStayAlong, ChangesTouchSlots, IsCounted, CountsGrow, AnswersStay}}, proofs.{Staying.only_own_events_move_regions, DevicesOver.lawful_after_devices, Kept.lawful_after_meaning, Actions.there_after, Giving.{lawful_after_gift, lawful_after_taking, others_after_gift, others_after_taking}}}
 use Rattle.lists.proofs.Tests.{and_false}
 use Rattle.model_registers.proofs.RegisterFiles.{self}
 
@@ -24,7 +24,7 @@ module _ (w : WorldNow) (h : IsLawfulOver w) (name : Text) (there : IsSome (gues
 
   -- by a call that touches no slot
   untouched : (c : Call) → ((slot : ℕ) → moves_regions name slot w.guests c ≡ false) → Stays (after_call w c)
-  untouched c none slot n = regions_stay (board_at w.handoff.functions) h.handoff.board.declarations w h.seated name there slot n c (none slot)
+  untouched c none slot n = only_own_events_move_regions (board_at w.handoff.functions) h.handoff.board.declarations w h.seated name there slot n c (none slot)
 
   -- by what leaves the guest as it is
   pub same_guest : (v : WorldNow) → lone_of v.guests name ≡ lone_of w.guests name → HaveSameAnswers w v name

@@ -65,8 +65,8 @@ holds_from p i (g ∷ gs) s e = by (position (is_there p) g.paths) refl e (holds
         → (seat_from p (i + 1) gs ≡ Some s → HoldsFrom p (i + 1) gs s) → HoldsFrom p i (g ∷ gs) s
     by o here f more = grind (arith, later, held_in)
 
-pub seats_hold : SeatsHold
-seats_hold gs p s e = grind (arith, holds_from p 0 gs s e)
+pub reported_slot_holds_function : SeatsHold
+reported_slot_holds_function gs p s e = grind (arith, holds_from p 0 gs s e)
 
 none_from : (p : Path) (i : ℕ) (gs : GuestsNow) → seat_from p i gs ≡ None → (k n : ℕ) → path_in_seat gs (record { guest = k; slot = n }) ≡ Some p → ⊥
 none_from p i [] e k n h = cc

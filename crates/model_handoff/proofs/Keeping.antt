@@ -4,7 +4,7 @@ use Rattle.std.{proofs.{Common.{◌≡◌, ℕ, Bool, true, false, ◌&&◌, Lis
 use Rattle.lists.{specs.Elements.Each, proofs.{EachLemmas.{each_both, each_map, each_of_map}, Tests.and_false, Members.flat_map_map}}
 use Rattle.model_registers.specs.{Registers.{config, File, cell_at}, Declarations.Endpoint, CopiedFiles.agreed_file}
 use Rattle.model_board.{specs.{Paths.{Part, Path}, Board.{Decl, endpoint, bridge, Row, Board, is_bridge}, AtReset.board_at, BusNumbers.{secondary, subordinate}, Cycles.{secondary_register, subordinate_register, takes, is_route, BusAddress, reached}, Routing.routing, RoutingLaws.{is_routing_register, HasSameRouting}, State.{BoardFunction, State, row_at}}, proofs.Routing.routing_of_change}
-use Rattle.model_findings.{specs.{Found.{address_now, path_reached}, Problems.numbering_problems}, proofs.Witnesses.problems_decide}
+use Rattle.model_findings.{specs.{Found.{current_bdf, path_reached}, Problems.numbering_problems}, proofs.Witnesses.problems_are_real_and_complete}
 use Rattle.model_guests.{specs.{Guests.{GuestsNow, file_of}, AgreedBoard.{agreed_function, state_over}, Seated.IsSeatedGuest}, proofs.{AgreedChanges.agreed_by, AgreedFiles.agreed_kept}}
 use Rattle.model_handoff.{specs.AgreementLaws.{KeepsBoard, KeepsBridges, KeepsNumbers, KeepsRouting, KeepsReach, KeepsAddresses, KeepsProblems, StaysInOrder}, proofs.Functions.{Facts, facts, bridge_stays, path_stays, decl_stays, row_stays}}
 
@@ -75,11 +75,11 @@ module _ (g : BoardFunction → BoardFunction) (paths : (f : BoardFunction) → 
     pub reach_stays : (at : BusAddress) → reached now at ≡ option_map g (reached fs at)
     reach_stays at = grind (arith, find_path, route_stays at.bus)
 
-    pub address_stays : (p : Path) → address_now now p ≡ address_now fs p
+    pub address_stays : (p : Path) → current_bdf now p ≡ current_bdf fs p
     address_stays p = grind (arith, find_bridge)
 
     found_path_stays : (p : Path) → path_reached now p ≡ path_reached fs p
-    found_path_stays p = grind (arith, address_stays p, reach_stays (address_now fs p))
+    found_path_stays p = grind (arith, address_stays p, reach_stays (current_bdf fs p))
 
     pub numbering_stays : numbering_problems now ≡ numbering_problems fs
     numbering_stays = grind (arith, flat_map_map, address_stays, found_path_stays)
@@ -126,4 +126,4 @@ keeps_problems s board gs seated = grind (arith, keeps_routing, numbering_stays,
 
 pub stays_in_order : StaysInOrder
 stays_in_order s board gs seated order =
-    (problems_decide (state_over s gs).functions).0 (keeps_problems s board gs seated ∙ (problems_decide s.functions).1 order)
+    (problems_are_real_and_complete (state_over s gs).functions).0 (keeps_problems s board gs seated ∙ (problems_are_real_and_complete s.functions).1 order)

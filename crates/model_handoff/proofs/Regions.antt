@@ -4,7 +4,7 @@ use Rattle.lists.{specs.Elements.IsIn, proofs.Members.{each_in, in_map, in_filte
 use Rattle.model_registers.{specs.{Registers.File, Declarations.{Kind, Region, Endpoint}, Decoding.{space_of, base, base_address, opens_space, command_word, Function}}, proofs.HitRegions.hit_is_of_region}
 use Rattle.model_board.specs.{Paths.Path, Board.Board, AtReset.board_at, Routing.{row_of, routing}, State.{BoardFunction, State}}
 use Rattle.model_set_up.specs.PlacedRegions.{PlacedRegion}
-use Rattle.model_findings.{specs.{OpenRegions.{region_now, open_of, open_regions}, Orderly.IsStateOfBoard}, proofs.Claims.orderly_claims}
+use Rattle.model_findings.{specs.{OpenRegions.{region_now, open_of, open_regions}, Orderly.IsStateOfBoard}, proofs.Claims.consistent_claims_are_unique}
 use Rattle.model_guests.{specs.{Guests.GuestsNow, Seated.{AreSeated, IsSeatedAt}, Text.Text, AgreedBoard.state_over}, proofs.{DeclaredRows.declared_row, SeatedMoves.seat_in}}
 use Rattle.model_handoff.{specs.{Regions.opens_region, RegionLaws.{RegionIsClaimed, HasSlot, HitReachesOver}}, proofs.{Keeping.{keeps_board, keeps_routing}, Standing.{endpoint_at, stands}}}
 
@@ -21,7 +21,7 @@ is_open_there fs p d file r m k opened =
     (in_map (region_now p) (base_address file r) (map (base_address file) d.regions) (in_map (base_address file) r d.regions k)) opened)
 
 pub region_is_claimed : RegionIsClaimed
-region_is_claimed s state orderly gs seated p d row r declared opened k small = grind (arith, keeps_routing, stands, orderly_claims, state_stays, is_open_there, each_in)
+region_is_claimed s state orderly gs seated p d row r declared opened k small = grind (arith, keeps_routing, stands, consistent_claims_are_unique, state_stays, is_open_there, each_in)
 
 -- ---- hits
 

@@ -4,7 +4,7 @@ use Rattle.lists.{specs.Elements.IsIn, proofs.Members.{each_from, any_in, in_fro
 use Rattle.model_registers.specs.{Declarations.Region, Decoding.{Function, base_address, opens_space, command_word}}
 use Rattle.model_board.{specs.{Paths.{Path, path_eq}, AtReset.board_at, Ports.file_at, State.State, Routing.{row_of, routing}}, proofs.PathEnds.path_self}
 use Rattle.model_set_up.specs.PlacedRegions.{PlacedRegion}
-use Rattle.model_findings.{specs.OpenRegions.{region_now, closed_of, closed_regions}, proofs.Witnesses.problems_decide}
+use Rattle.model_findings.{specs.OpenRegions.{region_now, closed_of, closed_regions}, proofs.Witnesses.problems_are_real_and_complete}
 use Rattle.model_guests.{specs.{Text.Text, World.{Guest, World, given_paths}, Guests.{GuestNow, GuestsNow, guest_at_first, guest_after, handed_over, move_fault, path_in, function_in, with_guest, with_slot_emptied, with_slot_filled}}, proofs.{GuestsByName.{Keeps, path_at}, DeclaredRows.declared_row, SeatedMoves.{Placed, placed, put_there, was_there}, Seats.paths_stay}}
 use Rattle.model_handoff.{specs.{Handoffs.is_given, Regions.{opens_region, closed_given, AreServed, HasOpenRegions}, RegionLaws.{ServedAtFirst, ServedAfterEvents, ServedAfterMoves, FaultDecides}}, proofs.Standing.{endpoint_at, StandsAt, stands}}
 
@@ -73,4 +73,4 @@ served_after_moves s gs served m = by (is_some (move_fault gs m)) (function_in g
 -- ---- faults
 
 pub fault_decides : FaultDecides
-fault_decides w s = grind (arith, problems_decide)
+fault_decides w s = grind (arith, problems_are_real_and_complete)

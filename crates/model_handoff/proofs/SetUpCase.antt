@@ -3,8 +3,8 @@ use Rattle.std.{proofs.Common.{◌≡◌, true, false, not, List, [], ◌∷◌,
 use Rattle.lists.{specs.Elements.IsIn, proofs.{EachLemmas.{each_of_map, each_map}, Members.{any_in, in_map, from_map, from_filter, from_flat_map, no_elements}}}
 use Rattle.model_registers.specs.{Registers.File, EndpointTable.{BaseAddress, endpoint_reset}, Declarations.{Region, Endpoint}, CopiedFiles.shape_of, Decoding.{space_of, base_address, opens_space, command_word, is_open}, Apertures.Apertures}
 use Rattle.model_board.{specs.{Paths.Path, Board.{Decl, endpoint, bridge, Board, IsBoard, is_multifunction}, Lawful.{IsLawfulDecl, HasLawfulDecls}, Ports.file_at, Routing.{row_of, routing}, State.BoardFunction}, proofs.StateRows.state_rows}
-use Rattle.model_set_up.{specs.{PlacedRegions.{PlacedRegion, placed}, SetUp.{command_of, first_of, bridge_values, set_up_file, set_up_state}}, proofs.{DeclaredRows.rows_are_declared, Holders.self_space, LawfulPlacement.layout_is_lawful, SetUpNumbers.set_up_has_numbers, SetUpRegisters.endpoint_opens, UniqueClaimant.left}}
-use Rattle.model_findings.{specs.{OpenRegions.{region_now, closed_of, closed_regions}, Orderly.IsStateOfBoard}, proofs.{Found.numbers_of_board, Witnesses.problems_decide, Placing.regions_placed, SetUpPasses.set_up_passes}}
+use Rattle.model_set_up.{specs.{PlacedRegions.{PlacedRegion, placed}, SetUp.{command_of, first_of, bridge_values, set_up_file, set_up_state}}, proofs.{DeclaredRows.one_row_per_region_or_window, Holders.self_space, LawfulPlacement.layout_is_lawful, SetUpNumbers.set_up_has_numbers, SetUpRegisters.endpoint_opens, UniqueClaimant.left}}
+use Rattle.model_findings.{specs.{OpenRegions.{region_now, closed_of, closed_regions}, Orderly.IsStateOfBoard}, proofs.{Found.numbers_of_board, Witnesses.problems_are_real_and_complete, Placing.regions_placed, SetUpPasses.set_up_passes_the_audit}}
 use Rattle.model_guests.proofs.TablePlaces.{Alike, alike_tables}
 use Rattle.model_handoff.{specs.{Handoffs.{declared_cells, is_given}, Regions.closed_given, SetUpCase.{SetUpIsHandoff, SetUpIsInOrder, SetUpCanBeGiven, SetUpPlaces, SetUpAddresses}}, proofs.{Shapes.{endpoint_shape, bridge_shape}, Standing.found}}
 
@@ -23,7 +23,7 @@ pub set_up_is_handoff : SetUpIsHandoff
 set_up_is_handoff b a board decls = grind (arith, state_is, each_of_map, each_map, shape_is, state_rows)
 
 pub set_up_is_in_order : SetUpIsInOrder
-set_up_is_in_order b a few can = (problems_decide (set_up_state b a).functions).0 (set_up_passes b a few can)
+set_up_is_in_order b a few can = (problems_are_real_and_complete (set_up_state b a).functions).0 (set_up_passes_the_audit b a few can)
 
 pub set_up_addresses : SetUpAddresses
 set_up_addresses b a board few = (numbers_of_board b board (set_up_state b a).functions (set_up_has_numbers b a few)).1
@@ -45,7 +45,7 @@ set_up_places b a can p d row r m =
     let is : file_at fs p ≡ file = ap (λ (o : Option BoardFunction). option_map_or (λ (g : BoardFunction). g.file) o []) (found fs (state_is b a can.places can.declarations) f (in_map (left b a) (record { path = p; decl = endpoint d }) b row)) in
     let placed_there : region_now p (base_address file r) ≡ placed b a p r =
     maps_at (region_now p) (base_address file) (placed b a p) d.regions
-    (regions_placed b a can (layout_is_lawful b a can.places can.declarations can.room) (rows_are_declared b a can.places can.declarations) p (endpoint d) row) r m in grind (arith, opens_own b a p d r m)
+    (regions_placed b a can (layout_is_lawful b a can.places can.declarations can.room) (one_row_per_region_or_window b a can.places can.declarations) p (endpoint d) row) r m in grind (arith, opens_own b a p d r m)
 
 module _ (b : Board) (a : Apertures) where
   none_closed : (p : Path) (d : Decl) (q : PlacedRegion) → IsIn q (closed_of (row_of (left b a (record { path = p; decl = d })))) → ⊥

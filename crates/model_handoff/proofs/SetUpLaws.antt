@@ -3,7 +3,7 @@ use Rattle.std.proofs.{Common.{◌≡◌, ℕ, ◌+◌, ◌≤◌, true, false, 
 use Rattle.lists.{specs.Elements.IsIn, proofs.{EachLemmas.{each_of_map, each_map}, Tests.and_false}}
 use Rattle.model_registers.{specs.{Registers.{File, cell_at}, Apertures.Apertures, EndpointTable.endpoint_reset}, proofs.HitRegions.hit_is_of_region}
 use Rattle.model_board.specs.{Paths.Path, Board.{Decl, endpoint, bridge, Board}, Lawful.IsLawfulDecl, Ports.{ordinary, port_target}, Routing.routing, State.{BoardFunction, State}}
-use Rattle.model_set_up.{specs.SetUp.{set_up_file, set_up_state}, proofs.{PlacedRegions.placed_within, SetUpNumbers.set_up_has_numbers, UniqueClaimant.{claim_of_region, left}}}
+use Rattle.model_set_up.{specs.SetUp.{set_up_file, set_up_state}, proofs.{PlacedRegions.placed_addresses_are_in_range, SetUpNumbers.set_up_has_numbers, UniqueClaimant.{claim_of_region, left}}}
 use Rattle.model_guests.{specs.{Guests.GuestsNow, AgreedBoard.state_over, AgreedLaws.Agrees}, proofs.{AgreedFiles.agreed_common, DeclaredRows.declared_row, DistinctPlaces.distinct_places, TablePlaces.{alike_places, agreed_at_reset}}}
 use Rattle.model_handoff.{specs.{Handoffs.{is_given, HoldsReset}, AgreementLaws.OverHandoffs, SetUpLaws.{OverSetUp, SetUpAgrees, SetUpIsOnly, SetUpAtFirst, SetUpKeepsRouting, SetUpKeepsNumbers, HitReachesRegion}}, proofs.{Agreement.{state_agrees, state_is_only}, First.first_is_handoff, Keeping.{keeps_numbers, keeps_routing}, Regions.lanes_of, SetUpCase.{alike, set_up_is_handoff}}}
 
@@ -57,4 +57,4 @@ hit_reaches_region b a can gs seated p f seat space n h e =
     let row : IsIn (record { path = p; decl = endpoint f.decl }) b = declared_row b p f.decl seat.decl in
     let fs : List BoardFunction = (state_over (set_up_state b a) gs).functions in
     let claim = claim_of_region b a can fs (set_up_keeps_routing b a can.places can.declarations gs seated) p f.decl row at.0 at.1 h.offset at.2.inside in
-    grind (arith, lanes_of, beyond_the_latch, no_less, placed_within b a can p f.decl row at.0 at.1)
+    grind (arith, lanes_of, beyond_the_latch, no_less, placed_addresses_are_in_range b a can p f.decl row at.0 at.1)

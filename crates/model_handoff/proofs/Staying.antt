@@ -137,20 +137,20 @@ moved name m p (Some f) gs there slot n apart =
     ∙ beside (with_slot_emptied m.slot) (λ t. refl) (emptied m.slot) (λ t. refl) m.from name gs there slot n
     (λ here. emptied_beside (lone_of gs name) m.slot slot n (second_false (bytes_eq m.from name) (eqb m.slot slot) parts.0 here))
 
-pub regions_stay : RegionsStay
-regions_stay b decls w seated name there slot n (asks nothing) none = refl
-regions_stay b decls w seated name there slot n (asks (guest_event who e)) none =
+pub only_own_events_move_regions : RegionsStay
+only_own_events_move_regions b decls w seated name there slot n (asks nothing) none = refl
+only_own_events_move_regions b decls w seated name there slot n (asks (guest_event who e)) none =
     beside (guest_after e) (λ t. refl) (λ (g : LoneGuest). after_event g e) (λ t. refl) who name w.guests there slot n
     (λ here. by_event b decls w.guests seated name slot n e (second_false (bytes_eq who name) (rewrites slot (lone_of w.guests name) e) none here))
-regions_stay b decls w seated name there slot n (asks (host_read r)) none = refl
-regions_stay b decls w seated name there slot n (asks (host_move m)) none = grind (arith, moved)
-regions_stay b decls w seated name there slot n (asks (bad who k)) none = refl
-regions_stay b decls w seated name there slot n (at_device who (resets k)) none =
+only_own_events_move_regions b decls w seated name there slot n (asks (host_read r)) none = refl
+only_own_events_move_regions b decls w seated name there slot n (asks (host_move m)) none = grind (arith, moved)
+only_own_events_move_regions b decls w seated name there slot n (asks (bad who k)) none = refl
+only_own_events_move_regions b decls w seated name there slot n (at_device who (resets k)) none =
     beside (device_after (resets k)) (λ t. refl) (λ (g : LoneGuest). after_device_event g (resets k)) (λ t. refl) who name w.guests there slot n
     (λ here. reset_beside (lone_of w.guests name) k slot n (second_false (bytes_eq who name) (eqb k slot) none here))
-regions_stay b decls w seated name there slot n (at_device who (device_reads d)) none =
+only_own_events_move_regions b decls w seated name there slot n (at_device who (device_reads d)) none =
     beside (device_after (device_reads d)) (λ t. refl) (λ (g : LoneGuest). after_device_event g (device_reads d)) (λ t. refl) who name w.guests there slot n
     (λ here. by_device_read b decls w.guests seated name slot n d)
-regions_stay b decls w seated name there slot n (at_device who (device_writes d v)) none =
+only_own_events_move_regions b decls w seated name there slot n (at_device who (device_writes d v)) none =
     beside (device_after (device_writes d v)) (λ t. refl) (λ (g : LoneGuest). after_device_event g (device_writes d v)) (λ t. refl) who name w.guests there slot n
     (λ here. by_device_write b decls w.guests seated name slot n d v)

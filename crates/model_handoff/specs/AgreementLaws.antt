@@ -11,7 +11,7 @@ use Rattle.std.specs.Prelude.{◌≡◌, option_map, IsTrue}
 use Rattle.lists.specs.Elements.{Each}
 use Rattle.model_board.specs.{Board.is_bridge, Paths.Path, AtReset.board_at, State.State, Cycles.{BusAddress, reached}, Routing.routing}
 use Rattle.model_set_up.specs.Reach.{HasNumbers}
-use Rattle.model_findings.specs.{Found.address_now, Orderly.IsStateOfBoard, Problems.problems, Witnesses.IsInOrder}
+use Rattle.model_findings.specs.{Found.current_bdf, Orderly.IsStateOfBoard, Problems.problems, Witnesses.IsInOrder}
 use Rattle.model_guests.specs.{World.World, Guests.{GuestsNow, guests_at_first, file_of}, AgreedBoard.{agreed_function, state_over}, AgreedLaws.Agrees, Seated.AreSeated}
 use Rattle.model_handoff.specs.Handoffs.{IsHandoff, with_given_reset, HasGivenAtReset}
 
@@ -55,7 +55,7 @@ KeepsReach = OverBoards (λ s gs. (at : BusAddress)
     → reached (state_over s gs).functions at ≡ option_map (agreed_function (file_of gs)) (reached s.functions at))
 
 abbrev pub KeepsAddresses : Type 0
-KeepsAddresses = OverBoards (λ s gs. (p : Path) → address_now (state_over s gs).functions p ≡ address_now s.functions p)
+KeepsAddresses = OverBoards (λ s gs. (p : Path) → current_bdf (state_over s gs).functions p ≡ current_bdf s.functions p)
 
 abbrev pub KeepsProblems : Type 0
 KeepsProblems = OverBoards (λ s gs. problems (state_over s gs).functions ≡ problems s.functions)

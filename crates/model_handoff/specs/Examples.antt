@@ -7,7 +7,7 @@ use Rattle.std.specs.Prelude.{[], ◌∷◌, ◌≡◌, ℕ, Some, None, codes}
 use Rattle.model_registers.specs.{Registers.{config, write, all_bytes}, Decoding.memory}
 use Rattle.model_board.specs.{Paths.Path, Claims.first_claim, Cycles.BusAddress, Ports.config_reply, State.State, Examples.{part, main_board, main_apertures}}
 use Rattle.model_set_up.specs.{PlacedRegions.PlacedRegion, SetUp.set_up_state}
-use Rattle.model_findings.specs.{Found.address_now, Problems.{not_found, problems}}
+use Rattle.model_findings.specs.{Found.current_bdf, Problems.{not_found, problems}}
 use Rattle.model_guests.specs.{Text.text_of_lines, Examples.{main_world, on_bus_0, behind}, Guests.guests_at_first, AgreedBoard.{state_over, with_change_at}, WorldNow.{world_over, output}}
 use Rattle.model_handoff.specs.Regions.{in_disorder, closed_region, closed_given, first_fault}
 
@@ -38,7 +38,7 @@ pub record WorkedExamples : Type 0 where
   -- an audit finds no problem, and its functions may be assigned
   pub passes : problems other_handoff.functions ≡ []
   pub may_be_given : first_fault main_world other_handoff ≡ None
-  pub number : address_now other_handoff.functions (behind 2 0) ≡ on_bus 5 0
+  pub number : current_bdf other_handoff.functions (behind 2 0) ≡ on_bus 5 0
   -- the region is claimed at its address in the handoff, and not at the address where set-up would have placed it
   pub claimed :
       first_claim (state_over other_handoff (guests_at_first main_world)).functions memory 0xd0000010

@@ -9,7 +9,7 @@ use Rattle.std.specs.{Prelude.{[], ◌∷◌, ℕ, ◌+◌, Bool, false, if◌th
 use Rattle.lists.specs.Elements.{first_of_two}
 use Rattle.model_registers.specs.Registers.{config, File, number}
 use Rattle.model_board.specs.{Paths.{Path, path_eq}, Board.{Decl, endpoint, bridge}, State.{BoardFunction, State}, Cycles.BusAddress, Routing.{Ranges, ranges_of}}
-use Rattle.model_findings.specs.Found.{address_now}
+use Rattle.model_findings.specs.Found.{current_bdf}
 use Rattle.model_guests.specs.{Text.Text, Guests.{GuestNow, GuestsNow, path_in}}
 
 pub record Identity : Type 0 where
@@ -21,9 +21,9 @@ pub record Identity : Type 0 where
   pub subsystem : ℕ
 
 -- an endpoint's only; a bridge has none, and reports 0
-abbrev pub subsystem_number : Decl → File → ℕ → ℕ
-subsystem_number (endpoint d) file off = number file (config off) 2
-subsystem_number (bridge d) file off = 0
+abbrev pub subsystem_id_or_zero : Decl → File → ℕ → ℕ
+subsystem_id_or_zero (endpoint d) file off = number file (config off) 2
+subsystem_id_or_zero (bridge d) file off = 0
 
 abbrev pub identity_now : Decl → File → Identity
 identity_now d file = record {
@@ -31,8 +31,8 @@ identity_now d file = record {
   device = number file (config 2) 2;
   revision = number file (config 8) 1;
   class = number file (config 9) 3;
-  subvendor = subsystem_number d file 0x2c;
-  subsystem = subsystem_number d file 0x2e;
+  subvendor = subsystem_id_or_zero d file 0x2c;
+  subsystem = subsystem_id_or_zero d file 0x2e;
 }
 
 -- ---- seats
@@ -68,7 +68,7 @@ pub record LiveFunction : Type 0 where
 abbrev pub function_now : State → GuestsNow → BoardFunction → LiveFunction
 function_now s gs f = record {
   path = f.path;
-  at = address_now s.functions f.path;
+  at = current_bdf s.functions f.path;
   identity = identity_now f.decl f.file;
   ranges = ranges_of f.file f.decl;
   seat = seat_of gs f.path;

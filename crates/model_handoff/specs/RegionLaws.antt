@@ -12,9 +12,9 @@
 --     FaultDecides      functions may be assigned if and only if there is no fault
 use Rattle.std.specs.Prelude.{List, [], ◌∷◌, ◌≡◌, ℕ, ◌<◌, ◌+◌, ◌%◌, Bool, Some, None, IsTrue, ◌↔◌}
 use Rattle.lists.specs.Elements.{IsIn}
-use Rattle.model_registers.specs.{Registers.{config, block, read, write, all_bytes, number}, OwnCopies.handed_on, Declarations.{Region, Endpoint}, Decoding.{Space, io, memory, space_of, Function, Hit, lone_claim}, DecodingLaws.IsHitIn}
+use Rattle.model_registers.specs.{Registers.{config, block, read, write, all_bytes, number}, OwnCopies.forwarded_byte_enables, Declarations.{Region, Endpoint}, Decoding.{Space, io, memory, space_of, Function, Hit, lone_claim}, DecodingLaws.IsHitIn}
 use Rattle.model_board.specs.{Paths.Path, Board.endpoint, AtReset.board_at, State.{BoardFunction, State}, Claims.{Claim, claims, first_claim}, Ports.{claim_reply, after_claim_write, config_reply, after_config_write, port_target, ordinary, port_reply, after_port_write, memory_reply, after_memory_write}, Routing.routing}
-use Rattle.model_findings.specs.{Found.{address_now, IsNumbered}, Orderly.{IsOrderly, IsStateOfBoard}}
+use Rattle.model_findings.specs.{Found.{current_bdf, IsNumbered}, Orderly.{IsOrderly, IsStateOfBoard}}
 use Rattle.model_guests.specs.{Accesses.Event, Text.Text, World.World, Guests.{GuestsNow, guests_at_first, path_in, function_in, with_guest, after_guest_event, Move, after_move}, Seated.AreSeated, AgreedBoard.state_over, ChangeLaws.with_slot_changed}
 use Rattle.model_handoff.specs.{Handoffs.IsHandoff, Regions.{base_in, opens_region, closed_given, first_fault, CanBeGiven, AreServed}}
 
@@ -109,14 +109,14 @@ abbrev pub CycleReads : Type 0
 CycleReads = (s : State) → IsHandoff s → IsNumbered s.functions
     → (gs : GuestsNow) → AreSeated (board_at s.functions) gs
     → (name : Text) (n : ℕ) (p : Path) (f : Function) → HasSlot gs name n p f → (off : ℕ) (ons : List Bool)
-    → config_reply (state_over s gs).functions (address_now s.functions p) off (handed_on (config off) ons)
-    ≡ read f.file (config off) (handed_on (config off) ons)
+    → config_reply (state_over s gs).functions (current_bdf s.functions p) off (forwarded_byte_enables (config off) ons)
+    ≡ read f.file (config off) (forwarded_byte_enables (config off) ons)
 
 abbrev pub CycleWrites : Type 0
 CycleWrites = (s : State) → IsStateOfBoard s.functions → IsNumbered s.functions
     → (gs : GuestsNow) → AreSeated (board_at s.functions) gs
     → (name : Text) (n : ℕ) (p : Path) (f : Function) → HasSlot gs name n p f → (off : ℕ) (ons : List Bool) (v : ℕ)
-    → after_config_write (state_over s gs).functions (address_now s.functions p) off (handed_on (config off) ons) v
+    → after_config_write (state_over s gs).functions (current_bdf s.functions p) off (forwarded_byte_enables (config off) ons) v
     ≡ (state_over s (with_guest (with_slot_changed (write ons v (config off)) n) name gs)).functions
 
 -- ---- served functions

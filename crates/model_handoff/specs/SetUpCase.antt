@@ -7,7 +7,7 @@ use Rattle.lists.specs.Elements.{Each, IsIn}
 use Rattle.model_registers.specs.{Declarations.{Region, Endpoint}, Apertures.Apertures}
 use Rattle.model_board.specs.{Paths.Path, Board.{endpoint, Board, IsBoard}, BusNumbers.Enumerates, Lawful.HasLawfulDecls, AtReset.board_at}
 use Rattle.model_set_up.specs.{Reach.address_of, SetUp.{first_of, set_up_state}, UniqueClaimant.CanBePlaced}
-use Rattle.model_findings.specs.{Found.address_now, Witnesses.IsInOrder}
+use Rattle.model_findings.specs.{Found.current_bdf, Witnesses.IsInOrder}
 use Rattle.model_guests.specs.World.{World}
 use Rattle.model_handoff.specs.{Handoffs.IsHandoff, Regions.{base_in, opens_region, CanBeGiven}}
 
@@ -29,4 +29,4 @@ SetUpPlaces = (b : Board) (a : Apertures) → CanBePlaced b a
 
 abbrev pub SetUpAddresses : Type 0
 SetUpAddresses = (b : Board) (a : Apertures) → IsBoard b → Enumerates b
-    → Each (λ f. address_now (set_up_state b a).functions f.path ≡ address_of b f.path) (set_up_state b a).functions
+    → Each (λ f. current_bdf (set_up_state b a).functions f.path ≡ address_of b f.path) (set_up_state b a).functions

@@ -3,7 +3,7 @@ use Rattle.std.{proofs.{Common.{◌≡◌, ◌⊎◌, inl, inr, ℕ, zero, suc, 
 use Rattle.lists.{specs.Elements.Each, proofs.Tests.{left_true, right_true}}
 use Rattle.model_registers.specs.{Registers.File, ConfigAddress.latched, EndpointTable.endpoint_reset, Decoding.Function}
 use Rattle.model_guests.specs.{Slots.Slots, Lone.LoneGuest}
-use Rattle.model_images.{specs.{Images.{SavedFunction, Image, image_of_lone, fit_cells, Fits, FitsSlot, FitSlots}, FitLaws.HoldsFitting, Layouts.{Layout, le_bytes, number, fit_times, optional}, ImageBytes.{endpoint_layout, function_layout, declaration_bytes, image_bytes}, ByteLaws.{IsLayout, HasBytes, HoldsSavable, IsSavableGuest}, LoadedBytes.{Left, then_read, after_version, after_beginning, after_bytes, after_values, after_slot, after_slots, after_number, after_latch, after_image, fault_of, load_fault}, LoadedLaws.{AlikeAccepted, ImagesDecided, IsOfOthers}, TakenBytes.{HoldsDeclared, IsDeclaredGuest}}, proofs.{Fitting.saved_slots, Numbers.number_again, ImageLayouts.endpoint_is, ImageBytes.{read_are_bytes, parts_of, FunctionParts, function_parts, slot_fits}, Savable.{endpoint_fits, guests_have_bytes}}}
+use Rattle.model_images.{specs.{Images.{SavedFunction, Image, image_of_lone, fit_cells, Fits, FitsSlot, FitSlots}, FitLaws.HoldsFitting, Layouts.{Layout, le_bytes, number, fit_times, optional}, ImageBytes.{endpoint_layout, function_layout, declaration_bytes, image_bytes}, ByteLaws.{IsLayout, HasBytes, HoldsSavable, IsSavableGuest}, LoadedBytes.{Left, then_read, after_version, after_beginning, after_bytes, after_values, after_slot, after_slots, after_number, after_latch, after_image, fault_of, load_fault}, LoadedLaws.{AlikeAccepted, ImagesDecided, IsOfOthers}, TakenBytes.{HoldsDeclared, IsDeclaredGuest}}, proofs.{Fitting.saved_slots, Numbers.number_again, ImageLayouts.endpoint_is, ImageBytes.{read_are_bytes, parts_of, FunctionParts, function_parts, slot_fits}, Savable.{endpoint_fits, lawful_guest_has_encoding}}}
 
 -- ---- bytes that are compared
 
@@ -157,4 +157,4 @@ savable_fits (f ∷ fs) h = grind (arith, savable_fits fs)
 
 pub taken_by_all : AlikeAccepted
 taken_by_all g savable other same =
-    fitting_accepted other (image_of_lone g) (guests_have_bytes g savable) (record { latch = savable.latch; slots = saved_slots g.slots other.slots (savable_fits g.slots savable.functions) same })
+    fitting_accepted other (image_of_lone g) (lawful_guest_has_encoding g savable) (record { latch = savable.latch; slots = saved_slots g.slots other.slots (savable_fits g.slots savable.functions) same })

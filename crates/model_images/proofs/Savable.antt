@@ -1,7 +1,7 @@
 -- The image of a guest of lawful functions, which hold what they can, has bytes.
 use Rattle.std.{proofs.{Common.{◌≡◌, ℕ, ◌+◌, ◌^◌, ◌<◌, ◌≤◌, Bool, true, false, cond, ◌&&◌, List, [], ◌∷◌, length, map, Some, None, refl, ap, ◌∙◌, subst, arith}, lemmas.{Bool.{and_from, lt-ltb, eq-eqb}, List.length-map, Nat.{and_le_r, or_of_16}}}, specs.{Prelude.{option_map, bit_and}, List.list_any}}
 use Rattle.lists.{specs.Elements.{Each, EachPair}, proofs.EachLemmas.each_map}
-use Rattle.model_registers.{specs.{Cell.{Cell, IsCell}, Registers.File, AccessLaws.HoldsBytes, ConfigAddress.latched, CopiedFiles.shape_of, Declarations.{Kind, registers_of, greatest_size, Region, IsLawfulRegion, ConfigBlock, Endpoint}, DeclarationRules.{is_pointer, list_bit, IsConfigBlock, IsLawfulEndpoint}, EndpointTable.endpoint_reset, Decoding.Function}, proofs.Bases.registers_positive}
+use Rattle.model_registers.{specs.{Cell.{Cell, IsCell}, Registers.File, AccessLaws.HoldsBytes, ConfigAddress.latched, CopiedFiles.shape_of, Declarations.{Kind, registers_of, greatest_size, Region, IsLawfulRegion, ConfigBlock, Endpoint}, DeclarationRules.{is_capabilities_pointer, capabilities_list_bit, IsConfigBlock, IsLawfulEndpoint}, EndpointTable.endpoint_reset, Decoding.Function}, proofs.Bases.registers_positive}
 use Rattle.model_guests.specs.Slots.{Slots}
 use Rattle.model_images.specs.{Images.{values_of, saved, fit_cells}, Layouts.{Layout, number, fit_times, counted, optional}, ImageBytes.{cell_layout, kind_layout, region_layout, block_layout, endpoint_layout, function_layout, latch_layout}, ByteLaws.{IsDeclared, IsSavable, HoldsSavable, GuestsHaveBytes}}
 use Rattle.model_images.proofs.BlockCounts.{block_count}
@@ -61,7 +61,7 @@ masked n m h = let a = and_le_r n m in let low : n ≤ m = subst (λ x. x ≤ m)
 status_small : (d : Endpoint) → IsLawfulEndpoint d → d.status < 2 ^ 16
 status_small d h =
     let masked = and_le_r d.status 0xf900 in
-    subst (λ n. n < 2 ^ 16) h.status (or_of_16 (bit_and d.status 0xf900) (list_bit d.blocks) (omega (arith, masked)) (bit_small (list_any is_pointer d.blocks)))
+    subst (λ n. n < 2 ^ 16) h.status (or_of_16 (bit_and d.status 0xf900) (capabilities_list_bit d.blocks) (omega (arith, masked)) (bit_small (list_any is_capabilities_pointer d.blocks)))
   where
     bit_small : (t : Bool) → cond t 0x10 0 < 2 ^ 16
     bit_small t = grind arith
@@ -104,8 +104,8 @@ slots_fit (Some f ∷ fs) h = (ap (λ t. (t && true) && true) (function_fits f h
 pub latch_fits : (n : ℕ) → latched n ≡ n → latch_layout.fits n ≡ true
 latch_fits n h = grind (arith, masked, and_from, lt-ltb, eq-eqb)
 
-pub guests_have_bytes : GuestsHaveBytes
-guests_have_bytes g h =
+pub lawful_guest_has_encoding : GuestsHaveBytes
+lawful_guest_has_encoding g h =
     let slots = map (option_map saved) g.slots in
     let many : length slots ≡ 32 = length-map g.slots (option_map saved) ∙ h.count in
     and_from (latch_layout.fits g.latch) (fit_times (optional function_layout).fits 32 slots) (latch_fits g.latch h.latch)

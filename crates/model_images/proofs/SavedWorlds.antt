@@ -7,7 +7,7 @@ use Rattle.model_registers.specs.{Declarations.Endpoint, EndpointTable.endpoint_
 use Rattle.model_board.specs.{Paths.Path, Board.{endpoint, Row}, AtReset.board_at, State.{BoardFunction, State, row_at}}
 use Rattle.model_guests.{specs.{Text.Text, Slots.Slots, World.{World, declared}, AgreedBoard.agreed_function, Guests.{GuestNow, GuestsNow, guest_named, lone_of}, Lone.LoneGuest, Seated.{AreSeats, IsSeatedGuest}, WorldNow.{WorldNow, world_over}}, proofs.{DeclaredRows.declared_row, GuestsByName.found, OneGuest.{lone_found, still}, Seats.as_many}}
 use Rattle.model_handoff.specs.{Actions.{Action, after_action}, Giving.{Gift, given, with_reset_at}, Handoffs.{reset_files, taken_over}, Kept.IsLawfulOver}
-use Rattle.model_images.{specs.{Images.{SavedFunction, Image, image_of_guest, image_of_lone, lone_of_image, with_values, restored, after_load, after_restart, loaded, Fits}, FitLaws.{HoldsFitting, AreFitting, IsFittingRequest}, LoadLaws.{AnswersAlike, IsCopy}, Requests.{Request, acts, loads, restarts, after_request, request_inputs}, Layouts.{number, fit_times, optional}, ImageBytes.{function_layout, image_bytes, image_of}, ByteLaws.{HasBytes, IsDeclared, HoldsSavable, IsSavableGuest}, SavedLaws.{CanBeDeclared, AreDeclared, CanBeSaved, CanBeSavedAtFirst, IsWritableRequest, CanBeSavedAlong, TakesSavedGuest, SavesWhatWasTaken, NoImageIsRefused}}, proofs.{Counts.lawful_along_requests, Fitting.{fitting_kept, image_fits, saved_fits}, KeptFunctions.{AreKept, Has, action_holds, load_holds, restart_holds, holds_at_first}, Loading.{loaded_holds, others_after_load}, Requests.{answers_as_saved, isolated_by_requests}, ByteCells.{AreByteCells, HoldsByteCells, byte_cells_kept, hold_bytes, of_shape, reset_bytes}, ImageBytes.{bytes_are_read, read_are_bytes, parts_of, function_parts, slot_fits, image_back}, LoadedBytes.{fitting_accepted, images_decided, savable_fits}, Savable.guests_have_bytes, TakenBytes.taken_now}}
+use Rattle.model_images.{specs.{Images.{SavedFunction, Image, image_of_guest, image_of_lone, lone_of_image, with_values, restored, after_load, after_restart, loaded, Fits}, FitLaws.{HoldsFitting, AreFitting, IsFittingRequest}, LoadLaws.{AnswersAlike, IsCopy}, Requests.{Request, acts, loads, restarts, after_request, request_inputs}, Layouts.{number, fit_times, optional}, ImageBytes.{function_layout, image_bytes, image_of}, ByteLaws.{HasBytes, IsDeclared, HoldsSavable, IsSavableGuest}, SavedLaws.{CanBeDeclared, AreDeclared, CanBeSaved, CanBeSavedAtFirst, IsWritableRequest, CanBeSavedAlong, TakesSavedGuest, SavesWhatWasTaken, NoImageIsRefused}}, proofs.{Counts.lawful_along_requests, Fitting.{fitting_kept, image_fits, saved_fits}, KeptFunctions.{AreKept, Has, action_holds, load_holds, restart_holds, holds_at_first}, Loading.{loaded_holds, others_after_load}, Requests.{answers_as_saved, isolated_by_requests}, ByteCells.{AreByteCells, HoldsByteCells, byte_cells_kept, hold_bytes, of_shape, reset_bytes}, ImageBytes.{bytes_are_read, read_are_bytes, parts_of, function_parts, slot_fits, image_back}, LoadedBytes.{fitting_accepted, images_decided, savable_fits}, Savable.lawful_guest_has_encoding, TakenBytes.taken_now}}
 
 -- ---- declarations
 
@@ -164,7 +164,7 @@ takes_saved_guest w from lawful can first v to alike =
     let own : lone_of w.guests from ≡ x.0.lone = lone_found w.guests from x.0 x.1 in
     let savable : IsSavableGuest (lone_of w.guests from) =
     subst IsSavableGuest (sym own) (found (λ (t : GuestNow). IsSavableGuest t.lone) w.guests from x.0 can.guests x.1).has in
-    let has : HasBytes i = guests_have_bytes (lone_of w.guests from) savable in
+    let has : HasBytes i = lawful_guest_has_encoding (lone_of w.guests from) savable in
     let fits = saved_fits w v from to (guests_fit w.guests can.guests) first alike.declarations in
     let image = bytes_are_read i has in
     let accepted = fitting_accepted (lone_of v.guests to) i has fits in

@@ -3,7 +3,7 @@ use Rattle.std.{proofs.{Common.{◌≡◌, ℕ, zero, suc, ◌/◌, ◌^◌, ◌
 use Rattle.lists.{specs.Elements.Each, proofs.{EachLemmas.{each_map, each_parts}}}
 use Rattle.model_registers.specs.{Registers.File, ConfigAddress.latched, EndpointTable.endpoint_reset, Decoding.Function}
 use Rattle.model_guests.specs.{Slots.Slots, Lone.LoneGuest, Guests.lone_of, Text.Text, WorldNow.WorldNow}
-use Rattle.model_images.{specs.{Images.{SavedFunction, Image, image_of_guest, after_load, can_hold, fit_cells, Fits, FitsSlot, FitSlots}, Layouts.{Parsed, parsed, le_bytes, number, fit_times, optional}, ImageBytes.{magic, version, function_layout, declaration_bytes, image_bytes, image_of}, ByteLaws.{AreBytes, HasBytes, IsDeclared}, LoadedBytes.{then_read, after_beginning, after_bytes, after_values, after_slot, after_slots, after_number, after_latch, header, after_image, load_fault, after_load_bytes}, LoadedLaws.{AcceptedIsImage, LoadsImage, RefusedStays, KeepsSavedBytes}, TakenBytes.{le_number, values_begin, slot_size, taken_slot, taken_slots, taken_image, SlotsAreTaken, ImageIsTaken, HoldsDeclared, AcceptedIsTaken}}, proofs.{Loading.keeps_what_was_saved, Numbers.{number_again, number_spells}, ImageBytes.{bytes_are_read, FunctionParts, parts_fit}, Savable.{times_fit, endpoint_fits, guests_have_bytes}, LoadedBytes.{begun, own_beginning, read_before, same_left, follows, function_bytes, slot_bytes, slots_bytes, savable_is_declared, taken_by_all}}}
+use Rattle.model_images.{specs.{Images.{SavedFunction, Image, image_of_guest, after_load, can_hold, fit_cells, Fits, FitsSlot, FitSlots}, Layouts.{Parsed, parsed, le_bytes, number, fit_times, optional}, ImageBytes.{magic, version, function_layout, declaration_bytes, image_bytes, image_of}, ByteLaws.{AreBytes, HasBytes, IsDeclared}, LoadedBytes.{then_read, after_beginning, after_bytes, after_values, after_slot, after_slots, after_number, after_latch, header, after_image, load_fault, after_load_bytes}, LoadedLaws.{AcceptedIsImage, LoadsImage, RefusedStays, KeepsSavedBytes}, TakenBytes.{le_number, values_begin, slot_size, taken_slot, taken_slots, taken_image, SlotsAreTaken, ImageIsTaken, HoldsDeclared, AcceptedIsTaken}}, proofs.{Loading.keeps_what_was_saved, Numbers.{number_again, number_spells}, ImageBytes.{bytes_are_read, FunctionParts, parts_fit}, Savable.{times_fit, endpoint_fits, lawful_guest_has_encoding}, LoadedBytes.{begun, own_beginning, read_before, same_left, follows, function_bytes, slot_bytes, slots_bytes, savable_is_declared, taken_by_all}}}
 
 -- ---- values
 
@@ -187,5 +187,5 @@ refused_stays w name bytes k some = ap (λ (o : Option ℕ). cond (is_some o) w 
 pub keeps_saved_bytes : KeepsSavedBytes
 keeps_saved_bytes b w seated name savable =
     let i = image_of_guest name w in
-    taken_now w name (image_bytes i) i (taken_by_all (lone_of w.guests name) savable (lone_of w.guests name) refl) (bytes_are_read i (guests_have_bytes (lone_of w.guests name) savable))
+    taken_now w name (image_bytes i) i (taken_by_all (lone_of w.guests name) savable (lone_of w.guests name) refl) (bytes_are_read i (lawful_guest_has_encoding (lone_of w.guests name) savable))
     ∙ keeps_what_was_saved b w seated name

@@ -9,7 +9,7 @@ ghost use Rattle.model_images.specs.{FitLaws.{FittingAfter, FittingAlong, Fittin
 /// Proves that a guest loaded from an image has the state of the saved guest, in any configuration,
 /// and gives the same replies to the same inputs. Loading the image of the current state changes
 /// nothing.
-pub fn loaded_as_saved()
+pub fn loaded_guest_equals_saved()
     ensures nothing { KeepsWhatWasSaved }
     ensures loaded { LoadedHolds }
     ensures restarted { RestartedHolds }
@@ -19,7 +19,7 @@ pub fn loaded_as_saved()
 
 /// Proves that loading a guest changes no other guest, no name, no path and no handoff, and changes
 /// only the guest's own functions on the board.
-pub fn loads_touch_one_guest()
+pub fn load_changes_one_guest()
     ensures others { OthersAfterLoad }
     ensures names { NamesAfterLoad }
     ensures paths { PathsAfterLoad }
@@ -31,13 +31,13 @@ pub fn loads_touch_one_guest()
 
 /// Proves isolation along any actions, loads and restarts: a guest's replies and state depend only
 /// on its previous state and its own inputs.
-pub fn requests_are_isolated()
+pub fn guests_isolated_across_loads()
     ensures { IsolatedByRequests }
 {}
 
 /// Proves that after loading an image that fits, all functions keep their slots, the configuration
 /// is lawful, and the handoff is unchanged.
-pub fn fitting_loads_keep_worlds()
+pub fn fitting_load_stays_lawful()
     ensures seated { SeatedAfterLoad }
     ensures lawful { LawfulAfterLoad }
     ensures shown { ShownAfterLoad }
@@ -45,7 +45,7 @@ pub fn fitting_loads_keep_worlds()
 
 /// Proves that the saved state of a guest always fits every guest with equal declarations, on any
 /// board.
-pub fn saved_guests_fit()
+pub fn saved_state_fits_equal_guests()
     ensures first { FittingAtFirst }
     ensures after { FittingAfter }
     ensures along { FittingAlong }
@@ -55,7 +55,7 @@ pub fn saved_guests_fit()
 /// Proves that requests whose images fit keep the configuration lawful. A guest's change counter
 /// increases by one with each request that changes the guest. While the counter is unchanged, every
 /// answer about the addresses of the guest's regions stays valid.
-pub fn counts_tell_requests()
+pub fn change_count_tracks_requests()
     ensures lawful { LawfulAlongRequests }
     ensures along { AnswersStayAlong }
     ensures counts { RequestCountsGrow }
@@ -64,18 +64,18 @@ pub fn counts_tell_requests()
 
 /// Proves that a guest and its device could have produced each loaded function state from reset,
 /// byte by byte.
-pub fn loads_are_steps()
+pub fn loaded_states_are_reachable()
     ensures { LoadsBySteps }
 {}
 
 /// Proves the contents of example images and the state of guests loaded from them.
-pub fn worked_examples()
+pub fn worked_image_examples()
     ensures { ImageExamples }
 {}
 
 /// Proves that every byte sequence is either the encoding of exactly one image, which belongs to
 /// some guest, or is rejected. Decoding an encoded image returns the image.
-pub fn images_are_bytes()
+pub fn image_encoding_round_trips()
     ensures are_bytes { BytesAreBytes }
     ensures are_read { BytesAreRead }
     ensures spelled { ReadAreBytes }
@@ -85,14 +85,14 @@ pub fn images_are_bytes()
 
 /// Proves that the image of a guest has an encoding if its functions are lawful and hold values
 /// that they can hold.
-pub fn guests_have_bytes()
+pub fn lawful_guest_has_encoding()
     ensures { GuestsHaveBytes }
 {}
 
 /// Proves that the bytes that a guest accepts encode an image that fits the guest. An image that
 /// doesn't fit is refused as belonging to other functions. A guest accepts its own image, and so
 /// does every guest with equal declarations.
-pub fn fitting_bytes_are_taken()
+pub fn accepted_bytes_fit_the_guest()
     ensures images { AcceptedIsImage }
     ensures decided { ImagesDecided }
     ensures alike { AlikeAccepted }
@@ -105,7 +105,7 @@ pub fn fitting_bytes_are_taken()
 /// declarations, in any configuration. The loaded guest then answers as the saved one would have,
 /// and no other guest's replies change. The guest can be saved from the start and after any
 /// requests. Saving a guest straight after a load returns the loaded bytes.
-pub fn saved_guests_are_taken()
+pub fn saved_bytes_are_accepted()
     ensures first { CanBeSavedAtFirst }
     ensures along { CanBeSavedAlong }
     ensures taken { TakesSavedGuest }
@@ -115,7 +115,7 @@ pub fn saved_guests_are_taken()
 
 /// Proves where accepted bytes hold the state of each slot, and that they encode exactly one image,
 /// which fits the guest. The only requirement is that the guest's declarations can be serialized.
-pub fn taken_bytes_are_slots()
+pub fn accepted_bytes_hold_each_slot()
     ensures slots { SlotsAreTaken }
     ensures image { ImageIsTaken }
     ensures accepted { AcceptedIsTaken }
@@ -123,11 +123,11 @@ pub fn taken_bytes_are_slots()
 
 /// Proves that bytes that a guest refuses stop fitting at exactly one offset, unless they aren't an
 /// image at all.
-pub fn refused_bytes_stop_once()
+pub fn refusal_has_one_byte_offset()
     ensures { OneStop }
 {}
 
 /// Proves the encoding, decoding and refusal of example images.
-pub fn worked_byte_examples()
+pub fn worked_encoding_examples()
     ensures { ByteExamples }
 {}

@@ -4,18 +4,18 @@ use Rattle.lists.{specs.Elements.{Each, IsIn}, proofs.Members.{each_in, each_fro
 use Rattle.model_registers.specs.Decoding.{opens_space}
 use Rattle.model_board.{specs.{Claims.{Claim, first_claim}, Paths.path_eq, Routing.{RoutingRow, row_of, routing}}, proofs.PathEnds.path_self}
 use Rattle.model_set_up.{specs.PlacedRegions.{PlacedRegion, claim_in}, proofs.Holders.{holds_is, holder_first}}
-use Rattle.model_findings.{specs.{OpenRegions.{regions_of, open_of, open_regions}, Orderly.HasClaimsOfRegions, ReadyLaws.LacksNothing}, proofs.{Claims.orderly_claims, Witnesses.problems_decide, Lacks.lacking_nothing}}
-use Rattle.model_lines.{specs.{Why.{UnansweredRegion, is_answer, told}, WhyLaws.{claim_there, IsTrueTold, OrderlyAnswersAlone, ReadyTellsNothing}}, proofs.Why.told_true}
+use Rattle.model_findings.{specs.{OpenRegions.{regions_of, open_of, open_regions}, Orderly.HasClaimsOfRegions, ReadyLaws.LacksNothing}, proofs.{Claims.consistent_claims_are_unique, Witnesses.problems_are_real_and_complete, Lacks.lacking_nothing}}
+use Rattle.model_lines.{specs.{Why.{UnansweredRegion, is_answering_bar, told}, WhyLaws.{claim_there, IsTrueTold, OrderlyAnswersAlone, ReadyTellsNothing}}, proofs.Why.told_true}
 
 -- the region of the first claim is the answering one
-answering : (n : ℕ) (q : PlacedRegion) (o : Option Claim) → o ≡ Some (claim_there n q) → is_answer o q ≡ true
+answering : (n : ℕ) (q : PlacedRegion) (o : Option Claim) → o ≡ Some (claim_there n q) → is_answering_bar o q ≡ true
 answering n q o e = grind (arith, and_from (path_eq q.path q.path) (q.index == q.index) (path_self q.path), path_self q.path, nat_tests)
 
 pub orderly_answers_alone : OrderlyAnswersAlone
 orderly_answers_alone fs state orderly space n = each_from (λ t. t.causes ≡ [] → ⊥) (told fs space n) (λ t m. alone t (told_true fs space n t m))
   where
     own : HasClaimsOfRegions fs
-    own = orderly_claims fs state orderly
+    own = consistent_claims_are_unique fs state orderly
 
     alone : (t : UnansweredRegion) → IsTrueTold fs space n t → t.causes ≡ [] → ⊥
     alone t is e = grind (arith, own, from_option, answering)
@@ -24,7 +24,7 @@ pub ready_tells_nothing : ReadyTellsNothing
 ready_tells_nothing a fs state ready space n = no_elements (told fs space n) (λ t m. answers t (told_true fs space n t m))
   where
     own : HasClaimsOfRegions fs
-    own = orderly_claims fs state ((problems_decide fs).0 ready.no_problems).routes
+    own = consistent_claims_are_unique fs state ((problems_are_real_and_complete fs).0 ready.no_problems).routes
 
     nothing : LacksNothing a fs
     nothing = lacking_nothing a fs ready.no_issues

@@ -2,7 +2,7 @@
 use Rattle.std.proofs.Common.{arith, rules}
 use Rattle.model_guests.{specs.{Text.{Text, lines}, Guests.guests_at_first, World.World, WorldNow.WorldNow, Inputs.inputs, Isolation.{IsDecidedBy, AgreeOn}}, proofs.Isolation.isolated_over}
 use Rattle.model_handoff.{specs.{AfterSetUp.world_at_first, Handoffs.taken_over}, proofs.{AfterSetUp.set_up_isolates, Alike.taken_lawful, Keeping.keeps_problems, Kept.lawful_along}}
-use Rattle.model_findings.proofs.Witnesses.{problems_decide}
+use Rattle.model_findings.proofs.Witnesses.{problems_are_real_and_complete}
 use Rattle.model_lines.specs.GivenLaws.{AreAlike, GivenIsolated, GivenAlike, GivenAsSetUp, GivenStays, OrderlyStays}
 
 pub given_isolated : GivenIsolated
@@ -25,4 +25,4 @@ pub given_stays : GivenStays
 given_stays w s m given ls = grind (arith, taken_lawful w s given.handoff given.board given.lawful.guests given.can, lawful_along m ls)
 
 pub orderly_stays : OrderlyStays
-orderly_stays m lawful = grind (arith, keeps_problems m.handoff lawful.handoff.board m.guests lawful.seated, problems_decide m.handoff.functions)
+orderly_stays m lawful = grind (arith, keeps_problems m.handoff lawful.handoff.board m.guests lawful.seated, problems_are_real_and_complete m.handoff.functions)

@@ -41,9 +41,9 @@ meant_world b m = grind arith
 pub line_state : (b : DrivenNow) (line : Text) → (after_board_line b line).state ≡ firmware.after_line b.state line
 line_state b line = meant_state b (meaning line)
 
-pub plain_sessions : PlainSessions
-plain_sessions b [] none = (refl, refl)
-plain_sessions b (l ∷ ls) none = grind (arith, plain_sessions (after_board_line b l) ls none.1, unasked_after b l none.0, line_state b l)
+pub plain_session_acts_as_firmware : PlainSessions
+plain_session_acts_as_firmware b [] none = (refl, refl)
+plain_session_acts_as_firmware b (l ∷ ls) none = grind (arith, plain_session_acts_as_firmware (after_board_line b l) ls none.1, unasked_after b l none.0, line_state b l)
 
 pub driven_is_firmware : DrivenIsFirmware
 driven_is_firmware b [] = (refl, refl)

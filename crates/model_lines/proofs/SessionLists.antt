@@ -114,8 +114,8 @@ board_holds : (x : SessionNow) → SessionHolds x → Each Holds (session_functi
 board_holds (driven b) h = h.lists
 board_holds (given m) h = over_holds m.world.handoff m.world.guests h.found h.lists h.seated h.reached
 
-pub sessions_show_lists : SessionsShowLists
-sessions_show_lists w lawful ls =
+pub sessions_show_capability_lists : SessionsShowLists
+sessions_show_capability_lists w lawful ls =
     let now : SessionNow = after_lines session_protocol (driven (at_reset w)) ls in
     each_map Holds ShowsDeclared (session_functions now) (λ f h d c cs is ids. list_shown d (c ∷ cs) f.file (subst (λ (x : Decl). HoldsAt x f.file) is h d c cs refl ids))
     (board_holds now (lines_hold ls (driven (at_reset w)) (at_reset_holds w lawful)))

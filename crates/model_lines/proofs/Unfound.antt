@@ -2,7 +2,7 @@
 use Rattle.std.{proofs.{Common.{◌≡◌, true, false, ◌&&◌, ◌==◌, not, cond, List, [], ◌∷◌, Option, Some, None, refl, ap, ◌∙◌, subst, arith, eqb-true}, lemmas.Bool.{and_from, not-true, not_from_false, Decides.nat_tests}}, specs.Option.{option_map, option_map_or}}
 use Rattle.lists.{specs.Elements.IsIn, proofs.{Members.{in_map, in_filter, from_filter, in_flat_map, from_flat_map}, Tests.{left_true, right_true}}}
 use Rattle.model_board.{specs.{Paths.{Path, part_eq, path_eq}, State.BoardFunction, Cycles.{BusAddress, reached}}, proofs.PathOrder.{part_same, part_self, path_same}}
-use Rattle.model_findings.{specs.Found.address_now, proofs.Found.lost_function}
+use Rattle.model_findings.{specs.Found.current_bdf, proofs.Found.lost_function}
 use Rattle.model_lines.specs.Ways.{address_eq, has_number, is_found, not_found, why_number}
 use Rattle.model_findings.specs.Problems as audit
 
@@ -27,7 +27,7 @@ module _ (fs : List BoardFunction) (at : BusAddress) where
   unfolding told_of path_of
   unfound f m =
       let g = from_filter (λ (x : BoardFunction). has_number fs at x && not (is_found (reached fs at) x)) f fs m in
-      let number : address_now fs f.path ≡ at = address_same (address_now fs f.path) at (left_true (has_number fs at f) (not (is_found (reached fs at) f)) g.1) in
+      let number : current_bdf fs f.path ≡ at = address_same (current_bdf fs f.path) at (left_true (has_number fs at f) (not (is_found (reached fs at) f)) g.1) in
       let lost : is_found (reached fs at) f ≡ false = not-true (is_found (reached fs at) f) (right_true (has_number fs at f) (not (is_found (reached fs at) f)) g.1) in
       let p = audit.not_found f.path at (path_of (reached fs at)) in
       grind (arith, in_flat_map (audit.numbering_problem fs) f p fs g.0, told_of f, path_of, found_there (reached fs at) f)
@@ -43,7 +43,7 @@ module _ (fs : List BoardFunction) (at : BusAddress) where
       of (f, k, l) =
           let is = lost_function fs f k (audit.not_found p at instead) l in
           let path : f.path ≡ p = cc in
-          let number : address_now fs f.path ≡ at = cc in
+          let number : current_bdf fs f.path ≡ at = cc in
           let other = is.1.other in
           let lost : is_found (reached fs at) f ≡ false = not_there f (reached fs at) (λ e. other (ap (λ (a : BusAddress). option_map (λ (g : BoardFunction). g.path) (reached fs a)) number ∙ e)) in
           grind (arith, in_map, in_filter, and_from, address_self, not_from_false)

@@ -265,5 +265,5 @@ unfolding end_path
 missing_by fs at (on_bus p) x none = (refl, x.end_is, not_at fs p at.part none)
 missing_by fs at (no_taker p) x none = (refl, x.end_is, x.none_takes p refl)
 
-pub numbers_explained : NumbersExplained
-numbers_explained fs state at = grind (arith, unfound, each_of_map, each_from, all_unfound, explains, missing_by)
+pub bdf_explanations_are_true : NumbersExplained
+bdf_explanations_are_true fs state at = grind (arith, unfound, each_of_map, each_from, all_unfound, explains, missing_by)

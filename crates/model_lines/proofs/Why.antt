@@ -5,7 +5,7 @@ use Rattle.model_registers.specs.{Declarations.Bridge, Decoding.{Space, io, memo
 use Rattle.model_board.{specs.{Board.{Decl, endpoint, bridge}, Paths.{Path, is_ancestor_of}, State.BoardFunction, Windows.{is_in, mem_window, pref_window, is_in_window, forwards}, Claims.{Claim, claim_at, is_forwarded, claims, first_claim}, Routing.{Ranges, regions, windows, RoutingRow, ranges_of, row_of, routing, row_forwards, is_routed, row_claims}}, proofs.Routing.{forwarded_by_routing, claims_by_routing, first_of_claims}}
 use Rattle.model_set_up.specs.PlacedRegions.{PlacedRegion, holds}
 use Rattle.model_findings.{specs.{OpenRegions.{region_now, regions_of}, Agents.{bridge_agent, answers}}, proofs.Answering.bridge_answers}
-use Rattle.model_lines.specs.{Why.{windows_now, hindrance, Cause, closed_by, stopped_at, closing, stop, stops, causes_of, UnansweredRegion, is_answer, holders, told_of, told, is_closed, forwarder, forwarders}, WhyLaws.{IsAnswering, IsForwarding, LiesOutside, IsTrueHindrance, claim_there, IsTrueCause, IsTrueTold, AddressesExplained}}
+use Rattle.model_lines.specs.{Why.{windows_now, hindrance, Cause, closed_by, stopped_at, closing, blocking_cause, blockers, causes_of, UnansweredRegion, is_answering_bar, holders, told_of, told, is_closed, forwarder, forwarders}, WhyLaws.{IsAnswering, IsForwarding, LiesOutside, IsTrueHindrance, claim_there, IsTrueCause, IsTrueTold, AddressesExplained}}
 
 -- ---- an open region that is forwarded to has a claim
 
@@ -64,19 +64,19 @@ stops_if c s t h k = grind arith
 module _ (fs : List BoardFunction) (space : Space) (n : ℕ) where
   -- the causes from bus 0 down
   abbrev down : BoardFunction → List Cause
-  down f = stops fs space n f.path ++ closing space f
+  down f = blockers fs space n f.path ++ closing space f
 
   bridge_told : (f g : BoardFunction) → IsIn g fs → is_ancestor_of g.path f.path ≡ true → forwards space n g ≡ false → IsIn (stopped_at g.path (hindrance space g)) (causes_of fs space n f)
   bridge_told f g m over stopped =
       let c = stopped_at g.path (hindrance space g) in
-      let told : stop space n f.path g ≡ Some c = stops_if c (is_ancestor_of g.path f.path) (forwards space n g) over stopped in
-      in_reverse c (down f) (in_front c (stops fs space n f.path) (closing space f)
-      (in_flat_map (λ (h : BoardFunction). option_to_list (stop space n f.path h)) g c fs m (subst (λ (o : Option Cause). IsIn c (option_to_list o)) (sym told) (inl refl))))
+      let told : blocking_cause space n f.path g ≡ Some c = stops_if c (is_ancestor_of g.path f.path) (forwards space n g) over stopped in
+      in_reverse c (down f) (in_front c (blockers fs space n f.path) (closing space f)
+      (in_flat_map (λ (h : BoardFunction). option_to_list (blocking_cause space n f.path h)) g c fs m (subst (λ (o : Option Cause). IsIn c (option_to_list o)) (sym told) (inl refl))))
 
   command_told : (f : BoardFunction) → is_open f.file space ≡ false → IsIn (closed_by (command_word f.file)) (causes_of fs space n f)
   command_told f e = grind (arith, reverse-append, in_back, in_front)
 
-  stop_true : (f g : BoardFunction) → IsIn g fs → (c : Cause) → stop space n f.path g ≡ Some c → IsTrueCause fs space n f c
+  stop_true : (f g : BoardFunction) → IsIn g fs → (c : Cause) → blocking_cause space n f.path g ≡ Some c → IsTrueCause fs space n f c
   stop_true f g m c e = grind (arith, hindrance_true)
 
   closing_true : (f : BoardFunction) (c : Cause) → IsIn c (closing space f) → IsTrueCause fs space n f c
@@ -85,11 +85,11 @@ module _ (fs : List BoardFunction) (space : Space) (n : ℕ) where
   causes_true : (f : BoardFunction) → Each (IsTrueCause fs space n f) (causes_of fs space n f)
   causes_true f = each_from (IsTrueCause fs space n f) (causes_of fs space n f) one
     where
-      of : (c : Cause) → IsIn c (stops fs space n f.path) ⊎ IsIn c (closing space f) → IsTrueCause fs space n f c
+      of : (c : Cause) → IsIn c (blockers fs space n f.path) ⊎ IsIn c (closing space f) → IsTrueCause fs space n f c
       of c h = grind (arith, from_flat_map, stop_true f, from_option, closing_true f c)
 
       one : (c : Cause) → IsIn c (causes_of fs space n f) → IsTrueCause fs space n f c
-      one c m = of c (front_or_back c (stops fs space n f.path) (closing space f) (from_reverse c (down f) m))
+      one c m = of c (front_or_back c (blockers fs space n f.path) (closing space f) (from_reverse c (down f) m))
 
   opened : (f : BoardFunction) → causes_of fs space n f ≡ [] → is_open f.file space ≡ true
   opened f none = grind (arith, command_told f)
@@ -105,16 +105,16 @@ module _ (fs : List BoardFunction) (space : Space) (n : ℕ) where
   pub told_true : (t : UnansweredRegion) → IsIn t (told fs space n) → IsTrueTold fs space n t
   told_true t m = grind (arith, from_flat_map, nat_tests, closed_here, causes_true, from_filter, not-true, command_told, bridge_told, has_claim, opened, all_pass, and_parts, from_map)
 
-  complete : (f : BoardFunction) → IsIn f fs → (q : PlacedRegion) → IsIn q (regions_of (row_of f)) → holds space n q ≡ true → (is_answer (first_claim fs space n) q ≡ true) ⊎ ((t : UnansweredRegion) × IsIn t (told fs space n) × (t.region ≡ q))
-  complete f m q k h = by (is_answer (first_claim fs space n) q) refl
+  complete : (f : BoardFunction) → IsIn f fs → (q : PlacedRegion) → IsIn q (regions_of (row_of f)) → holds space n q ≡ true → (is_answering_bar (first_claim fs space n) q ≡ true) ⊎ ((t : UnansweredRegion) × IsIn t (told fs space n) × (t.region ≡ q))
+  complete f m q k h = by (is_answering_bar (first_claim fs space n) q) refl
     where
-      by : (u : Bool) → is_answer (first_claim fs space n) q ≡ u → (is_answer (first_claim fs space n) q ≡ true) ⊎ ((t : UnansweredRegion) × IsIn t (told fs space n) × (t.region ≡ q))
+      by : (u : Bool) → is_answering_bar (first_claim fs space n) q ≡ u → (is_answering_bar (first_claim fs space n) q ≡ true) ⊎ ((t : UnansweredRegion) × IsIn t (told fs space n) × (t.region ≡ q))
       by true e = inl e
       by false e = inr (
         record { region = q; causes = causes_of fs space n f },
         in_flat_map (told_of fs space n) f (record { region = q; causes = causes_of fs space n f }) fs m
-            (in_map (λ (x : PlacedRegion). record { region = x; causes = causes_of fs space n f }) q (filter (λ x. not (is_answer (first_claim fs space n) x)) (holders space n f))
-            (in_filter (λ (x : PlacedRegion). not (is_answer (first_claim fs space n) x)) q (holders space n f) (in_filter (holds space n) q (regions_of (row_of f)) k h) (not_from_false (is_answer (first_claim fs space n) q) e))),
+            (in_map (λ (x : PlacedRegion). record { region = x; causes = causes_of fs space n f }) q (filter (λ x. not (is_answering_bar (first_claim fs space n) x)) (holders space n f))
+            (in_filter (λ (x : PlacedRegion). not (is_answering_bar (first_claim fs space n) x)) q (holders space n f) (in_filter (holds space n) q (regions_of (row_of f)) k h) (not_from_false (is_answering_bar (first_claim fs space n) q) e))),
         refl,
       )
 
@@ -173,5 +173,5 @@ module _ (fs : List BoardFunction) (space : Space) (n : ℕ) where
       let f = from_flat_map (row_claims (routing fs) space n) c (routing fs) (subst (IsIn c) (claims_by_routing fs space n) (index_in (claims fs space n) 0 c (sym (first_of_claims fs space n) ∙ e))) in
       grind (arith, from_map, of_row, forwarded_by_routing)
 
-pub addresses_explained : AddressesExplained
-addresses_explained fs space n = grind (arith, answering, forwarding, all_forwarding, each_from, told_true, complete, no_first, first_of_claims)
+pub address_explanations_are_true : AddressesExplained
+address_explanations_are_true fs space n = grind (arith, answering, forwarding, all_forwarding, each_from, told_true, complete, no_first, first_of_claims)

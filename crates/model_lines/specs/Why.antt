@@ -69,17 +69,17 @@ pub data Cause : Type 0 where
 abbrev pub closing : Space → BoardFunction → List Cause
 closing space f = if is_open f.file space then [] else closed_by (command_word f.file) ∷ []
 
-abbrev pub stop : Space → ℕ → Path → BoardFunction → Option Cause
-stop space n p f =
+abbrev pub blocking_cause : Space → ℕ → Path → BoardFunction → Option Cause
+blocking_cause space n p f =
     if is_ancestor_of f.path p && not (forwards space n f) then Some (stopped_at f.path (hindrance space f)) else None
 
 -- the causes in the bridges above, from bus 0 down
-abbrev pub stops : List BoardFunction → Space → ℕ → Path → List Cause
-stops fs space n p = flat_map (λ f. option_to_list (stop space n p f)) fs
+abbrev pub blockers : List BoardFunction → Space → ℕ → Path → List Cause
+blockers fs space n p = flat_map (λ f. option_to_list (blocking_cause space n p f)) fs
 
 -- the nearest to the function first; a region without a cause would answer, if no other region did
 abbrev pub causes_of : List BoardFunction → Space → ℕ → BoardFunction → List Cause
-causes_of fs space n f = reverse (stops fs space n f.path ++ closing space f)
+causes_of fs space n f = reverse (blockers fs space n f.path ++ closing space f)
 
 -- ---- the reported regions
 
@@ -87,9 +87,9 @@ pub record UnansweredRegion : Type 0 where
   pub region : PlacedRegion
   pub causes : List Cause
 
-abbrev pub is_answer : Option Claim → PlacedRegion → Bool
-is_answer None q = false
-is_answer (Some c) q = path_eq c.path q.path && c.index == q.index
+abbrev pub is_answering_bar : Option Claim → PlacedRegion → Bool
+is_answering_bar None q = false
+is_answering_bar (Some c) q = path_eq c.path q.path && c.index == q.index
 
 -- enabled or disabled
 abbrev pub holders : Space → ℕ → BoardFunction → List PlacedRegion
@@ -98,7 +98,7 @@ holders space n f = filter (holds space n) (regions_of (row_of f))
 abbrev pub told_of : List BoardFunction → Space → ℕ → BoardFunction → List UnansweredRegion
 told_of fs space n f =
     map (λ q. record { region = q; causes = causes_of fs space n f })
-    (filter (λ q. not (is_answer (first_claim fs space n) q)) (holders space n f))
+    (filter (λ q. not (is_answering_bar (first_claim fs space n) q)) (holders space n f))
 
 -- in path order, then by register
 abbrev pub told : List BoardFunction → Space → ℕ → List UnansweredRegion
@@ -132,12 +132,12 @@ abbrev pub forwarder : BoardFunction → Forwarder
 forwarder f = record { path = f.path; bus = secondary_register f.file }
 
 -- the bridges above it also forward the address
-abbrev pub passes_on : List BoardFunction → Space → ℕ → BoardFunction → Bool
-passes_on fs space n f = forwards space n f && is_forwarded fs f.path space n
+abbrev pub reaches_and_forwards : List BoardFunction → Space → ℕ → BoardFunction → Bool
+reaches_and_forwards fs space n f = forwards space n f && is_forwarded fs f.path space n
 
 -- in path order
 abbrev pub forwarders : List BoardFunction → Space → ℕ → List Forwarder
-forwarders fs space n = map forwarder (filter (passes_on fs space n) fs)
+forwarders fs space n = map forwarder (filter (reaches_and_forwards fs space n) fs)
 
 pub record Why : Type 0 where
   pub answer : Option Claim

@@ -15,7 +15,7 @@ use Rattle.lists.specs.Elements.{IsIn, Each}
 use Rattle.model_board.specs.{Board.{endpoint, bridge}, Paths.{Path, is_ancestor_of, parent}, State.BoardFunction, Windows.{is_in, forwards}, Claims.{Claim, is_forwarded, claims, first_claim}, Cycles.{secondary_register, covers, taker, BusAddress, reached}, Routing.{row_of, routing}}
 use Rattle.model_set_up.specs.PlacedRegions.{PlacedRegion, holds}
 use Rattle.model_findings.specs.{OpenRegions.regions_of, Agents.{bridge_agent, answers}, Orderly.{IsOrderly, IsStateOfBoard}, ReadinessIssues.IsReady}
-use Rattle.model_lines.specs.{Why.{NamedWindow, windows_now, BlockReason, closes, misses, hindrance, Cause, closed_by, stopped_at, UnansweredRegion, is_answer, told, is_as_at_reset, apart, at_reset, Forwarder, forwarder, why}, Ways.{bridges_on_way, takers_on_way, end_of, reached_at, Missing, no_bridge, no_function, missing, WhyNumber, why_number}}
+use Rattle.model_lines.specs.{Why.{NamedWindow, windows_now, BlockReason, closes, misses, hindrance, Cause, closed_by, stopped_at, UnansweredRegion, is_answering_bar, told, is_as_at_reset, apart, at_reset, Forwarder, forwarder, why}, Ways.{bridges_on_way, takers_on_way, end_of, reached_at, Missing, no_bridge, no_function, missing, WhyNumber, why_number}}
 use Rattle.model_findings.specs.Problems as audit
 
 -- ---- an address
@@ -38,7 +38,7 @@ pub record IsStopped (fs : List BoardFunction) (space : Space) (n : ℕ) (p brid
   pub there : IsIn function fs
   pub bridge_is : function.path ≡ bridge
   pub above : IsTrue (is_ancestor_of bridge p)
-  pub stops : IsFalse (forwards space n function)
+  pub blockers : IsFalse (forwards space n function)
   pub hindrance_is : IsTrueHindrance space n function h
 
 abbrev pub claim_there : ℕ → PlacedRegion → Claim
@@ -53,7 +53,7 @@ pub record IsTrueTold (fs : List BoardFunction) (space : Space) (n : ℕ) (t : U
   pub there : IsIn function fs
   pub region : IsIn t.region (regions_of (row_of function))
   pub byte : IsTrue (holds space n t.region)
-  pub other : IsFalse (is_answer (first_claim fs space n) t.region)
+  pub other : IsFalse (is_answering_bar (first_claim fs space n) t.region)
   pub causes : Each (IsTrueCause fs space n function) t.causes
   -- all of them
   pub command : IsFalse (is_open function.file space) → IsIn (closed_by (command_word function.file)) t.causes
@@ -93,7 +93,7 @@ pub record IsExplained (fs : List BoardFunction) (space : Space) (n : ℕ) : Typ
   -- a region that contains the address answers or is reported
   pub complete : (f : BoardFunction) → IsIn f fs → (q : PlacedRegion) → IsIn q (regions_of (row_of f))
       → IsTrue (holds space n q)
-      → IsTrue (is_answer (first_claim fs space n) q) ⊎ ((t : UnansweredRegion) × IsIn t (told fs space n) × (t.region ≡ q))
+      → IsTrue (is_answering_bar (first_claim fs space n) q) ⊎ ((t : UnansweredRegion) × IsIn t (told fs space n) × (t.region ≡ q))
   -- those that aren't as at reset are reported one by one, the others are only counted
   pub one_by_one : (why fs space n).told ≡ apart (told fs space n)
   pub by_number : (why fs space n).at_reset ≡ at_reset (told fs space n)

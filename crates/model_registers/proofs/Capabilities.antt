@@ -1,7 +1,7 @@
 -- A capability list is found as it was declared.
 use Rattle.std.{proofs.{Common.{◌≡◌, ℕ, ◌+◌, ◌*◌, ◌/◌, ◌%◌, ◌<◌, ◌≤◌, ◌⊎◌, Bool, true, false, ◌&&◌, List, [], ◌∷◌, ◌++◌, length, refl, sym, ap, ◌∙◌, subst, arith, ltb, append_assoc}, lemmas.{Bool.{Decides.nat_tests, and_parts, ltb-true}, Nat.{and_mask, and_mod, and_shr, and_block, or_block, and_or_self}}, Math.Nat.{mod-eq_of_lt}}, specs.{Prelude.{⊤, IsTrue, bit_and, bit_or, flat_map}, Int.Bits.{or_zero_r, and_zero_r}}}
 use Rattle.lists.specs.Elements.{Each, EachPair}
-use Rattle.model_registers.{specs.{Cell.{Cell, constant, IsConstant, no_cell, written, raised}, Registers.{Place, config, block, place_eq, after, File, cell_at, changed, write, cells_from}, Declarations.{ConfigBlock, Region, Endpoint}, DeclarationRules.{blocks_apart, IsConfigBlock, IsLawfulEndpoint}, EndpointTable.{block_cells, header_cells, region_cells, endpoint_file}, CopiedFiles.agreed_file, Capabilities.{Capability, first_offset, structure, structures, pointer, with_capabilities, byte, Finds, ShowsList, Change, write_of, raise_of, after_change, after_changes, ListStays}}, proofs.{RegisterFiles.{change_at_place, place_same, self, above, below}, ConstantCells.{constant_written, constant_raised, no_cell_stays, raised_none}, Owned.same_cell}}
+use Rattle.model_registers.{specs.{Cell.{Cell, constant, IsConstant, no_cell, written, raised}, Registers.{Place, config, block, place_eq, after, File, cell_at, changed, write, cells_from}, Declarations.{ConfigBlock, Region, Endpoint}, DeclarationRules.{blocks_apart, IsConfigBlock, IsLawfulEndpoint}, EndpointTable.{block_cells, header_cells, region_cells, endpoint_file}, CopiedFiles.agreed_file, Capabilities.{Capability, first_offset_or_zero, structure, structures, pointer, with_capabilities, byte, Finds, ShowsList, Change, write_of, raise_of, after_change, after_changes, ListStays}}, proofs.{RegisterFiles.{change_at_place, place_same, self, above, below}, ConstantCells.{constant_written, constant_raised, no_cell_stays, raised_none}, Owned.same_cell}}
 
 -- ---- a byte that always reads the same
 
@@ -33,7 +33,7 @@ changes_still (c ∷ cs) v fits q file h = changes_still cs v fits q (after_chan
 
 abbrev HoldsEach : File → List Capability → Type 0
 HoldsEach file [] = ⊤
-HoldsEach file (c ∷ cs) = Holds file (config c.offset) c.id × Holds file (config (c.offset + 1)) (first_offset cs) × HoldsEach file cs
+HoldsEach file (c ∷ cs) = Holds file (config c.offset) c.id × Holds file (config (c.offset + 1)) (first_offset_or_zero cs) × HoldsEach file cs
 
 -- no cell of the file is at an offset
 abbrev Passes : File → ℕ → Type 0
@@ -58,7 +58,7 @@ two_passed b c next apart =
 
 block_passed : (b : ConfigBlock) (cs : List Capability) (more : List ConfigBlock) → Each (λ (e : ConfigBlock). IsTrue (blocks_apart b e)) (structures cs ++ more) → PassesEach (block_cells b) cs
 block_passed b [] more h = tt
-block_passed b (c ∷ cs) more h = (two_passed b c (first_offset cs) h.0, block_passed b cs more h.1)
+block_passed b (c ∷ cs) more h = (two_passed b c (first_offset_or_zero cs) h.0, block_passed b cs more h.1)
 
 first_two : (c : Capability) (next : ℕ) (rest : File) → Holds (block_cells (structure c next) ++ rest) (config c.offset) c.id × Holds (block_cells (structure c next) ++ rest) (config (c.offset + 1)) next
 first_two c next rest = grind (arith, self, below, above)
@@ -66,10 +66,10 @@ first_two c next rest = grind (arith, self, below, above)
 pub structures_held : (cs : List Capability) (more : List ConfigBlock) (rest : File) → EachPair (λ (b e : ConfigBlock). IsTrue (blocks_apart b e)) (structures cs ++ more) → HoldsEach (flat_map block_cells (structures cs ++ more) ++ rest) cs
 structures_held [] more rest apart = tt
 structures_held (c ∷ cs) more rest apart =
-    let own : File = block_cells (structure c (first_offset cs)) in
+    let own : File = block_cells (structure c (first_offset_or_zero cs)) in
     let others : File = flat_map block_cells (structures cs ++ more) in
-    let here = first_two c (first_offset cs) (others ++ rest) in
-    let all : HoldsEach (own ++ (others ++ rest)) (c ∷ cs) = (here.0, here.1, behind own (others ++ rest) cs (block_passed (structure c (first_offset cs)) cs more apart.0) (structures_held cs more rest apart.1)) in
+    let here = first_two c (first_offset_or_zero cs) (others ++ rest) in
+    let all : HoldsEach (own ++ (others ++ rest)) (c ∷ cs) = (here.0, here.1, behind own (others ++ rest) cs (block_passed (structure c (first_offset_or_zero cs)) cs more apart.0) (structures_held cs more rest apart.1)) in
     subst (λ (f : File). HoldsEach f (c ∷ cs)) (sym (append_assoc own others rest)) all
 
 -- ---- what is before the structures
@@ -111,7 +111,7 @@ placed c next is =
 
 all_placed : (cs : List Capability) (more : List ConfigBlock) → Each IsConfigBlock (structures cs ++ more) → Each IsPlaced cs
 all_placed [] more h = tt
-all_placed (c ∷ cs) more h = (placed c (first_offset cs) h.0, all_placed cs more h.1)
+all_placed (c ∷ cs) more h = (placed c (first_offset_or_zero cs) h.0, all_placed cs more h.1)
 
 placed_passed : (file : File) → are_low file ≡ true → (cs : List Capability) → Each IsPlaced cs → PassesEach file cs
 placed_passed file low [] h = tt
@@ -121,18 +121,18 @@ placed_passed file low (c ∷ cs) h =
 
 -- ---- the walk
 
-next_fits : (cs : List Capability) → Each IsPlaced cs → first_offset cs < 256
+next_fits : (cs : List Capability) → Each IsPlaced cs → first_offset_or_zero cs < 256
 next_fits [] h = omega arith
 next_fits (c ∷ cs) h = let ends : c.offset + 2 ≤ 0x100 = h.0.ends in omega (arith, ends)
 
 pub held_byte : (file : File) (off v : ℕ) → Holds file (config off) v → byte file off ≡ v
 held_byte file off v h = let same : (cell_at file (config off)).value ≡ v = ap (λ (c : Cell). c.value) h in omega (arith, same)
 
-walk_of : (file : File) (cs : List Capability) (at : ℕ) → at ≡ first_offset cs → HoldsEach file cs → Finds file at cs
+walk_of : (file : File) (cs : List Capability) (at : ℕ) → at ≡ first_offset_or_zero cs → HoldsEach file cs → Finds file at cs
 walk_of file [] at e h = e
 walk_of file (c ∷ cs) at e h =
     let id : byte file at ≡ c.id = ap (byte file) e ∙ held_byte file c.offset c.id h.0 in
-    let next : byte file (at + 1) ≡ first_offset cs = ap (λ n. byte file (n + 1)) e ∙ held_byte file (c.offset + 1) (first_offset cs) h.1 in
+    let next : byte file (at + 1) ≡ first_offset_or_zero cs = ap (λ n. byte file (n + 1)) e ∙ held_byte file (c.offset + 1) (first_offset_or_zero cs) h.1 in
     (e, id, walk_of file cs (byte file (at + 1)) next h.2)
 
 -- ---- a file with a list
@@ -142,7 +142,7 @@ pub record HoldsList (d : Endpoint) (cs : List Capability) (file : File) : Type 
   pub places : Each IsPlaced cs
   pub ids : Each (λ (c : Capability). c.id < 256) cs
   pub status : Holds file (config 6) (bit_or d.status 0x10 % 256)
-  pub start : Holds file (config 0x34) (first_offset cs)
+  pub start : Holds file (config 0x34) (first_offset_or_zero cs)
   pub headers : HoldsEach file cs
 
 -- a byte that always reads the same in both files does so in the third
@@ -152,14 +152,14 @@ Joins one two file = (q : Place) (v : ℕ) → v < 256 → Holds one q v → Hol
 headers_joined : (one two file : File) → Joins one two file → (cs : List Capability) → Each IsPlaced cs → Each (λ (c : Capability). c.id < 256) cs → HoldsEach one cs → HoldsEach two cs → HoldsEach file cs
 headers_joined one two file joins [] at ids h k = tt
 headers_joined one two file joins (c ∷ cs) at ids h k =
-    (joins (config c.offset) c.id ids.0 h.0 k.0, joins (config (c.offset + 1)) (first_offset cs) (next_fits cs at.1) h.1 k.1, headers_joined one two file joins cs at.1 ids.1 h.2 k.2)
+    (joins (config c.offset) c.id ids.0 h.0 k.0, joins (config (c.offset + 1)) (first_offset_or_zero cs) (next_fits cs at.1) h.1 k.1, headers_joined one two file joins cs at.1 ids.1 h.2 k.2)
 
 list_joined : (one two file : File) → Joins one two file → (d : Endpoint) (cs : List Capability) → HoldsList d cs one → HoldsList d cs two → HoldsList d cs file
 list_joined one two file joins d cs h k = record {
   places = h.places;
   ids = h.ids;
   status = joins (config 6) (bit_or d.status 0x10 % 256) (omega arith) h.status k.status;
-  start = joins (config 0x34) (first_offset cs) (next_fits cs h.places) h.start k.start;
+  start = joins (config 0x34) (first_offset_or_zero cs) (next_fits cs h.places) h.start k.start;
   headers = headers_joined one two file joins cs h.places h.ids h.headers k.headers;
 }
 
@@ -169,7 +169,7 @@ listed_bit s = sym (and_mod (bit_or s 0x10) 0x10 8) ∙ ap (λ n. n % 256) (and_
 pub list_shown : (d : Endpoint) (cs : List Capability) (file : File) → HoldsList d cs file → ShowsList file cs
 list_shown d cs file h = record {
   status = ap (λ n. bit_and n 0x10) (held_byte file 6 _ h.status) ∙ listed_bit d.status;
-  walk = walk_of file cs (byte file 0x34) (held_byte file 0x34 (first_offset cs) h.start) h.headers;
+  walk = walk_of file cs (byte file 0x34) (held_byte file 0x34 (first_offset_or_zero cs) h.start) h.headers;
 }
 
 -- each list that an endpoint was declared with

@@ -1,7 +1,7 @@
 -- A declaration that breaks no rule is lawful, and a lawful one breaks none.
 use Rattle.std.{proofs.{Common.{◌≡◌, ℕ, ◌+◌, ◌<◌, ◌≤◌, ◌^◌, ◌⊎◌, inl, inr, Bool, true, ◌&&◌, ◌||◌, List, [], ◌∷◌, length, eqb, leb, ltb, None, ap, arith}, lemmas.Bool.{leb-true, ltb-true, eqb-true, le-leb, lt-ltb, eq-eqb, and_from, or_cases, or_right}}, specs.{Prelude.IsTrue, List.{list_all, Sorted.{IsPermutation, IsNonDecreasingBy}}}}
 use Rattle.lists.{specs.Elements.{Each, all_pairs}, proofs.{Tests.{left_true, right_true}, EachLemmas.{each_map, each_both, each_test, each_permutation, pairs_test, test_each, test_pairs}}}
-use Rattle.model_registers.{specs.{Declarations.{Region, registers_of, IsLawfulSize, IsLawfulRegion, ConfigBlock, Endpoint}, DeclarationRules.{first_broken, is_read_only, is_pointer, is_config_block, status_with, has_own_registers, has_lawful_numbers, blocks_apart, endpoint_rules, IsInPlace, IsConfigBlock, FitsRegisters, IsLawfulEndpoint}}, proofs.RegisterOrder.{in_header, sorted_are_lawful, lawful_have_own_registers}}
+use Rattle.model_registers.{specs.{Declarations.{Region, registers_of, IsLawfulSize, IsLawfulRegion, ConfigBlock, Endpoint}, DeclarationRules.{first_broken, is_read_only, is_capabilities_pointer, is_config_block, status_with, has_own_registers, has_lawful_numbers, blocks_apart, endpoint_rules, IsInPlace, IsConfigBlock, FitsRegisters, IsLawfulEndpoint}}, proofs.RegisterOrder.{in_header, sorted_are_lawful, lawful_have_own_registers}}
 
 -- the four tests of an endpoint
 record Passes (d : Endpoint) : Type 0 where
@@ -29,10 +29,10 @@ record Numbers (d : Endpoint) : Type 0 where
   short : Each (λ r. length r.cells ≤ 4096) d.regions
   blocks : Each IsConfigBlock d.blocks
 
-where_placed : (b : ConfigBlock) → (leb 0x40 b.offset || is_pointer b) ≡ true → IsInPlace b.offset (length b.cells)
+where_placed : (b : ConfigBlock) → (leb 0x40 b.offset || is_capabilities_pointer b) ≡ true → IsInPlace b.offset (length b.cells)
 where_placed b h = grind (arith, or_cases, leb-true, left_true, right_true, eqb-true)
 
-pointer_kept : (b : ConfigBlock) → (leb 0x40 b.offset || is_pointer b) ≡ true → b.offset ≡ 0x34 → list_all is_read_only b.cells ≡ true
+pointer_kept : (b : ConfigBlock) → (leb 0x40 b.offset || is_capabilities_pointer b) ≡ true → b.offset ≡ 0x34 → list_all is_read_only b.cells ≡ true
 pointer_kept b h at = grind (arith, or_cases, leb-true, right_true)
 
 -- a byte of a block
@@ -46,7 +46,7 @@ begins_behind o n (inr is) = omega (arith, is.0)
 
 config_block : (b : ConfigBlock) → is_config_block b ≡ true → IsConfigBlock b
 config_block b h =
-    let placed = leb 0x40 b.offset || is_pointer b in
+    let placed = leb 0x40 b.offset || is_capabilities_pointer b in
     let some = ltb 0 (length b.cells) in
     let both = left_true (placed && some) (leb (b.offset + length b.cells) 0x100) h in
     let at = where_placed b (left_true placed some both) in
@@ -109,12 +109,12 @@ sorted_is_lawful d ys fits sizes none perm sorted =
 
 -- ---- a lawful declaration breaks no rule
 
-pub pointer_test : (b : ConfigBlock) → b.offset ≡ 0x34 → length b.cells ≡ 1 → list_all is_read_only b.cells ≡ true → is_pointer b ≡ true
+pub pointer_test : (b : ConfigBlock) → b.offset ≡ 0x34 → length b.cells ≡ 1 → list_all is_read_only b.cells ≡ true → is_capabilities_pointer b ≡ true
 pointer_test b at one kept = and_from _ _ (and_from _ _ (eq-eqb b.offset 0x34 at) (eq-eqb (length b.cells) 1 one)) kept
 
-placed_test : (b : ConfigBlock) → IsInPlace b.offset (length b.cells) → (b.offset ≡ 0x34 → IsTrue (list_all is_read_only b.cells)) → (leb 0x40 b.offset || is_pointer b) ≡ true
-placed_test b (inl low) kept = ap (λ t. t || is_pointer b) (le-leb 0x40 b.offset low)
-placed_test b (inr is) kept = or_right (leb 0x40 b.offset) (is_pointer b) (pointer_test b is.0 is.1 (kept is.0))
+placed_test : (b : ConfigBlock) → IsInPlace b.offset (length b.cells) → (b.offset ≡ 0x34 → IsTrue (list_all is_read_only b.cells)) → (leb 0x40 b.offset || is_capabilities_pointer b) ≡ true
+placed_test b (inl low) kept = ap (λ t. t || is_capabilities_pointer b) (le-leb 0x40 b.offset low)
+placed_test b (inr is) kept = or_right (leb 0x40 b.offset) (is_capabilities_pointer b) (pointer_test b is.0 is.1 (kept is.0))
 
 block_test : (b : ConfigBlock) → IsConfigBlock b → is_config_block b ≡ true
 block_test b h = and_from _ _ (and_from _ _ (placed_test b h.in_place h.read_only) (lt-ltb 0 (length b.cells) h.not_empty)) (le-leb (b.offset + length b.cells) 0x100 h.ends)

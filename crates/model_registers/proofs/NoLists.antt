@@ -1,18 +1,18 @@
 -- Without a capability list, bit 4 of Status and the Capabilities Pointer always read 0.
 use Rattle.std.{proofs.{Common.{◌≡◌, ℕ, ◌+◌, ◌*◌, ◌%◌, ◌≤◌, inl, inr, Bool, true, false, true≢false, cond, List, [], ◌∷◌, ◌++◌, length, refl, sym, ap, ◌∙◌, arith, append_assoc}, lemmas.{Bool.{or_parts}, Nat.{and_mod, and_or_self}}}, specs.{Prelude.{bit_and, bit_or, flat_map}, List.list_any}}
 use Rattle.lists.specs.Elements.{Each}
-use Rattle.model_registers.{specs.{Cell.{no_cell}, Registers.{config, block, File, cell_at, cells_from}, Declarations.{ConfigBlock, IsLawfulRegion, Region, registers_of, Endpoint}, DeclarationRules.{is_pointer, IsInPlace, IsConfigBlock, IsLawfulEndpoint}, EndpointTable.{base_cells, block_cells, header_cells, region_cells, endpoint_file}, Capabilities.{Change, after_changes, ShowsNoList}}, proofs.{Capabilities.{changes_still, held_byte}, LawfulDeclarations.pointer_test, Owned.{cells_above, cells_elsewhere}, Parts.cell_outside}}
+use Rattle.model_registers.{specs.{Cell.{no_cell}, Registers.{config, block, File, cell_at, cells_from}, Declarations.{ConfigBlock, IsLawfulRegion, Region, registers_of, Endpoint}, DeclarationRules.{is_capabilities_pointer, IsInPlace, IsConfigBlock, IsLawfulEndpoint}, EndpointTable.{base_cells, block_cells, header_cells, region_cells, endpoint_file}, Capabilities.{Change, after_changes, ShowsNoList}}, proofs.{Capabilities.{changes_still, held_byte}, LawfulDeclarations.pointer_test, Owned.{cells_above, cells_elsewhere}, Parts.cell_outside}}
 
-high : (b : ConfigBlock) → is_pointer b ≡ false → IsConfigBlock b → 0x40 ≤ b.offset
+high : (b : ConfigBlock) → is_capabilities_pointer b ≡ false → IsConfigBlock b → 0x40 ≤ b.offset
 high b none h = of_place h.in_place
   where
     of_place : IsInPlace b.offset (length b.cells) → 0x40 ≤ b.offset
     of_place (inl low) = low
     of_place (inr is) = absurd (true≢false (sym (pointer_test b is.0 is.1 (h.read_only is.0)) ∙ none))
 
-all_high : (bs : List ConfigBlock) → list_any is_pointer bs ≡ false → Each IsConfigBlock bs → Each (λ b. 0x40 ≤ b.offset) bs
+all_high : (bs : List ConfigBlock) → list_any is_capabilities_pointer bs ≡ false → Each IsConfigBlock bs → Each (λ b. 0x40 ≤ b.offset) bs
 all_high [] none h = tt
-all_high (b ∷ bs) none h = let (here, more) = or_parts (is_pointer b) (list_any is_pointer bs) none in (high b here h.0, all_high bs more h.1)
+all_high (b ∷ bs) none h = let (here, more) = or_parts (is_capabilities_pointer b) (list_any is_capabilities_pointer bs) none in (high b here h.0, all_high bs more h.1)
 
 past_blocks : (bs : List ConfigBlock) → Each (λ b. 0x40 ≤ b.offset) bs → (rest : File) → cell_at (flat_map block_cells bs ++ rest) (config 0x34) ≡ cell_at rest (config 0x34)
 past_blocks [] h rest = refl
@@ -43,7 +43,7 @@ module _ (d : Endpoint) (lawful : IsLawfulEndpoint d) (clear : bit_and d.status 
       let regions : File = flat_map (region_cells bases) d.regions in
       let blocks : File = flat_map block_cells d.blocks in
       ap (λ f. cell_at f (config 0x34)) (append_assoc (header_cells d multifunction command) blocks regions)
-      ∙ past_blocks d.blocks (all_high d.blocks (bit_clear (list_any is_pointer d.blocks) (bit_and d.status 0xf900) d.status lawful.status clear) lawful.config_blocks) regions
+      ∙ past_blocks d.blocks (all_high d.blocks (bit_clear (list_any is_capabilities_pointer d.blocks) (bit_and d.status 0xf900) d.status lawful.status clear) lawful.config_blocks) regions
       ∙ past_regions bases d.regions lawful.regions.each
 
   pub no_list_stays : (changes : List Change) → ShowsNoList (after_changes first changes)

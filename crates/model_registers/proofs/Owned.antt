@@ -1,7 +1,7 @@
 -- A function's file, parted into a guest's own copies and all other cells.
 use Rattle.std.{proofs.{Common.{◌≡◌, ℕ, zero, suc, ◌+◌, ◌*◌, ◌/◌, ◌%◌, ◌<◌, ◌≤◌, ◌⊎◌, Bool, true, false, ◌&&◌, ◌||◌, cond, List, [], ◌∷◌, ◌++◌, length, map, refl, sym, ap, ◌∙◌, subst, arith, eqb, leb, ltb, append_assoc, ◌-◌, ◌^◌}, lemmas.Bool.{cases_lt, cases_Bool, or_parts, and_cases, eqb-false, leb-false, ltb-false, or_right, and_from, le-leb, lt-ltb, or_cases, and_parts, eqb-true, leb-true, ltb-true, ne_eqb, and_right}}, specs.{Prelude.{bit_and, bit_or, flat_map}, Int.Bits.{or_zero_r, and_zero_r}}}
 use Rattle.lists.specs.Elements.{Each}
-use Rattle.model_registers.{specs.{Cell.{Cell, no_cell, written, raised}, Registers.{Place, config, block, place_eq, after, File, cell_at, read, write, all_bytes, field, cells_from}, Declarations.{ConfigBlock, Kind, Region, registers_of, IsLawfulRegion}, EndpointTable.{BaseAddress, base_width, type_bits, base_file, command_cells, opened, closed, region_cells, block_cells, command_mask}, Decoding.{base, base_address}, OwnCopies.{is_own, OwnCopies, own_file, HoldsOwn, handed_on, IsLawfulOwn, OwnReads, OwnWrites, OwnStay, bare, OwnHits, ResetHoldsOwn}, CopiedFiles.with_copies}, proofs.{ConstantCells.{no_cell_stays, raised_none}, RegisterFiles.{place_same, change_at_place, above}, Hits.hits_by_bases, Parts.{IsOutside, cell_outside}}}
+use Rattle.model_registers.{specs.{Cell.{Cell, no_cell, written, raised}, Registers.{Place, config, block, place_eq, after, File, cell_at, read, write, all_bytes, field, cells_from}, Declarations.{ConfigBlock, Kind, Region, registers_of, IsLawfulRegion}, EndpointTable.{BaseAddress, base_width, type_bits, base_file, command_cells, opened, closed, region_cells, block_cells, command_mask}, Decoding.{base, base_address}, OwnCopies.{is_own, OwnCopies, own_file, HoldsOwn, forwarded_byte_enables, IsLawfulOwn, OwnReads, OwnWrites, OwnStay, bare, OwnHits, ResetHoldsOwn}, CopiedFiles.with_copies}, proofs.{ConstantCells.{no_cell_stays, raised_none}, RegisterFiles.{place_same, change_at_place, above}, Hits.hits_by_bases, Parts.{IsOutside, cell_outside}}}
 
 -- ---- the guest's copies put in
 
@@ -22,7 +22,7 @@ cell_after [] x p q file = refl
 cell_after (true ∷ ons) x p q file = grind (arith, after_write, change_at_place, no_cell_stays, cell_after ons (x / 256))
 cell_after (false ∷ ons) x p q file = cell_after ons (x / 256) (after p) q file
 
-other_after : (ons : List Bool) (x : ℕ) (p q : Place) (c : Cell) → is_own q ≡ false → after_write ons x p q c ≡ after_write (handed_on p ons) x p q c
+other_after : (ons : List Bool) (x : ℕ) (p q : Place) (c : Cell) → is_own q ≡ false → after_write ons x p q c ≡ after_write (forwarded_byte_enables p ons) x p q c
 unfolding after_write
 other_after [] x p q c other = refl
 other_after (on ∷ ons) x p q c other = grind (arith, other_after ons (x / 256) (after p) q (cond (on && place_eq p q) (written (x % 256) c) c) other, after_write, cases_Bool, place_same, and_right)

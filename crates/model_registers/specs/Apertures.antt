@@ -16,20 +16,20 @@ pub record Apertures : Type 0 where
 -- ---- as tests
 
 -- not empty, and a whole number of units
-abbrev pub is_of_units : ℕ → Aperture → Bool
-is_of_units unit a = nat_le a.first a.last && (a.first % unit == 0) && ((a.last + 1) % unit == 0)
+abbrev pub is_whole_units : ℕ → Aperture → Bool
+is_whole_units unit a = nat_le a.first a.last && (a.first % unit == 0) && ((a.last + 1) % unit == 0)
 
 -- the first 4 KB of I/O stay unused
 abbrev pub is_io_aperture : Aperture → Bool
-is_io_aperture a = is_of_units (2 ^ 12) a && nat_le 0x1000 a.first && nat_le a.last 0xffff
+is_io_aperture a = is_whole_units (2 ^ 12) a && nat_le 0x1000 a.first && nat_le a.last 0xffff
 
 abbrev pub is_mem_aperture : Aperture → Bool
-is_mem_aperture a = is_of_units (2 ^ 20) a && nat_lt a.last (2 ^ 32)
+is_mem_aperture a = is_whole_units (2 ^ 20) a && nat_lt a.last (2 ^ 32)
 
 -- prefetchable memory is below 2^63, entirely below or above 4 GB, and doesn't overlap memory
 abbrev pub is_pref_aperture : Aperture → Aperture → Bool
 is_pref_aperture mem a =
-    is_of_units (2 ^ 20) a && nat_lt a.last (2 ^ 63) && (nat_lt a.last (2 ^ 32) || nat_le (2 ^ 32) a.first)
+    is_whole_units (2 ^ 20) a && nat_lt a.last (2 ^ 63) && (nat_lt a.last (2 ^ 32) || nat_le (2 ^ 32) a.first)
     && (nat_lt mem.last a.first || nat_lt a.last mem.first)
 
 -- a board needn't have a prefetchable aperture

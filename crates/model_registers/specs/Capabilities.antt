@@ -1,6 +1,6 @@
 -- Capability lists: PCI Local Bus 3.0, chapter 6.7 and appendix H.
 --     Capability      a structure of a list: its identity, its offset, and the cells after the two bytes of its header
---     first_offset cs      the offset of the first structure, or 0 if there is none
+--     first_offset_or_zero cs      the offset of the first structure, or 0 if there is none
 --     structures cs      the blocks of a list: Capability ID, Next Capability, and the cells of each structure
 --     pointer cs      the block of the Capabilities Pointer at 34h
 --     with_capabilities cs d      the endpoint d with this list: bit 4 of Status is set if there is a structure
@@ -22,9 +22,9 @@ pub record Capability : Type 0 where
   pub offset : ℕ
   pub cells : List Cell
 
-abbrev pub first_offset : List Capability → ℕ
-first_offset [] = 0
-first_offset (c ∷ cs) = c.offset
+abbrev pub first_offset_or_zero : List Capability → ℕ
+first_offset_or_zero [] = 0
+first_offset_or_zero (c ∷ cs) = c.offset
 
 -- a structure that is followed by one at this offset, or by none
 abbrev pub structure : Capability → ℕ → ConfigBlock
@@ -32,10 +32,10 @@ structure c next = record { offset = c.offset; cells = constant c.id ∷ constan
 
 abbrev pub structures : List Capability → List ConfigBlock
 structures [] = []
-structures (c ∷ cs) = structure c (first_offset cs) ∷ structures cs
+structures (c ∷ cs) = structure c (first_offset_or_zero cs) ∷ structures cs
 
 abbrev pub pointer : List Capability → ConfigBlock
-pointer cs = record { offset = 0x34; cells = constant (first_offset cs) ∷ [] }
+pointer cs = record { offset = 0x34; cells = constant (first_offset_or_zero cs) ∷ [] }
 
 abbrev pub with_capabilities : List Capability → Endpoint → Endpoint
 with_capabilities [] d = d
@@ -95,29 +95,29 @@ pub record Listed : Type 0 where
   pub size : ℕ
 
 -- the reset value of the byte at an index of a block
-abbrev pub value_at : ℕ → ConfigBlock → ℕ
-value_at n b = option_map_or (λ (c : Cell). c.value) (slice_get b.cells n) 0
+abbrev pub value_at_or_zero : ℕ → ConfigBlock → ℕ
+value_at_or_zero n b = option_map_or (λ (c : Cell). c.value) (slice_get b.cells n) 0
 
 -- a pointer with the value `at` points to the block; 0 ends a list
-abbrev pub is_next : ℕ → ConfigBlock → Bool
-is_next at b = not (at == 0) && b.offset == at
+abbrev pub is_pointed_to : ℕ → ConfigBlock → Bool
+is_pointed_to at b = not (at == 0) && b.offset == at
 
-abbrev pub listed_block : ConfigBlock → Listed
-listed_block b = record { id = value_at 0 b; offset = b.offset; size = length b.cells }
+abbrev pub as_listed_capability : ConfigBlock → Listed
+as_listed_capability b = record { id = value_at_or_zero 0 b; offset = b.offset; size = length b.cells }
 
 -- the structures among these blocks that a pointer with the value `at` leads to
-abbrev pub listed_from : ℕ → List ConfigBlock → List Listed
-listed_from at [] = []
-listed_from at (b ∷ bs) =
-    if is_next at b then listed_block b ∷ listed_from (value_at 1 b) bs else listed_from at bs
+abbrev pub capabilities_from_pointer : ℕ → List ConfigBlock → List Listed
+capabilities_from_pointer at [] = []
+capabilities_from_pointer at (b ∷ bs) =
+    if is_pointed_to at b then as_listed_capability b ∷ capabilities_from_pointer (value_at_or_zero 1 b) bs else capabilities_from_pointer at bs
 
 -- the first block is the Capabilities Pointer
-abbrev pub listed_in : List ConfigBlock → List Listed
-listed_in [] = []
-listed_in (b ∷ bs) = if b.offset == 0x34 then listed_from (value_at 0 b) bs else []
+abbrev pub capabilities_in_blocks : List ConfigBlock → List Listed
+capabilities_in_blocks [] = []
+capabilities_in_blocks (b ∷ bs) = if b.offset == 0x34 then capabilities_from_pointer (value_at_or_zero 0 b) bs else []
 
 abbrev pub listed : Endpoint → List Listed
-listed d = if bit_and d.status 0x10 == 0 then [] else listed_in d.blocks
+listed d = if bit_and d.status 0x10 == 0 then [] else capabilities_in_blocks d.blocks
 
 abbrev pub as_listed : Capability → Listed
 as_listed c = record { id = c.id; offset = c.offset; size = 2 + length c.cells }

@@ -1,8 +1,8 @@
 -- The rules for declarations, and the first rule that a declaration breaks. The numbers are the error numbers of board
 -- files.
 --     first_broken      the number of the first rule whose test fails
---     is_pointer b      whether a block is the Capabilities Pointer
---     list_bit bs      bit 4 of Status, which is set if there is a Capabilities Pointer
+--     is_capabilities_pointer b      whether a block is the Capabilities Pointer
+--     capabilities_list_bit bs      bit 4 of Status, which is set if there is a Capabilities Pointer
 --     status_with bs s      the bits of Status that a declaration may set, and bit 4
 --     endpoint_rules, bridge_rules      the rules for a declaration, in the order in which they are checked
 --     in_register_order      regions in the order of their registers
@@ -19,20 +19,20 @@ abbrev pub is_read_only : Cell → Bool
 is_read_only c = c.writable == 0 && c.clearable == 0
 
 -- the Capabilities Pointer is the read-only byte at 34h
-abbrev pub is_pointer : ConfigBlock → Bool
-is_pointer b = b.offset == 0x34 && length b.cells == 1 && list_all is_read_only b.cells
+abbrev pub is_capabilities_pointer : ConfigBlock → Bool
+is_capabilities_pointer b = b.offset == 0x34 && length b.cells == 1 && list_all is_read_only b.cells
 
 -- device-specific registers are at 40h to FFh
 abbrev pub is_config_block : ConfigBlock → Bool
 is_config_block b =
-    (nat_le 0x40 b.offset || is_pointer b) && nat_lt 0 (length b.cells) && nat_le (b.offset + length b.cells) 0x100
+    (nat_le 0x40 b.offset || is_capabilities_pointer b) && nat_lt 0 (length b.cells) && nat_le (b.offset + length b.cells) 0x100
 
-abbrev pub list_bit : List ConfigBlock → ℕ
-list_bit bs = if list_any is_pointer bs then 0x10 else 0
+abbrev pub capabilities_list_bit : List ConfigBlock → ℕ
+capabilities_list_bit bs = if list_any is_capabilities_pointer bs then 0x10 else 0
 
 -- bits 8 and 11 to 15, and bit 4
 abbrev pub status_with : List ConfigBlock → ℕ → ℕ
-status_with bs s = bit_or (bit_and s 0xf900) (list_bit bs)
+status_with bs s = bit_or (bit_and s 0xf900) (capabilities_list_bit bs)
 
 -- Vendor ID FFFFh means that no function is present
 abbrev pub has_lawful_numbers : Endpoint → Bool

@@ -3,7 +3,7 @@
 --     is_own p      the place belongs to one of these registers
 --     OwnCopies, own_file      the values of the copies, and their cells
 --     HoldsOwn file own      the file holds exactly these copies
---     handed_on p enables      the enables of the bytes from p on that aren't copied
+--     forwarded_byte_enables p enables      the enables of the bytes from p on that aren't copied
 use Rattle.std.specs.Prelude.{◌≡◌, ◌≤◌, ℕ, Bool, true, false, ◌&&◌, ◌||◌, not, ◌==◌, nat_le, nat_lt, if◌then◌else◌, List, [], ◌∷◌, ◌++◌, ◌+◌, map}
 use Rattle.lists.specs.Elements.{Each}
 use Rattle.model_registers.specs.{Registers.{Place, config, block, after, File, cell_at, read, write, raise}, Declarations.{Region, HasLawfulRegions, Endpoint}, EndpointTable.{BaseAddress, base_file, command_cells, opened, closed, endpoint_reset}, Decoding.{Space, first_hit}}
@@ -22,9 +22,9 @@ own_file own = command_cells own.command ++ base_file own.bases
 abbrev pub HoldsOwn : File → OwnCopies → Type 0
 HoldsOwn file own = (p : Place) → is_own p ≡ true → cell_at file p ≡ cell_at (own_file own) p
 
-abbrev pub handed_on : Place → List Bool → List Bool
-handed_on p [] = []
-handed_on p (on ∷ ons) = (on && not (is_own p)) ∷ handed_on (after p) ons
+abbrev pub forwarded_byte_enables : Place → List Bool → List Bool
+forwarded_byte_enables p [] = []
+forwarded_byte_enables p (on ∷ ons) = (on && not (is_own p)) ∷ forwarded_byte_enables (after p) ons
 
 -- ---- laws, for copies of lawful registers
 
@@ -34,14 +34,14 @@ IsLawfulOwn own = HasLawfulRegions (map opened own.bases)
 -- a file that holds the copies reads the copied bytes together with the forwarded bytes
 abbrev pub OwnReads : Type 0
 OwnReads = (own : OwnCopies) → IsLawfulOwn own → (file : File) → HoldsOwn file own → (p : Place) (enables : List Bool)
-    → read file p enables ≡ read (own_file own) p enables + read file p (handed_on p enables)
+    → read file p enables ≡ read (own_file own) p enables + read file p (forwarded_byte_enables p enables)
 
 -- a write changes the copies directly, and all other cells through the forwarded bytes
 abbrev pub OwnWrites : Type 0
 OwnWrites = (own : OwnCopies) → (file : File) → HoldsOwn file own → (p q : Place) (enables : List Bool) (x : ℕ)
     → cell_at (write enables x p file) q
     ≡ (if is_own q then cell_at (write enables x p (own_file own)) q
-    else cell_at (write (handed_on p enables) x p file) q)
+    else cell_at (write (forwarded_byte_enables p enables) x p file) q)
 
 -- a device can't raise bits in the copies
 abbrev pub OwnStay : Type 0

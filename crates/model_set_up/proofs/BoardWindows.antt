@@ -3,7 +3,7 @@ use Rattle.std.{proofs.{Common.{◌≡◌, ℕ, zero, suc, ◌+◌, ◌-◌, ◌
 use Rattle.lists.{specs.Elements.{Each, IsIn}, proofs.Members.{each_in, each_from, from_flat_map, in_filter, in_flat_map, any_in, all_in}}
 use Rattle.model_registers.specs.{Declarations.{Kind, Region, Endpoint, IoDecode, Bridge}, BridgeTable.{Window, BridgeValues, bridge_file}, Apertures.{IsLawfulApertures, Aperture, Apertures}}
 use Rattle.model_board.{specs.{Board.{Board, Row, Decl, endpoint, bridge, rows_on, IsBoard}, Paths.{Path, is_ancestor_of, last_part, IsPath}, Lawful.HasLawfulDecls, Windows.{io_window, mem_window, pref_window, is_in_window}}, proofs.PathEnds.{leads_self, leads_trans}}
-use Rattle.model_set_up.{specs.{Pools.{Pool, io_pool, mem_pool, pref_pool, same_pool, unit_of, bridge_of, bridges_above, pref_reaches, pool_of, is_io, opens_io, has_io, has_io_paths, aperture_of}, Placement.{PlacementItem, need, window_items, items_of, items_within, items_on, fits, bus_first, a_region, a_window}, Layout.{IsAligned, IsLawful, pool_rows, LayoutRow, layout}, Extents.IsInside, PlacementLaws.{window_row, window_rows, IsRowFor, HasRows}, SetUp.{window_of, set_up_file}, WindowLaws.{io_reach, pref_reach, IsWhole, window_over, HasPlacedWindows, SetUpWindows, ForwardsPlaced}, PlacedRegions.pool_space}, proofs.{Packing.unit_positive, Items.{some_end, end_below_need, items_placeable, region_of_item, on_bus}, Nesting.HasItems, LawfulPlacement.pool_lawful, DeclaredRows.has_window_row, WindowReads.{closed_windows, windows_named}}}
+use Rattle.model_set_up.{specs.{Pools.{Pool, io_pool, mem_pool, pref_pool, same_pool, unit_of, bridge_of, bridges_above, can_reach_pref_aperture, pool_of, is_io, opens_io, has_io, has_io_paths, aperture_of}, Placement.{PlacementItem, need, window_items, items_of, items_within, items_on, fits, bus_first, a_region, a_window}, Layout.{IsAligned, IsLawful, pool_rows, LayoutRow, layout}, Extents.IsInside, PlacementLaws.{window_row, window_rows, IsRowFor, HasRows}, SetUp.{window_of, set_up_file}, WindowLaws.{io_reach, pref_reach, IsWhole, window_over, HasPlacedWindows, SetUpWindows, ForwardsPlaced}, PlacedRegions.pool_space}, proofs.{Packing.unit_positive, Items.{some_end, end_below_need, items_placeable, region_of_item, on_bus}, Nesting.HasItems, LawfulPlacement.pool_lawful, DeclaredRows.has_window_row, WindowReads.{closed_windows_forward_nothing, windows_named}}}
 
 -- ---- items stand for regions behind
 
@@ -53,14 +53,14 @@ is_io_of : (a : Apertures) (ds : List Bridge) (k : Kind) → same_pool (pool_of 
 is_io_of a ds k h = grind arith
 
 abbrev Reached : Option Aperture → List Bridge → Type 0
-Reached o ds = (ap : Aperture) × (wide : Bool) × (o ≡ Some ap) × (pref_reaches ap ds wide ≡ true)
+Reached o ds = (ap : Aperture) × (wide : Bool) × (o ≡ Some ap) × (can_reach_pref_aperture ap ds wide ≡ true)
 
 pref_of : (a : Apertures) (ds : List Bridge) (k : Kind) → same_pool (pool_of a ds k) pref_pool ≡ true → Reached a.pref ds
 pref_of a ds k h = grind arith
 
 -- ---- each bridge above can name the pool's addresses
 
-pref_reached : (ap : Aperture) (ds : List Bridge) (wide : Bool) (d : Bridge) → IsIn d ds → ap.last < 2 ^ 63 → pref_reaches ap ds wide ≡ true → ap.last < pref_reach d.pref
+pref_reached : (ap : Aperture) (ds : List Bridge) (wide : Bool) (d : Bridge) → IsIn d ds → ap.last < 2 ^ 63 → can_reach_pref_aperture ap ds wide ≡ true → ap.last < pref_reach d.pref
 pref_reached ap ds wide d m limit h = grind (arith, ltb-true, all_in, and_parts)
 
 io_reached : (k : IoDecode) (n : ℕ) → n < 2 ^ 16 → has_io k ≡ true → n < io_reach k
@@ -114,15 +114,15 @@ placed_from first unit is = record { first = first; last = first + need unit is 
 
 module _ (d : Bridge) (multifunction : Bool) (r : BridgeValues) (first : ℕ) where
   io_named : (is : List PlacementItem) → r.io ≡ window_of (2 ^ 12) 0xf first is → ((i : PlacementItem) → IsIn i is → IsWhole (2 ^ 12) (io_reach d.io) (placed_from first (2 ^ 12) is)) → io_window d.io (bridge_file d multifunction r) ≡ window_over (2 ^ 12) first is
-  io_named [] e whole = (closed_windows d multifunction r).io e
+  io_named [] e whole = (closed_windows_forward_nothing d multifunction r).io e
   io_named (i ∷ is) e whole = (windows_named d multifunction r).io (subst (IsWhole (2 ^ 12) (io_reach d.io)) (sym e) (whole i (inl refl))) ∙ ap (λ s. Some s) e
 
   mem_named : (is : List PlacementItem) → r.mem ≡ window_of (2 ^ 20) 0xfff first is → ((i : PlacementItem) → IsIn i is → IsWhole (2 ^ 20) (2 ^ 32) (placed_from first (2 ^ 20) is)) → mem_window (bridge_file d multifunction r) ≡ window_over (2 ^ 20) first is
-  mem_named [] e whole = (closed_windows d multifunction r).mem e
+  mem_named [] e whole = (closed_windows_forward_nothing d multifunction r).mem e
   mem_named (i ∷ is) e whole = (windows_named d multifunction r).mem (subst (IsWhole (2 ^ 20) (2 ^ 32)) (sym e) (whole i (inl refl))) ∙ ap (λ s. Some s) e
 
   pref_named : (is : List PlacementItem) → r.pref ≡ window_of (2 ^ 20) 0xfff first is → ((i : PlacementItem) → IsIn i is → IsWhole (2 ^ 20) (pref_reach d.pref) (placed_from first (2 ^ 20) is)) → pref_window d.pref (bridge_file d multifunction r) ≡ window_over (2 ^ 20) first is
-  pref_named [] e whole = (closed_windows d multifunction r).pref e
+  pref_named [] e whole = (closed_windows_forward_nothing d multifunction r).pref e
   pref_named (i ∷ is) e whole = (windows_named d multifunction r).pref (subst (IsWhole (2 ^ 20) (pref_reach d.pref)) (sym e) (whole i (inl refl))) ∙ ap (λ s. Some s) e
 
 module _ (b : Board) (a : Apertures) (board : IsBoard b) (lawful : HasLawfulDecls b) (apertures : IsLawfulApertures a) (ways : has_io_paths b ≡ true) (fit : (pool : Pool) → IsTrue (fits b a pool)) where

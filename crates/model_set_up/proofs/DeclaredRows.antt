@@ -116,8 +116,8 @@ module _ (b : Board) (a : Apertures) (pool : Pool) (board : IsBoard b) (lawful :
       of_spot x o =
           grind (arith, origin b a pool board o.bus o.spot.item (item_of o.spot (items_on b a pool o.bus) o.on), item_of o.spot (items_on b a pool o.bus) o.on, row_for)
 
-pub rows_are_declared : RowsAreDeclared
-rows_are_declared b a board lawful = record {
+pub one_row_per_region_or_window : RowsAreDeclared
+one_row_per_region_or_window b a board lawful = record {
   each_has = each_from (λ r. HasOwnRows b a r.path r.decl) b (λ r m. of_row r m r.decl refl);
   no_others = λ pool. no_others b a pool board lawful;
 }

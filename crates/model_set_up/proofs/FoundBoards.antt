@@ -3,7 +3,7 @@ use Rattle.std.{proofs.{Common.{◌≡◌, ℕ, ◌+◌, ◌≤◌, Bool, ◌&&�
 use Rattle.lists.{proofs.{EachLemmas.each_of_map, Members.pairs_of_map}, specs.Elements.Each}
 use Rattle.model_registers.{specs.{Declarations.{Kind, Region, Endpoint, Bridge}, OwnCopies.bare, Apertures.Apertures, Decoding.{io, memory, space_of, same_space}, EndpointTable.BaseAddress}, proofs.BareRegions.{bare_each, bare_order}}
 use Rattle.model_board.{specs.{Paths.{Path, path_eq, path_before, is_ancestor_of, parent, last_part}, Board.{Decl, endpoint, bridge, is_bridge, Row, Board, stands_at, is_bridge_at, IsBoard, rows_on}, BusNumbers.{secondary, subordinate, bus_behind, bus_of, Enumerates}, Lawful.HasLawfulDecls}, proofs.{BusNumbers.{bridges, bridges-cons}, PathOrder.one}}
-use Rattle.model_set_up.specs.{Pools.{bridge_of, bridges_above, pool_of, Pool, io_pool, mem_pool, pref_pool, unit_of, same_pool, has_io, is_io, opens_io, has_io_paths}, FunctionTable.{met_endpoint, met_bridge, found_decl, range_behind, table_row, sized_table, board_in, PlacedAsFound}, Placement.{PlacementItem, a_region, region_item, window_items, items_of, items_within, items_on, root_first, spots, offset_in, first_below, bus_first, region_first}, Layout.{buses, pool_rows}, SetUp.{first_of, command_of}, SetUpWrites.{placed_base, windows_of, writes_of, planned, placement_rules}}
+use Rattle.model_set_up.specs.{Pools.{bridge_of, bridges_above, pool_of, Pool, io_pool, mem_pool, pref_pool, unit_of, same_pool, has_io, is_io, opens_io, has_io_paths}, FunctionTable.{met_endpoint, met_bridge, found_decl, range_behind, table_row, sized_table, board_in, PlacedAsFound}, Placement.{PlacementItem, a_region, region_item, window_items, items_of, items_within, items_on, root_bus_start, spots, offset_in, first_below, bus_first, region_first}, Layout.{buses, pool_rows}, SetUp.{first_of, command_of}, SetUpWrites.{placed_base, windows_of, writes_of, planned, placement_rules}}
 
 abbrev pub found_endpoint : Endpoint → Endpoint
 found_endpoint d = record (met_endpoint d) { regions = map bare d.regions }
@@ -134,7 +134,7 @@ module _ (b c : Board) (a : Apertures) (pool : Pool) (same : (bus : Path) → it
   first_below_same n above ps = grind arith
 
   pub bus_first_same : (bus : Path) → bus_first c a pool bus ≡ bus_first b a pool bus
-  bus_first_same bus = grind (arith, first_below_same (root_first a pool (items_on c a pool [])) [] bus, same [])
+  bus_first_same bus = grind (arith, first_below_same (root_bus_start a pool (items_on c a pool [])) [] bus, same [])
 
   pub region_first_same : (p : Path) (k : ℕ) → region_first c a pool p k ≡ region_first b a pool p k
   region_first_same p k = ap₂ (λ n (is : List PlacementItem). n + offset_in (spots is) (last_part p) (a_region k)) (bus_first_same (parent p)) (same (parent p))
@@ -211,5 +211,5 @@ of_found b board lawful c e =
     let P : Board → Type 0 = λ x. IsBoard x × HasLawfulDecls x × (sized_table x ≡ sized_table b) × ((a : Apertures) → planned x a ≡ planned b a) × ((a : Apertures) → placement_rules x a ≡ placement_rules b a) in
     subst P (sym e) (found_places b board, found_decls b lawful, map_found _ _ (found_table_row b) b, planned_found b, rules_found b)
 
-pub placed_as_found : PlacedAsFound
-placed_as_found b board lawful = grind (arith, of_found b board lawful (board_in (sized_table b)) (board_in_table b), board_in_table b, found_few b)
+pub scan_finds_all_placement_needs : PlacedAsFound
+scan_finds_all_placement_needs b board lawful = grind (arith, of_found b board lawful (board_in (sized_table b)) (board_in_table b), board_in_table b, found_few b)

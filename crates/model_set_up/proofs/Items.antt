@@ -3,7 +3,7 @@ use Rattle.std.{proofs.{Common.{◌≡◌, ℕ, zero, suc, ◌+◌, ◌%◌, ◌
 use Rattle.lists.{specs.Elements.{Each, EachPair, IsIn}, proofs.{Members.{each_in, each_from, from_flat_map, from_map, from_filter, in_filter, in_flat_map, pairs_weaker, pairs_flat_map, pairs_of_map}, EachLemmas.pairs_filter}}
 use Rattle.model_registers.specs.{Declarations.{Endpoint, Region, IsLawfulRegion}, Apertures.Apertures}
 use Rattle.model_board.{specs.{Board.{Board, Row, Decl, endpoint, bridge, rows_on, IsBoard}, Paths.{Part, Path, part_eq, path_eq, parent, last_part, IsPath}, Lawful.{IsLawfulDecl, HasLawfulDecls}}, proofs.{PathOrder.{part_same, path_same, part_eq-sym, part_self}, PathEnds.{snoc, path_self, not_before_itself}}}
-use Rattle.model_set_up.{specs.{Pools.{Pool, io_pool, unit_of, same_pool, pool_of, bridges_above}, Placement.{Placed, a_region, a_window, same_placed, PlacementItem, is_item, inserted, stands_before, in_order, end_from, round_up, need, alignment, PlacedItem, spots_from, spots, offset_in, region_item, region_items, window_items, items_of, items_within, items_on}, Packing.{IsPowerOfTwo, IsRun}}, proofs.{Packing.{power_positive, round_up_not_before, round_up_is_multiple, run_in_order}, InOrder.{from_inserted, in_in_order, from_in_order}, Levels.items_by_bus}}
+use Rattle.model_set_up.{specs.{Pools.{Pool, io_pool, unit_of, same_pool, pool_of, bridges_above}, Placement.{Placed, a_region, a_window, same_placed, PlacementItem, is_item, inserted, stands_before, in_order, end_from, round_up, need, alignment, PlacedItem, spots_from, spots, offset_in, region_item, region_items, window_items, items_of, items_within, items_on}, Packing.{IsPowerOfTwo, IsRun}}, proofs.{Packing.{power_positive, round_up_not_before, round_up_is_multiple, run_in_order}, InOrder.{from_inserted, in_in_order, from_in_order}, Levels.bus_items_are_bars_and_windows}}
 
 -- ---- items in order, and their spots
 
@@ -174,12 +174,12 @@ on_bus b bus r paths m = grind (arith, from_filter, snoc r.path, each_in, path_s
 module _ (b : Board) (a : Apertures) (pool : Pool) (board : IsBoard b) where
   pub origin : (bus : Path) (i : PlacementItem) → IsIn i (items_on b a pool bus) → Origin b a pool bus i
   origin bus i m =
-      grind (arith, from_flat_map (items_of b a pool (items_on b a pool)) i (rows_on b bus) (subst (IsIn i) (items_by_bus b board a pool bus) m), items_by_bus b board a pool bus, on_bus b bus, region_of_item)
+      grind (arith, from_flat_map (items_of b a pool (items_on b a pool)) i (rows_on b bus) (subst (IsIn i) (bus_items_are_bars_and_windows b board a pool bus) m), bus_items_are_bars_and_windows b board a pool bus, on_bus b bus, region_of_item)
 
   -- and the items of each function of the board stand on its bus
   pub on_own_bus : (r : Row) → IsIn r b → (i : PlacementItem) → IsIn i (items_for b a pool r.path r.decl) → IsIn i (items_on b a pool (parent r.path))
   on_own_bus r m i k =
-      grind (arith, items_by_bus b board a pool (parent r.path), in_flat_map (items_of b a pool (items_on b a pool)) r i (rows_on b (parent r.path)), in_filter, path_self (parent r.path))
+      grind (arith, bus_items_are_bars_and_windows b board a pool (parent r.path), in_flat_map (items_of b a pool (items_on b a pool)) r i (rows_on b (parent r.path)), in_filter, path_self (parent r.path))
 
   abbrev PartsDiffer : Row → Row → Type 0
   PartsDiffer r s = part_eq (last_part r.path) (last_part s.path) ≡ false
@@ -194,7 +194,7 @@ module _ (b : Board) (a : Apertures) (pool : Pool) (board : IsBoard b) where
 
     pub items_pairs : HasLawfulDecls b → (bus : Path) → EachPair R (items_on b a pool bus)
     items_pairs lawful bus =
-        subst (EachPair R) (sym (items_by_bus b board a pool bus))
+        subst (EachPair R) (sym (bus_items_are_bars_and_windows b board a pool bus))
         (pairs_flat_map PartsDiffer R (items_of b a pool (items_on b a pool)) (rows_on b bus) (parts_differ bus)
         (λ r m. of_one r.path r.decl (each_in (λ (s : Row). IsLawfulDecl s.decl) r b lawful (from_filter (λ (s : Row). path_eq (parent s.path) bus) r b m).0))
         (λ r s m k other i j h l. parts i j (ap₂ part_eq (part_of_item b a pool r.path r.decl i h) (part_of_item b a pool s.path s.decl j l) ∙ other)))

@@ -34,5 +34,5 @@ one_more b a pool paths (suc n) bus deep =
     items_of_same b a pool (items_within b a pool n) (items_within b a pool (suc n)) r.path r.decl
     (one_more b a pool paths n r.path (omega (arith, path_eq-length (parent r.path) bus k.1, parent-shorter r.path (each_in (λ (s : Row). IsPath s.path) r b paths k.0).some))))
 
-pub items_by_bus : ItemsByBus
-items_by_bus b lawful a pool bus = one_more b a pool lawful.paths 16 bus (omega arith)
+pub bus_items_are_bars_and_windows : ItemsByBus
+bus_items_are_bars_and_windows b lawful a pool bus = one_more b a pool lawful.paths 16 bus (omega arith)

@@ -3,7 +3,7 @@ use Rattle.std.{proofs.Common.{◌≡◌, ℕ, zero, suc, ◌+◌, ◌-◌, ◌/
 use Rattle.lists.{specs.Elements.IsIn, proofs.{Tests.{left_true, right_true}, Members.{each_in, from_any}}}
 use Rattle.model_board.{specs.{Board.{Board, Row, Decl, endpoint, bridge, is_bridge, is_bridge_at, IsBoard}, Paths.{Part, Path, is_ancestor_of, parent, last_part}, Lawful.HasLawfulDecls}, proofs.{PathOrder.path_same, PathEnds.{snoc, parent_snoc, length_snoc, leads_up}}}
 use Rattle.model_registers.specs.Apertures.{Apertures, Aperture}
-use Rattle.model_set_up.{specs.{Pools.{Pool, unit_of, aperture_of}, Placement.{Placed, a_window, PlacementItem, PlacedItem, spots, in_order, end_from, round_up, need, alignment, window_items, items_on, root_first, offset_on, first_below, bus_first}, Packing.{IsPowerOfTwo, IsRun}}, proofs.{Packing.{Divides, divides_add, divides_chain, powers_divide, unit_positive}, Items.{spot_of, item_of, spots_differ, offset_of_spot, alignment_power, align_below, unit_power, IsPlaceable, powers, run_of, end_below_need, items_placeable, items_for, region_of_item, Origin, origin, on_own_bus, items_differ}}}
+use Rattle.model_set_up.{specs.{Pools.{Pool, unit_of, aperture_of}, Placement.{Placed, a_window, PlacementItem, PlacedItem, spots, in_order, end_from, round_up, need, alignment, window_items, items_on, root_bus_start, offset_on, first_below, bus_first}, Packing.{IsPowerOfTwo, IsRun}}, proofs.{Packing.{Divides, divides_add, divides_chain, powers_divide, unit_positive}, Items.{spot_of, item_of, spots_differ, offset_of_spot, alignment_power, align_below, unit_power, IsPlaceable, powers, run_of, end_below_need, items_placeable, items_for, region_of_item, Origin, origin, on_own_bus, items_differ}}}
 
 -- ---- the first address of a bus, by that of the bus above
 
@@ -13,7 +13,7 @@ first_snoc b a pool (x ∷ xs) n above p = grind (arith, append_assoc, first_sno
 
 -- a bus begins where the window of its bridge stands on the bus above
 pub bus_first-snoc : (b : Board) (a : Apertures) (pool : Pool) (bus : Path) (p : Part) → bus_first b a pool (bus ++ p ∷ []) ≡ bus_first b a pool bus + offset_on b a pool bus p a_window
-bus_first-snoc b a pool bus p = first_snoc b a pool bus (root_first a pool (items_on b a pool [])) [] p
+bus_first-snoc b a pool bus p = first_snoc b a pool bus (root_bus_start a pool (items_on b a pool [])) [] p
 
 -- ---- multiples
 

@@ -186,5 +186,5 @@ run_from n (i ∷ is) h =
 pub run_in_order : (is : List PlacementItem) → Each (λ i. 0 < i.align) is → IsRun 0 (end_from 0 (in_order is)) (spots is)
 run_in_order is positive = run_from 0 (in_order is) (each_in_order (λ i. 0 < i.align) is positive)
 
-pub compact_is_run : CompactIsRun
-compact_is_run unit is h positive = grind (arith, run_in_order, round_up_not_before, each_map)
+pub compact_items_never_overlap : CompactIsRun
+compact_items_never_overlap unit is h positive = grind (arith, run_in_order, round_up_not_before, each_map)

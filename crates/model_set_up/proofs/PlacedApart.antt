@@ -3,7 +3,7 @@ use Rattle.std.{proofs.Common.{◌≡◌, ℕ, ◌+◌, ◌⊎◌, inr, Bool, tr
 use Rattle.model_registers.specs.{Declarations.{Kind, Bridge}, Decoding.{memory, space_of, same_space}, Apertures.{IsLawfulApertures, IsPrefOption, Aperture, Apertures}}
 use Rattle.lists.{proofs.{Tests.{left_true, right_true}, Members.{each_in, from_any, pair_in}}, specs.Elements.IsIn}
 use Rattle.model_board.{specs.{Board.{Board, Row, is_bridge, IsBoard}, Paths.{Part, Path, path_eq, is_ancestor_of, parent}}, proofs.{PathOrder.{path_same, part_self}, PathEnds.{path_self, parent_snoc, last_snoc, length_snoc}}}
-use Rattle.model_set_up.{specs.{Pools.{Pool, io_pool, mem_pool, pref_pool, same_pool, pref_or_mem, pool_of, aperture_of}, Layout.{LayoutRow, is_window_over, IsUnderWindows, IsLawful}, Extents.{IsInside, AreApart}, Placement.{Placed, a_window}, PlacedRegions.pool_space}, proofs.Partings.{Meeting, Same, Above, Below, Parting, meet, leads_down, one_row, bridge_above}}
+use Rattle.model_set_up.{specs.{Pools.{Pool, io_pool, mem_pool, pref_pool, same_pool, pool_for_prefetchable, pool_of, aperture_of}, Layout.{LayoutRow, is_window_over, IsUnderWindows, IsLawful}, Extents.{IsInside, AreApart}, Placement.{Placed, a_window}, PlacedRegions.pool_space}, proofs.Partings.{Meeting, Same, Above, Below, Parting, meet, leads_down, one_row, bridge_above}}
 
 -- ---- pools
 
@@ -13,7 +13,7 @@ pool_is p q h = grind arith
 same_pools : (p q : Pool) → p ≡ q → same_pool p q ≡ true
 same_pools p q h = grind arith
 
-pub or_space : (o : Option Aperture) (above : List Bridge) (wide : Bool) → pool_space (pref_or_mem o above wide) ≡ memory
+pub or_space : (o : Option Aperture) (above : List Bridge) (wide : Bool) → pool_space (pool_for_prefetchable o above wide) ≡ memory
 or_space o above wide = grind arith
 
 -- a region's pool has addresses of its space

@@ -3,7 +3,7 @@ use Rattle.std.{proofs.Common.{◌≡◌, ℕ, ◌+◌, ◌≤◌, ◌⊎◌, tr
 use Rattle.lists.{specs.Elements.{EachPair, IsIn}, proofs.Members.{each_in, in_map, in_flat_map, from_flat_map, from_map, from_filter, pairs_weaker, pairs_flat_map, pairs_of_map}}
 use Rattle.model_registers.specs.{Declarations.{Kind, Region, registers_of, HasLawfulRegions, Endpoint, least_size, IsLawfulRegion}, Decoding.{Space, space_of, same_space, io, memory}, Apertures.{IsLawfulApertures, Apertures, Aperture}, DeclarationRules.IsLawfulEndpoint}
 use Rattle.model_board.{specs.{Board.{Board, Row, Decl, endpoint, bridge, is_bridge, IsBoard}, Paths.{Path, path_before}, Lawful.{IsLawfulDecl, HasLawfulDecls}}, proofs.PathEnds.not_before_itself}
-use Rattle.model_set_up.{specs.{Pools.{Pool, io_pool, mem_pool, pref_pool, bridges_above}, Placement.{Placed, a_region, a_window}, SetUp.first_of, Layout.{LayoutRow, IsLawful, pool_rows, layout, IsAligned}, Extents.AreApart, PlacementLaws.{pool_at, region_row, IsRowFor, HasRows}, PlacedRegions.{PlacedRegion, placed, placed_at, placed_regions, pool_space, placed_row, placed_rows}, UniqueClaimant.{ShareNone, CanBePlaced, IsPlacedWithin, PlacedWithin}}, proofs.{PlacedApart.{pool_of_space, OfEndpoint, spaces_apart}, LawfulPlacement.layout_is_lawful, DeclaredRows.rows_are_declared, PlacedReads.{InAperture, fits_register}}}
+use Rattle.model_set_up.{specs.{Pools.{Pool, io_pool, mem_pool, pref_pool, bridges_above}, Placement.{Placed, a_region, a_window}, SetUp.first_of, Layout.{LayoutRow, IsLawful, pool_rows, layout, IsAligned}, Extents.AreApart, PlacementLaws.{pool_at, region_row, IsRowFor, HasRows}, PlacedRegions.{PlacedRegion, placed, placed_at, placed_regions, pool_space, placed_row, placed_rows}, UniqueClaimant.{ShareNone, CanBePlaced, IsPlacedWithin, PlacedWithin}}, proofs.{PlacedApart.{pool_of_space, OfEndpoint, spaces_apart}, LawfulPlacement.layout_is_lawful, DeclaredRows.one_row_per_region_or_window, PlacedReads.{InAperture, fits_register}}}
 
 -- where a placed region comes from
 pub record Source (b : Board) (a : Apertures) (q : PlacedRegion) : Type 0 where
@@ -152,7 +152,7 @@ module _ (b : Board) (a : Apertures) (can : CanBePlaced b a) (p : Path) (d : End
   lawful = layout_is_lawful b a can.places can.declarations can.room
 
   there : IsIn row (layout b a)
-  there = region_there b a (rows_are_declared b a can.places can.declarations) (record { path = p; decl = endpoint d }) d r on_board refl declared
+  there = region_there b a (one_row_per_region_or_window b a can.places can.declarations) (record { path = p; decl = endpoint d }) d r on_board refl declared
 
   inside : InAperture a (pool_at b a p r) row
   inside = each_in (λ (l : LayoutRow). InAperture a l.pool l) row (layout b a) lawful.in_apertures there
@@ -169,5 +169,5 @@ module _ (b : Board) (a : Apertures) (can : CanBePlaced b a) (p : Path) (d : End
   within : IsPlacedWithin (placed b a p r)
   within = record { aligned = whole_base r.kind row.first multiple; io_begins = ends.io_begins; io_ends = ends.io_ends; memory_ends = ends.memory_ends }
 
-pub placed_within : PlacedWithin
-placed_within b a can p d on_board r declared = within b a can p d on_board r declared
+pub placed_addresses_are_in_range : PlacedWithin
+placed_addresses_are_in_range b a can p d on_board r declared = within b a can p d on_board r declared

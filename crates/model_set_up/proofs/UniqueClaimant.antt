@@ -3,7 +3,7 @@ use Rattle.std.{proofs.{Common.{◌≡◌, ℕ, ◌+◌, ◌-◌, ◌≤◌, ◌
 use Rattle.lists.{specs.Elements.{Each, EachPair, IsIn}, proofs.Members.{each_in, each_from, any_in, in_map, in_flat_map, all_from, flat_map_same, flat_map_map, flat_map_flat}}
 use Rattle.model_registers.{specs.{Declarations.{Region, registers_of, IsLawfulRegion, HasLawfulRegions, Endpoint, Bridge}, DeclarationRules.IsConfigBlock, Decoding.{Space, space_of, same_space, base, is_open, Hit, hit_of}, Apertures.Apertures}, proofs.HitRegions.space_same}
 use Rattle.model_board.{specs.{Board.{Board, Row, Decl, endpoint, bridge, is_bridge, is_multifunction}, Paths.{Path, is_ancestor_of}, State.BoardFunction, Windows.{forwards, is_in_window}, Claims.{Claim, claim_at, claims_of, is_forwarded, claims, first_claim}, Routing.{RoutingRow, routing, is_routed, routed_claims}}, proofs.Routing.{first_listed, first_of_claims, forwarded_by_routing, claims_by_routing}}
-use Rattle.model_set_up.{specs.{Pools.{Pool, unit_of, bridges_above}, Placement.{PlacementItem, need, items_on, bus_first}, Layout.{LayoutRow, IsAligned, IsLawful, layout}, Extents.IsInside, SetUp.{first_of, command_of, bridge_values, set_up_file, set_up_state}, PlacementLaws.{region_row, window_row, HasRows}, PlacedRegions.{pool_space, PlacedRegion, placed, placed_at, placed_regions, holds, claim_in, placed_claim}, UniqueClaimant.{CanBePlaced, IsClaimed, ShareNone, HasUniqueClaims, UniqueClaimant, ClaimOfRegion, ClaimInAnyOrder, RowsArePlaced}, WindowLaws.HasPlacedWindows}, proofs.{Holders.{Holds, holds_is, is_held, self_space, claims_in, one_at_most, holder_first, same_members}, SetUpRegisters.{FitsRegister, bases_read, endpoint_opens, bridge_opens}, LawfulPlacement.layout_is_lawful, DeclaredRows.rows_are_declared, BoardWindows.{set_up_windows, IsBridgeWindow, bridge_window, window_holds}, Partings.{one_row, bridge_above}, PlacedApart.{pool_of_space, WindowOver, window_over}, PlacedRegions.{source, lawful_decl, lawful_regions, region_there, placed_apart, rows_to_placed, placed_to_rows}, PlacedReads.{InAperture, fits_register}}}
+use Rattle.model_set_up.{specs.{Pools.{Pool, unit_of, bridges_above}, Placement.{PlacementItem, need, items_on, bus_first}, Layout.{LayoutRow, IsAligned, IsLawful, layout}, Extents.IsInside, SetUp.{first_of, command_of, bridge_values, set_up_file, set_up_state}, PlacementLaws.{region_row, window_row, HasRows}, PlacedRegions.{pool_space, PlacedRegion, placed, placed_at, placed_regions, holds, claim_in, placed_claim}, UniqueClaimant.{CanBePlaced, IsClaimed, ShareNone, HasUniqueClaims, UniqueClaimant, ClaimOfRegion, ClaimInAnyOrder, RowsArePlaced}, WindowLaws.HasPlacedWindows}, proofs.{Holders.{Holds, holds_is, is_held, self_space, claims_in, one_at_most, holder_first, same_members}, SetUpRegisters.{FitsRegister, bases_read, endpoint_opens, bridge_opens}, LawfulPlacement.layout_is_lawful, DeclaredRows.one_row_per_region_or_window, BoardWindows.{set_up_windows, IsBridgeWindow, bridge_window, window_holds}, Partings.{one_row, bridge_above}, PlacedApart.{pool_of_space, WindowOver, window_over}, PlacedRegions.{source, lawful_decl, lawful_regions, region_there, placed_apart, rows_to_placed, placed_to_rows}, PlacedReads.{InAperture, fits_register}}}
 
 -- ---- claims function by function
 
@@ -142,17 +142,17 @@ module _ (b : Board) (a : Apertures) (can : CanBePlaced b a) (lawful : IsLawful 
     unique : HasUniqueClaims b a fs
     unique = record { only = only; first = first; each_byte = each_from (λ q. (k : ℕ) → k < q.size → IsClaimed fs q k) (placed_regions b a) byte; apart = apart }
 
-pub unique_claimant : UniqueClaimant
-unique_claimant b a can fs same = unique b a can (layout_is_lawful b a can.places can.declarations can.room) (rows_are_declared b a can.places can.declarations) (set_up_windows b a can.places can.declarations can.apertures can.io_paths can.room) fs same
+pub set_up_gives_unique_claimants : UniqueClaimant
+set_up_gives_unique_claimants b a can fs same = unique b a can (layout_is_lawful b a can.places can.declarations can.room) (one_row_per_region_or_window b a can.places can.declarations) (set_up_windows b a can.places can.declarations can.apertures can.io_paths can.room) fs same
 
 pub claim_of_region : ClaimOfRegion
 claim_of_region b a can fs same p d on_board r declared k inside =
     let row : Row = record { path = p; decl = endpoint d } in
     let there : IsIn (placed b a p r) (placed_regions b a) = in_flat_map (placed_at b a) row (placed b a p r) b on_board (in_map (placed b a p) r d.regions declared) in
-    grind (arith, unique_claimant, each_in)
+    grind (arith, set_up_gives_unique_claimants, each_in)
 
 pub claim_in_any_order : ClaimInAnyOrder
-claim_in_any_order b a can qs same space n = grind (arith, same_members, placed_apart, layout_is_lawful, rows_are_declared)
+claim_in_any_order b a can qs same space n = grind (arith, same_members, placed_apart, layout_is_lawful, one_row_per_region_or_window)
 
 pub rows_are_placed : RowsArePlaced
-rows_are_placed b a board decls q = (rows_to_placed b a (rows_are_declared b a board decls) q, placed_to_rows b a (rows_are_declared b a board decls) q)
+rows_are_placed b a board decls q = (rows_to_placed b a (one_row_per_region_or_window b a board decls) q, placed_to_rows b a (one_row_per_region_or_window b a board decls) q)

@@ -64,8 +64,8 @@ module _ (vendor device revision : ℕ) (multifunction : Bool) (r : BridgeValues
   pref_by k pref32 h = pref_reads_low (bridge_with k pref32) multifunction r refl (omega (arith, h.in_order, h.reached)) h.reached
   pref_by k pref64 h = pref_reads (bridge_with k pref64) multifunction r refl (omega (arith, h.in_order, h.reached)) h.reached
 
-pub closed_windows : ClosedWindows
-closed_windows d multifunction r = closes d multifunction r
+pub closed_windows_forward_nothing : ClosedWindows
+closed_windows_forward_nothing d multifunction r = closes d multifunction r
 
 pub windows_named : NamedWindows
 windows_named d multifunction r =

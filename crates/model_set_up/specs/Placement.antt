@@ -121,16 +121,16 @@ abbrev pub items_on : Board → Apertures → Pool → Path → List PlacementIt
 items_on b a pool bus = items_within b a pool 16 bus
 
 -- bus 0 starts at the smallest multiple of its alignment that isn't before the aperture
-abbrev pub root_first : Apertures → Pool → List PlacementItem → ℕ
-root_first a pool is =
+abbrev pub root_bus_start : Apertures → Pool → List PlacementItem → ℕ
+root_bus_start a pool is =
     option_map_or (λ (ap : Aperture). round_up (alignment (unit_of pool) is) ap.first) (aperture_of a pool) 0
 
-abbrev pub aperture_end : Apertures → Pool → ℕ
-aperture_end a pool = option_map_or (λ (ap : Aperture). ap.last + 1) (aperture_of a pool) 0
+abbrev pub aperture_end_or_zero : Apertures → Pool → ℕ
+aperture_end_or_zero a pool = option_map_or (λ (ap : Aperture). ap.last + 1) (aperture_of a pool) 0
 
 abbrev pub fits_items : Apertures → Pool → List PlacementItem → Bool
 fits_items a pool [] = true
-fits_items a pool (i ∷ is) = nat_le (root_first a pool (i ∷ is) + end_from 0 (in_order (i ∷ is))) (aperture_end a pool)
+fits_items a pool (i ∷ is) = nat_le (root_bus_start a pool (i ∷ is) + end_from 0 (in_order (i ∷ is))) (aperture_end_or_zero a pool)
 
 abbrev pub fits : Board → Apertures → Pool → Bool
 fits b a pool = fits_items a pool (items_on b a pool [])
@@ -145,7 +145,7 @@ first_below b a pool n above (p ∷ ps) =
     first_below b a pool (n + offset_on b a pool above p a_window) (above ++ p ∷ []) ps
 
 abbrev pub bus_first : Board → Apertures → Pool → Path → ℕ
-bus_first b a pool bus = first_below b a pool (root_first a pool (items_on b a pool [])) [] bus
+bus_first b a pool bus = first_below b a pool (root_bus_start a pool (items_on b a pool [])) [] bus
 
 abbrev pub region_first : Board → Apertures → Pool → Path → ℕ → ℕ
 region_first b a pool p k = bus_first b a pool (parent p) + offset_on b a pool (parent p) (last_part p) (a_region k)

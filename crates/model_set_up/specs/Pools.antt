@@ -43,19 +43,19 @@ has_pref64 pref32 = false
 has_pref64 pref64 = true
 
 -- a region can be in the prefetchable aperture if its base can hold the addresses and each bridge above can forward them
-abbrev pub pref_reaches : Aperture → List Bridge → Bool → Bool
-pref_reaches a above wide =
+abbrev pub can_reach_pref_aperture : Aperture → List Bridge → Bool → Bool
+can_reach_pref_aperture a above wide =
     if nat_lt a.last (2 ^ 32) then list_all (λ d. has_pref d.pref) above
     else wide && list_all (λ d. has_pref64 d.pref) above
 
-abbrev pub pref_or_mem : Option Aperture → List Bridge → Bool → Pool
-pref_or_mem None above wide = mem_pool
-pref_or_mem (Some a) above wide = if pref_reaches a above wide then pref_pool else mem_pool
+abbrev pub pool_for_prefetchable : Option Aperture → List Bridge → Bool → Pool
+pool_for_prefetchable None above wide = mem_pool
+pool_for_prefetchable (Some a) above wide = if can_reach_pref_aperture a above wide then pref_pool else mem_pool
 
 abbrev pub pool_of : Apertures → List Bridge → Kind → Pool
 pool_of a above io_kind = io_pool
-pool_of a above (mem32 true) = pref_or_mem a.pref above false
-pool_of a above (mem64 true) = pref_or_mem a.pref above true
+pool_of a above (mem32 true) = pool_for_prefetchable a.pref above false
+pool_of a above (mem64 true) = pool_for_prefetchable a.pref above true
 pool_of a above (mem32 false) = mem_pool
 pool_of a above (mem64 false) = mem_pool
 

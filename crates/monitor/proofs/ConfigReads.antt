@@ -1,17 +1,17 @@
 -- A number in configuration space, read in two parts: the guest's own copies, and what the host shows.
 use Rattle.std.proofs.Common.{◌≡◌, ℕ, ◌+◌, ◌*◌, ◌/◌, ◌%◌, ◌<◌, ◌^◌, sym, ap, ◌∙◌, rules}
-use Rattle.model_registers.{specs.{Registers.{config, File, read, number}, ByteEnables.{lanes, enables_of, IsWidth}, OwnCopies.{own_file, HoldsOwn, handed_on}}, proofs.ByteAccesses.{aligned_lies_in_word, number_by_lanes}}
+use Rattle.model_registers.{specs.{Registers.{config, File, read, number}, ByteEnables.{lanes, enables_of, IsWidth}, OwnCopies.{own_file, HoldsOwn, forwarded_byte_enables}}, proofs.ByteAccesses.{aligned_lies_in_word, number_by_lanes}}
 use Rattle.host_bridge.specs.{ByIndex.file_nth, HostState.HostState}
 use Rattle.monitor.{specs.{declared.guest.AssignedFunction.AssignedFunction, Configs.IsSeen}, proofs.WordSums.sum_fits}
 
 -- what a guest's copies give of a word: a number, and the enables of the other bytes
 pub record IsOwnPart (held : AssignedFunction) (word enables n others : ℕ) : Type 0 where
   pub own : n ≡ read (own_file held.own) (config word) (lanes enables)
-  pub others_are : lanes others ≡ handed_on (config word) (lanes enables)
+  pub others_are : lanes others ≡ forwarded_byte_enables (config word) (lanes enables)
   pub together : (file : File) → HoldsOwn file held.own → read file (config word) (lanes enables) ≡ n + read file (config word) (lanes others)
 
 module _ (h : HostState) (held : AssignedFunction) (seen : IsSeen h held) (word enables n others rest : ℕ) (part : IsOwnPart held word enables n others) (reads : rest ≡ read (file_nth h.state.functions held.index) (config word) (lanes others)) where
-  rest_is : rest ≡ read seen.file (config word) (handed_on (config word) (lanes enables))
+  rest_is : rest ≡ read seen.file (config word) (forwarded_byte_enables (config word) (lanes enables))
   rest_is = reads ∙ ap (read (file_nth h.state.functions held.index) (config word)) part.others_are ∙ seen.shows word (lanes enables)
 
   pub sum_in_word : word % 4 ≡ 0 → rest < 2 ^ 32 → n + rest < 2 ^ 32

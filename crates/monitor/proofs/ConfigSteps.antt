@@ -1,6 +1,6 @@
 -- A read and a write of the configuration space of the function in a slot.
 use Rattle.std.{proofs.{Common.{◌≡◌, ℕ, ◌*◌, ◌/◌, ◌%◌, Bool, false, cond, List, [], Some, None, Option, slice_get, slice_set, sym, ap, ap₂, ◌∙◌, subst, get_or, length, refl, arith}, lemmas.Option.{slice_get_read, slice_get_within}}, specs.{Prelude.is_some, Option.option_map_or}}
-use Rattle.model_registers.{specs.{Registers.{config, File, read, write, all_bytes, number}, ByteEnables.{lanes, enables_of, to_lanes, IsWidth}, OwnCopies.handed_on, Decoding.Function}, proofs.ByteAccesses.{aligned_lies_in_word, write_by_lanes}}
+use Rattle.model_registers.{specs.{Registers.{config, File, read, write, all_bytes, number}, ByteEnables.{lanes, enables_of, to_lanes, IsWidth}, OwnCopies.forwarded_byte_enables, Decoding.Function}, proofs.ByteAccesses.{aligned_lies_in_word, write_by_lanes}}
 use Rattle.model_guests.{specs.{Accesses.{answered, reads, writes, configuration}, Slots.{Landing, landing, perform, effect, slot_at}, Lone.{at_target, reply_at, after_access_at}, WorldNow.WorldNow, ChangeLaws.with_slot_changed, AgreedBoard.with_change_at, Text.Text}, proofs.{AgreedFiles.writes_alike, Seats.written_shape}}
 use Rattle.model_handoff.specs.StayLaws.{any_tells}
 use Rattle.guest_functions.proofs.HeldCopies.{lawful_copies, written_held}
@@ -40,7 +40,7 @@ module _ {w : WorldNow} {h : HostState} {names : List Text} {gs : List Guest} {i
       holds = slot.held.own;
       there = endpoint_held at slot;
       reached = reached_held at slot;
-      shows = λ off ons. ap (λ (file : File). read file (config off) (handed_on (config off) ons)) (file_held at slot) ∙ board_shows at slot (config off) ons;
+      shows = λ off ons. ap (λ (file : File). read file (config off) (forwarded_byte_enables (config off) ons)) (file_held at slot) ∙ board_shows at slot (config off) ons;
     }
 
     -- an access to the slot lands there
@@ -68,7 +68,7 @@ module _ {w : WorldNow} {h : HostState} {names : List Text} {gs : List Guest} {i
       word_change = write (lanes enables) moved (config word)
 
       abbrev board_change : File → File
-      board_change = write (handed_on (config word) (lanes enables)) moved (config word)
+      board_change = write (forwarded_byte_enables (config word) (lanes enables)) moved (config word)
 
       state : new.state ≡ with_change_at board_change slot.p h.state
       state =

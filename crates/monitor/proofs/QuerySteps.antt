@@ -1,7 +1,7 @@
 -- What is kept of a guest shows what its regions are, and what its accesses hit.
 use Rattle.std.{proofs.{Common.{◌≡◌, ◌≤◌, ◌<◌, ℕ, zero, suc, ◌+◌, ◌*◌, ◌/◌, Bool, true, false, cond, eqb, List, [], ◌∷◌, length, get_or, Some, None, Option, Err, slice_get, refl, sym, ap, ap₂, ◌∙◌, subst, arith, rules}, lemmas.{Bool.{ltb-true, ltb-false, Decides.nat_tests}, Option.{slice_get_read, slice_get_past}}}, specs.{Prelude.{find, map, nat_lt, option_map, unwrap_or, Result}, Option.{option_map_or, ok_or}}}
 use Rattle.lists.proofs.{Indices.{found_at, index_in}, Members.{each_in, in_map}}
-use Rattle.model_registers.specs.{Registers.{config, File, read, number, all_bytes}, ByteEnables.lanes, Declarations.{Kind, mem64, Region, registers_of, IsLawfulRegion, HasLawfulRegions}, EndpointTable.BaseAddress, OwnCopies.{OwnCopies, HoldsOwn, IsLawfulOwn, handed_on, bare}, Decoding.{Function, space_of, base, is_open, base_address}}
+use Rattle.model_registers.specs.{Registers.{config, File, read, number, all_bytes}, ByteEnables.lanes, Declarations.{Kind, mem64, Region, registers_of, IsLawfulRegion, HasLawfulRegions}, EndpointTable.BaseAddress, OwnCopies.{OwnCopies, HoldsOwn, IsLawfulOwn, forwarded_byte_enables, bare}, Decoding.{Function, space_of, base, is_open, base_address}}
 use Rattle.model_board.specs.{Paths.Path, State.State, Ports.file_at}
 use Rattle.model_guests.specs.{Slots.slot_at, Text.Text, WorldNow.WorldNow}
 use Rattle.model_handoff.specs.GuestRegions.{LiveBar, is_prefetchable, region_now, region_at, region_of, region_answer}
@@ -16,7 +16,7 @@ pub read_eight : (file : File) (a : ℕ) → number file (config a) 8 ≡ number
 read_eight file a = grind arith
 
 -- a register is an own copy, each of its bytes
-own_register : (n : ℕ) → n < 6 → handed_on (config (0x10 + 4 * n)) (all_bytes 4) ≡ false ∷ false ∷ false ∷ false ∷ []
+own_register : (n : ℕ) → n < 6 → forwarded_byte_enables (config (0x10 + 4 * n)) (all_bytes 4) ≡ false ∷ false ∷ false ∷ false ∷ []
 own_register zero h = refl
 own_register (suc zero) h = refl
 own_register (suc (suc zero)) h = refl
@@ -27,7 +27,7 @@ own_register (suc (suc (suc (suc (suc (suc n)))))) h = absurd (omega arith)
 
 -- what the copies give of a word at an offset, and the enables of its other bytes
 pub record IsWordRead (own : OwnCopies) (off v others : ℕ) : Type 0 where
-  pub others_are : lanes others ≡ handed_on (config off) (all_bytes 4)
+  pub others_are : lanes others ≡ forwarded_byte_enables (config off) (all_bytes 4)
   pub together : (file : File) → HoldsOwn file own → read file (config off) (all_bytes 4) ≡ v + read file (config off) (lanes others)
 
 register_read : (own : OwnCopies) (file : File) → HoldsOwn file own → (n off v others : ℕ) → n < 6 → off ≡ 0x10 + 4 * n → IsWordRead own off v others → number file (config off) 4 ≡ v

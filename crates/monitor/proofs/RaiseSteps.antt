@@ -14,7 +14,7 @@ use Rattle.headers.specs.declared.place.Place as headers
 abbrev pub raise_of : ℕ → headers.Place → ℕ → ℕ → Raise
 raise_of slot place off mask = record { slot = slot; part = part_of place; offset = off; mask = mask }
 
--- what `has_place` says of a function in a slot
+-- what `has_byte_at` says of a function in a slot
 abbrev pub HasPlace : AssignedFunction → headers.Place → ℕ → Bool → Type 0
 HasPlace held place off has = (s : State) (p : Path) (f : Function) → IsHeld s p f held → has ≡ is_some (raise_place f (part_of place) off)
 

@@ -1,8 +1,8 @@
 -- A guest's address on the board: where it lands, the claim there, and what is read and written.
 use Rattle.std.{proofs.{Common.{◌≡◌, ℕ, ◌+◌, ◌%◌, ◌<◌, Bool, true, List, [], ◌∷◌, Some, Option, slice_get, refl, sym, ap, ap₂, ◌∙◌, subst, arith, None, rules}, lemmas.Option.slice_get_within}, specs.{Prelude.{find, map, IsTrue, option_map, IsSome}, Option.option_map_or}}
 use Rattle.lists.{specs.Elements.{EachPair, IsIn}, proofs.{Tests.and_true, Members.each_in, Indices.each_at, EachLemmas.pairs_from_map}}
-use Rattle.model_findings.specs.Found.{address_now}
-use Rattle.model_registers.specs.{Registers.{Place, block, File, read, all_bytes, number}, ByteEnables.IsWidth, OwnCopies.handed_on, Declarations.Region, Decoding.{Space, space_of}, CopiedFiles.{after_reset, agreed_file, places_of}, DeclarationRules.IsLawfulEndpoint}
+use Rattle.model_findings.specs.Found.{current_bdf}
+use Rattle.model_registers.specs.{Registers.{Place, block, File, read, all_bytes, number}, ByteEnables.IsWidth, OwnCopies.forwarded_byte_enables, Declarations.Region, Decoding.{Space, space_of}, CopiedFiles.{after_reset, agreed_file, places_of}, DeclarationRules.IsLawfulEndpoint}
 use Rattle.model_board.specs.{Paths.{Path, path_eq, path_before}, Board.{endpoint, Row, Board, IsBoard}, State.{BoardFunction, row_at, State}, Claims.claim_at, AtReset.board_at, Ports.{claim_reply, file_at}}
 use Rattle.model_guests.{specs.{Slots.slot_at, WorldNow.{WorldNow, board_state}, AgreedBoard.with_change_at, Seated.{IsSeat, IsSeatedAt, IsSeatedGuest}, Text.Text}, proofs.{GuestsByName.path_at, DeclaredRows.declared_row, Seats.seats_at, AgreedFiles.shows_file}}
 use Rattle.model_handoff.{specs.{Regions.{base_in, opens_region}, RegionLaws.{HasSlot, ReachesOver}}, proofs.{Accesses.reached_is, Keeping.keeps_board, Regions.{hit_reaches_over, region_is_claimed}}}
@@ -18,7 +18,7 @@ board_distinct b fs board rows = distinct_paths fs (pairs_from_map (λ (r s : Ro
 
 -- ---- in a region there are no copies
 
-pub all_handed : (n a : ℕ) (ons : List Bool) → handed_on (block n a) ons ≡ ons
+pub all_handed : (n a : ℕ) (ons : List Bool) → forwarded_byte_enables (block n a) ons ≡ ons
 all_handed n a [] = refl
 all_handed n a (on ∷ ons) = ap₂ (λ (x : Bool) (xs : List Bool). x ∷ xs) (and_true on) (all_handed n (a + 1) ons)
 
@@ -74,7 +74,7 @@ module _ {w : WorldNow} {h : HostState} {names : List Text} {gs : List Guest} {i
     -- cycles for its number reach it
     pub reached_held : IsReached h.state.functions held.index
     reached_held = record {
-      at = address_now w.handoff.functions slot.p;
+      at = current_bdf w.handoff.functions slot.p;
       reaches = grind (arith, reached_is, named_slot, held_row);
     }
 
@@ -92,7 +92,7 @@ module _ {w : WorldNow} {h : HostState} {names : List Text} {gs : List Guest} {i
     places_same = same_as_left w.handoff at.kept.lawful.handoff w.guests slot.p slot.f (seat slot)
 
     -- what the board shows of the bytes of which the guest has no copy
-    pub board_shows : (p : Place) (ons : List Bool) → read on_board.file p (handed_on p ons) ≡ read slot.f.file p (handed_on p ons)
+    pub board_shows : (p : Place) (ons : List Bool) → read on_board.file p (forwarded_byte_enables p ons) ≡ read slot.f.file p (forwarded_byte_enables p ons)
     board_shows p ons = shows_file left slot.f.file places_same p ons
 
     pub block_shown : (k a width : ℕ) → claim_reply functions width (Some (record { path = slot.p; index = k; offset = a })) ≡ number slot.f.file (block k a) width

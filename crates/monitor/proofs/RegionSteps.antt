@@ -15,7 +15,7 @@ landing_in_space : (space : Space) (addr : ℕ) (slots : Slots) → landing slot
 landing_in_space io addr slots = refl
 landing_in_space memory addr slots = refl
 
--- what `landing` says of slots
+-- what `decode_address` says of slots
 abbrev pub Lands : List (Option AssignedFunction) → Space → ℕ → Option (ℕ × ℕ × ℕ) → Type 0
 Lands slots space addr o = (s : State) (qs : List (Option Path)) (fs : Slots) → AreSlots s qs fs slots → option_map landing_of o ≡ landing_from 0 space addr fs
 

@@ -3,7 +3,7 @@ use Rattle.std.{proofs.Common.{◌≡◌, ℕ, zero, suc, false, List, [], ◌�
 use Rattle.lists.{specs.Elements.Each, proofs.{Indices.{at_map, each_at, index_in, map_at}, Members.each_in}}
 use Rattle.model_registers.specs.{Registers.File, Declarations.Endpoint, DeclarationRules.IsLawfulEndpoint, EndpointTable.endpoint_reset, Decoding.Function, CopiedFiles.{agreed_file, places_of}}
 use Rattle.model_board.specs.{Paths.Path, Board.{endpoint, Board}, AtReset.board_at, Lawful.HasLawfulDecls, Ports.file_at, State.{BoardFunction, State}}
-use Rattle.model_guests.{specs.{Accesses.answered, Grammar.HostRead, HostReads.{host_fault, shown}, Text.Text, World.is_name, Slots.{Slots, slot_at}, Guests.{GuestNow, GuestsNow, guest_named, file_of}, WorldNow.{names_of, WorldNow, board_state, host_reply}, AgreedBoard.{agreed_function, state_over}, Seated.{IsSeatedAt, AreSeats, AreSeated}}, proofs.{DistinctPlaces.distinct_places, FoundFiles.same_places, CopiesNeverRise.declared_lawful, ViewedFiles.view_is_file, GuestsByName.{path_at, path_of, function_of, function_named}, KeptCopies.file_of_seat, DeclaredRows.declared_row, Along.by_index}}
+use Rattle.model_guests.{specs.{Accesses.answered, Grammar.HostRead, HostReads.{host_fault, shown}, Text.Text, World.is_name, Slots.{Slots, slot_at}, Guests.{GuestNow, GuestsNow, guest_named, file_of}, WorldNow.{names_of, WorldNow, board_state, host_reply}, AgreedBoard.{agreed_function, state_over}, Seated.{IsSeatedAt, AreSeats, AreSeated}}, proofs.{DistinctPlaces.distinct_places, FoundFiles.same_places, CopiesNeverRise.declared_lawful, ViewedFiles.overlay_gives_guest_registers, GuestsByName.{path_at, path_of, function_of, function_named}, KeptCopies.file_of_seat, DeclaredRows.declared_row, Along.by_index}}
 use Rattle.model_handoff.{specs.{Handoffs.{IsHandoff, HasDeclaredShape}, ViewLaws.with_seated_reset}, proofs.{Standing.{endpoint_at, found, StandsAt, stands}, Views.reset_shown}}
 use Rattle.model_images.specs.SavedLaws.{CanBeSaved}
 use Rattle.host_bridge.specs.HostState.{HostState}
@@ -46,7 +46,7 @@ module _ (s : State) (handoff : IsHandoff s) (gs : GuestsNow) (p : Path) (f : Fu
   same_as_left = same_places f.file left_file (seat.shape ∙ sym (each_in HasDeclaredShape left s.functions handoff.shapes there.among))
 
   pub shown_there : (h : AssignedFunction) → IsHeld s p f h → file_of gs p ≡ Some f.file → function_shown (state_over s gs).functions h ≡ Some f
-  shown_there h held file = search (rules, board_there, distinct_places, lawful, places, same_as_left, view_is_file)
+  shown_there h held file = search (rules, board_there, distinct_places, lawful, places, same_as_left, overlay_gives_guest_registers)
 
 -- the guest's file at the path of a slot
 pub file_named : (b : Board) (gs : GuestsNow) (w : GuestNow) (n : ℕ) (p : Path) (f : Function) → AreSeated b gs → guest_named gs w.name ≡ Some w → path_at w.paths n ≡ Some p → slot_at w.lone.slots n ≡ Some f → file_of gs p ≡ Some f.file

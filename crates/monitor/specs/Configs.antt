@@ -4,7 +4,7 @@
 --     WritesOwn      the slots after a write of that function's own copies
 --     HoldsAt, WritesGuest      these for a slot of the guest at an index
 use Rattle.std.specs.Prelude.{ℕ, List, Bool, Option, Some, ◌≡◌, IsSome, map, slice_get, slice_set}
-use Rattle.model_registers.specs.{Registers.{config, File, read, write}, ByteEnables.lanes, EndpointTable.opened, OwnCopies.{OwnCopies, own_file, HoldsOwn, IsLawfulOwn, handed_on}}
+use Rattle.model_registers.specs.{Registers.{config, File, read, write}, ByteEnables.lanes, EndpointTable.opened, OwnCopies.{OwnCopies, own_file, HoldsOwn, IsLawfulOwn, forwarded_byte_enables}}
 use Rattle.bridge_forward.specs.Lending.{endpoint_nth}
 use Rattle.host_bridge.specs.{ByIndex.file_nth, HostState.HostState, Landings.IsReached}
 use Rattle.monitor.specs.declared.guest.{AssignedFunction.AssignedFunction, Guest.Guest}
@@ -16,8 +16,8 @@ pub record IsSeen (h : HostState) (held : AssignedFunction) : Type 0 where
   pub there : IsSome (endpoint_nth h.state.functions held.index)
   pub reached : IsReached h.state.functions held.index
   pub shows : (off : ℕ) (ons : List Bool)
-      → read (file_nth h.state.functions held.index) (config off) (handed_on (config off) ons)
-      ≡ read file (config off) (handed_on (config off) ons)
+      → read (file_nth h.state.functions held.index) (config off) (forwarded_byte_enables (config off) ons)
+      ≡ read file (config off) (forwarded_byte_enables (config off) ons)
 
 pub record IsHolding (slots : List (Option AssignedFunction)) (n : ℕ) : Type 0 where
   pub held : AssignedFunction
@@ -31,7 +31,7 @@ pub record WritesOwn (slots : List (Option AssignedFunction)) (n : ℕ) (holds :
   pub written : own_file own ≡ write (lanes enables) value (config word) (own_file holds.held.own)
   pub regions : map opened own.bases ≡ map opened holds.held.own.bases
   pub index : r.0 ≡ holds.held.index
-  pub others : lanes r.1 ≡ handed_on (config word) (lanes enables)
+  pub others : lanes r.1 ≡ forwarded_byte_enables (config word) (lanes enables)
 
 -- a guest holds a function in a slot
 pub record HoldsAt (gs : List Guest) (i n : ℕ) : Type 0 where

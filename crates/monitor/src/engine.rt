@@ -10,16 +10,20 @@ ghost use Rattle.accesses.specs.{Accesses.{access_of, host_access_of, op_of, par
 ghost use Rattle.monitor.specs.{Views.texts, ByIndex.{name_nth, lone_nth}, Counts.{after_access_nth, after_event_nth}, Reaches.target_in, Moves.move_nth, Queries.IsGuestNth};
 ghost use Rattle.model_guests.specs.Accesses as guests;
 
-use crate::access::change_count::tells_regions;
-use crate::access::config::{function_in, held_in, number_read, write_in};
+use crate::access::change_count::touches_command_or_bars;
+use crate::access::config::{
+    function_in_slot, function_or_refusal, read_config_as_guest, split_config_write_of_guest,
+};
 use crate::access::config_address::write_latch;
-use crate::access::decode::{landing, located};
-use crate::device::raise::{has_place, raise_on_board};
+use crate::access::decode::{decode_address, slot_bar_to_board};
+use crate::device::raise::{has_byte_at, raise_w1c_bits_on_board};
 use crate::guest::Guest;
-use crate::slots::moving::{hand_over, move_fault};
-use accesses::{Access, At, HostAccess, HostAt, Names, Op, Place, Refusal, Reply, master_abort};
+use crate::slots::moving::{find_move_refusal, move_and_reset_function};
+use accesses::{
+    Access, At, HostAccess, HostAt, Names, Op, Place, Refusal, Reply, master_abort_reply,
+};
 use bars::Space;
-use config_bytes::{enables_of, lowered, to_lanes};
+use config_bytes::{enables_of, shift_lanes_down, to_lanes};
 use guest_functions::Select;
 use host_bridge::{Bdf, Host, Route};
 use paths::is_address_port;
@@ -51,7 +55,7 @@ impl<R: Route> Engine<R> {
     ghost use Rattle.monitor.specs.{Views.{texts, machine_shown}, Keeping.IsSound};
 
     /// Returns a monitor over a host whose board agrees with these guests.
-    pub(crate) fn of_parts(host: Host, route: R, names: Names, guests: Vec<Guest>) -> Engine<R>
+    pub(crate) fn from_parts(host: Host, route: R, names: Names, guests: Vec<Guest>) -> Engine<R>
         requires fits { R.fits route host }
         requires sound { IsSound host (texts names) guests.items }
         ensures { result ≡ machine_shown host (texts names) guests.items }
@@ -96,10 +100,10 @@ impl<R: Route> Engine<R> {
         ensures served { ¬ IsRefusal result }
     {
         let slots = &self.guests[guest].slots;
-        let Some((slot, region, offset)) = landing(slots, space, addr) else {
-            return master_abort(op, width);
+        let Some((slot, region, offset)) = decode_address(slots, space, addr) else {
+            return master_abort_reply(op, width);
         };
-        let at = located(slots, slot, region, offset);
+        let at = slot_bar_to_board(slots, slot, region, offset);
         match op {
             Op::Read => {
                 let value = self.host.region_read(at, width);
@@ -123,10 +127,13 @@ impl<R: Route> Engine<R> {
         ensures shown { IsShown result }
         ensures served { ¬ IsRefusal result }
     {
-        let Some(held) = held_in(&self.guests[guest].slots, slot) else {
-            return master_abort(Op::Read, width);
+        let Some(held) = function_in_slot(&self.guests[guest].slots, slot) else {
+            return master_abort_reply(Op::Read, width);
         };
-        Reply::Value(number_read(&mut self.host, held, off, width), width)
+        Reply::Value(
+            read_config_as_guest(&mut self.host, held, off, width),
+            width,
+        )
     }
 
     /// Writes the configuration space of the function in a slot. A write to an empty slot is
@@ -139,15 +146,23 @@ impl<R: Route> Engine<R> {
         ensures { let target = at_target (configuration slot off) in
             self.new ≡ after_access_nth guest (writes value) width target self.old }
     {
-        let Some(_) = held_in(&self.guests[guest].slots, slot) else {
+        let Some(_) = function_in_slot(&self.guests[guest].slots, slot) else {
             return;
         };
         let from = u64::from(off);
         let word = off / 4 * 4;
         let moved = to_lanes(from, value);
         let enables = enables_of(from, width);
-        let tells = tells_regions(from, width);
-        let (index, others) = write_in(&mut self.guests, guest, slot, word, enables, moved, tells);
+        let tells = touches_command_or_bars(from, width);
+        let (index, others) = split_config_write_of_guest(
+            &mut self.guests,
+            guest,
+            slot,
+            word,
+            enables,
+            moved,
+            tells,
+        );
         self.host.config_write_nth(index, word, others, moved);
     }
 
@@ -212,7 +227,7 @@ impl<R: Route> Engine<R> {
         }
         match self.guests[guest].latch.select(at) {
             Select::Ordinary => self.region_access(guest, Space::Io, at, width, op),
-            Select::Nowhere => master_abort(op, width),
+            Select::Nowhere => master_abort_reply(op, width),
             Select::Slot(slot, off) => self.config_access(guest, usize::from(slot), off, width, op),
         }
     }
@@ -261,7 +276,7 @@ impl<R: Route> Engine<R> {
     }
 
     /// Sets W1C bits of one byte of the function in a guest's slot. A refusal changes nothing.
-    fn raise_nth(&mut self, guest: usize, slot: u64, place: Place, off: u64, mask: u8) -> Reply
+    fn raise_in_slot(&mut self, guest: usize, slot: u64, place: Place, off: u64, mask: u8) -> Reply
         requires { guest < length self.old.world.guests }
         ensures reply { let e = guests.raises
             (record { slot = slot; part = part_of place; offset = off; mask = mask }) in
@@ -272,14 +287,14 @@ impl<R: Route> Engine<R> {
         ensures shown { IsShown result }
         ensures refused { IsRefusal result → self.new ≡ self.old }
     {
-        let held = match function_in(&self.guests[guest].slots, slot) {
+        let held = match function_or_refusal(&self.guests[guest].slots, slot) {
             Ok(held) => held,
             Err(why) => return Reply::Refused(why),
         };
-        if !has_place(held, place, off) {
+        if !has_byte_at(held, place, off) {
             return Reply::Refused(Refusal::Range);
         }
-        raise_on_board(&mut self.host, held.index, place, off, mask);
+        raise_w1c_bits_on_board(&mut self.host, held.index, place, off, mask);
         Reply::Done
     }
 
@@ -302,7 +317,7 @@ impl<R: Route> Engine<R> {
         ensures refused { IsRefusal result → self.new ≡ self.old }
     {
         let _ = &self.names;
-        self.raise_nth(guest, slot, place, off, mask)
+        self.raise_in_slot(guest, slot, place, off, mask)
     }
 
     /// Moves a function from a guest's slot to an empty slot of any guest, and resets it. The
@@ -321,10 +336,10 @@ impl<R: Route> Engine<R> {
         ensures refused { IsRefusal result → self.new ≡ self.old }
     {
         let source = &self.guests[from].slots;
-        if let Some(why) = move_fault(source, slot, &self.guests[to].slots, target) {
+        if let Some(why) = find_move_refusal(source, slot, &self.guests[to].slots, target) {
             return Reply::Refused(why);
         }
-        hand_over(
+        move_and_reset_function(
             &mut self.host,
             &mut self.guests,
             from,
@@ -346,7 +361,7 @@ impl<R: Route> Engine<R> {
         }
         let HostAccess { at, width } = read;
         let value = match at {
-            HostAt::Config { bdf, off } => config_number(&mut self.host, bdf, off as u8, width),
+            HostAt::Config { bdf, off } => read_config_at(&mut self.host, bdf, off as u8, width),
             HostAt::Io { port } => self.host.inp(&self.route, port as u32, width),
             HostAt::Mem { addr } => self.host.load(&self.route, addr, width),
         };
@@ -356,7 +371,7 @@ impl<R: Route> Engine<R> {
 
 /// Reads 1, 2 or 4 bytes at a configuration offset of the function at a BDF. The host's
 /// CONFIG_ADDRESS is 0, and is 0 again afterwards.
-fn config_number(host: &mut Host, at: Bdf, off: u8, width: u64) -> u32
+fn read_config_at(host: &mut Host, at: Bdf, off: u8, width: u64) -> u32
     requires width { IsWidth width }
     requires aligned { off % width ≡ 0 }
     requires latch { host.old.state.latch ≡ 0 }
@@ -366,5 +381,5 @@ fn config_number(host: &mut Host, at: Bdf, off: u8, width: u64) -> u32
 {
     let from = u64::from(off);
     let word = host.config_read(at, off / 4 * 4, enables_of(from, width));
-    lowered(from, word)
+    shift_lanes_down(from, word)
 }

@@ -7,7 +7,7 @@ ghost use Rattle.bus_scan.specs.declared.fault.Fault.TheVariants.{Memory};
 ghost use Rattle.monitor.specs.{Beginnings.{world_on, world_of}, Handovers.IsFaultOf};
 
 use crate::engine::Engine;
-use crate::handover::fault::{HandoverFault, Refused, first_fault};
+use crate::handover::fault::{HandoverFault, Refused, find_handover_fault};
 use accesses::GuestDecl;
 use bus_scan::Fault;
 use claim_table::Table;
@@ -31,7 +31,7 @@ impl Monitor {
         ensures refused { IfErr result (λ f. f ≡ Memory) }
     {
         let table = Table::build(alloc, &ready)?;
-        Ok(Engine::by_route(alloc, ready, table, guests)?)
+        Ok(Engine::new_with_route(alloc, ready, table, guests)?)
     }
 
     /// Hands a board over to guests, no matter which firmware configured it. Resets each assigned
@@ -54,10 +54,10 @@ impl Monitor {
         ensures refused { IfErr result (λ r. IsFaultOf (world_on host guests.now) host r.fault) }
     {
         let mut board = host;
-        if let Some(fault) = first_fault(alloc, &mut board, guests) {
+        if let Some(fault) = find_handover_fault(alloc, &mut board, guests) {
             return Err(Refused { board, fault });
         }
-        match Monitor::over_open(alloc, board, guests) {
+        match Monitor::hand_over_checked_board(alloc, board, guests) {
             Ok(monitor) => Ok(monitor),
             Err(board) => {
                 let fault = HandoverFault::Memory;
@@ -68,7 +68,11 @@ impl Monitor {
 
     /// Hands over a consistently routed board on which no region of a function to assign is
     /// disabled.
-    fn over_open(alloc: Global, host: Host, guests: &[GuestDecl]) -> Result<Monitor, Host>
+    fn hand_over_checked_board(
+        alloc: Global,
+        host: Host,
+        guests: &[GuestDecl],
+    ) -> Result<Monitor, Host>
         requires handoff { IsHandoff host.state }
         requires lawful { HasLawfulGuests (world_on host guests.now) }
         requires given { CanBeGiven (world_on host guests.now) host.state }
@@ -80,6 +84,6 @@ impl Monitor {
         let Ok(table) = Table::of_open_regions(alloc, &host) else {
             return Err(host);
         };
-        Engine::over_by_route(alloc, host, table, guests)
+        Engine::hand_over_with_route(alloc, host, table, guests)
     }
 }

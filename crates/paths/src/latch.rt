@@ -84,14 +84,14 @@ impl Latch {
     }
 
     /// Returns whether `port` is a CONFIG_DATA port, CFCh to CFFh, and CONFIG_DATA is enabled.
-    pub fn shows_data(self, port: u64) -> bool
+    pub fn is_enabled_data_port(self, port: u64) -> bool
         ensures { result ≡ (is_enabled self && is_data_port port) }
     {
         self.is_enabled() && (0xcfc..=0xcff).contains(&port)
     }
 
     /// Returns the BDF of the selected function.
-    pub fn function(self) -> Bdf
+    pub fn selected_bdf(self) -> Bdf
         ensures { bus_address_of result ≡ selected self }
     {
         Bdf {
@@ -102,7 +102,7 @@ impl Latch {
     }
 
     /// Returns the offset of the selected word, a multiple of 4.
-    pub fn register(self) -> u8
+    pub fn selected_offset(self) -> u8
         ensures { result ≡ selected_register self }
     {
         (self.bits >> 2 & 0x3f) as u8 * 4
@@ -115,13 +115,13 @@ impl Latch {
         ensures select { result ≡ select_at self port }
         ensures slot { IsSelectAt port result }
     {
-        if !self.shows_data(port) {
+        if !self.is_enabled_data_port(port) {
             return Select::Ordinary;
         }
-        let at = self.function();
+        let at = self.selected_bdf();
         if at.bus != 0 || at.function != 0 {
             return Select::Nowhere;
         }
-        Select::Slot(at.device, self.register() + (port - 0xcfc) as u8)
+        Select::Slot(at.device, self.selected_offset() + (port - 0xcfc) as u8)
     }
 }

@@ -183,7 +183,7 @@ impl Path {
     }
 
     /// Returns whether this path consists of these parts.
-    pub fn has_parts(&self, parts: &[Part]) -> bool
+    pub fn equals_parts(&self, parts: &[Part]) -> bool
         ensures { result ≡ path_eq self.now parts.now }
     {
         is_same(self.parts(), parts)
@@ -199,7 +199,7 @@ impl Path {
     /// Compares this path with the function at these numbers on `bus`, which must be a proper
     /// prefix of this path. Comparing one part is enough, because all parts before it are those of
     /// `bus`.
-    pub fn compare_on(&self, bus: &[Part], device: u8, function: u8) -> Ordering
+    pub fn compare_to_function_on_bus(&self, bus: &[Part], device: u8, function: u8) -> Ordering
         requires { IsTrue (is_ancestor_of bus.now self.now) }
         ensures less { is_lt result
             ≡ path_before self.now (bus.now

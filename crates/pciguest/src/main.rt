@@ -5,8 +5,8 @@
 
 use command_line::{WordsFault, choose};
 use simulation::{
-    Fault, InputStream, OutputStream, RunStats, bad_lines_text, board_or_hint, check_hint,
-    fault_line, perform, usage_hint,
+    Fault, InputStream, OutputStream, RunStats, bad_lines_text, fault_line, perform,
+    read_board_or_hint, suggest_check_if_refused, usage_hint,
 };
 use std::io::IsTerminal;
 use std::process::ExitCode;
@@ -27,7 +27,7 @@ impl From<Fault> for Failure {
 }
 
 /// Returns the name and the arguments of the program. An argument that isn't text is invalid.
-fn arguments(rt: &(impl Env + AllocGlobal)) -> Result<Vec<String>, Fault> {
+fn collect_arguments(rt: &(impl Env + AllocGlobal)) -> Result<Vec<String>, Fault> {
     match env::args(rt) {
         Ok(words) => words.collect(rt.alloc()).map_err(|_| Fault::WordMemory),
         Err(error) if error.kind() == io::ErrorKind::OutOfMemory => Err(Fault::WordMemory),
@@ -36,8 +36,8 @@ fn arguments(rt: &(impl Env + AllocGlobal)) -> Result<Vec<String>, Fault> {
 }
 
 /// Returns the content of the board file at `path`.
-fn board_at(rt: &(impl AllocGlobal + Files), path: &str) -> Result<Vec<u8>, Failure> {
-    match board_or_hint(rt, rt.alloc(), path) {
+fn read_board(rt: &(impl AllocGlobal + Files), path: &str) -> Result<Vec<u8>, Failure> {
+    match read_board_or_hint(rt, rt.alloc(), path) {
         Ok(bytes) => Ok(bytes),
         Err(hint) => Err(Failure {
             fault: Fault::BoardFile,
@@ -48,7 +48,7 @@ fn board_at(rt: &(impl AllocGlobal + Files), path: &str) -> Result<Vec<u8>, Fail
 
 /// Executes the command that the arguments select, over standard input and output. `is_terminal`
 /// says whether the output is a terminal. `seen` receives the statistics about the lines.
-fn serve(
+fn run_command(
     rt: &(impl AllocGlobal + Files + Input + Print),
     words: &[&str],
     is_terminal: bool,
@@ -68,38 +68,38 @@ fn serve(
     let mut reader = InputStream::new(rt.reader());
     let mut writer = OutputStream::buffered(alloc, io::writer(rt))?;
     let board = match choice.board_path() {
-        Some(path) => board_at(rt, path)?,
+        Some(path) => read_board(rt, path)?,
         None => Vec::new(alloc),
     };
     match perform(alloc, &choice, &board, seen, &mut reader, &mut writer) {
         Ok(()) => Ok(()),
         Err(fault) => Err(Failure {
             fault,
-            hint: check_hint(alloc, &choice, fault).unwrap_or(None),
+            hint: suggest_check_if_refused(alloc, &choice, fault).unwrap_or(None),
         }),
     }
 }
 
 /// Executes the program. `is_terminal` says whether the output is a terminal. `seen` receives the
 /// statistics about the lines.
-fn run(
+fn run_program(
     rt: &(impl Env + AllocGlobal + Files + Input + Print),
     is_terminal: bool,
     seen: &mut RunStats,
 ) -> Result<(), Failure> {
-    let words = arguments(rt)?;
+    let words = collect_arguments(rt)?;
     let mut texts = Vec::new(rt.alloc());
     for word in &words {
         if texts.push(word.as_str()).is_err() {
             return Err(Failure::from(Fault::WordMemory));
         }
     }
-    serve(rt, texts.as_slice(), is_terminal, seen)
+    run_command(rt, texts.as_slice(), is_terminal, seen)
 }
 
 fn main(rt: HostRuntime) -> ExitCode {
-    let mut seen = RunStats::none();
-    let done = run(&rt, rt.stdout().is_terminal(), &mut seen);
+    let mut seen = RunStats::new();
+    let done = run_program(&rt, rt.stdout().is_terminal(), &mut seen);
     if let Ok(text) = bad_lines_text(rt.alloc(), &seen) {
         let _ = rt.eprint(text);
     }

@@ -24,7 +24,7 @@ use Rattle.model_guests.specs.{Accesses.{Op, RaisePlace, Reply, Target, answered
 use Rattle.model_handoff.specs.{Actions.calls, Changes.{MachineNow, after_on_machine, after_line_on_machine}, Functions.function_nth, DrivenFunctions.driven_function_nth}
 use Rattle.model_lines.specs.{HostAccesses.HostAccess, Sessions.{DrivenNow, SessionNow, driven, given, after_board_access, session_output, after_session_line}}
 use Rattle.session.specs.{Questions.{told_by, counted_by}, Stages.{asks_for_more, board_in, machine_in}, declared.questions.{ReportForm.ReportForm, Question.Question}}
-use Rattle.json_texts.specs.WhyValue.{host_why_json}
+use Rattle.json_texts.specs.WhyValue.{host_explanation_json}
 use Rattle.monitor.specs.{ByIndex.name_nth, Moves.move_nth}
 use Rattle.pciguest_c.specs.{Told.{target_told, part_told, at_bus, host_target_told, reply_asked, after_asked, index_asked}, DevicesTold.{reply_at_device, after_at_device, wide_read, after_wide}, SeatingsTold.{gift_reply, after_gift, taking_reply, after_taking}, ImagesTold.{image_asked, after_restart}, QueriesTold.{region_asked, region_told, hit_asked, hit_told}, MovesTold.{places_from, moved_count}, FunctionsTold.{function_told, slot_asked}, DrivenTold.driven_row, WhyTold.why_asked, TextsTold.at_front, Handles.{session_of, machine_of, board_of}, declared.{values.arguments.Side.Side, handle.Handle.Handle, machine.regions.{RegionTold.RegionTold, HitTold.HitTold}, values.function_row.FunctionTold.FunctionTold, board.functions.DrivenRow.DrivenRow, machine.moved_regions.PlaceRow.PlaceRow}}
 use Rattle.model_lines.specs.HostAccesses as board
@@ -121,8 +121,8 @@ abbrev pub byte_at : ℕ → RaisePlace → ℕ → DeviceByte
 byte_at slot part offset = record { slot = slot; part = part; offset = offset }
 
 -- words that tactics leave closed, as replies of the host and what is found on a board compute long
-unfoldable pub host_asked : MachineNow → Option HostTarget → ℕ → Option Reply
-host_asked m o width = option_map (λ t. host_reply m.world (record { target = t; width = width })) o
+unfoldable pub read_as_host : MachineNow → Option HostTarget → ℕ → Option Reply
+read_as_host m o width = option_map (λ t. host_reply m.world (record { target = t; width = width })) o
 
 unfoldable pub giving : MachineNow → Text → ℕ → ℕ → Outcome
 giving m path guest slot =
@@ -132,8 +132,8 @@ unfoldable pub telling_slot : MachineNow → ℕ → ℕ → Outcome
 telling_slot m guest slot =
     of_guest m guest (telling (λ f. a_function (function_told m.world f)) (slot_asked m.world guest slot) (given m))
 
-unfoldable pub board_asked : DrivenNow → Option HostTarget → ℕ → Op → Option (Reply × DrivenNow)
-board_asked b o width op = option_map (λ t.
+unfoldable pub access_as_firmware : DrivenNow → Option HostTarget → ℕ → Op → Option (Reply × DrivenNow)
+access_as_firmware b o width op = option_map (λ t.
     let a : HostAccess = record { target = t; width = width; op = op } in
     (board.answer b.state a, after_board_access b a)) o
 
@@ -148,7 +148,7 @@ surveying q b =
     tells (counted (told_by q b.world.apertures b.state.functions) (counted_by q b.world.apertures b.state.functions)) (driven b)
 
 unfoldable pub explaining : Option HostTarget → DrivenNow → Outcome
-explaining o b = where_lawful o (λ t. tells (text (host_why_json b.state t)) (driven b))
+explaining o b = where_lawful o (λ t. tells (text (host_explanation_json b.state t)) (driven b))
 
 abbrev pub outcome : Call → MachineNow → Outcome
 outcome (read guest space slot place width) m = where_lawful (where_guest m guest (target_told space slot place)) (λ t.
@@ -158,7 +158,7 @@ outcome (write guest space slot place width value) m = where_lawful (where_guest
 outcome (raise guest slot part offset mask) m = where_lawful (where_guest m guest (part_told part)) (λ p.
     asked m guest (raises (record { slot = slot; part = p; offset = offset; mask = mask })))
 outcome (host_read space bus device function place width) m =
-    where_lawful (host_asked m (host_target_told space (at_bus bus device function) place) width) (λ r. reading r (given m))
+    where_lawful (read_as_host m (host_target_told space (at_bus bus device function) place) width) (λ r. reading r (given m))
 outcome (move source slot guest target) m =
     if are_guests m source guest
     then doing (move_reply m.world.guests (move_nth m.world source slot guest target))
@@ -193,10 +193,10 @@ outcome (run_line line) m = tells (reply (line_output m.world line)) (given (aft
 
 abbrev pub board_outcome : BoardCall → DrivenNow → Outcome
 board_outcome (board_read space bus device function place width) b =
-    where_lawful (board_asked b (host_target_told space (at_bus bus device function) place) width reads) (λ a.
+    where_lawful (access_as_firmware b (host_target_told space (at_bus bus device function) place) width reads) (λ a.
     reading a.0 (driven a.1))
 board_outcome (board_write space bus device function place width value) b =
-    where_lawful (board_asked b (host_target_told space (at_bus bus device function) place) width (writes value)) (λ a.
+    where_lawful (access_as_firmware b (host_target_told space (at_bus bus device function) place) width (writes value)) (λ a.
     doing a.0 (driven a.1))
 board_outcome board_count b = tells (number (length b.state.functions)) (driven b)
 board_outcome (board_function index) b = where_lawful (driven_function_nth b.state index) (λ f.

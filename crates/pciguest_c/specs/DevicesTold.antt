@@ -4,9 +4,9 @@
 --     byte_of b      a byte of a function in a slot, from the code's types
 --     bytes_from d n      n bytes of a function in a slot, from one on
 --     read_reply side, after_byte side      a read of a byte: the reply; and a write: the machine after it
---     bytes_read side w guest ds      the number that is read of bytes, the lowest first, or why the first is refused
+--     read_little_endian side w guest ds      the number that is read of bytes, the lowest first, or why the first is refused
 --     after_bytes side m guest ds v      the machine after a number was written into bytes, the lowest first
---     width_fault off n      302 for an invalid width, or 303 if offset plus width doesn't fit in 64 bits
+--     find_access_error off n      302 for an invalid width, or 303 if offset plus width doesn't fit in 64 bits
 --     wide_read side w guest d n      what is read of n bytes, or the number of the first of these refusals
 --     after_wide side m guest d n v      the machine after a number was written there, if they can be read
 use Rattle.std.specs.{Prelude.{ℕ, zero, suc, ◌+◌, ◌*◌, ◌/◌, ◌%◌, ◌^◌, ◌==◌, ◌||◌, nat_lt, nat_le, List, [], ◌∷◌, if◌then◌else◌, is_ok, Option, None, Some, Result, Ok, Err}, Option.option_map_or}
@@ -48,8 +48,8 @@ abbrev pub after_byte : Side → MachineNow → ℕ → DeviceByte → ℕ → M
 after_byte Device m guest d v = after_at_device m guest (device_writes d v)
 after_byte Guest m guest d v = after_byte_nth guest (writes v) d m
 
-abbrev pub byte_read : Side → WorldNow → ℕ → DeviceByte → Result ℕ ℕ
-byte_read side w guest d = byte_told (read_reply side w guest d)
+abbrev pub read_byte : Side → WorldNow → ℕ → DeviceByte → Result ℕ ℕ
+read_byte side w guest d = byte_told (read_reply side w guest d)
 
 -- a number with one more byte, which is the lowest
 abbrev pub put_below : Result ℕ ℕ → Result ℕ ℕ → Result ℕ ℕ
@@ -57,9 +57,9 @@ put_below (Ok byte) (Ok n) = Ok (byte + 256 * n)
 put_below (Ok byte) (Err n) = Err n
 put_below (Err n) above = Err n
 
-abbrev pub bytes_read : Side → WorldNow → ℕ → List DeviceByte → Result ℕ ℕ
-bytes_read side w guest [] = Ok 0
-bytes_read side w guest (d ∷ ds) = put_below (byte_read side w guest d) (bytes_read side w guest ds)
+abbrev pub read_little_endian : Side → WorldNow → ℕ → List DeviceByte → Result ℕ ℕ
+read_little_endian side w guest [] = Ok 0
+read_little_endian side w guest (d ∷ ds) = put_below (read_byte side w guest d) (read_little_endian side w guest ds)
 
 abbrev pub after_bytes : Side → MachineNow → ℕ → List DeviceByte → ℕ → MachineNow
 after_bytes side m guest [] v = m
@@ -67,13 +67,13 @@ after_bytes side m guest (d ∷ ds) v = after_bytes side (after_byte side m gues
 
 -- ---- accesses of 1 to 8 bytes
 
-abbrev pub width_fault : ℕ → ℕ → Option ℕ
-width_fault off n =
+abbrev pub find_access_error : ℕ → ℕ → Option ℕ
+find_access_error off n =
     if n == 0 || nat_lt 8 n then Some 302
     else (if nat_le (2 ^ 64) (off + n) then Some 303 else None)
 
 abbrev pub wide_read : Side → WorldNow → ℕ → DeviceByte → ℕ → Result ℕ ℕ
-wide_read side w guest d n = option_map_or Err (width_fault d.offset n) (bytes_read side w guest (bytes_from d n))
+wide_read side w guest d n = option_map_or Err (find_access_error d.offset n) (read_little_endian side w guest (bytes_from d n))
 
 -- refused as a read of the same bytes is: then none is written
 abbrev pub after_wide : Side → MachineNow → ℕ → DeviceByte → ℕ → ℕ → MachineNow

@@ -3,7 +3,7 @@
 --     region_row b, no_region      a base address register with its region, and where none begins
 --     region_rows r      those of the six base address registers; a bridge has none
 --     window_row w, window_rows r      a window, and a bridge's windows for ports, memory and prefetchable memory
---     text_room, text_row t      a text at the front of the bytes that are there for it, the others 0
+--     text_room, zero_padded_text t      a text at the front of the bytes that are there for it, the others 0
 --     function_row f i, function_told w f      the description of a function, with its interrupt
 --     slot_asked w guest slot      the function in a slot of a guest by its index, or why there is none
 use Rattle.std.specs.{Prelude.{◌==◌, ◌-◌, ◌++◌, ℕ, List, [], ◌∷◌, map, length, replicate, find, is_some, Option, Some, None, Result}, Option.option_map_or}
@@ -42,20 +42,20 @@ abbrev pub window_rows : Ranges → List WindowRow
 window_rows (regions bs) = replicate 3 (window_row None)
 window_rows (windows wio wmem wpref) = window_row wio ∷ window_row wmem ∷ window_row wpref ∷ []
 
-abbrev pub bridge_number : Ranges → ℕ
-bridge_number (regions bs) = 0
-bridge_number (windows wio wmem wpref) = 1
+abbrev pub bridge_flag : Ranges → ℕ
+bridge_flag (regions bs) = 0
+bridge_flag (windows wio wmem wpref) = 1
 
 -- the longest text of a path has 79 bytes
 abbrev pub text_room : ℕ
 text_room = 80
 
-abbrev pub text_row : Text → List ℕ
-text_row t = t ++ replicate (text_room - length t) 0
+abbrev pub zero_padded_text : Text → List ℕ
+zero_padded_text t = t ++ replicate (text_room - length t) 0
 
 abbrev pub function_row : LiveFunction → Interrupt → FunctionTold
 function_row f interrupt = record {
-  path = text_row (path_text f.path);
+  path = zero_padded_text (path_text f.path);
   path_length = length (path_text f.path);
   bus = f.at.bus;
   device = f.at.part.device;
@@ -66,7 +66,7 @@ function_row f interrupt = record {
   class_code = f.identity.class;
   subsystem_vendor_id = f.identity.subvendor;
   subsystem_id = f.identity.subsystem;
-  is_bridge = bridge_number f.ranges;
+  is_bridge = bridge_flag f.ranges;
   regions = region_rows f.ranges;
   windows = window_rows f.ranges;
   is_given = one_if (is_some f.seat);

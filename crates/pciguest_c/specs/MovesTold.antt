@@ -1,8 +1,8 @@
 -- The regions of a guest that have moved since C last received them.
 --     no_region_told      the description of a missing region
---     place_now w guest n      the region of a guest by its index; n counts six for each slot
---     is_same a b      two descriptions of regions are equal
---     place_row now before      the row of a region, and whether it moved
+--     nth_region_or_zeros w guest n      the region of a guest by its index; n counts six for each slot
+--     is_same_region a b      two descriptions of regions are equal
+--     region_change_row now before      the row of a region, and whether it moved
 --     places_from w guest n ps      updated rows, of which the first is for region n
 --     moved_count ps      how many of these moved
 use Rattle.std.specs.Prelude.{ℕ, ◌+◌, ◌/◌, ◌%◌, ◌==◌, ◌&&◌, Bool, not, List, [], ◌∷◌, Result, Ok, Err, count_by}
@@ -17,20 +17,20 @@ abbrev pub region_or_none : Result LiveBar ℕ → RegionTold
 region_or_none (Ok r) = region_told r
 region_or_none (Err n) = no_region_told
 
-abbrev pub place_now : WorldNow → ℕ → ℕ → RegionTold
-place_now w guest n = region_or_none (region_asked w guest (n / 6) (n % 6))
+abbrev pub nth_region_or_zeros : WorldNow → ℕ → ℕ → RegionTold
+nth_region_or_zeros w guest n = region_or_none (region_asked w guest (n / 6) (n % 6))
 
-abbrev pub is_same : RegionTold → RegionTold → Bool
-is_same a b =
+abbrev pub is_same_region : RegionTold → RegionTold → Bool
+is_same_region a b =
     a.first == b.first && a.size == b.size && a.space == b.space && a.prefetchable == b.prefetchable
     && a.is_open == b.is_open
 
-abbrev pub place_row : RegionTold → RegionTold → PlaceRow
-place_row now before = record { now = now; before = before; has_moved = one_if (not (is_same now before)); reserved = 0 }
+abbrev pub region_change_row : RegionTold → RegionTold → PlaceRow
+region_change_row now before = record { now = now; before = before; has_moved = one_if (not (is_same_region now before)); reserved = 0 }
 
 abbrev pub places_from : WorldNow → ℕ → ℕ → List PlaceRow → List PlaceRow
 places_from w guest n [] = []
-places_from w guest n (p ∷ ps) = place_row (place_now w guest n) p.now ∷ places_from w guest (n + 1) ps
+places_from w guest n (p ∷ ps) = region_change_row (nth_region_or_zeros w guest n) p.now ∷ places_from w guest (n + 1) ps
 
 abbrev pub moved_count : List PlaceRow → ℕ
 moved_count ps = count_by (λ (p : PlaceRow). p.has_moved == 1) ps

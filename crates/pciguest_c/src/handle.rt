@@ -44,7 +44,7 @@ impl Handle {
     }
 
     /// Returns whether the handle contains a session.
-    pub fn is_live(&self) -> bool
+    pub fn has_session(&self) -> bool
         ensures told { result ≡ is_some (session_of self.now) }
         ensures none { OnFalse result (session_of self.now ≡ None) }
     {
@@ -65,7 +65,7 @@ impl Handle {
     }
 
     /// Calls a closure on the machine, or returns 901 if the handle doesn't contain one.
-    pub fn ask_machine<T, F: FnOnce(&mut Monitor) -> Result<T, u32>>(
+    pub fn with_machine<T, F: FnOnce(&mut Monitor) -> Result<T, u32>>(
         &mut self,
         alloc: Global,
         question: F,
@@ -93,7 +93,7 @@ impl Handle {
 
     /// Calls a closure on the board that firmware drives, or returns 901 if the handle doesn't
     /// contain one.
-    pub fn ask_board<T, F: FnOnce(&mut Board) -> Result<T, u32>>(
+    pub fn with_board<T, F: FnOnce(&mut Board) -> Result<T, u32>>(
         &mut self,
         alloc: Global,
         question: F,

@@ -5,7 +5,7 @@ ghost use Rattle.model_board.specs.Board.{is_bridge};
 ghost use Rattle.model_guests.specs.{Text.{ended}, World.{World}};
 ghost use Rattle.model_handoff.specs.{Report.{report}, FoundReport.{IsSetUpOf, count_line, functions_text, guests_text, found_report}};
 
-use crate::lines::{push_function, push_guest};
+use crate::lines::{push_function, push_slots_of_guest};
 use accesses::GuestDecl;
 use bus_scan::{Enumerated, EnumeratedFunction, FunctionTable};
 use std::alloc::{AllocError, Global};
@@ -22,25 +22,25 @@ fn is_bridge(row: &EnumeratedFunction) -> bool
 }
 
 /// Counts the endpoints.
-pub fn endpoints(rows: &[EnumeratedFunction]) -> usize
+pub fn count_endpoints(rows: &[EnumeratedFunction]) -> usize
     ensures { result ≡ count_by (λ r. not (is_bridge r.decl)) rows.now }
 {
     rows.iter().filter(|row| !is_bridge(row)).count()
 }
 
 /// Counts the bridges.
-pub fn bridges(rows: &[EnumeratedFunction]) -> usize
+pub fn count_bridges(rows: &[EnumeratedFunction]) -> usize
     ensures { result ≡ count_by (λ r. is_bridge r.decl) rows.now }
 {
     rows.iter().filter(|row| is_bridge(row)).count()
 }
 
 /// Appends the line with the number of endpoints and bridges.
-fn push_counts(text: &mut String, rows: &[EnumeratedFunction]) -> Result<(), AllocError>
+fn push_function_counts(text: &mut String, rows: &[EnumeratedFunction]) -> Result<(), AllocError>
     ensures { OnOk result (Adds text.old text.new (ended (count_line rows.now))) }
 {
-    let endpoints = endpoints(rows);
-    let bridges = bridges(rows);
+    let endpoints = count_endpoints(rows);
+    let bridges = count_bridges(rows);
     writeln!(text, "endpoints {endpoints} bridges {bridges}")
 }
 
@@ -63,7 +63,7 @@ fn push_guests(text: &mut String, guests: &[GuestDecl]) -> Result<(), AllocError
     ensures { OnOk result (Adds text.old text.new (guests_text guests.now)) }
 {
     for guest in guests {
-        push_guest(text, guest)?;
+        push_slots_of_guest(text, guest)?;
     }
     Ok(())
 }
@@ -83,7 +83,7 @@ pub fn report_text(
         ≡ found_report (record { functions = table.now; plan = plan.now; guests = guests.now })) }
 {
     let mut text = String::new(alloc);
-    push_counts(&mut text, table.rows())?;
+    push_function_counts(&mut text, table.rows())?;
     push_functions(&mut text, table.rows(), plan.settings())?;
     push_guests(&mut text, guests)?;
     Ok(text)

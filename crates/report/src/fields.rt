@@ -51,7 +51,7 @@ impl<'a> fmt::Display for ShownPath<'a> {
 }
 
 /// Returns the lowercase hexadecimal digit for a value below 16.
-fn digit(value: u8) -> char
+fn hex_digit(value: u8) -> char
     requires { value < 16 }
     ensures glyph { result ≡ digit_glyph false value }
     ensures ascii { result < 128 }
@@ -65,27 +65,27 @@ fn digit(value: u8) -> char
 
 /// Displays a byte as two hexadecimal digits.
 #[derive(Clone, Copy)]
-pub struct TwoDigits(pub u8);
+pub struct TwoHexDigits(pub u8);
 
-impl fmt::Display for TwoDigits {
+impl fmt::Display for TwoHexDigits {
     ghost output = { λ b. Some (hex_digits 2 b.0) };
 
     fn fmt<W: fmt::Write>(&self, f: &mut fmt::Formatter<W>) -> fmt::Result {
         let byte = self.0;
-        write!(f, "{}{}", digit(byte / 16), digit(byte % 16))
+        write!(f, "{}{}", hex_digit(byte / 16), hex_digit(byte % 16))
     }
 }
 
 /// Displays 16 bits as four hexadecimal digits.
 #[derive(Clone, Copy)]
-pub struct FourDigits(pub u16);
+pub struct FourHexDigits(pub u16);
 
-impl fmt::Display for FourDigits {
+impl fmt::Display for FourHexDigits {
     ghost output = { λ w. Some (hex_digits 4 w.0) };
 
     fn fmt<W: fmt::Write>(&self, f: &mut fmt::Formatter<W>) -> fmt::Result {
-        let high = TwoDigits((self.0 / 256) as u8);
-        let low = TwoDigits((self.0 % 256) as u8);
+        let high = TwoHexDigits((self.0 / 256) as u8);
+        let low = TwoHexDigits((self.0 % 256) as u8);
         write!(f, "{high}{low}")
     }
 }
@@ -106,8 +106,8 @@ impl fmt::Display for Numbers {
         write!(
             f,
             "{}:{}.{function}",
-            TwoDigits(self.bus),
-            TwoDigits(self.device)
+            TwoHexDigits(self.bus),
+            TwoHexDigits(self.device)
         )
     }
 }

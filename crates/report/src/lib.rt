@@ -8,6 +8,6 @@ mod board_report;
 mod fields;
 mod lines;
 
-pub use board_report::{bridges, endpoints, report_text};
-pub use fields::{FourDigits, Numbers, ShownPath, TwoDigits, kind_text};
+pub use board_report::{count_bridges, count_endpoints, report_text};
+pub use fields::{FourHexDigits, Numbers, ShownPath, TwoHexDigits, kind_text};
 pub use lines::pin_text;

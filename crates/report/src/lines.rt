@@ -6,7 +6,7 @@ ghost use Rattle.model_handoff.specs.{Report.{base_line, pin_text, pin_line, ran
 ghost use Rattle.bars.specs.Slots.{placed, bases_from};
 ghost use Rattle.window_packing.specs.Plans.{writes_of};
 
-use crate::fields::{FourDigits, Numbers, ShownPath, TwoDigits, kind_text};
+use crate::fields::{FourHexDigits, Numbers, ShownPath, TwoHexDigits, kind_text};
 use accesses::GuestDecl;
 use bars::BarWithBase;
 use bus_scan::{Enumerated, EnumeratedFunction};
@@ -53,7 +53,7 @@ pub fn pin_text(pin: u8) -> &'static str
 }
 
 /// Appends the line of an interrupt pin, with the device and pin on bus 0 that it is routed to.
-fn push_pin(text: &mut String, path: &Path, pin: u8) -> Result<(), AllocError>
+fn push_pin_route(text: &mut String, path: &Path, pin: u8) -> Result<(), AllocError>
     requires least { 1 ≤ pin }
     requires most { pin ≤ 4 }
     ensures { OnOk result (Adds text.old text.new (ended (pin_line path.now pin))) }
@@ -66,17 +66,21 @@ fn push_pin(text: &mut String, path: &Path, pin: u8) -> Result<(), AllocError>
 
 /// Appends the line of an interrupt pin. Appends nothing for pin 0, which means that the function
 /// has no interrupt pin, or for a reserved value above 4.
-fn push_known_pin(text: &mut String, path: &Path, pin: u8) -> Result<(), AllocError>
+fn push_pin_route_if_valid(text: &mut String, path: &Path, pin: u8) -> Result<(), AllocError>
     ensures { OnOk result (Adds text.old text.new (text_of_lines (known_pin_lines path.now pin))) }
 {
     if pin == 0 || pin > 4 {
         return Ok(());
     }
-    push_pin(text, path, pin)
+    push_pin_route(text, path, pin)
 }
 
 /// Appends the line of a window, unless the window is disabled.
-fn push_window(text: &mut String, name: &str, window: &WindowSetting) -> Result<(), AllocError>
+fn push_window_if_enabled(
+    text: &mut String,
+    name: &str,
+    window: &WindowSetting,
+) -> Result<(), AllocError>
     ensures { OnOk result (Adds text.old text.new
         (text_of_lines (named_window_lines name.now window.now))) }
 {
@@ -89,7 +93,7 @@ fn push_window(text: &mut String, name: &str, window: &WindowSetting) -> Result<
 }
 
 /// Appends the lines of an endpoint's regions at the base addresses that set-up wrote.
-fn push_bases(text: &mut String, writes: &RegisterValues) -> Result<(), AllocError>
+fn push_bars_if_endpoint(text: &mut String, writes: &RegisterValues) -> Result<(), AllocError>
     ensures { OnOk result (Adds text.old text.new
         (text_of_lines (base_lines (writes_of writes.now)))) }
 {
@@ -101,22 +105,22 @@ fn push_bases(text: &mut String, writes: &RegisterValues) -> Result<(), AllocErr
 
 /// Appends a line for each enabled window of a bridge, as set-up programmed it. Appends nothing for
 /// an endpoint.
-fn push_windows(text: &mut String, writes: &RegisterValues) -> Result<(), AllocError>
+fn push_windows_if_bridge(text: &mut String, writes: &RegisterValues) -> Result<(), AllocError>
     ensures { OnOk result (Adds text.old text.new
         (text_of_lines (written_windows (writes_of writes.now)))) }
 {
     match writes {
         RegisterValues::Endpoint { .. } => Ok(()),
         RegisterValues::Bridge { io, mem, pref } => {
-            push_window(text, "io", io)?;
-            push_window(text, "mem", mem)?;
-            push_window(text, "pref", pref)
+            push_window_if_enabled(text, "io", io)?;
+            push_window_if_enabled(text, "mem", mem)?;
+            push_window_if_enabled(text, "pref", pref)
         }
     }
 }
 
 /// Appends the Primary, Secondary and Subordinate Bus Numbers of a bridge.
-fn push_buses(
+fn push_bus_numbers(
     text: &mut String,
     primary: u8,
     secondary: u8,
@@ -124,14 +128,18 @@ fn push_buses(
 ) -> Result<(), AllocError>
     ensures { OnOk result (Adds text.old text.new (range_text primary secondary subordinate)) }
 {
-    let primary = TwoDigits(primary);
-    let secondary = TwoDigits(secondary);
-    let subordinate = TwoDigits(subordinate);
+    let primary = TwoHexDigits(primary);
+    let secondary = TwoHexDigits(secondary);
+    let subordinate = TwoHexDigits(subordinate);
     write!(text, " buses {primary} {secondary} {subordinate}")
 }
 
 /// Appends the BDF of a function, its path, its header type, and its Vendor ID and Device ID.
-fn push_head(text: &mut String, row: &EnumeratedFunction, kind: &str) -> Result<(), AllocError>
+fn push_bdf_path_and_ids(
+    text: &mut String,
+    row: &EnumeratedFunction,
+    kind: &str,
+) -> Result<(), AllocError>
     ensures { OnOk result (Adds text.old text.new (row_head row.now kind.now)) }
 {
     let part = row.path.last();
@@ -141,13 +149,13 @@ fn push_head(text: &mut String, row: &EnumeratedFunction, kind: &str) -> Result<
         function: part.function(),
     };
     let path = ShownPath(&row.path);
-    let vendor = FourDigits(row.vendor);
-    let device = FourDigits(row.device);
+    let vendor = FourHexDigits(row.vendor);
+    let device = FourHexDigits(row.device);
     write!(text, "{numbers} {path}{kind}{vendor}:{device}")
 }
 
 /// Ends the first line of an endpoint, and appends the lines of its regions and its interrupt pin.
-fn push_endpoint(
+fn push_endpoint_details(
     text: &mut String,
     path: &Path,
     pin: u8,
@@ -157,12 +165,12 @@ fn push_endpoint(
         (endpoint_text path.now pin (writes_of writes.now))) }
 {
     text.push_str("\n")?;
-    push_bases(text, writes)?;
-    push_known_pin(text, path, pin)
+    push_bars_if_endpoint(text, writes)?;
+    push_pin_route_if_valid(text, path, pin)
 }
 
 /// Ends the first line of a bridge with its bus numbers, and appends the lines of its windows.
-fn push_bridge(
+fn push_bridge_details(
     text: &mut String,
     bus: u8,
     secondary: u8,
@@ -172,9 +180,9 @@ fn push_bridge(
     ensures { OnOk result (Adds text.old text.new
         (range_text bus secondary subordinate ++ windows_text (writes_of writes.now))) }
 {
-    push_buses(text, bus, secondary, subordinate)?;
+    push_bus_numbers(text, bus, secondary, subordinate)?;
     text.push_str("\n")?;
-    push_windows(text, writes)
+    push_windows_if_bridge(text, writes)
 }
 
 /// Appends the lines of a function.
@@ -187,16 +195,16 @@ pub(crate) fn push_function(
 {
     match &row.found {
         Enumerated::Endpoint { pin, .. } => {
-            push_head(text, row, " endpoint ")?;
-            push_endpoint(text, &row.path, *pin, writes)
+            push_bdf_path_and_ids(text, row, " endpoint ")?;
+            push_endpoint_details(text, &row.path, *pin, writes)
         }
         Enumerated::Bridge {
             secondary,
             subordinate,
             ..
         } => {
-            push_head(text, row, " bridge ")?;
-            push_bridge(text, row.bus, *secondary, *subordinate, writes)
+            push_bdf_path_and_ids(text, row, " bridge ")?;
+            push_bridge_details(text, row.bus, *secondary, *subordinate, writes)
         }
     }
 }
@@ -209,7 +217,7 @@ fn push_slot(text: &mut String, name: &str, slot: usize, path: &Path) -> Result<
 }
 
 /// Appends the lines for all slots of a guest.
-pub(crate) fn push_guest(text: &mut String, guest: &GuestDecl) -> Result<(), AllocError>
+pub(crate) fn push_slots_of_guest(text: &mut String, guest: &GuestDecl) -> Result<(), AllocError>
     ensures { OnOk result (Adds text.old text.new
         (text_of_lines (slot_lines guest.now.name 0 guest.now.slots))) }
 {

@@ -6,14 +6,14 @@ ghost use Rattle.accesses.specs.{Accesses.reply_of, Replies.IsShown};
 ghost use Rattle.lines.specs.{Pieces.IsBefore, Lines.{who_of, meaning_of, GuestIs, GuestsAre}};
 ghost use Rattle.script.specs.Refusals.{refusal_of, reply_to, refusal_in, refusal_on_machine};
 
-use lines::{Answer, Answers, LineText, What, Who, line_meaning, push_line};
+use lines::{Answer, Answers, LineText, What, Who, parse_line_meaning, push_reply};
 use monitor::{Monitor, Names, Refusal, Reply};
 use std::alloc::AllocError;
 
 /// Executes a parsed line. Returns the reply and the name under which it is sent, if the line has
 /// output.
 #[inline(always)]
-pub fn answer(monitor: &mut Monitor, what: What) -> Option<(Who, Reply)>
+pub fn execute_line_meaning(monitor: &mut Monitor, what: What) -> Option<(Who, Reply)>
     requires { GuestsAre (λ g. g < length (names_now monitor.old.world)) what }
     ensures written { let written = written_by monitor.old.world
         (meaning_of (names_now monitor.old.world) what) in
@@ -51,7 +51,7 @@ pub fn answer(monitor: &mut Monitor, what: What) -> Option<(Who, Reply)>
 
 /// Returns the number of a refusal, or `None` for any other reply.
 #[inline(always)]
-pub fn refusal_of(reply: Reply) -> Option<u16>
+pub fn refusal_number(reply: Reply) -> Option<u16>
     ensures { result ≡ refusal_of (reply_of reply) }
 {
     match reply {
@@ -64,16 +64,16 @@ pub fn refusal_of(reply: Reply) -> Option<u16>
 /// its line feed. Returns the number of the refusal, if the line is refused. All replies are
 /// written in one place, to a text that isn't moved afterwards, which is faster.
 #[inline(always)]
-fn push_answer(monitor: &mut Monitor, line: &[u8], text: &mut LineText) -> Option<u16>
+fn run_line_into_text(monitor: &mut Monitor, line: &[u8], text: &mut LineText) -> Option<u16>
     requires { text.old.items ≡ [] }
     ensures text { text.new.items ≡ line_output monitor.old.world line.now }
     ensures refused { result ≡ refusal_in monitor.old.world line.now }
     ensures after { monitor.new ≡ after_line_on_machine monitor.old line.now }
 {
-    let what = line_meaning(line, monitor.names());
-    let (who, reply) = answer(monitor, what)?;
-    let refused = refusal_of(reply);
-    push_line(text, who, monitor.names(), reply);
+    let what = parse_line_meaning(line, monitor.names());
+    let (who, reply) = execute_line_meaning(monitor, what)?;
+    let refused = refusal_number(reply);
+    push_reply(text, who, monitor.names(), reply);
     refused
 }
 
@@ -84,7 +84,7 @@ pub fn run_line(monitor: &mut Monitor, line: &[u8]) -> LineText
     ensures after { monitor.new ≡ after_line_on_machine monitor.old line.now }
 {
     let mut text = LineText::new();
-    let _ = push_answer(monitor, line, &mut text);
+    let _ = run_line_into_text(monitor, line, &mut text);
     text
 }
 
@@ -109,7 +109,7 @@ pub fn answer_line(
 {
     // A long line has no effect, and the reply is the same for all of them.
     if long {
-        push_line(
+        push_reply(
             text,
             Who::Unknown,
             monitor.names(),
@@ -117,7 +117,7 @@ pub fn answer_line(
         );
         return Some(Refusal::LongLine.number());
     }
-    push_answer(monitor, line, text)
+    run_line_into_text(monitor, line, text)
 }
 
 /// The language of scripts, which a monitor answers.
@@ -138,7 +138,7 @@ impl Answers<Script> for Monitor {
         text: &mut LineText,
     ) -> Result<Answer, AllocError> {
         let refused = answer_line(self, line, long, text);
-        Ok(Answer::short(refused))
+        Ok(Answer::one_line_at_most(refused))
     }
 
     #[inline(always)]

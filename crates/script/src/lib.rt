@@ -6,7 +6,7 @@
 mod answers;
 mod script_run;
 
-pub use answers::{Script, answer, answer_line, refusal_of, run_line};
+pub use answers::{Script, answer_line, execute_line_meaning, refusal_number, run_line};
 pub use lines::{Line, LineText, RunFault, What, Who, parse_line};
 pub use monitor::Monitor;
 pub use script_run::run;

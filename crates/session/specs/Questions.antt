@@ -10,7 +10,7 @@ use Rattle.model_board.specs.State.{BoardFunction, State}
 use Rattle.model_guests.specs.{Grammar.HostTarget, Text.Text}
 use Rattle.model_findings.specs.{AuditText.audit_text, Problems.{Problem, problems}, ReadinessIssues.{ReadinessIssue, readiness_issues}, ReadyText.ready_text}
 use Rattle.model_lines.specs.Requests.{why_written}
-use Rattle.json_texts.specs.{AuditValue.{problems_json, lacks_json}, WhyValue.host_why_json}
+use Rattle.json_texts.specs.{AuditValue.{problems_json, readiness_json}, WhyValue.host_explanation_json}
 use Rattle.lines.specs.declared.requests.Report.{Report, TheVariants.{Audit, Ready}}
 use Rattle.session.specs.declared.questions.{ReportForm.{ReportForm, TheVariants.{Lines, Json}}, Question.{Question}}
 
@@ -20,11 +20,11 @@ audit_in Json ps = problems_json ps
 
 abbrev pub ready_in : ReportForm → List Problem → List ReadinessIssue → Text
 ready_in Lines ps ls = ready_text ps ls
-ready_in Json ps ls = lacks_json ps ls
+ready_in Json ps ls = readiness_json ps ls
 
 abbrev pub why_in : ReportForm → State → HostTarget → Text
 why_in Lines s t = why_written s t
-why_in Json s t = host_why_json s t
+why_in Json s t = host_explanation_json s t
 
 abbrev pub report_in : Report → ReportForm → List Problem → List ReadinessIssue → Text
 report_in Audit form ps ls = audit_in form ps

@@ -11,7 +11,7 @@ ghost use Rattle.lines.specs.FirmwareLines.{host_asked};
 ghost use Rattle.session.specs.Hosts.{after_asked};
 
 use accesses::{Bdf, HostAccess, HostAt, Reply};
-use config_bytes::{enables_of, lowered, to_lanes};
+use config_bytes::{enables_of, shift_lanes_down, to_lanes};
 use host_bridge::{Host, TreeWalk};
 
 /// Reads 1, 2 or 4 bytes at a configuration offset of the function at a BDF.
@@ -24,7 +24,7 @@ fn config_read(host: &mut Host, at: Bdf, off: u8, width: u64) -> u32
 {
     let from = u64::from(off);
     let word = host.config_read(at, off / 4 * 4, enables_of(from, width));
-    lowered(from, word)
+    shift_lanes_down(from, word)
 }
 
 /// Writes the low 1, 2 or 4 bytes of a value at a configuration offset of the function at a BDF.

@@ -5,12 +5,12 @@ ghost use Rattle.model_lines.specs.{FirmwareLines.meaning, Requests.request};
 ghost use Rattle.lines.specs.{FirmwareLines.{firmware_meaning_of, requested}, Pieces.IsBefore};
 
 use accesses::Refusal;
-use lines::{FirmwareCommand, firmware_meaning};
+use lines::{FirmwareCommand, parse_firmware_line};
 
 /// Returns the meaning of a line while firmware drives the board. The line may lack its line feed.
 /// `long` means that the line's first bytes were discarded because it is too long, and makes it a
 /// refused line, whatever bytes are left.
-pub(crate) fn meant(line: &[u8], long: bool) -> FirmwareCommand
+pub(crate) fn parse_line_unless_too_long(line: &[u8], long: bool) -> FirmwareCommand
     ensures means { (before : Text) → IsBefore long before →
         firmware_meaning_of result ≡ meaning (before ++ line.now) }
     ensures asks { (before : Text) → IsBefore long before →
@@ -19,5 +19,5 @@ pub(crate) fn meant(line: &[u8], long: bool) -> FirmwareCommand
     if long {
         return FirmwareCommand::NotOfHost(Refusal::LongLine);
     }
-    firmware_meaning(line)
+    parse_firmware_line(line)
 }

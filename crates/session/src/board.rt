@@ -13,14 +13,14 @@ ghost use Rattle.monitor.specs.Beginnings.{with_no_slots};
 ghost use Rattle.script.specs.Refusals.{refusal_of};
 
 use crate::accessing;
-use crate::opening::begin;
+use crate::opening::set_up_and_assign;
 use accesses::{GuestDecl, HostAccess, Refusal, Reply};
 use board_file::{BoardFault, read_board};
 use headers::Apertures;
 use host_bridge::Host;
-use lines::{FirmwareCommand, LineText, push_named};
+use lines::{FirmwareCommand, LineText, push_reply_of_name};
 use monitor::{Monitor, Refused};
-use script::refusal_of;
+use script::refusal_number;
 use std::alloc::{AllocError, Global};
 use std::marker::Model;
 
@@ -65,7 +65,7 @@ impl Board {
 
     /// Returns a new board with the functions of a machine's board, at reset, and with guests of
     /// the same names whose slots are empty. The machine isn't changed.
-    pub fn of_machine(alloc: Global, machine: &Monitor) -> Result<Board, AllocError>
+    pub fn recreate_at_reset(alloc: Global, machine: &Monitor) -> Result<Board, AllocError>
         ensures board { let board = board_at (board_state machine.now.world).functions in
             IfOk result (λ b. b.world.board ≡ board) }
         ensures guests { IfOk result (λ b.
@@ -121,7 +121,7 @@ impl Board {
 
     /// Executes a line. Returns the name to print in front of the reply, and the reply, or None if
     /// the line has no output.
-    fn reply_to(&mut self, what: FirmwareCommand) -> Option<(&'static [u8], Reply)>
+    fn execute_with_label(&mut self, what: FirmwareCommand) -> Option<(&'static [u8], Reply)>
         ensures text { let text = text_by self.old.state (firmware_meaning_of what) in
             MatchOption result (text ≡ []) (λ a.
             text ≡ a.0.now ++ codes ": " ++ reply_text (reply_of a.1) ++ 10 ∷ []) }
@@ -151,27 +151,31 @@ impl Board {
     /// Executes a firmware line, and writes its output to an empty text: nothing, or one line with
     /// its line feed. Returns the number of the refusal, if the line is refused. Queries aren't
     /// handled here and count as bad lines. Allocates no memory.
-    pub(crate) fn answer(&mut self, what: FirmwareCommand, text: &mut LineText) -> Option<u16>
+    pub(crate) fn execute_or_refusal_number(
+        &mut self,
+        what: FirmwareCommand,
+        text: &mut LineText,
+    ) -> Option<u16>
         requires { text.old.items ≡ [] }
         ensures text { text.new.items ≡ text_by self.old.state (firmware_meaning_of what) }
         ensures refused { result ≡ refusal_by self.old.state (firmware_meaning_of what) }
         ensures after { self.new ≡ after_meant self.old (firmware_meaning_of what) }
     {
-        let (name, reply) = self.reply_to(what)?;
-        push_named(text, name, reply);
-        refusal_of(reply)
+        let (name, reply) = self.execute_with_label(what)?;
+        push_reply_of_name(text, name, reply);
+        refusal_number(reply)
     }
 
     /// Runs our own set-up on a copy of this board, which is at reset, and assigns its functions to
     /// the guests of the file. This board isn't changed. Fails if the board can't be set up
     /// (2xx) or memory is exhausted (299).
-    pub fn set_up(&self, alloc: Global) -> Result<Monitor, bus_scan::Fault>
+    pub fn set_up_copy(&self, alloc: Global) -> Result<Monitor, bus_scan::Fault>
         ensures made { IfOk result (BeginsIn (IsAtFirst self.now.world)) }
         ensures placement { IfErr result (λ f.
             f ≢ SetUpMemory → BreaksRule self.now.world (set_up_number f)) }
     {
-        let host = self.host.at_reset(alloc)?;
-        begin(alloc, host, &self.guests)
+        let host = self.host.copy_at_reset(alloc)?;
+        set_up_and_assign(alloc, host, &self.guests)
     }
 
     /// Assigns the functions of this board to the guests of its file, in the present state of the

@@ -24,19 +24,19 @@ pub struct DrivenFunction {
 }
 
 /// Returns whether Command enables decoding in a space.
-fn opens(command: u32, space: Space) -> bool
+fn is_space_enabled(command: u32, space: Space) -> bool
     ensures { result ≡ opens_space command (named_space space) }
 {
     command & u32::from(space.command_bit()) != 0
 }
 
 /// Returns whether a configuration cycle to a BDF reaches the function at a path.
-fn is_found(host: &mut Host, at: Bdf, path: &Path) -> bool
+fn bdf_reaches_path(host: &mut Host, at: Bdf, path: &Path) -> bool
     ensures found { let found = reached host.old.state.functions (bus_address_of at) in
         result ≡ is_there path.now (option_map (λ (f : BoardFunction). f.path) found) }
     ensures kept { host.new ≡ host.old }
 {
-    let Some(index) = host.index_reached(at) else {
+    let Some(index) = host.index_reached_by_bdf(at) else {
         return false;
     };
     match host.path_nth(index) {
@@ -54,10 +54,10 @@ fn driven_function_nth(host: &mut Host, index: usize) -> Option<DrivenFunction>
 {
     let path = host.path_nth(index)?;
     let identity = identity_nth(host, index)?;
-    let ranges = host.ranges_nth(index)?;
-    let command = host.number_nth(index, 4, 2)?;
+    let ranges = host.live_ranges_nth(index)?;
+    let command = host.peek_config_nth(index, 4, 2)?;
     let at = address_of(host, &path);
-    let is_found = is_found(host, at, &path);
+    let is_found = bdf_reaches_path(host, at, &path);
     Some(DrivenFunction {
         function: LiveFunction {
             path,
@@ -67,14 +67,14 @@ fn driven_function_nth(host: &mut Host, index: usize) -> Option<DrivenFunction>
             seat: None,
         },
         is_found,
-        opens_io: opens(command, Space::Io),
-        opens_memory: opens(command, Space::Mem),
+        opens_io: is_space_enabled(command, Space::Io),
+        opens_memory: is_space_enabled(command, Space::Mem),
     })
 }
 
 impl Board {
     /// Returns the number of functions on the board, including bridges.
-    pub fn count(&self) -> usize
+    pub fn function_count(&self) -> usize
         ensures { result ≡ length self.now.state.functions }
     {
         self.host.count()

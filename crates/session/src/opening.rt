@@ -57,7 +57,7 @@ impl From<bus_scan::Fault> for OpenFault {
 
 /// Sets up a board at reset, and assigns its functions to guests. Fails if the board can't be set
 /// up (2xx) or memory is exhausted (299).
-pub(crate) fn begin(
+pub(crate) fn set_up_and_assign(
     alloc: Global,
     host: Host,
     guests: &[GuestDecl],
@@ -83,6 +83,6 @@ pub fn open_and_set_up(alloc: Global, file: &[u8]) -> Result<Monitor, OpenFault>
     ensures placement { IfErr result (OnSetUp (Breaks file.now)) }
 {
     let (host, guests) = read_board(alloc, file)?;
-    let opened = begin(alloc, host, &guests)?;
+    let opened = set_up_and_assign(alloc, host, &guests)?;
     Ok(opened)
 }

@@ -10,7 +10,7 @@ use accesses::HostAt;
 use findings::{Problem, ReadinessIssue, problems, readiness_issues};
 use findings_render::{CountedText, host_why_text};
 use headers::Apertures;
-use json_texts::{host_why_json, lacks_json, problems_json};
+use json_texts::{host_explanation_json, problems_json, readiness_json};
 use lines::Report;
 use monitor::Monitor;
 use std::alloc::{AllocError, Global};
@@ -33,7 +33,7 @@ pub struct Question {
 
 /// Renders a report about these problems and readiness issues, and counts what it lists. An audit
 /// lists only the problems.
-fn report_in(
+fn render_report(
     alloc: Global,
     question: Question,
     problems: &[Problem],
@@ -57,7 +57,7 @@ fn report_in(
             CountedText::of_issues(alloc, problems, readiness_issues)
         }
         (Report::Ready, ReportForm::Json) => {
-            let text = lacks_json(alloc, problems, readiness_issues)?;
+            let text = readiness_json(alloc, problems, readiness_issues)?;
             let count = problems.len() + readiness_issues.len();
             Ok(CountedText { text, count })
         }
@@ -81,10 +81,10 @@ impl Board {
     {
         let found = problems(alloc, &mut self.host)?;
         match question.report {
-            Report::Audit => report_in(alloc, question, &found, &[]),
+            Report::Audit => render_report(alloc, question, &found, &[]),
             Report::Ready => {
                 let lacking = readiness_issues(alloc, &self.host, apertures)?;
-                report_in(alloc, question, &found, &lacking)
+                render_report(alloc, question, &found, &lacking)
             }
         }
     }
@@ -92,14 +92,19 @@ impl Board {
     /// Explains where an access by firmware goes with the registers as they are now: which function
     /// it reaches, or why it reaches none. The offset of a configuration access is ignored. Changes
     /// nothing, even if memory is exhausted.
-    pub fn why(&mut self, alloc: Global, form: ReportForm, at: HostAt) -> Result<String, AllocError>
+    pub fn explain_access(
+        &mut self,
+        alloc: Global,
+        form: ReportForm,
+        at: HostAt,
+    ) -> Result<String, AllocError>
         ensures text { IfOk result (λ t.
             string_bytes t ≡ why_in form self.old.state (host_target_of at)) }
         ensures after { self.new ≡ self.old }
     {
         match form {
             ReportForm::Lines => host_why_text(alloc, &mut self.host, at),
-            ReportForm::Json => host_why_json(alloc, &mut self.host, at),
+            ReportForm::Json => host_explanation_json(alloc, &mut self.host, at),
         }
     }
 }
@@ -120,10 +125,10 @@ pub(crate) fn ask_machine(
 {
     let found = machine.audit_board(alloc)?;
     match question.report {
-        Report::Audit => report_in(alloc, question, &found, &[]),
+        Report::Audit => render_report(alloc, question, &found, &[]),
         Report::Ready => {
             let lacking = machine.readiness_issues(alloc, apertures)?;
-            report_in(alloc, question, &found, &lacking)
+            render_report(alloc, question, &found, &lacking)
         }
     }
 }

@@ -6,7 +6,7 @@ ghost use Rattle.lines.specs.Pieces.{IsBefore, with_more};
 ghost use Rattle.board_file.specs.{declared.fault.BoardFault.TheVariants.Memory, Faults.number_of as file_number};
 ghost use Rattle.session.specs.{Files.{Declares, Refuses}, Boards.{IsHandedOverAs, IsRefusalOf}, Questions.{told_by, counted_by}, Refusals.refusal_in, Stages.{board_in, machine_in, asks_for_more}};
 
-use crate::asking::meant;
+use crate::asking::parse_line_unless_too_long;
 use crate::board::Board;
 use crate::questions::{Question, ReportForm, ask_machine};
 use crate::stage::{Stage, answer_handover, hand_over};
@@ -48,11 +48,11 @@ impl Session {
         ensures refused { IfErr result (λ f. f ≢ Memory → Refuses file.now (file_number f)) }
     {
         let board = Board::parse(alloc, file)?;
-        Ok(Session::over(alloc, board))
+        Ok(Session::from_board(alloc, board))
     }
 
     /// Creates a session in which firmware drives the board.
-    pub fn over(alloc: Global, board: Board) -> Session
+    pub fn from_board(alloc: Global, board: Board) -> Session
         ensures { result ≡ driven board }
     {
         Session {
@@ -62,7 +62,7 @@ impl Session {
     }
 
     /// Creates a session after the handover: the monitor has the board and its guests.
-    pub fn of(alloc: Global, monitor: Monitor) -> Session
+    pub fn from_monitor(alloc: Global, monitor: Monitor) -> Session
         ensures { result ≡ given monitor }
     {
         Session {
@@ -72,7 +72,7 @@ impl Session {
     }
 
     /// Returns whether firmware drives the board, before any handover to guests.
-    pub fn is_driven(&self) -> bool
+    pub fn is_before_handover(&self) -> bool
         ensures { result ≡ is_some (board_in self.now) }
     {
         matches!(self.stage, Stage::Driven(_))
@@ -111,7 +111,7 @@ impl Session {
         ensures kept { OnErr result (self.new ≡ self.old) }
         ensures refused { IfErr result (λ f. IfSome (board_in self.old) (λ b. IsRefusalOf b f)) }
     {
-        if !self.is_driven() {
+        if !self.is_before_handover() {
             return Ok(());
         }
         hand_over(alloc, &mut self.stage)
@@ -165,15 +165,15 @@ impl Session {
         match &mut self.stage {
             Stage::Given(monitor) => {
                 let refused = script::answer_line(monitor, line, long, text);
-                Ok(Answer::short(refused))
+                Ok(Answer::one_line_at_most(refused))
             }
             Stage::Driven(board) => {
-                let what = meant(line, long);
+                let what = parse_line_unless_too_long(line, long);
                 let apertures = board.apertures();
-                match what.request() {
+                match what.into_host_request() {
                     None => {
-                        let refused = board.answer(what, text);
-                        Ok(Answer::short(refused))
+                        let refused = board.execute_or_refusal_number(what, text);
+                        Ok(Answer::one_line_at_most(refused))
                     }
                     Some(request) => match request {
                         HostRequest::Report(report) => {
@@ -183,7 +183,7 @@ impl Session {
                             Ok(Answer::text(told.text))
                         }
                         HostRequest::Why(at) => {
-                            let told = board.why(self.alloc, ReportForm::Lines, at)?;
+                            let told = board.explain_access(self.alloc, ReportForm::Lines, at)?;
                             Ok(Answer::text(told))
                         }
                         HostRequest::Guests => answer_handover(self.alloc, &mut self.stage, text),

@@ -6,9 +6,9 @@ ghost use Rattle.lines.specs.Pieces.{with_more};
 ghost use Rattle.session.specs.{Boards.{IsHandedOverAs, IsRefusalOf}, Refusals.refusal_in, Stages.{session_now, board_in, IsAtLine, IsDriven}};
 
 use crate::board::Board;
-use crate::telling::handover_refusal;
+use crate::telling::handover_refusal_text;
 use accesses::Reply;
-use lines::{Answer, LineText, push_named};
+use lines::{Answer, LineText, push_reply_of_name};
 use monitor::{HandoverFault, Monitor, Refused};
 use std::alloc::{AllocError, Global};
 use std::mem;
@@ -77,11 +77,11 @@ pub(crate) fn answer_handover(
 {
     match hand_over(alloc, stage) {
         Ok(()) => {
-            push_named(text, b"host", Reply::Done);
-            Ok(Answer::short(None))
+            push_reply_of_name(text, b"host", Reply::Done);
+            Ok(Answer::one_line_at_most(None))
         }
         Err(fault) => {
-            let told = handover_refusal(alloc, &fault)?;
+            let told = handover_refusal_text(alloc, &fault)?;
             Ok(Answer {
                 more: Some(told),
                 refused: Some(fault.number()),

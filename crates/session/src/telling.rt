@@ -13,7 +13,7 @@ use report::ShownPath;
 use std::alloc::{AllocError, Global};
 
 /// Appends the line for a disabled region.
-fn push_closed(text: &mut String, closed: &LiveBar) -> Result<(), AllocError>
+fn push_disabled_region(text: &mut String, closed: &LiveBar) -> Result<(), AllocError>
     ensures { OnOk result (Adds text.old text.new (ended (closed_text closed.now))) }
 {
     let path = ShownPath(&closed.path);
@@ -23,20 +23,20 @@ fn push_closed(text: &mut String, closed: &LiveBar) -> Result<(), AllocError>
 
 /// Appends the line for the reason of the refusal. Fails if the reason is that memory was
 /// exhausted.
-fn push_cause(text: &mut String, fault: &HandoverFault) -> Result<(), AllocError>
+fn push_refusal_cause(text: &mut String, fault: &HandoverFault) -> Result<(), AllocError>
     ensures line { OnOk result (IfSome (handoff_fault fault.now) (λ told.
         Adds text.old text.new (ended (cause_text told)))) }
     ensures told { OnOk result (IsSome (handoff_fault fault.now)) }
 {
     match fault {
         HandoverFault::NotInOrder(problem) => push_problem(text, problem),
-        HandoverFault::Closed(closed) => push_closed(text, closed),
+        HandoverFault::Closed(closed) => push_disabled_region(text, closed),
         HandoverFault::Memory => Err(AllocError),
     }
 }
 
 /// Appends the line with the number and the message of the refusal.
-fn push_refusal(text: &mut String, fault: &HandoverFault) -> Result<(), AllocError>
+fn push_refusal_line(text: &mut String, fault: &HandoverFault) -> Result<(), AllocError>
     ensures { OnOk result (Adds text.old text.new
         (ended (refused_line (number_of fault.now) (words_of fault.now)))) }
 {
@@ -46,13 +46,16 @@ fn push_refusal(text: &mut String, fault: &HandoverFault) -> Result<(), AllocErr
 }
 
 /// Returns the report of a refused handover, unless memory is exhausted.
-pub(crate) fn handover_refusal(alloc: Global, fault: &HandoverFault) -> Result<String, AllocError>
+pub(crate) fn handover_refusal_text(
+    alloc: Global,
+    fault: &HandoverFault,
+) -> Result<String, AllocError>
     ensures text { IfOk result
         (λ t. string_bytes t ≡ handover_output (handoff_fault fault.now)) }
     ensures told { IfOk result (λ _. IsSome (handoff_fault fault.now)) }
 {
     let mut text = String::new(alloc);
-    push_cause(&mut text, fault)?;
-    push_refusal(&mut text, fault)?;
+    push_refusal_cause(&mut text, fault)?;
+    push_refusal_line(&mut text, fault)?;
     Ok(text)
 }

@@ -13,7 +13,7 @@ use Rattle.model_lines.{specs.Sessions.{SessionNow, driven, at_reset, session_fu
 use Rattle.lines.{specs.{declared.{requests.Report.Report, runs.RunFault.RunFault, watching.RunStats.RunStats}, Refusals.{refuses, none_seen, seen_along, IsWatched}, Runs.{Ends, ends, Runs}}, proofs.Parts.{same_end, same_error}}
 use Rattle.session.specs.{Files.Declares, Refusals.refusal_in, declared.questions.Question.{Question}}
 use Rattle.board_told.specs.{declared.fault.Fault.{Fault, TheVariants.{SetUp, Write, NotInOrder, NotReady, RefusedLine}}, Faults.of_run}
-use Rattle.simulation.{specs.{Faults.{IsOfFile, IsToldLast, OnFile}, Serving.{at_first, session_text, left_after, told, counted, report_fault, last_fault, HasEnded, IsSession, IsServed, Serves, IsOfAnswer, IsOfServing}}, proofs.Begun.runs_from}
+use Rattle.simulation.{specs.{Faults.{IsOfFile, IsToldLast, OnFile}, Serving.{at_first, session_text, left_after, told, counted, report_fault, fault_of_outcome, HasEnded, IsSession, IsServed, Serves, IsOfAnswer, IsOfServing}}, proofs.Begun.runs_from}
 use Rattle.lines.specs.declared.runs.RunFault.TheVariants as run
 use Rattle.bus_scan.specs.declared.fault.Fault.TheVariants as set_up
 
@@ -66,7 +66,7 @@ after_lines_told f l s known = ap₂ f l.apertures (l.left ∙ l.session.runs.ev
 
 pub is_served : (q : Option Question) (strict : Bool) (board : Text) (a : Apertures) (n : ℕ) (script unread old mid mid_flushed new flushed : Option Text) (y : SessionNow × RunStats)
     → IsLeft board (ends script unread old mid mid_flushed) a y → Appends mid new (told q a (session_functions y.0)) → n ≡ counted q a (session_functions y.0)
-    → (mid_flushed ≡ mid → flushed ≡ new) → IsServed q strict (last_fault q strict y.1.refused n) y.1 board (ends script unread old new flushed)
+    → (mid_flushed ≡ mid → flushed ≡ new) → IsServed q strict (fault_of_outcome q strict y.1.refused n) y.1 board (ends script unread old new flushed)
 is_served q strict board a n script unread old mid mid_flushed new flushed y l appended counts all =
     let o = l.session in
     record {
@@ -79,7 +79,7 @@ is_served q strict board a n script unread old mid mid_flushed new flushed y l a
         flushed = all o.runs.flushed;
         isolated = o.isolated;
       };
-      fault = λ s known. sym (ap₂ (λ (r : Bool) (m : ℕ). last_fault q strict r m) (l.refused s known)
+      fault = λ s known. sym (ap₂ (λ (r : Bool) (m : ℕ). fault_of_outcome q strict r m) (l.refused s known)
           (counts ∙ after_lines_told (λ b z. counted q b (session_functions z)) l s known));
       watched = l.seen;
     }
@@ -108,13 +108,13 @@ unanswered q strict seen board a _ script unread old mid mid_flushed new flushed
 reported : (r : Report) (strict : Bool) (f : Fault) → report_fault r strict ≡ Some f → IsToldLast f
 reported r strict f is = grind arith
 
-pub told_last : (q : Option Question) (strict refused : Bool) (n : ℕ) (f : Fault) → last_fault q strict refused n ≡ Some f → IsToldLast f
+pub told_last : (q : Option Question) (strict refused : Bool) (n : ℕ) (f : Fault) → fault_of_outcome q strict refused n ≡ Some f → IsToldLast f
 told_last q true true n f is = subst IsToldLast {x = RefusedLine} (let same : RefusedLine ≡ f = cc in same) tt
 told_last None strict refused n f is = grind arith
 told_last (Some q) strict refused n f is = grind (arith, reported)
 
-pub served_fault : (q : Option Question) (strict refused : Bool) (n : ℕ) (seen : RunStats) (board : Text) (at : Ends) (f : Fault) → last_fault q strict refused n ≡ Some f
-    → IsServed q strict (last_fault q strict refused n) seen board at → Serves {T = Unit {0}} q strict seen board at (Err f)
+pub served_fault : (q : Option Question) (strict refused : Bool) (n : ℕ) (seen : RunStats) (board : Text) (at : Ends) (f : Fault) → fault_of_outcome q strict refused n ≡ Some f
+    → IsServed q strict (fault_of_outcome q strict refused n) seen board at → Serves {T = Unit {0}} q strict seen board at (Err f)
 served_fault q strict refused n seen board at f is served = grind (arith, told_last)
 
 pub no_file : (P : ℕ → Type 0) (f : Fault) → IsToldLast f → OnFile P f × (IsOfFile f → ⊥)
@@ -126,7 +126,7 @@ no_file P _ last = absurd last
 of_report : (q : Question) (strict : Bool) (f : Fault) → report_fault q.report strict ≡ Some f → IsOfServing (Some q) strict f
 of_report q strict f is = grind arith
 
-pub of_serving : (q : Option Question) (strict refused : Bool) (n : ℕ) (f : Fault) → last_fault q strict refused n ≡ Some f → IsOfServing q strict f
+pub of_serving : (q : Option Question) (strict refused : Bool) (n : ℕ) (f : Fault) → fault_of_outcome q strict refused n ≡ Some f → IsOfServing q strict f
 of_serving q true true n f is = grind arith
 of_serving None strict refused n f is = grind arith
 of_serving (Some q) strict refused n f is = grind (arith, of_report)

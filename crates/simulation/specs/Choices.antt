@@ -1,6 +1,6 @@
 -- The effect of each of the program's commands.
 --     form_of json, question_of report json      the form of a report, and the question that asks for one in its form
---     layout_of plain, warned_of all      the layout of a check's messages, and the warnings that it gives
+--     layout_of plain, warning_level_of all      the layout of a check's messages, and the warnings that it gives
 --     Prints text at result, Lists form board at result, Checks board at result      a text was written
 --         whole and flushed, or a beginning of it where a write or flush failed: one that is given, the report of a
 --         board, or what a check says
@@ -47,8 +47,8 @@ question_of report json = record { report = report; form = form_of json }
 abbrev pub layout_of : Bool → MessageLayout
 layout_of plain = if plain then Plain else WithExcerpts
 
-abbrev pub warned_of : Bool → WarningLevel
-warned_of all = if all then of.All else of.Likely
+abbrev pub warning_level_of : Bool → WarningLevel
+warning_level_of all = if all then of.All else of.Likely
 
 abbrev pub Does : {T : Type 0} → Choice → RunStats → Text → Ends → Result T Fault → Type 0
 Does (Help text) seen board at r = Prints (string_bytes text) at r

@@ -9,7 +9,7 @@
 --     told q a fs, counted q a fs      the text that answers a question of some functions, by these apertures, where one is
 --         asked, and how many problems and readiness issues it counts
 --     report_fault r strict      the fault of a report that counts something
---     last_fault q strict refused n      the fault of who was told all, if there is one: by whether a line was refused, and
+--     fault_of_outcome q strict refused n      the fault of who was told all, if there is one: by whether a line was refused, and
 --         n problems and readiness issues
 --     IsTold q board at      all lines were read, and the texts were written and flushed
 --     IsToldInPart q board at      so was all of what the lines write, and a beginning of the text that a question asks for
@@ -74,11 +74,11 @@ abbrev pub fault_by : Option Question → Bool → ℕ → Option Fault
 fault_by None strict n = None
 fault_by (Some q) strict n = if nat_lt 0 n then report_fault q.report strict else None
 
-abbrev pub last_fault : Option Question → (strict refused : Bool) → ℕ → Option Fault
-last_fault q strict refused n = if strict && refused then Some RefusedLine else fault_by q strict n
+abbrev pub fault_of_outcome : Option Question → (strict refused : Bool) → ℕ → Option Fault
+fault_of_outcome q strict refused n = if strict && refused then Some RefusedLine else fault_by q strict n
 
 abbrev pub fault_after : Option Question → Bool → World → List Text → Option Fault
-fault_after q strict w ls = last_fault q strict (refuses session_protocol refusal_in (at_first w) ls)
+fault_after q strict w ls = fault_of_outcome q strict (refuses session_protocol refusal_in (at_first w) ls)
     (counted q w.apertures (session_functions (left_after w ls)))
 
 pub record IsTold (q : Option Question) (board : Text) (at : Ends) : Type 0 where

@@ -2,15 +2,15 @@
 ghost use Rattle.std.specs.Prelude.{◌≡◌, ◌≢◌, ◌+◌, ◌-◌, ◌^◌, ◌<◌, None, OnOk, IfErr, IsErrOf};
 ghost use Rattle.simulation.specs.{Faults.{write_faults, open_fault, IsOfList, IsRefusal}, Checking.{IsChecked, IsCheckedInPart}};
 
-use crate::choice::print;
+use crate::choice::print_and_flush;
 use board_fit::WarningLevel;
-use board_told::{Fault, check_text};
+use board_told::{Fault, check_board_file};
 use diagnostics::MessageLayout;
 use session::OpenFault;
 use std::alloc::Global;
 use streams::Writer;
 
-/// Writes the text of [`check_text`] about a board file, and flushes once.
+/// Writes the text of [`check_board_file`] about a board file, and flushes once.
 ///
 /// Returns the same result as `list`, except for faults in writing the report.
 pub fn check<W: Writer>(
@@ -42,8 +42,8 @@ pub fn check<W: Writer>(
     // A write fault is returned exactly if the writer failed during the call.
     ensures failures { W.failures writer.new ≡ W.failures writer.old + write_faults result }
 {
-    let checked = check_text(alloc, layout, warned, name, board)?;
-    print(checked.text.as_str(), writer)?;
+    let checked = check_board_file(alloc, layout, warned, name, board)?;
+    print_and_flush(checked.text.as_str(), writer)?;
     match checked.fault {
         None => Ok(()),
         Some(OpenFault::File(fault)) => Err(Fault::File(fault)),

@@ -2,13 +2,13 @@
 ghost use Rattle.std.specs.{Prelude.{◌≡◌, ◌≢◌, ◌+◌, ◌-◌, ◌^◌, ◌<◌, ◌⊎◌, OnOk, OnErr, IfErr}, Io.KnownBytes.Appends};
 ghost use Rattle.streams.specs.Ends.{AppendsPart};
 ghost use Rattle.lines.specs.Runs.{ends};
-ghost use Rattle.simulation.specs.{Choices.{form_of, layout_of, warned_of, Does, IsUntold, IsTelling, IsLacking, IsOfChoice}, Faults.{read_faults, write_faults, IsToldLast}};
+ghost use Rattle.simulation.specs.{Choices.{form_of, layout_of, warning_level_of, Does, IsUntold, IsTelling, IsLacking, IsOfChoice}, Faults.{read_faults, write_faults, IsToldLast}};
 
 use crate::checking::check;
 use crate::demonstration::demo;
 use crate::listing::list;
-use crate::running::run_as;
-use crate::serving::serve;
+use crate::running::run_script_with_stats;
+use crate::serving::run_firmware_session;
 use board_fit::WarningLevel;
 use board_told::Fault;
 use command_line::Choice;
@@ -42,8 +42,8 @@ fn layout_of(plain: bool) -> MessageLayout
 }
 
 /// Returns which warnings a check reports: all of them if `all`, otherwise only the likely ones.
-fn warned_of(all: bool) -> WarningLevel
-    ensures { result ≡ warned_of all }
+fn warning_level_of(all: bool) -> WarningLevel
+    ensures { result ≡ warning_level_of all }
 {
     if all {
         WarningLevel::All
@@ -53,7 +53,7 @@ fn warned_of(all: bool) -> WarningLevel
 }
 
 /// Writes a text and flushes once.
-pub(crate) fn print<W: Writer>(text: &str, writer: &mut W) -> Result<(), Fault>
+pub(crate) fn print_and_flush<W: Writer>(text: &str, writer: &mut W) -> Result<(), Fault>
     requires { W.failures writer.old < 2 ^ 64 - 1 }
     ensures ok { OnOk result (Appends (W.written writer.old) (W.written writer.new) text.now) }
     ensures flushed { OnOk result (W.flushed writer.new ≡ W.written writer.new) }
@@ -114,19 +114,23 @@ pub fn perform<R: Reader, W: Writer>(
     ensures writes { W.failures writer.new ≡ W.failures writer.old + write_faults result }
 {
     match choice {
-        Choice::Help(text) => print(text.as_str(), writer),
+        Choice::Help(text) => print_and_flush(text.as_str(), writer),
         Choice::Demo => demo(alloc, reader, writer),
         Choice::List { json, .. } => list(alloc, board, form_of(*json), writer),
         Choice::Check { path, all, plain } => check(
             alloc,
             layout_of(*plain),
-            warned_of(*all),
+            warning_level_of(*all),
             path,
             board,
             writer,
         ),
-        Choice::Run { strict, .. } => run_as(alloc, board, *strict, seen, reader, writer),
-        Choice::Firmware { strict, .. } => serve(alloc, board, None, *strict, seen, reader, writer),
+        Choice::Run { strict, .. } => run_script_with_stats(
+            alloc, board, *strict, seen, reader, writer,
+        ),
+        Choice::Firmware { strict, .. } => run_firmware_session(
+            alloc, board, None, *strict, seen, reader, writer,
+        ),
         Choice::Report {
             report,
             json,
@@ -135,7 +139,7 @@ pub fn perform<R: Reader, W: Writer>(
         } => {
             let (report, form) = (*report, form_of(*json));
             let question = Question { report, form };
-            serve(alloc, board, Some(question), *strict, seen, reader, writer)
+            run_firmware_session(alloc, board, Some(question), *strict, seen, reader, writer)
         }
     }
 }

@@ -6,7 +6,7 @@ use arrayvec::ArrayString;
 use board_told::Fault;
 
 /// Returns the last decimal digit of a number as a character.
-fn digit(n: u16) -> char
+fn last_decimal_digit(n: u16) -> char
     ensures { result ≡ 48 + n % 10 }
 {
     char::from(b'0' + (n % 10) as u8)
@@ -20,9 +20,9 @@ pub fn fault_line(fault: Fault) -> ArrayString<48>
     let number = fault.number();
     let mut line = ArrayString::new();
     line.push_str("pciguest: fault ");
-    line.push(digit(number / 100));
-    line.push(digit(number / 10));
-    line.push(digit(number));
+    line.push(last_decimal_digit(number / 100));
+    line.push(last_decimal_digit(number / 10));
+    line.push(last_decimal_digit(number));
     line.push(' ');
     line.push_str(fault.words());
     line.push('\n');

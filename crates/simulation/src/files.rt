@@ -1,7 +1,7 @@
 //! Reading of board files.
 ghost use Rattle.std.specs.Prelude.{◌≡◌, IfErr};
 
-use crate::hints::file_hint;
+use crate::hints::unreadable_file_hint;
 use board_told::Fault;
 use std::alloc::Global;
 use std::fs;
@@ -10,7 +10,7 @@ use std::rt::Files;
 
 /// Returns the content of the file at `path`, or the system's error. Exhausted memory is one of
 /// these errors.
-fn file_bytes(rt: &impl Files, alloc: Global, path: &str) -> Result<Vec<u8>, ErrorKind> {
+fn read_file(rt: &impl Files, alloc: Global, path: &str) -> Result<Vec<u8>, ErrorKind> {
     let mut file = match fs::open(rt, path) {
         Ok(file) => file,
         Err(error) => return Err(error.kind()),
@@ -27,7 +27,7 @@ fn file_bytes(rt: &impl Files, alloc: Global, path: &str) -> Result<Vec<u8>, Err
 pub fn board_bytes(rt: &impl Files, alloc: Global, path: &str) -> Result<Vec<u8>, Fault>
     ensures { IfErr result (λ f. f ≡ Fault.BoardFile) }
 {
-    match file_bytes(rt, alloc, path) {
+    match read_file(rt, alloc, path) {
         Ok(bytes) => Ok(bytes),
         Err(_) => Err(Fault::BoardFile),
     }
@@ -35,13 +35,13 @@ pub fn board_bytes(rt: &impl Files, alloc: Global, path: &str) -> Result<Vec<u8>
 
 /// Returns the content of the board file at `path`. On failure, returns a line that explains the
 /// reason, if there is memory for it.
-pub fn board_or_hint(
+pub fn read_board_or_hint(
     rt: &impl Files,
     alloc: Global,
     path: &str,
 ) -> Result<Vec<u8>, Option<String>> {
-    match file_bytes(rt, alloc, path) {
+    match read_file(rt, alloc, path) {
         Ok(bytes) => Ok(bytes),
-        Err(why) => Err(file_hint(alloc, path, why).ok()),
+        Err(why) => Err(unreadable_file_hint(alloc, path, why).ok()),
     }
 }

@@ -16,7 +16,11 @@ pub fn usage_hint(alloc: Global, why: &str) -> Result<String, AllocError> {
 }
 
 /// Returns the hint about a board file that can't be read: its path, and the system's error.
-pub(crate) fn file_hint(alloc: Global, path: &str, why: ErrorKind) -> Result<String, AllocError> {
+pub(crate) fn unreadable_file_hint(
+    alloc: Global,
+    path: &str,
+    why: ErrorKind,
+) -> Result<String, AllocError> {
     let why = match why {
         ErrorKind::NotFound => "no such file",
         ErrorKind::PermissionDenied => "permission denied",
@@ -33,7 +37,7 @@ pub(crate) fn file_hint(alloc: Global, path: &str, why: ErrorKind) -> Result<Str
 
 /// Returns the hint about a refused file or board: the `check` command that lists all problems.
 /// Returns `None` if the command is `check` itself.
-pub fn check_hint(
+pub fn suggest_check_if_refused(
     alloc: Global,
     choice: &Choice<'_>,
     fault: Fault,

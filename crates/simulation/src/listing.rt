@@ -3,8 +3,8 @@ ghost use Rattle.std.specs.Prelude.{◌≡◌, ◌≢◌, ◌+◌, ◌-◌, ◌^
 ghost use Rattle.session.specs.Files.{Refuses, Breaks};
 ghost use Rattle.simulation.specs.{Faults.{write_faults, OnFile, OnSetUp, IsOfList}, Listing.{IsListed, IsListedInPart}};
 
-use crate::choice::print;
-use board_told::{Fault, list_in};
+use crate::choice::print_and_flush;
+use board_told::{Fault, list_board_file};
 use session::ReportForm;
 use std::alloc::Global;
 use streams::Writer;
@@ -38,7 +38,7 @@ pub fn list<W: Writer>(
     // A write fault is returned exactly if the writer failed during the call.
     ensures failures { W.failures writer.new ≡ W.failures writer.old + write_faults result }
 {
-    let text = list_in(alloc, board, form)?;
-    print(text.as_str(), writer)?;
+    let text = list_board_file(alloc, board, form)?;
+    print_and_flush(text.as_str(), writer)?;
     Ok(())
 }

@@ -13,7 +13,7 @@ use std::alloc::Global;
 use streams::{Reader, Writer};
 
 /// Returns whether a run ends with a fault because a line was refused.
-fn is_fault(strict: bool, seen: &RunStats) -> bool
+fn is_refusal_a_fault(strict: bool, seen: &RunStats) -> bool
     ensures { result ≡ (strict && seen.now.refused) }
 {
     strict && seen.refused
@@ -22,7 +22,7 @@ fn is_fault(strict: bool, seen: &RunStats) -> bool
 /// Runs a script on the board of a board file, as [`whole`] does. If `strict`, a refused line is a
 /// fault (209), which is returned once all lines have run and all output was written and flushed.
 /// Then `seen` also receives the statistics about the lines.
-pub(crate) fn run_as<R: Reader, W: Writer>(
+pub(crate) fn run_script_with_stats<R: Reader, W: Writer>(
     alloc: Global,
     board: &[u8],
     strict: bool,
@@ -52,7 +52,7 @@ pub(crate) fn run_as<R: Reader, W: Writer>(
 {
     let monitor = open_and_set_up(alloc, board)?;
     let (_, lines_seen) = run_watched::<Script, Monitor, R, W>(monitor, reader, writer)?;
-    let refused = is_fault(strict, &lines_seen);
+    let refused = is_refusal_a_fault(strict, &lines_seen);
     *seen = lines_seen;
     if refused {
         return Err(Fault::RefusedLine);
@@ -92,6 +92,6 @@ pub fn whole<R: Reader, W: Writer>(
     ensures reads { R.failures reader.new ≡ R.failures reader.old + read_faults result }
     ensures writes { W.failures writer.new ≡ W.failures writer.old + write_faults result }
 {
-    let mut seen = RunStats::none();
-    run_as(alloc, board, false, &mut seen, reader, writer)
+    let mut seen = RunStats::new();
+    run_script_with_stats(alloc, board, false, &mut seen, reader, writer)
 }

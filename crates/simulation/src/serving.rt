@@ -6,9 +6,9 @@ ghost use Rattle.streams.specs.Ends.{AppendsPart};
 ghost use Rattle.lines.specs.Runs.{ends};
 ghost use Rattle.bus_scan.specs.declared.fault.Fault.TheVariants.{Memory};
 ghost use Rattle.session.specs.Files.{Refuses};
-ghost use Rattle.simulation.specs.{Faults.{read_faults, write_faults, OnFile, IsToldLast, IsOfFile}, Serving.{told, counted, last_fault, IsOfAnswer, IsOfServing, Serves}};
+ghost use Rattle.simulation.specs.{Faults.{read_faults, write_faults, OnFile, IsToldLast, IsOfFile}, Serving.{told, counted, fault_of_outcome, IsOfAnswer, IsOfServing, Serves}};
 
-use crate::choice::print;
+use crate::choice::print_and_flush;
 use board_told::Fault;
 use lines::{RunStats, run_watched};
 use session::{Apertures, Board, Question, Report, Session, SessionLines};
@@ -18,7 +18,7 @@ use streams::{Reader, Writer};
 /// Writes the answer to a question about the board of a session, given the host's apertures, and
 /// flushes once. Writes nothing if there is no question. Returns the number of reported problems
 /// and readiness issues.
-fn answer<W: Writer>(
+fn print_and_count_findings<W: Writer>(
     alloc: Global,
     question: Option<Question>,
     session: &mut Session,
@@ -46,19 +46,19 @@ fn answer<W: Writer>(
     let Ok(answer) = session.ask(alloc, question, apertures) else {
         return Err(Fault::SetUp(bus_scan::Fault::Memory));
     };
-    print(answer.text.as_str(), writer)?;
+    print_and_flush(answer.text.as_str(), writer)?;
     Ok(answer.count)
 }
 
 /// Returns the fault to report once all output was written, if there is one. It depends on whether
 /// a line was refused, and on how many problems and readiness issues were reported.
-fn last_fault(
+fn fault_of_outcome(
     question: Option<Question>,
     strict: bool,
     refused: bool,
     count: usize,
 ) -> Option<Fault>
-    ensures { result ≡ last_fault question strict refused count }
+    ensures { result ≡ fault_of_outcome question strict refused count }
 {
     if strict && refused {
         return Some(Fault::RefusedLine);
@@ -91,7 +91,7 @@ fn last_fault(
 /// that isn't ready is always a fault (208). These faults are returned once all output was written
 /// and flushed. `seen` receives the statistics about the lines as soon as that is done, with or
 /// without a fault.
-pub fn serve<R: Reader, W: Writer>(
+pub fn run_firmware_session<R: Reader, W: Writer>(
     alloc: Global,
     board: &[u8],
     question: Option<Question>,
@@ -129,14 +129,14 @@ pub fn serve<R: Reader, W: Writer>(
 {
     let driven = Board::parse(alloc, board)?;
     let apertures = driven.apertures();
-    let session = Session::over(alloc, driven);
+    let session = Session::from_board(alloc, driven);
     let (mut session, lines_seen) = run_watched::<SessionLines, Session, R, W>(
         session, reader, writer,
     )?;
-    let count = answer(alloc, question, &mut session, &apertures, writer)?;
+    let count = print_and_count_findings(alloc, question, &mut session, &apertures, writer)?;
     let refused = lines_seen.refused;
     *seen = lines_seen;
-    match last_fault(question, strict, refused, count) {
+    match fault_of_outcome(question, strict, refused, count) {
         Some(fault) => Err(fault),
         None => Ok(()),
     }

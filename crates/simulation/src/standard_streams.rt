@@ -32,7 +32,7 @@ impl<R: Read> InputStream<R> {
     }
 
     /// Counts a read, or fails if there are none left.
-    fn count_read(&mut self) -> Result<(), Failed>
+    fn count_read_or_fail(&mut self) -> Result<(), Failed>
         ensures ok { IsOk result ↔ (0 < self.old.reads_left) }
         ensures left { self.new ≡ record self.old { reads_left = self.old.reads_left - 1 } }
     {
@@ -52,7 +52,7 @@ impl<R: Read> Reader for InputStream<R> {
     ghost reads_left = { λ s. s.reads_left };
 
     fn read(&mut self, buf: &mut [u8]) -> Result<usize, Failed> {
-        if self.count_read().is_err() {
+        if self.count_read_or_fail().is_err() {
             self.failures += 1;
             return Err(Failed);
         }

@@ -46,7 +46,7 @@ impl<W: Writer + Drop> BufferedWriter<W> {
     }
 
     /// Fails without calling the inner writer, and counts the failure.
-    fn refuse(&mut self) -> Failed
+    fn fail_and_count(&mut self) -> Failed
         requires { self.old.refusals < 2 ^ 64 - 1 }
         ensures { self.new
             ≡ record self.old { stopped = true; refusals = self.old.refusals + 1 } }
@@ -57,7 +57,7 @@ impl<W: Writer + Drop> BufferedWriter<W> {
     }
 
     /// Writes some of the buffered bytes to the inner writer.
-    fn hand_on_some(&mut self) -> Result<(), Failed>
+    fn flush_part_of_buf(&mut self) -> Result<(), Failed>
         requires room { W.failures self.old.inner < 2 ^ 64 - 1 }
         ensures bytes { Keeps (append_known (W.written self.old.inner) self.old.kept.bytes)
             (append_known (W.written self.new.inner) self.new.kept.bytes) }
@@ -71,12 +71,12 @@ impl<W: Writer + Drop> BufferedWriter<W> {
         if n == 0 {
             return Err(Failed);
         }
-        self.kept.let_go(n);
+        self.kept.consume(n);
         Ok(())
     }
 
     /// Writes all buffered bytes to the inner writer. On failure, the writer stays stopped.
-    fn hand_on(&mut self) -> Result<(), Failed>
+    fn flush_buf(&mut self) -> Result<(), Failed>
         requires room { W.failures self.old.inner < 2 ^ 64 - 1 }
         ensures bytes { Keeps (append_known (W.written self.old.inner) self.old.kept.bytes)
             (append_known (W.written self.new.inner) self.new.kept.bytes) }
@@ -90,7 +90,7 @@ impl<W: Writer + Drop> BufferedWriter<W> {
     {
         self.stopped = true;
         while !self.kept.bytes().is_empty() {
-            self.hand_on_some()?;
+            self.flush_part_of_buf()?;
         }
         self.kept.clear();
         self.stopped = false;
@@ -101,7 +101,7 @@ impl<W: Writer + Drop> BufferedWriter<W> {
     /// Otherwise empties the buffer into the inner writer, and buffers as many of `bytes` as fit.
     #[cold]
     #[inline(never)]
-    fn make_room_and_keep(&mut self, bytes: &[u8]) -> Result<usize, Failed>
+    fn flush_buf_and_buffer(&mut self, bytes: &[u8]) -> Result<usize, Failed>
         requires { W.failures self.old.inner + self.old.refusals < 2 ^ 64 - 1 }
         ensures bound { WritesAtMost result bytes.now }
         ensures bytes { WriteAppends (append_known (W.written self.old.inner) (kept_back self.old))
@@ -115,14 +115,14 @@ impl<W: Writer + Drop> BufferedWriter<W> {
             ≡ W.failures self.old.inner + self.old.refusals + failures_of result }
     {
         if self.stopped || bytes.is_empty() {
-            return Err(self.refuse());
+            return Err(self.fail_and_count());
         }
-        self.hand_on()?;
+        self.flush_buf()?;
         let n = bytes.len().min(self.kept.capacity());
         if n == 0 {
-            return Err(self.refuse());
+            return Err(self.fail_and_count());
         }
-        self.kept.keep(&bytes[..n]);
+        self.kept.append(&bytes[..n]);
         Ok(n)
     }
 }
@@ -150,11 +150,11 @@ impl<W: Writer + Drop> Writer for BufferedWriter<W> {
         ensures stopped { IsTrue (is_stopped self.old) →
             IsErr result × (writer_behind self.new ≡ writer_behind self.old) }
     {
-        let room = self.kept.room();
+        let room = self.kept.spare_capacity();
         if self.stopped || bytes.is_empty() || bytes.len() > room {
-            return self.make_room_and_keep(bytes);
+            return self.flush_buf_and_buffer(bytes);
         }
-        self.kept.keep(bytes);
+        self.kept.append(bytes);
         Ok(bytes.len())
     }
 
@@ -173,9 +173,9 @@ impl<W: Writer + Drop> Writer for BufferedWriter<W> {
             IsErr result × (writer_behind self.new ≡ writer_behind self.old) }
     {
         if self.stopped {
-            return Err(self.refuse());
+            return Err(self.fail_and_count());
         }
-        self.hand_on()?;
+        self.flush_buf()?;
         self.stopped = true;
         self.inner.flush()?;
         self.stopped = false;

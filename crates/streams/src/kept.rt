@@ -48,7 +48,7 @@ impl Kept {
 
     /// Returns how many more bytes fit before the buffer must be cleared.
     #[inline(always)]
-    pub(crate) fn room(&self) -> usize
+    pub(crate) fn spare_capacity(&self) -> usize
         ensures { result ≡ self.now.room }
     {
         self.place.capacity() - self.place.len()
@@ -63,7 +63,7 @@ impl Kept {
 
     /// Appends bytes, which must fit.
     #[inline(always)]
-    pub(crate) fn keep(&mut self, bytes: &[u8])
+    pub(crate) fn append(&mut self, bytes: &[u8])
         requires { length bytes.now ≤ self.old.room }
         ensures bytes { self.new.bytes ≡ self.old.bytes ++ bytes.now }
     {
@@ -74,7 +74,7 @@ impl Kept {
 
     /// Removes the first `count` bytes, which were passed on. Their room is free again only after
     /// `clear`.
-    pub(crate) fn let_go(&mut self, count: usize)
+    pub(crate) fn consume(&mut self, count: usize)
         requires { count ≤ length self.old.bytes }
         ensures { self.new ≡ record self.old { bytes = drop count self.old.bytes } }
     {

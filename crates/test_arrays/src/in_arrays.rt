@@ -7,7 +7,7 @@ use test_fakes::{FakeReader, FakeWriter};
 
 /// Reads a file into an array, and returns the number of bytes read. Bytes that don't fit are left
 /// out.
-fn read_into(rt: &impl Files, path: &str, bytes: &mut [u8]) -> Option<usize> {
+fn read_file_prefix(rt: &impl Files, path: &str, bytes: &mut [u8]) -> Option<usize> {
     let mut file = fs::open(rt, path).ok()?;
     file.read(bytes).ok()
 }
@@ -15,13 +15,13 @@ fn read_into(rt: &impl Files, path: &str, bytes: &mut [u8]) -> Option<usize> {
 /// Runs a script file of at most 4096 bytes on the board of a board file, and prints its output.
 pub(crate) fn run_in_arrays(
     rt: &(impl AllocGlobal + Files + Print),
-    board: &str,
-    script: &str,
+    board_path: &str,
+    script_path: &str,
 ) -> Result<(), Fault> {
     let alloc = rt.alloc();
-    let board = board_bytes(rt, alloc, board)?;
+    let board = board_bytes(rt, alloc, board_path)?;
     let mut bytes = [0; 4096];
-    let Some(length) = read_into(rt, script, &mut bytes) else {
+    let Some(length) = read_file_prefix(rt, script_path, &mut bytes) else {
         return Err(Fault::Read);
     };
     let Some(script) = bytes.get(..length) else {

@@ -16,7 +16,7 @@ struct Faults {
 
 impl Faults {
     /// Counts a call. Returns `Err` for the call that is to fail; later calls succeed again.
-    fn call(&mut self) -> Result<(), Failed>
+    fn count_call_or_fail(&mut self) -> Result<(), Failed>
         requires { self.old.failures < 2 ^ 64 - 1 }
         ensures { self.new.failures ≡ self.old.failures + failures_of result }
     {
@@ -39,26 +39,26 @@ impl Faults {
 #[derive(Drop)]
 pub struct FakeReader<'a> {
     script: &'a [u8],
-    step: usize,
+    per_call: usize,
     faults: Faults,
-    ghost has_step: { 0 < step },
+    ghost has_step: { 0 < per_call },
 }
 
 impl<'a> FakeReader<'a> {
-    /// Returns a reader that gives at most `step` bytes a call. The call `failing`, counted from 0,
-    /// fails.
-    pub fn new(script: &'a [u8], step: usize, failing: Option<u32>) -> Self
-        requires { 0 < step }
+    /// Returns a reader that gives at most `per_call` bytes a call. The call `failing_call`, counted
+    /// from 0, fails.
+    pub fn new(script: &'a [u8], per_call: usize, failing_call: Option<u32>) -> Self
+        requires { 0 < per_call }
         ensures script { ⟦<FakeReader<'a> as Reader>⟧.rest result ≡ Some script.now }
         ensures failures { ⟦<FakeReader<'a> as Reader>⟧.failures result ≡ 0 }
     {
         let faults = Faults {
-            calls_left: failing,
+            calls_left: failing_call,
             failures: 0,
         };
         FakeReader {
             script,
-            step,
+            per_call,
             faults,
         }
     }
@@ -72,8 +72,8 @@ impl Reader for FakeReader<'_> {
     ghost reads_left = { λ r. length r.script.now };
 
     fn read(&mut self, buf: &mut [u8]) -> Result<usize, Failed> {
-        self.faults.call()?;
-        let n = self.step.min(buf.len()).min(self.script.len());
+        self.faults.count_call_or_fail()?;
+        let n = self.per_call.min(buf.len()).min(self.script.len());
         let (front, rest) = self.script.split_at(n);
         buf[..n].copy_from_slice(front);
         self.script = rest;
@@ -88,27 +88,27 @@ pub struct FakeWriter<const N: usize> {
     bytes: ArrayVec<u8, N>,
     /// The number of bytes that were flushed.
     flushed: usize,
-    step: usize,
+    per_call: usize,
     faults: Faults,
     ghost has_flushed: { flushed ≤ length bytes.items },
 }
 
 impl<const N: usize> FakeWriter<N> {
-    /// Returns a writer that accepts at most `step` bytes a call. The write or flush `failing`,
-    /// counted from 0, fails.
-    pub fn new(step: usize, failing: Option<u32>) -> Self
+    /// Returns a writer that accepts at most `per_call` bytes a call. The write or flush
+    /// `failing_call`, counted from 0, fails.
+    pub fn new(per_call: usize, failing_call: Option<u32>) -> Self
         ensures written { ⟦<FakeWriter<N> as Writer>⟧.written result ≡ Some [] }
         ensures flushed { ⟦<FakeWriter<N> as Writer>⟧.flushed result ≡ Some [] }
         ensures failures { ⟦<FakeWriter<N> as Writer>⟧.failures result ≡ 0 }
     {
         let faults = Faults {
-            calls_left: failing,
+            calls_left: failing_call,
             failures: 0,
         };
         FakeWriter {
             bytes: ArrayVec::new(),
             flushed: 0,
-            step,
+            per_call,
             faults,
         }
     }
@@ -136,9 +136,9 @@ impl<const N: usize> Writer for FakeWriter<N> {
     ghost failures = { λ w. w.faults.failures };
 
     fn write(&mut self, bytes: &[u8]) -> Result<usize, Failed> {
-        self.faults.call()?;
+        self.faults.count_call_or_fail()?;
         let room = self.bytes.remaining_capacity();
-        let n = self.step.min(bytes.len()).min(room);
+        let n = self.per_call.min(bytes.len()).min(room);
         if n == 0 {
             self.faults.failures += 1;
         }
@@ -147,7 +147,7 @@ impl<const N: usize> Writer for FakeWriter<N> {
     }
 
     fn flush(&mut self) -> Result<(), Failed> {
-        self.faults.call()?;
+        self.faults.count_call_or_fail()?;
         self.flushed = self.bytes.len();
         Ok(())
     }

@@ -23,7 +23,7 @@ pub(crate) struct Declared {
 }
 
 /// Returns the kind of a region from its number.
-fn kind_of(number: u64) -> Kind {
+fn kind_from_number(number: u64) -> Kind {
     match number {
         0 => Kind::Io,
         1 | 2 => Kind::Mem32 { pref: number == 2 },
@@ -35,21 +35,21 @@ fn byte(number: u64) -> u8 {
     u8::try_from(number).unwrap_or(0)
 }
 
-fn number(text: &str) -> u64 {
+fn parse_number(text: &str) -> u64 {
     text.parse::<u64>().unwrap_or(0)
 }
 
 /// Parses the operands of a line. Missing ones are 0.
-fn numbers_of(words: &[&str]) -> [u64; 4] {
+fn parse_operands(words: &[&str]) -> [u64; 4] {
     let mut numbers = [0u64; 4];
     for (slot, text) in numbers.iter_mut().zip(words.iter()) {
-        *slot = number(text);
+        *slot = parse_number(text);
     }
     numbers
 }
 
 impl Declared {
-    fn add_guest(&mut self, alloc: Global, name: &str) -> Option<()> {
+    fn add_guest_if_room(&mut self, alloc: Global, name: &str) -> Option<()> {
         let mut text = ArrayString::new();
         text.try_push_str(name).ok()?;
         self.names.try_push(text).ok()?;
@@ -57,14 +57,14 @@ impl Declared {
     }
 
     /// Adds the region, the register or the registers in a line to the last endpoint.
-    fn add_part(&mut self, alloc: Global, kind: &str, numbers: [u64; 4]) -> Option<()> {
+    fn add_to_last_endpoint(&mut self, alloc: Global, kind: &str, numbers: [u64; 4]) -> Option<()> {
         let [first, second, third, fourth] = numbers;
         let last = self.guests.last_mut()?.last_mut()?;
         match kind {
             "register" => last.header.push(numbers).ok(),
             "bar" => {
                 let block = Vec::new(alloc);
-                let (index, kind, size) = (byte(first), kind_of(second), third);
+                let (index, kind, size) = (byte(first), kind_from_number(second), third);
                 last.bar
                     .push(LoneRegion {
                         index,
@@ -97,10 +97,10 @@ impl Declared {
     }
 
     /// Adds the declaration in a line.
-    fn add(&mut self, alloc: Global, words: &[&str]) -> Option<()> {
+    fn add_line(&mut self, alloc: Global, words: &[&str]) -> Option<()> {
         match words {
             [] => Some(()),
-            ["guest", name] => self.add_guest(alloc, name),
+            ["guest", name] => self.add_guest_if_room(alloc, name),
             ["endpoint"] => {
                 let added = LoneEndpoint {
                     header: Vec::new(alloc),
@@ -109,20 +109,20 @@ impl Declared {
                 };
                 self.guests.last_mut()?.push(added).ok()
             }
-            [kind, rest @ ..] => self.add_part(alloc, kind, numbers_of(rest)),
+            [kind, rest @ ..] => self.add_to_last_endpoint(alloc, kind, parse_operands(rest)),
         }
     }
 }
 
 /// Parses a file of guests. Returns None if it has another form or memory is exhausted.
-pub(crate) fn read_guests(alloc: Global, text: &str) -> Option<Declared> {
+pub(crate) fn parse_guests(alloc: Global, text: &str) -> Option<Declared> {
     let mut declared = Declared {
         names: Names::new(),
         guests: Vec::new(alloc),
     };
     for line in text.lines() {
         let words: Vec<&str> = line.split_whitespace().collect(alloc).ok()?;
-        declared.add(alloc, words.as_slice())?;
+        declared.add_line(alloc, words.as_slice())?;
     }
     Some(declared)
 }

@@ -2,20 +2,20 @@
 use crate::register::Register;
 
 /// Declares a little-endian register of `width` bytes at an offset.
-pub(crate) fn declare(
+pub(crate) fn declare_register(
     file: &mut [Register],
     off: usize,
     width: usize,
     value: u64,
     writable: u64,
-    clearable: u64,
+    w1c: u64,
 ) {
     let values = value.to_le_bytes();
     let writable = writable.to_le_bytes();
-    let clearable = clearable.to_le_bytes();
+    let w1c = w1c.to_le_bytes();
     for (i, register) in file.iter_mut().skip(off).take(width).enumerate() {
         let byte = |bytes: &[u8]| bytes.get(i).copied().unwrap_or(0);
-        *register = Register::new(byte(&values), byte(&writable), byte(&clearable));
+        *register = Register::new(byte(&values), byte(&writable), byte(&w1c));
     }
 }
 

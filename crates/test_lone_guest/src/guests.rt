@@ -6,7 +6,7 @@ use crate::declared::LoneEndpoint;
 use crate::function::Function;
 use accesses::{Access, At, Names, Op, Place, Refusal, Reply};
 use bars::Space;
-use lines::{LineText, What, Who, line_text, parse_line};
+use lines::{LineText, What, Who, parse_line, reply_line_text};
 use std::alloc::{AllocError, Global};
 
 /// The target of an access: a function, by its index in the list of all functions, with a place and
@@ -21,7 +21,7 @@ pub struct LoneGuests {
 }
 
 /// Returns the first check that an access fails.
-fn refusal(at: At, width: u64) -> Option<Refusal>
+fn first_refusal(at: At, width: u64) -> Option<Refusal>
     ensures { result ≡ None → width ≤ 4 }
 {
     let (number, out_of_range) = match at {
@@ -55,7 +55,7 @@ impl LoneGuests {
         Ok(LoneGuests { functions, latches })
     }
 
-    fn function_in(&self, guest: usize, slot: u64) -> Option<usize> {
+    fn function_index(&self, guest: usize, slot: u64) -> Option<usize> {
         self.functions.iter().position(|function| function.guest == guest && function.slot == slot)
     }
 
@@ -67,7 +67,7 @@ impl LoneGuests {
     /// address register.
     fn claimant(&self, guest: usize, space: Space, addr: u64) -> Landing {
         for slot in 0..32 {
-            if let Some(index) = self.function_in(guest, slot) {
+            if let Some(index) = self.function_index(guest, slot) {
                 let function = self.functions.get(index)?;
                 if let Some((place, off)) = function.decode(space, addr) {
                     return Some((index, place, off));
@@ -79,7 +79,7 @@ impl LoneGuests {
 
     /// Returns the target of an access to a port. CFCh to CFFh are CONFIG_DATA while CONFIG_ADDRESS
     /// is enabled. The guest's slots are the devices of bus 0, each with only function 0.
-    fn port(&self, guest: usize, port: u64) -> Landing {
+    fn landing_of_port(&self, guest: usize, port: u64) -> Landing {
         let latch = self.latch(guest);
         let is_enabled = latch & 0x8000_0000 != 0;
         if !is_enabled || port < 0xcfc || port > 0xcff {
@@ -88,19 +88,19 @@ impl LoneGuests {
         if latch & 0x00ff_0700 != 0 {
             return None;
         }
-        let index = self.function_in(guest, u64::from(latch >> 11 & 31))?;
+        let index = self.function_index(guest, u64::from(latch >> 11 & 31))?;
         Some((index, Place::Cfg, u64::from(latch & 0xfc) + (port - 0xcfc)))
     }
 
     fn landing(&self, guest: usize, at: At) -> Landing {
         match at {
-            At::Config { slot, off } => Some((self.function_in(guest, slot)?, Place::Cfg, off)),
-            At::Io { port } => self.port(guest, port),
+            At::Config { slot, off } => Some((self.function_index(guest, slot)?, Place::Cfg, off)),
+            At::Io { port } => self.landing_of_port(guest, port),
             At::Mem { addr } => self.claimant(guest, Space::Mem, addr),
         }
     }
 
-    fn read(&mut self, landing: Landing, width: u64) -> u32 {
+    fn read_or_all_ones(&mut self, landing: Landing, width: u64) -> u32 {
         if let Some((index, place, off)) = landing {
             if let Some(function) = self.functions.get_mut(index) {
                 return function.read(place, off, width);
@@ -140,7 +140,7 @@ impl LoneGuests {
         ensures { IsShown result }
     {
         let Access { at, width, op } = access;
-        if let Some(why) = refusal(at, width) {
+        if let Some(why) = first_refusal(at, width) {
             return Reply::Refused(why);
         }
         if width == 4 && at == (At::Io { port: 0xcf8 }) {
@@ -148,7 +148,7 @@ impl LoneGuests {
         }
         let landing = self.landing(guest, at);
         match op {
-            Op::Read => Reply::Value(self.read(landing, width), width),
+            Op::Read => Reply::Value(self.read_or_all_ones(landing, width), width),
             Op::Write(value) => {
                 self.write(landing, width, value);
                 Reply::Done
@@ -162,13 +162,13 @@ impl LoneGuests {
         if slot > 31 {
             return Reply::Refused(Refusal::Range);
         }
-        let Some(index) = self.function_in(guest, slot) else {
+        let Some(index) = self.function_index(guest, slot) else {
             return Reply::Refused(Refusal::EmptySlot);
         };
         let Some(function) = self.functions.get_mut(index) else {
             return Reply::Refused(Refusal::EmptySlot);
         };
-        if !function.has(place, off) {
+        if !function.is_in_range(place, off) {
             return Reply::Refused(Refusal::Range);
         }
         function.raise(place, off, mask);
@@ -181,14 +181,14 @@ impl LoneGuests {
         if slot > 31 || target > 31 {
             return Reply::Refused(Refusal::Range);
         }
-        let Some(index) = self.function_in(from, slot) else {
+        let Some(index) = self.function_index(from, slot) else {
             return Reply::Refused(Refusal::EmptySlot);
         };
-        if self.function_in(to, target).is_some() {
+        if self.function_index(to, target).is_some() {
             return Reply::Refused(Refusal::SlotTaken);
         }
         if let Some(function) = self.functions.get_mut(index) {
-            function.move_to(to, target);
+            function.move_and_reset(to, target);
         }
         Reply::Done
     }
@@ -213,7 +213,7 @@ impl LoneGuests {
 
     /// Returns the output for a line of a script, which comes without its line feed, with these
     /// guest names. Returns `None` for a line without output, and for a read by the host.
-    pub fn line(&mut self, line: &[u8], names: &Names) -> Option<LineText> {
+    pub fn answer_line(&mut self, line: &[u8], names: &Names) -> Option<LineText> {
         let what = parse_line(line, names).what;
         let who = match what {
             What::Guest(guest, _) | What::Raise(guest, _, _, _, _) => Who::Guest(guest),
@@ -221,6 +221,6 @@ impl LoneGuests {
             What::Nothing | What::Host(_) | What::Move(_, _, _, _) => Who::Host,
         };
         let reply = self.reply(what)?;
-        Some(line_text(who, names, reply))
+        Some(reply_line_text(who, names, reply))
     }
 }

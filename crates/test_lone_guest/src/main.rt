@@ -18,7 +18,7 @@ mod function;
 mod guests;
 mod register;
 
-use crate::declarations::{Declared, read_guests};
+use crate::declarations::{Declared, parse_guests};
 use crate::guests::LoneGuests;
 use accesses::Names;
 use std::alloc::Global;
@@ -28,7 +28,7 @@ use std::rt::{Env, Files};
 use std::{env, fs, io};
 
 /// Reads the file at a path.
-fn bytes_of(rt: &impl Files, alloc: Global, path: &str) -> Option<Vec<u8>> {
+fn read_file(rt: &impl Files, alloc: Global, path: &str) -> Option<Vec<u8>> {
     let mut file = fs::open(rt, path).ok()?;
     let mut bytes = Vec::new(alloc);
     file.read_to_end(&mut bytes).ok()?;
@@ -36,7 +36,7 @@ fn bytes_of(rt: &impl Files, alloc: Global, path: &str) -> Option<Vec<u8>> {
 }
 
 /// Prints the output of a script.
-fn answer(
+fn print_replies(
     rt: &impl Print,
     alloc: Global,
     guests: &mut LoneGuests,
@@ -45,7 +45,7 @@ fn answer(
 ) -> io::Result<()> {
     let mut writer = BufWriter::new(alloc, io::writer(rt))?;
     for line in script.split(|byte| *byte == b'\n') {
-        if let Some(text) = guests.line(line, names) {
+        if let Some(text) = guests.answer_line(line, names) {
             writer.write_all(text.as_slice())?;
         }
     }
@@ -54,23 +54,23 @@ fn answer(
 
 /// Answers the script on standard input. Returns None if the file of guests can't be read or
 /// parsed.
-fn serve(rt: &(impl AllocGlobal + Env + Files + Input + Print)) -> Option<()> {
+fn run_stdin_script(rt: &(impl AllocGlobal + Env + Files + Input + Print)) -> Option<()> {
     let alloc = rt.alloc();
     let words: Vec<String> = env::args(rt).ok()?.collect(alloc).ok()?;
     if words.len() < 2 {
         return Some(());
     }
-    let bytes = bytes_of(rt, alloc, words[1].as_str())?;
+    let bytes = read_file(rt, alloc, words[1].as_str())?;
     let text = str::from_utf8(bytes.as_slice()).ok()?;
-    let Declared { names, guests } = read_guests(alloc, text)?;
+    let Declared { names, guests } = parse_guests(alloc, text)?;
     let mut guests = LoneGuests::new(alloc, guests).ok()?;
     let mut script = Vec::new(alloc);
     rt.reader().read_to_end(&mut script).ok()?;
-    answer(rt, alloc, &mut guests, &names, script.as_slice()).ok()
+    print_replies(rt, alloc, &mut guests, &names, script.as_slice()).ok()
 }
 
 fn main(rt: HostRuntime) -> ExitCode {
-    match serve(&rt) {
+    match run_stdin_script(&rt) {
         Some(()) => ExitCode::SUCCESS,
         None => ExitCode::FAILURE,
     }

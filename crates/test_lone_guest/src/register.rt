@@ -7,17 +7,17 @@ pub struct Register {
     at_reset: u8,
     value: u8,
     writable: u8,
-    clearable: u8,
+    w1c: u8,
 }
 
 impl Register {
     /// Returns a byte at reset. A bit in both masks is cleared by writing a one.
-    pub fn new(value: u8, writable: u8, clearable: u8) -> Register {
+    pub fn new(value: u8, writable: u8, w1c: u8) -> Register {
         Register {
             at_reset: value,
             value,
             writable,
-            clearable,
+            w1c,
         }
     }
 
@@ -27,11 +27,11 @@ impl Register {
 
     pub(crate) fn write(&mut self, byte: u8) {
         let set = self.value & !self.writable | byte & self.writable;
-        self.value = set & !(byte & self.clearable);
+        self.value = set & !(byte & self.w1c);
     }
 
     pub(crate) fn raise(&mut self, mask: u8) {
-        self.value |= mask & self.clearable;
+        self.value |= mask & self.w1c;
     }
 
     pub(crate) fn reset(&mut self) {

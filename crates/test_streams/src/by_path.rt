@@ -12,7 +12,7 @@ use std::alloc::{AllocError, Global};
 use std::process::Abort;
 use std::test::Fail;
 
-pub(crate) fn on_root(device: u8) -> Path
+pub(crate) fn path_on_root(device: u8) -> Path
     requires { device < 16 }
     ensures { length result < 16 }
 {
@@ -20,16 +20,16 @@ pub(crate) fn on_root(device: u8) -> Path
 }
 
 /// Returns the path of a device behind the bridge at device 2.
-pub(crate) fn behind_bridge(device: u8) -> Path
+pub(crate) fn path_behind_bridge(device: u8) -> Path
     requires { device < 16 }
 {
-    let mut path = on_root(2);
+    let mut path = path_on_root(2);
     path.push(Part::new(device, 0));
     path
 }
 
 /// Returns an endpoint with a region in which four bytes are declared.
-fn endpoint(alloc: Global) -> Result<Declared, Fail> {
+fn declare_endpoint(alloc: Global) -> Result<Declared, Fail> {
     let region = Region {
         index: 1,
         bar: BarDecl::new(Kind::Mem32 { pref: false }, 16)?,
@@ -43,20 +43,20 @@ fn endpoint(alloc: Global) -> Result<Declared, Fail> {
 }
 
 /// Returns a bus with an endpoint, a bridge, and an endpoint behind the bridge.
-fn bus(rt: &impl Abort, alloc: Global) -> Result<Bus, Fail> {
+fn build_bus(rt: &impl Abort, alloc: Global) -> Result<Bus, Fail> {
     let bridge = BridgeDecl::new(0x1234, 2, 0, IoDecode::Bits16, PrefDecode::Bits64)?;
     let decls = vec![in alloc;
         Decl {
-            path: on_root(1),
-            function: endpoint(alloc)?
+            path: path_on_root(1),
+            function: declare_endpoint(alloc)?
         },
         Decl {
-            path: on_root(2),
+            path: path_on_root(2),
             function: Declared::Bridge(bridge)
         },
         Decl {
-            path: behind_bridge(0),
-            function: endpoint(alloc)?
+            path: path_behind_bridge(0),
+            function: declare_endpoint(alloc)?
         },
     ]?;
     assert!(rt; lawful_places(&decls));
@@ -65,7 +65,7 @@ fn bus(rt: &impl Abort, alloc: Global) -> Result<Bus, Fail> {
 
 /// Reads the word at the start of region 1 of the endpoint at a path, and overwrites it with all
 /// ones.
-fn exchanged(bus: &mut Bus, path: &Path) -> Option<u32> {
+fn swap_first_word_with_ones(bus: &mut Bus, path: &Path) -> Option<u32> {
     let endpoint = bus.endpoint_mut(path)?;
     let before = endpoint.read(1, 0, 0b1111);
     endpoint.write(1, 0, 0b1111, u32::MAX);
@@ -76,26 +76,31 @@ fn exchanged(bus: &mut Bus, path: &Path) -> Option<u32> {
 /// the others.
 #[test]
 fn lent_and_reset_in_a_tree(rt: HostRuntime) -> Result<(), Fail> {
-    let mut bus = bus(&rt, rt.alloc())?;
-    let (card, behind) = (on_root(1), behind_bridge(0));
-    assert_eq!(rt; exchanged(&mut bus, &card), Some(0));
-    assert_eq!(rt; exchanged(&mut bus, &card), Some(u32::MAX));
-    assert_eq!(rt; exchanged(&mut bus, &behind), Some(0));
-    assert_eq!(rt; exchanged(&mut bus, &on_root(2)), None);
-    assert_eq!(rt; exchanged(&mut bus, &on_root(3)), None);
+    let mut bus = build_bus(&rt, rt.alloc())?;
+    let (card, behind) = (path_on_root(1), path_behind_bridge(0));
+    assert_eq!(rt; swap_first_word_with_ones(&mut bus, &card), Some(0));
+    assert_eq!(rt; swap_first_word_with_ones(&mut bus, &card), Some(u32::MAX));
+    assert_eq!(rt; swap_first_word_with_ones(&mut bus, &behind), Some(0));
+    assert_eq!(rt; swap_first_word_with_ones(&mut bus, &path_on_root(2)), None);
+    assert_eq!(rt; swap_first_word_with_ones(&mut bus, &path_on_root(3)), None);
     bus.reset_endpoint(&behind);
-    bus.reset_endpoint(&on_root(2));
-    bus.reset_endpoint(&on_root(3));
-    assert_eq!(rt; exchanged(&mut bus, &card), Some(u32::MAX));
+    bus.reset_endpoint(&path_on_root(2));
+    bus.reset_endpoint(&path_on_root(3));
+    assert_eq!(rt; swap_first_word_with_ones(&mut bus, &card), Some(u32::MAX));
     bus.reset_endpoint(&card);
-    assert_eq!(rt; exchanged(&mut bus, &card), Some(0));
-    assert_eq!(rt; exchanged(&mut bus, &behind), Some(0));
+    assert_eq!(rt; swap_first_word_with_ones(&mut bus, &card), Some(0));
+    assert_eq!(rt; swap_first_word_with_ones(&mut bus, &behind), Some(0));
     Ok(())
 }
 
 /// Sets W1C bits in the upper byte of Status, as a device does, in the endpoint that claims a
 /// memory address. Returns whether any endpoint claims the address.
-fn raised(host: &mut Host, alloc: Global, addr: u64, mask: u8) -> Result<bool, AllocError> {
+fn raise_status_if_claimed(
+    host: &mut Host,
+    alloc: Global,
+    addr: u64,
+    mask: u8,
+) -> Result<bool, AllocError> {
     // Establishes that no two functions have the same path.
     let _rows = host.routing(alloc)?;
     let Some(claim) = host.claimant(Space::Mem, addr) else {
@@ -120,13 +125,13 @@ fn raised_and_reset_behind_a_host(rt: HostRuntime) -> Result<(), Fail> {
     host.config_write(card, 0x3c, 0b0001, 0x5a);
     host.store(&TreeWalk, 0xc010_0010, 4, 0x1234_5678);
     assert_eq!(rt; host.config_read(card, 0x04, 0b1111), 0x0000_0002);
-    assert!(rt; raised(&mut host, alloc, 0xc010_0010, 0x8f)?);
-    assert!(rt; !raised(&mut host, alloc, 0, 0xff)?);
-    host.reset_endpoint(&behind_bridge(0));
-    host.reset_endpoint(&on_root(2));
+    assert!(rt; raise_status_if_claimed(&mut host, alloc, 0xc010_0010, 0x8f)?);
+    assert!(rt; !raise_status_if_claimed(&mut host, alloc, 0, 0xff)?);
+    host.reset_endpoint(&path_behind_bridge(0));
+    host.reset_endpoint(&path_on_root(2));
     assert_eq!(rt; host.config_read(card, 0x04, 0b1111), 0x8900_0002);
     assert_eq!(rt; host.config_read(card, 0x3c, 0b1111), 0x0000_015a);
-    host.reset_endpoint(&on_root(1));
+    host.reset_endpoint(&path_on_root(1));
     assert_eq!(rt; host.config_read(card, 0x04, 0b1111), 0x8000_0002);
     assert_eq!(rt; host.config_read(card, 0x14, 0b1111), 0xc010_0000);
     assert_eq!(rt; host.config_read(card, 0x3c, 0b1111), 0x0000_0100);

@@ -1,6 +1,6 @@
 //! The regions that claim addresses after set-up.
 use crate::board::MAIN;
-use crate::by_path::{behind_bridge, on_root};
+use crate::by_path::{path_behind_bridge, path_on_root};
 use bars::Space;
 use board_file::read_board;
 use bridge_forward::{Claim, Path};
@@ -11,7 +11,7 @@ use std::test::Fail;
 use window_packing::set_up;
 
 /// Compares a claim with the expected path, register and offset.
-fn is_claim(rt: &impl Abort, found: Option<Claim>, want: Option<(&Path, u8, u64)>) {
+fn assert_claim(rt: &impl Abort, found: Option<Claim>, want: Option<(&Path, u8, u64)>) {
     let found = found.as_ref().map(|it| (&it.path, it.region, it.offset));
     assert!(rt; found == want);
 }
@@ -24,7 +24,11 @@ fn claims_by_the_tree_and_by_the_table(rt: HostRuntime) -> Result<(), Fail> {
     let ready = set_up(alloc, host)?;
     let table = Table::build(alloc, &ready)?;
     let (host, _, _) = ready.into_parts();
-    let (beside, first, second) = (on_root(1), behind_bridge(0), behind_bridge(1));
+    let (beside, first, second) = (
+        path_on_root(1),
+        path_behind_bridge(0),
+        path_behind_bridge(1),
+    );
     let rows = [
         (Space::Mem, 0xc000_0000, Some((&first, 0, 0))),
         (Space::Mem, 0xc00f_ffff, Some((&first, 0, 0xf_ffff))),
@@ -42,8 +46,8 @@ fn claims_by_the_tree_and_by_the_table(rt: HostRuntime) -> Result<(), Fail> {
         (Space::Io, 0xc000_0000, None),
     ];
     for (space, addr, want) in rows {
-        is_claim(&rt, host.claimant(space, addr), want);
-        is_claim(&rt, table.claimant(&host, space, addr), want);
+        assert_claim(&rt, host.claimant(space, addr), want);
+        assert_claim(&rt, table.claimant(&host, space, addr), want);
     }
     Ok(())
 }

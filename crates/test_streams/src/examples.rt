@@ -12,14 +12,14 @@ use std::test::Fail;
 use window_packing::set_up;
 
 /// Returns the number of guests of a monitor.
-fn guests_of(monitor: &Monitor) -> usize
+fn count_guests(monitor: &Monitor) -> usize
     ensures { result ≡ length monitor.now.world.guests }
 {
     monitor.names().len()
 }
 
 /// Returns the number of guests of an engine that routes by a walk over the board.
-fn guests_by_walk(engine: &Engine<TreeWalk>) -> usize
+fn count_guests_by_walk(engine: &Engine<TreeWalk>) -> usize
     ensures { result ≡ length engine.now.world.guests }
 {
     engine.names().len()
@@ -49,7 +49,7 @@ fn a_bridge_is_numbered_by_hand(rt: HostRuntime) -> Result<(), Fail> {
     let alloc = rt.alloc();
     let board = Board::parse(alloc, MAIN.as_bytes())?;
     let apertures = board.apertures();
-    let mut session = Session::over(alloc, board);
+    let mut session = Session::from_board(alloc, board);
     let bridge = Bdf {
         bus: 0,
         device: 2,
@@ -102,7 +102,7 @@ fn a_guest_and_the_host(rt: HostRuntime) -> Result<(), Fail> {
     let (host, guests) = read_board(alloc, MAIN.as_bytes())?;
     let ready = set_up(alloc, host)?;
     let mut monitor = Monitor::new(alloc, ready, &guests)?;
-    assert!(rt; 0 < guests_of(&monitor));
+    assert!(rt; 0 < count_guests(&monitor));
     let identity = Access {
         at: At::Config { slot: 0, off: 0 },
         width: 4,
@@ -122,8 +122,8 @@ fn a_guest_and_the_host_by_a_walk(rt: HostRuntime) -> Result<(), Fail> {
     let alloc = rt.alloc();
     let (host, guests) = read_board(alloc, MAIN.as_bytes())?;
     let ready = set_up(alloc, host)?;
-    let mut engine = Engine::by_route(alloc, ready, TreeWalk, &guests)?;
-    assert!(rt; 0 < guests_by_walk(&engine));
+    let mut engine = Engine::new_with_route(alloc, ready, TreeWalk, &guests)?;
+    assert!(rt; 0 < count_guests_by_walk(&engine));
     let identity = Access {
         at: At::Config { slot: 0, off: 0 },
         width: 4,

@@ -1,18 +1,18 @@
 //! Streams that fail at each of their calls in turn.
-use crate::scripts::{Board, Example, LONG, SHORT, Streams, run};
+use crate::scripts::{Board, Example, LONG, SHORT, Streams, run_example};
 use simulation::Fault;
 use std::process::Abort;
 use std::test::Fail;
 
 /// Checks that a run over failing streams ends with this fault, after writing a prefix of the
 /// output.
-fn is_stopped(
+fn assert_run_fails_with(
     rt: &(impl AllocGlobal + Abort),
     example: Example<'_>,
     streams: Streams,
     fault: Fault,
 ) {
-    let (end, writer) = run(rt, example, streams);
+    let (end, writer) = run_example(rt, example, streams);
     assert_eq!(rt; end, Err(fault));
     assert!(rt; example.output.starts_with(writer.bytes()));
     assert!(rt; writer.bytes().starts_with(writer.flushed()));
@@ -20,7 +20,7 @@ fn is_stopped(
 
 /// Lets each of `reads` reads and each of `calls` writes and flushes fail in turn. If none fails,
 /// all output is written and flushed.
-fn fail_in_turn(
+fn assert_each_failure_stops_run(
     rt: &(impl AllocGlobal + Abort),
     example: Example<'_>,
     streams: Streams,
@@ -32,7 +32,7 @@ fn fail_in_turn(
             failing_read,
             ..streams
         };
-        is_stopped(rt, example, streams, Fault::Read);
+        assert_run_fails_with(rt, example, streams, Fault::Read);
     }
     for call in 0..calls {
         let failing_call = Some(call);
@@ -40,9 +40,9 @@ fn fail_in_turn(
             failing_call,
             ..streams
         };
-        is_stopped(rt, example, streams, Fault::Write);
+        assert_run_fails_with(rt, example, streams, Fault::Write);
     }
-    let (end, writer) = run(rt, example, streams);
+    let (end, writer) = run_example(rt, example, streams);
     assert_eq!(rt; end, Ok(()));
     assert_eq!(rt; writer.flushed(), example.output);
 }
@@ -51,10 +51,10 @@ fn fail_in_turn(
 /// before the end is read and one at the end, and one after each answer if a read gives one byte.
 #[test]
 fn streams_fail_in_turn(rt: HostRuntime) {
-    fail_in_turn(&rt, SHORT, Streams::of(64, 64), (2, 5));
-    fail_in_turn(&rt, LONG, Streams::of(4096, 128), (2, 12));
-    fail_in_turn(&rt, LONG, Streams::of(4096, 5), (2, 29));
-    fail_in_turn(&rt, LONG, Streams::of(1, 128), (189, 21));
+    assert_each_failure_stops_run(&rt, SHORT, Streams::infallible(64, 64), (2, 5));
+    assert_each_failure_stops_run(&rt, LONG, Streams::infallible(4096, 128), (2, 12));
+    assert_each_failure_stops_run(&rt, LONG, Streams::infallible(4096, 5), (2, 29));
+    assert_each_failure_stops_run(&rt, LONG, Streams::infallible(1, 128), (189, 21));
 }
 
 /// A line that is cut off by a failing read isn't executed.
@@ -67,9 +67,9 @@ fn a_read_fails_within_a_line(rt: HostRuntime) {
     };
     let streams = Streams {
         failing_read: Some(1),
-        ..Streams::of(64, 128)
+        ..Streams::infallible(64, 128)
     };
-    let (end, writer) = run(&rt, cut, streams);
+    let (end, writer) = run_example(&rt, cut, streams);
     assert_eq!(rt; end, Err(Fault::Read));
     assert_eq!(rt; writer.bytes(), b"a: 0x00011234\n".as_slice());
 }
@@ -85,11 +85,14 @@ fn writers_that_take_little(rt: HostRuntime) {
     };
     let five = Streams {
         failing_call: Some(1),
-        ..Streams::of(64, 5)
+        ..Streams::infallible(64, 5)
     };
-    let rows = [(five, b"a: 0x".as_slice()), (Streams::of(64, 0), b"")];
+    let rows = [
+        (five, b"a: 0x".as_slice()),
+        (Streams::infallible(64, 0), b""),
+    ];
     for (streams, written) in rows {
-        let (end, writer) = run(&rt, line, streams);
+        let (end, writer) = run_example(&rt, line, streams);
         assert_eq!(rt; end, Err(Fault::Write));
         assert_eq!(rt; writer.bytes(), written);
     }

@@ -2,7 +2,7 @@
 ghost use Rattle.std.specs.Prelude.{◌<◌};
 
 use crate::board::MAIN;
-use crate::by_path::behind_bridge;
+use crate::by_path::path_behind_bridge;
 use board_file::read_board;
 use config_bytes::Cells;
 use headers::{Bridge, BridgeDecl, IoDecode, PrefDecode, io_window, mem_window, pref_window};
@@ -27,7 +27,7 @@ enum Step {
     Out4(u32, u32),
 }
 
-fn at(bus: u8, device: u8) -> Bdf
+fn bdf_at(bus: u8, device: u8) -> Bdf
     requires { device < 32 }
 {
     Bdf {
@@ -38,11 +38,11 @@ fn at(bus: u8, device: u8) -> Bdf
 }
 
 /// Returns the windows in the registers of the bridge at 2.0: I/O, memory and prefetchable memory.
-fn windows(alloc: Global, host: &mut Host) -> Result<[Window; 3], Fail> {
+fn read_bridge_windows(alloc: Global, host: &mut Host) -> Result<[Window; 3], Fail> {
     let decl = BridgeDecl::new(0x1234, 2, 0, IoDecode::Bits16, PrefDecode::Bits64)?;
     let mut cells = Bridge::cells(alloc, &decl, false)?;
     for n in 7..13u8 {
-        let word = host.config_read(at(0, 2), 4 * n, 0xf);
+        let word = host.config_read(bdf_at(0, 2), 4 * n, 0xf);
         cells.write(4 * u16::from(n), 0xf, word);
     }
     let cells: Cells = cells;
@@ -53,7 +53,7 @@ fn windows(alloc: Global, host: &mut Host) -> Result<[Window; 3], Fail> {
     ])
 }
 
-fn take(rt: &impl Abort, alloc: Global, host: &mut Host, step: Step) -> Result<(), Fail> {
+fn assert_step(rt: &impl Abort, alloc: Global, host: &mut Host, step: Step) -> Result<(), Fail> {
     match step {
         Step::Read(at, off, want) => {
             assert!(rt; off % 4 == 0);
@@ -64,11 +64,13 @@ fn take(rt: &impl Abort, alloc: Global, host: &mut Host, step: Step) -> Result<(
             host.config_write(at, off, enables, data);
         }
         Step::Windows(io, mem, pref) => {
-            assert!(rt; windows(alloc, host)? == [io, mem, pref]);
+            assert!(rt; read_bridge_windows(alloc, host)? == [io, mem, pref]);
         }
         Step::Claim(space, addr, want) => {
             let claim = host.claimant(space, addr);
-            let at_path = claim.as_ref().is_none_or(|it| it.path == behind_bridge(0));
+            let at_path = claim
+                .as_ref()
+                .is_none_or(|it| it.path == path_behind_bridge(0));
             assert!(rt; at_path);
             assert_eq!(rt; claim.map(|it| (it.region, it.offset)), want);
         }
@@ -97,22 +99,22 @@ fn calls_of_a_host_from_reset_on(rt: HostRuntime) -> Result<(), Fail> {
     let steps = [
         Step::Windows(kib, mib, mib),
         Step::Claim(Space::Mem, 0, None),
-        Step::Read(at(1, 0), 0, 0xffff_ffff),
-        Step::Write(at(0, 2), 0x18, 0xf, 0x0001_0100),
-        Step::Read(at(1, 0), 0, 0x0003_1234),
-        Step::Read(at(1, 1), 0, 0x0004_1234),
-        Step::Read(at(1, 16), 0, 0xffff_ffff),
-        Step::Write(at(0, 2), 0x24, 0xf, 0x00f1_0001),
-        Step::Write(at(0, 2), 0x28, 0xf, 4),
-        Step::Write(at(0, 2), 0x2c, 0xf, 4),
+        Step::Read(bdf_at(1, 0), 0, 0xffff_ffff),
+        Step::Write(bdf_at(0, 2), 0x18, 0xf, 0x0001_0100),
+        Step::Read(bdf_at(1, 0), 0, 0x0003_1234),
+        Step::Read(bdf_at(1, 1), 0, 0x0004_1234),
+        Step::Read(bdf_at(1, 16), 0, 0xffff_ffff),
+        Step::Write(bdf_at(0, 2), 0x24, 0xf, 0x00f1_0001),
+        Step::Write(bdf_at(0, 2), 0x28, 0xf, 4),
+        Step::Write(bdf_at(0, 2), 0x2c, 0xf, 4),
         Step::Windows(kib, mib, pref),
-        Step::Write(at(0, 2), 0x1c, 3, 0x1010),
-        Step::Write(at(0, 2), 4, 0xf, 3),
-        Step::Write(at(1, 0), 0x14, 0xf, 0x1000),
-        Step::Write(at(1, 0), 4, 0xf, 1),
+        Step::Write(bdf_at(0, 2), 0x1c, 3, 0x1010),
+        Step::Write(bdf_at(0, 2), 4, 0xf, 3),
+        Step::Write(bdf_at(1, 0), 0x14, 0xf, 0x1000),
+        Step::Write(bdf_at(1, 0), 4, 0xf, 1),
         Step::Claim(Space::Io, 0x1004, Some((1, 4))),
         Step::In4(0x1004, 0),
-        Step::Write(at(0, 2), 0x1c, 3, 0x00f0),
+        Step::Write(bdf_at(0, 2), 0x1c, 3, 0x00f0),
         Step::Windows(None, mib, pref),
         Step::Claim(Space::Io, 0x1004, None),
         Step::In4(0x1004, 0xffff_ffff),
@@ -125,7 +127,7 @@ fn calls_of_a_host_from_reset_on(rt: HostRuntime) -> Result<(), Fail> {
         Step::In2(0xcf8, 0xffff),
     ];
     for step in steps {
-        take(&rt, alloc, &mut host, step)?;
+        assert_step(&rt, alloc, &mut host, step)?;
     }
     Ok(())
 }

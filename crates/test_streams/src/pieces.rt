@@ -1,5 +1,5 @@
 //! Scripts whose output must not depend on how many bytes a read gives.
-use crate::scripts::{Board, Example, LONG, Streams, run};
+use crate::scripts::{Board, Example, LONG, Streams, run_example};
 use std::process::Abort;
 use std::test::Fail;
 
@@ -96,22 +96,22 @@ host: refused 401 bad line
     (b"a cr 0 0", b"a: refused 401 bad line\n"),
 ];
 
-/// Checks the output of a script when each read returns at most `given` bytes.
-fn is_answered(rt: &(impl AllocGlobal + Abort), example: Example<'_>, given: usize) {
-    let (end, writer) = run(rt, example, Streams::of(given, 128));
-    assert_eq!(rt; end, Ok(()), "{given} bytes a read");
-    assert_eq!(rt; writer.flushed(), example.output, "{given} bytes a read");
+/// Checks the output of a script when each read returns at most `per_read` bytes.
+fn assert_answered(rt: &(impl AllocGlobal + Abort), example: Example<'_>, per_read: usize) {
+    let (end, writer) = run_example(rt, example, Streams::infallible(per_read, 128));
+    assert_eq!(rt; end, Ok(()), "{per_read} bytes a read");
+    assert_eq!(rt; writer.flushed(), example.output, "{per_read} bytes a read");
 }
 
-fn in_pieces(rt: &(impl AllocGlobal + Abort), example: Example<'_>) {
-    is_answered(rt, example, 1);
-    is_answered(rt, example, 7);
-    is_answered(rt, example, 4096);
+fn assert_in_pieces(rt: &(impl AllocGlobal + Abort), example: Example<'_>) {
+    assert_answered(rt, example, 1);
+    assert_answered(rt, example, 7);
+    assert_answered(rt, example, 4096);
 }
 
-fn on_main(rt: &(impl AllocGlobal + Abort), script: &[u8], output: &[u8]) {
+fn assert_on_main_board(rt: &(impl AllocGlobal + Abort), script: &[u8], output: &[u8]) {
     let board = Board::Main;
-    in_pieces(
+    assert_in_pieces(
         rt,
         Example {
             board,
@@ -123,9 +123,9 @@ fn on_main(rt: &(impl AllocGlobal + Abort), script: &[u8], output: &[u8]) {
 
 #[test]
 fn scripts_in_pieces(rt: HostRuntime) -> Result<(), Fail> {
-    in_pieces(&rt, LONG);
+    assert_in_pieces(&rt, LONG);
     for (script, output) in SCRIPTS {
-        on_main(&rt, script, output);
+        assert_on_main_board(&rt, script, output);
     }
     Ok(())
 }
@@ -133,9 +133,9 @@ fn scripts_in_pieces(rt: HostRuntime) -> Result<(), Fail> {
 /// A comment of 200 bytes, one of 201 bytes, and an empty script.
 #[test]
 fn comments_in_pieces(rt: HostRuntime) -> Result<(), Fail> {
-    on_main(&rt, &[b'#'; 200], b"");
-    on_main(&rt, &[b'#'; 201], b"?: refused 403 long line\n");
-    on_main(&rt, b"", b"");
+    assert_on_main_board(&rt, &[b'#'; 200], b"");
+    assert_on_main_board(&rt, &[b'#'; 201], b"?: refused 403 long line\n");
+    assert_on_main_board(&rt, b"", b"");
     Ok(())
 }
 
@@ -149,6 +149,6 @@ fn a_long_line_in_pieces(rt: HostRuntime) -> Result<(), Fail> {
         script: script.as_slice(),
         output: b"?: refused 403 long line\na: 0x00011234\n",
     };
-    in_pieces(&rt, example);
+    assert_in_pieces(&rt, example);
     Ok(())
 }

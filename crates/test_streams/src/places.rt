@@ -4,7 +4,7 @@ use diagnostics::{Places, TextPlace};
 
 /// Returns the place of the value that a path of keys leads to, and the first place at or inside
 /// this value.
-fn places(
+fn find_place_and_first_within(
     rt: &HostRuntime,
     text: &str,
     way: &[Step<'_>],
@@ -13,25 +13,28 @@ fn places(
     let bytes = text.as_bytes();
     let document = toml::table_from_slice(alloc, bytes).ok()?;
     let places = Places::new(alloc, bytes, &document).ok()?;
-    Some((places.place(way), places.place_within(alloc, way).ok()?))
+    Some((
+        places.scalar_place(way),
+        places.place_within(alloc, way).ok()?,
+    ))
 }
 
 /// Returns the line of the value that a path of keys leads to, or 0.
-fn line(rt: &HostRuntime, text: &str, way: &[Step<'_>]) -> usize {
-    let (place, _) = places(rt, text, way).unwrap_or((None, None));
+fn line_or_0(rt: &HostRuntime, text: &str, way: &[Step<'_>]) -> usize {
+    let (place, _) = find_place_and_first_within(rt, text, way).unwrap_or((None, None));
     place.map_or(0, |it| it.line)
 }
 
 /// Returns the line of the value that a path of keys leads to, or of the first value inside it, or
 /// 0.
-fn line_within(rt: &HostRuntime, text: &str, way: &[Step<'_>]) -> usize {
-    let (_, within) = places(rt, text, way).unwrap_or((None, None));
+fn first_line_within_or_0(rt: &HostRuntime, text: &str, way: &[Step<'_>]) -> usize {
+    let (_, within) = find_place_and_first_within(rt, text, way).unwrap_or((None, None));
     within.map_or(0, |it| it.line)
 }
 
 /// Returns whether the place of a value contains exactly this text.
-fn is_at(rt: &HostRuntime, text: &str, way: &[Step<'_>], written: &str) -> bool {
-    let (place, _) = places(rt, text, way).unwrap_or((None, None));
+fn is_written_as(rt: &HostRuntime, text: &str, way: &[Step<'_>], written: &str) -> bool {
+    let (place, _) = find_place_and_first_within(rt, text, way).unwrap_or((None, None));
     let found = place.and_then(|it| text.as_bytes().get(it.start..it.end));
     found == Some(written.as_bytes())
 }
@@ -51,7 +54,7 @@ v = 1\r
 
 #[test]
 fn quotes_of_every_kind(rt: HostRuntime) {
-    let at = |way: &[Step<'_>]| line(&rt, QUOTES, way);
+    let at = |way: &[Step<'_>]| line_or_0(&rt, QUOTES, way);
     assert_eq!(rt; at(&[Key("a=b"), Key("x"), Index(0), Index(1)]), 2);
     assert_eq!(rt; at(&[Key("a=b"), Key("x"), Index(2), Index(1)]), 2);
     assert_eq!(rt; at(&[Key("a=b"), Key("q\"q"), Key("r")]), 2);
@@ -81,28 +84,28 @@ lines"""
 #[test]
 fn places_of_every_writing(rt: HostRuntime) {
     let vendor = [Key("endpoint"), Index(0), Key("vendor")];
-    assert!(rt; is_at(&rt, BOARD, &vendor, "0x1ffff"));
+    assert!(rt; is_written_as(&rt, BOARD, &vendor, "0x1ffff"));
     let at = [Key("endpoint"), Index(1), Key("at")];
-    assert!(rt; is_at(&rt, BOARD, &at, "\"\"\"\ntwo\nlines\"\"\""));
+    assert!(rt; is_written_as(&rt, BOARD, &at, "\"\"\"\ntwo\nlines\"\"\""));
     let mem = [Key("host"), Key("mem"), Index(1)];
-    assert!(rt; is_at(&rt, BOARD, &mem, "0xdfffffff"));
-    assert!(rt; is_at(&rt, QUOTES, &[Key("a=b"), Key("q\"q"), Key("r")], "true"));
+    assert!(rt; is_written_as(&rt, BOARD, &mem, "0xdfffffff"));
+    assert!(rt; is_written_as(&rt, QUOTES, &[Key("a=b"), Key("q\"q"), Key("r")], "true"));
 }
 
 /// A float, dates, a string that equals the mark of its place, and a table header, which has no
 /// place.
 #[test]
 fn scalars_of_every_kind(rt: HostRuntime) {
-    assert_eq!(rt; line(&rt, "\na = 0\nb = 1.5e3", &[Key("a")]), 2);
-    assert_eq!(rt; line(&rt, "\na = 0\nb = 1.5e3", &[Key("b")]), 3);
+    assert_eq!(rt; line_or_0(&rt, "\na = 0\nb = 1.5e3", &[Key("a")]), 2);
+    assert_eq!(rt; line_or_0(&rt, "\na = 0\nb = 1.5e3", &[Key("b")]), 3);
     let dates = "a = 1979-05-27 07:32:00\nb = 07:32:00 # none\nc = inf";
-    assert_eq!(rt; line(&rt, dates, &[Key("a")]), 1);
-    assert_eq!(rt; line(&rt, dates, &[Key("b")]), 2);
-    assert_eq!(rt; line(&rt, dates, &[Key("c")]), 3);
-    assert_eq!(rt; line(&rt, "a = \"@4\"\nb = \"@4\"", &[Key("a")]), 0);
-    assert_eq!(rt; line(&rt, "a = \"@4\"\nb = \"@4\"", &[Key("b")]), 2);
-    assert_eq!(rt; line(&rt, "[t]\n\"@\" = 0", &[Key("t")]), 0);
-    assert_eq!(rt; line(&rt, "[t]\n\"@\" = 0", &[Key("t"), Key("@")]), 2);
+    assert_eq!(rt; line_or_0(&rt, dates, &[Key("a")]), 1);
+    assert_eq!(rt; line_or_0(&rt, dates, &[Key("b")]), 2);
+    assert_eq!(rt; line_or_0(&rt, dates, &[Key("c")]), 3);
+    assert_eq!(rt; line_or_0(&rt, "a = \"@4\"\nb = \"@4\"", &[Key("a")]), 0);
+    assert_eq!(rt; line_or_0(&rt, "a = \"@4\"\nb = \"@4\"", &[Key("b")]), 2);
+    assert_eq!(rt; line_or_0(&rt, "[t]\n\"@\" = 0", &[Key("t")]), 0);
+    assert_eq!(rt; line_or_0(&rt, "[t]\n\"@\" = 0", &[Key("t"), Key("@")]), 2);
 }
 
 /// A document with all kinds of tables and arrays, whose first keys aren't first in the alphabet.
@@ -142,7 +145,7 @@ name = "none"
 
 #[test]
 fn first_in_tables(rt: HostRuntime) {
-    let within = |way: &[Step<'_>]| line_within(&rt, PARTS, way);
+    let within = |way: &[Step<'_>]| first_line_within_or_0(&rt, PARTS, way);
     assert_eq!(rt; within(&[Key("endpoint"), Index(0)]), 6);
     assert_eq!(rt;
         within(&[Key("endpoint"), Index(0), Key("bar"), Index(0)]),
@@ -157,7 +160,7 @@ fn first_in_tables(rt: HostRuntime) {
 
 #[test]
 fn first_in_arrays(rt: HostRuntime) {
-    let within = |way: &[Step<'_>]| line_within(&rt, PARTS, way);
+    let within = |way: &[Step<'_>]| first_line_within_or_0(&rt, PARTS, way);
     assert_eq!(rt; within(&[Key("host"), Key("mem")]), 3);
     assert_eq!(rt; within(&[Key("endpoint")]), 6);
     assert_eq!(rt; within(&[Key("endpoint"), Index(0), Key("bar")]), 9);

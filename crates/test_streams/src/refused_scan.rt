@@ -14,7 +14,7 @@ use std::alloc::Global;
 use std::process::Abort;
 use std::test::Fail;
 
-fn bridge(path: Path) -> Result<Decl, Fail> {
+fn declare_bridge(path: Path) -> Result<Decl, Fail> {
     let decl = BridgeDecl::new(0x1234, 2, 0, IoDecode::Bits32, PrefDecode::Bits64)?;
     let function = Declared::Bridge(decl);
     Ok(Decl { path, function })
@@ -37,8 +37,8 @@ fn push_branch(alloc: Global, decls: &mut Vec<Decl>, root: Part) -> Result<(), F
         bar: vec![in alloc; region]?,
         ..EndpointValues::plain(alloc, 0x1234, 1, 0xff_0000)
     };
-    decls.push(bridge(Path::on_root(root))?)?;
-    decls.push(bridge(behind)?)?;
+    decls.push(declare_bridge(Path::on_root(root))?)?;
+    decls.push(declare_bridge(behind)?)?;
     decls.push(Decl {
         path: beside,
         function: Declared::Endpoint(EndpointDecl::new(values)?),
@@ -47,7 +47,7 @@ fn push_branch(alloc: Global, decls: &mut Vec<Decl>, root: Part) -> Result<(), F
 }
 
 /// Declares a branch as in `push_branch` at each function of a device.
-fn push_device(alloc: Global, decls: &mut Vec<Decl>, device: u8) -> Result<(), Fail>
+fn push_branch_per_function(alloc: Global, decls: &mut Vec<Decl>, device: u8) -> Result<(), Fail>
     requires { device < 16 }
 {
     for function in 0..8u8 {
@@ -58,12 +58,12 @@ fn push_device(alloc: Global, decls: &mut Vec<Decl>, device: u8) -> Result<(), F
 
 /// Returns a host with one bridge more than there are bus numbers: 128 bridges on bus 0, and one
 /// behind each.
-fn host(rt: &impl Abort, alloc: Global) -> Result<Host, Fail>
+fn build_host_with_256_bridges(rt: &impl Abort, alloc: Global) -> Result<Host, Fail>
     ensures { IfOk result (λ h. IsAtReset h.state) }
 {
     let mut decls = Vec::new(alloc);
     for device in 0..16u8 {
-        push_device(alloc, &mut decls, device)?;
+        push_branch_per_function(alloc, &mut decls, device)?;
     }
     assert!(rt; lawful_places(&decls));
     let io = Aperture {
@@ -88,7 +88,7 @@ struct Pair {
 impl Pair {
     /// Checks that the function at a BDF reads the same on both hosts, except for bytes 18h to 1Ah
     /// of a bridge.
-    fn is_alike(&mut self, rt: &impl Abort, at: Bdf, identity: u32, is_bridge: bool) {
+    fn assert_alike(&mut self, rt: &impl Abort, at: Bdf, identity: u32, is_bridge: bool) {
         assert_eq!(rt; self.scanned.config_read(at, 0, 0b1111), identity, "{at:?}");
         for n in 0..64u8 {
             let enables = if is_bridge && n == 6 { 0b1000 } else { 0b1111 };
@@ -99,19 +99,19 @@ impl Pair {
     }
 
     /// Programs the bus numbers of the bridge at a BDF, on both hosts.
-    fn number(&mut self, at: Bdf, numbers: u32) {
+    fn write_bus_numbers(&mut self, at: Bdf, numbers: u32) {
         self.scanned.config_write(at, 0x18, 0b0111, numbers);
         self.at_reset.config_write(at, 0x18, 0b0111, numbers);
     }
 
     /// Compares a bridge on bus 0, and the functions behind it while no other bridge leads to bus
     /// 1.
-    fn branch_is_alike(&mut self, rt: &impl Abort, root: Bdf) {
-        self.is_alike(rt, root, BRIDGE, true);
-        self.number(root, 0x0001_0100);
-        self.is_alike(rt, on_bus(1, 0, 0), BRIDGE, true);
-        self.is_alike(rt, on_bus(1, 1, 0), ENDPOINT, false);
-        self.number(root, 0);
+    fn assert_branch_alike(&mut self, rt: &impl Abort, root: Bdf) {
+        self.assert_alike(rt, root, BRIDGE, true);
+        self.write_bus_numbers(root, 0x0001_0100);
+        self.assert_alike(rt, bdf_on_bus(1, 0, 0), BRIDGE, true);
+        self.assert_alike(rt, bdf_on_bus(1, 1, 0), ENDPOINT, false);
+        self.write_bus_numbers(root, 0);
     }
 }
 
@@ -121,7 +121,7 @@ const BRIDGE: u32 = 0x0002_1234;
 
 const ENDPOINT: u32 = 0x0001_1234;
 
-fn on_bus(bus: u8, device: u8, function: u8) -> Bdf
+fn bdf_on_bus(bus: u8, device: u8, function: u8) -> Bdf
     requires device { device < 16 }
     requires function { function < 8 }
 {
@@ -133,19 +133,19 @@ fn on_bus(bus: u8, device: u8, function: u8) -> Bdf
 }
 
 /// Clears the bus numbers of all bridges at a device of bus 0.
-fn close_device(pair: &mut Pair, device: u8)
+fn clear_bus_numbers(pair: &mut Pair, device: u8)
     requires { device < 16 }
 {
     for function in 0..8u8 {
-        pair.number(on_bus(0, device, function), 0);
+        pair.write_bus_numbers(bdf_on_bus(0, device, function), 0);
     }
 }
 
-fn device_is_alike(rt: &impl Abort, pair: &mut Pair, device: u8)
+fn assert_device_alike(rt: &impl Abort, pair: &mut Pair, device: u8)
     requires { device < 16 }
 {
     for function in 0..8u8 {
-        pair.branch_is_alike(rt, on_bus(0, device, function));
+        pair.assert_branch_alike(rt, bdf_on_bus(0, device, function));
     }
 }
 
@@ -154,19 +154,19 @@ fn device_is_alike(rt: &impl Abort, pair: &mut Pair, device: u8)
 #[test]
 fn a_refused_scan_leaves_bus_numbers_alone(rt: HostRuntime) -> Result<(), Fail> {
     let alloc = rt.alloc();
-    let mut scanned = host(&rt, alloc)?;
+    let mut scanned = build_host_with_256_bridges(&rt, alloc)?;
     assert!(rt; scan(alloc, &mut scanned).err() == Some(Fault::Buses));
-    let first = scanned.config_read(on_bus(0, 0, 0), 0x18, 0b1111);
-    let last = scanned.config_read(on_bus(0, 15, 7), 0x18, 0b1111);
+    let first = scanned.config_read(bdf_on_bus(0, 0, 0), 0x18, 0b1111);
+    let last = scanned.config_read(bdf_on_bus(0, 15, 7), 0x18, 0b1111);
     assert_eq!(rt; first, 0x0002_0100);
     assert_eq!(rt; last, 0x00ff_ff00);
-    let at_reset = host(&rt, alloc)?;
+    let at_reset = build_host_with_256_bridges(&rt, alloc)?;
     let mut pair = Pair { scanned, at_reset };
     for device in 0..16u8 {
-        close_device(&mut pair, device);
+        clear_bus_numbers(&mut pair, device);
     }
     for device in 0..16u8 {
-        device_is_alike(&rt, &mut pair, device);
+        assert_device_alike(&rt, &mut pair, device);
     }
     Ok(())
 }

@@ -59,33 +59,33 @@ b: 0xffffffff
 /// fail, counted from 0.
 #[derive(Clone, Copy)]
 pub(crate) struct Streams {
-    pub(crate) given: usize,
+    pub(crate) per_read: usize,
     pub(crate) failing_read: Option<u32>,
-    pub(crate) taken: usize,
+    pub(crate) per_write: usize,
     pub(crate) failing_call: Option<u32>,
 }
 
 impl Streams {
     /// Returns streams that don't fail.
-    pub(crate) fn of(given: usize, taken: usize) -> Streams {
+    pub(crate) fn infallible(per_read: usize, per_write: usize) -> Streams {
         Streams {
-            given,
+            per_read,
             failing_read: None,
-            taken,
+            per_write,
             failing_call: None,
         }
     }
 }
 
 /// Runs a script, and returns how the run ended and the writer with the output.
-pub(crate) fn run(
+pub(crate) fn run_example(
     rt: &(impl AllocGlobal + Abort),
     example: Example<'_>,
     streams: Streams,
 ) -> (Result<(), Fault>, FakeWriter<128>) {
-    assert!(rt; streams.given > 0);
-    let mut reader = FakeReader::new(example.script, streams.given, streams.failing_read);
-    let mut writer = FakeWriter::<128>::new(streams.taken, streams.failing_call);
+    assert!(rt; streams.per_read > 0);
+    let mut reader = FakeReader::new(example.script, streams.per_read, streams.failing_read);
+    let mut writer = FakeWriter::<128>::new(streams.per_write, streams.failing_call);
     let end = match example.board {
         Board::Demo => demo(rt.alloc(), &mut reader, &mut writer),
         Board::Main => whole(rt.alloc(), MAIN.as_bytes(), &mut reader, &mut writer),

@@ -1,7 +1,7 @@
 -- What stands above all functions of a board, one row after the other.
 use Rattle.std.{proofs.{Common.{◌≡◌, ℕ, zero, suc, ◌+◌, ◌-◌, ◌≤◌, ◌<◌, ◌⊎◌, inl, inr, true, ◌&&◌, List, [], ◌∷◌, ◌++◌, map, length, Some, refl, sym, ap, ap₂, ◌∙◌, subst, arith, get_or, ◌≢◌, length-append, get_or-set_other, get_or-set_same}, lemmas.{List.length-map, Option.slice_get_within, Bool.{and_parts, cases_eq, cases_lt}}, Math.ListN.length-set}, specs.{Prelude.IsTrue, List.{list_all, slice_get, slice_set}}}
 use Rattle.lists.proofs.Indices.{same_at, at_below, each_at, pair_at, any_at, map_at, at_map, each_by_index}
-use Rattle.window_packing.{proofs.{BusIndex.row_in, PoolSteps.maps_at, BridgesAbove.{Tells, tells_root, tells_behind}}, specs.{declared.upstream_windows.UpstreamWindows.UpstreamWindows, Buses.{bus_path, nothing_above, behind, AreAbove}}}
+use Rattle.window_packing.{proofs.{BusIndex.row_in, PoolSteps.maps_at, BridgesAbove.{Tells, tells_root, tells_behind}}, specs.{declared.upstream_windows.UpstreamSupport.UpstreamSupport, Buses.{bus_path, nothing_above, behind, AreAbove}}}
 use Rattle.model_board.{specs.{Paths.{Path, path_eq, path_before, is_ancestor_of, parent, last_part, IsPath}, Board.{is_bridge, is_bridge_at, Row, Board, IsBoard}}, proofs.{PathOrder.{path_same, leads_before}, PathEnds.{snoc, length_snoc, leads_self, not_before_itself, no_turn, leads_longer}}}
 use Rattle.model_set_up.specs.{Pools.{bridges_above, has_io, has_pref, has_pref64}, FunctionTable.{TableRow, board_in}}
 use Rattle.bridge_forward.proofs.Extents.{between}
@@ -13,25 +13,25 @@ maps_same f g (x ∷ xs) [] n h = absurd (omega arith)
 maps_same f g (x ∷ xs) (y ∷ ys) n h = ap₂ (λ z zs. z ∷ zs) (h 0 x y refl refl) (maps_same f g xs ys (omega arith) (λ k u v e l. h (suc k) u v e l))
 
 -- what the loop keeps: the rows so far are told, and at each length of a path stands the last row that no row after it is up to
-pub record Followed (b : Board) (i : ℕ) (xs : List UpstreamWindows) (buses : List ℕ) : Type 0 where
+pub record Followed (b : Board) (i : ℕ) (xs : List UpstreamSupport) (buses : List ℕ) : Type 0 where
   pub count : length xs ≡ i
   pub within : i ≤ length b
-  pub tells : (k : ℕ) (r : Row) (x : UpstreamWindows) → slice_get b k ≡ Some r → slice_get xs k ≡ Some x → Tells b r.path x
+  pub tells : (k : ℕ) (r : Row) (x : UpstreamSupport) → slice_get b k ≡ Some r → slice_get xs k ≡ Some x → Tells b r.path x
   pub depths : length buses ≡ 17
   pub root : get_or buses 0 0 ≡ 0
   pub small : (d : ℕ) → get_or buses d 0 ≤ i
   pub last : (k : ℕ) (r : Row) → k < i → slice_get b k ≡ Some r → ((j : ℕ) (s : Row) → k < j → j < i → slice_get b j ≡ Some s → length r.path < length s.path) → get_or buses (length r.path) 0 ≡ suc k
 
-pub all_told : (b : Board) (xs : List UpstreamWindows) (buses : List ℕ) → Followed b (length b) xs buses → AreAbove b xs
+pub all_told : (b : Board) (xs : List UpstreamSupport) (buses : List ℕ) → Followed b (length b) xs buses → AreAbove b xs
 all_told b xs buses f = record {
-  buses = maps_same (λ (x : UpstreamWindows). bus_path b x.bus) (λ (r : Row). parent r.path) xs b f.count (λ k x r e g. (f.tells k r x g e).bus);
-  within = each_by_index (λ (x : UpstreamWindows). x.bus ≤ length b) xs (λ k x e.
+  buses = maps_same (λ (x : UpstreamSupport). bus_path b x.bus) (λ (r : Row). parent r.path) xs b f.count (λ k x r e g. (f.tells k r x g e).bus);
+  within = each_by_index (λ (x : UpstreamSupport). x.bus ≤ length b) xs (λ k x e.
       let w = slice_get_within xs k x e in
       let r = at_below b k (omega (arith, w, f.count)) in
       (f.tells k r.0 x r.1 e).within);
-  io = maps_same (λ (x : UpstreamWindows). x.io) (λ (r : Row). list_all (λ d. has_io d.io) (bridges_above b r.path)) xs b f.count (λ k x r e g. (f.tells k r x g e).io);
-  pref = maps_same (λ (x : UpstreamWindows). x.pref) (λ (r : Row). list_all (λ d. has_pref d.pref) (bridges_above b r.path)) xs b f.count (λ k x r e g. (f.tells k r x g e).pref);
-  pref64 = maps_same (λ (x : UpstreamWindows). x.pref64) (λ (r : Row). list_all (λ d. has_pref64 d.pref) (bridges_above b r.path)) xs b f.count (λ k x r e g. (f.tells k r x g e).pref64);
+  io = maps_same (λ (x : UpstreamSupport). x.io) (λ (r : Row). list_all (λ d. has_io d.io) (bridges_above b r.path)) xs b f.count (λ k x r e g. (f.tells k r x g e).io);
+  pref = maps_same (λ (x : UpstreamSupport). x.pref) (λ (r : Row). list_all (λ d. has_pref d.pref) (bridges_above b r.path)) xs b f.count (λ k x r e g. (f.tells k r x g e).pref);
+  pref64 = maps_same (λ (x : UpstreamSupport). x.pref64) (λ (r : Row). list_all (λ d. has_pref64 d.pref) (bridges_above b r.path)) xs b f.count (λ k x r e g. (f.tells k r x g e).pref64);
 }
 
 -- ---- the bus of the next row
@@ -47,7 +47,7 @@ module _ (b : Board) (board : IsBoard b) where
   pub path_at : (i : ℕ) (r : Row) → slice_get b i ≡ Some r → IsPath r.path
   path_at i r e = each_at (λ (x : Row). IsPath x.path) b i r board.paths e
 
-  pub stands_on : (i : ℕ) (xs : List UpstreamWindows) (buses : List ℕ) → Followed b i xs buses → (r : Row) → slice_get b i ≡ Some r → StandsOn b r i (get_or buses (length r.path - 1) 0)
+  pub stands_on : (i : ℕ) (xs : List UpstreamSupport) (buses : List ℕ) → Followed b i xs buses → (r : Row) → slice_get b i ≡ Some r → StandsOn b r i (get_or buses (length r.path - 1) 0)
   stands_on i xs buses f r e = by_parent (each_at (λ (s : Row). (parent s.path ≡ []) ⊎ IsTrue (is_bridge_at b (parent s.path))) b i r board.behind_bridges e)
     where
       some : 0 < length r.path
@@ -90,8 +90,8 @@ module _ (b : Board) (board : IsBoard b) where
 
   -- ---- and what stands above it
 
-  pub told_at : (i : ℕ) (xs : List UpstreamWindows) (buses : List ℕ) → Followed b i xs buses → (r : Row) → slice_get b i ≡ Some r → (x : UpstreamWindows) → (get_or buses (length r.path - 1) 0 ≡ 0 → x ≡ nothing_above)
-      → ((k : ℕ) (q : Row) (up : UpstreamWindows) → get_or buses (length r.path - 1) 0 ≡ suc k → slice_get b k ≡ Some q → slice_get xs k ≡ Some up → x ≡ behind (get_or buses (length r.path - 1) 0) q.decl up) → Tells b r.path x
+  pub told_at : (i : ℕ) (xs : List UpstreamSupport) (buses : List ℕ) → Followed b i xs buses → (r : Row) → slice_get b i ≡ Some r → (x : UpstreamSupport) → (get_or buses (length r.path - 1) 0 ≡ 0 → x ≡ nothing_above)
+      → ((k : ℕ) (q : Row) (up : UpstreamSupport) → get_or buses (length r.path - 1) 0 ≡ suc k → slice_get b k ≡ Some q → slice_get xs k ≡ Some up → x ≡ behind (get_or buses (length r.path - 1) 0) q.decl up) → Tells b r.path x
   told_at i xs buses f r e x root others = by_bus (stands_on i xs buses f r e)
     where
       some : 0 < length r.path
@@ -104,13 +104,13 @@ module _ (b : Board) (board : IsBoard b) where
           let same : x ≡ behind (suc k) q.decl u.0 = others k q u.0 is g u.1 ∙ ap (λ n. behind n q.decl u.0) is in
           subst (Tells b r.path) (sym same) (tells_behind b board k q g r.path some up u.0 (f.tells k q u.0 g u.1))
 
-  push_at : (xs : List UpstreamWindows) (x y : UpstreamWindows) (k : ℕ) → slice_get (xs ++ x ∷ []) k ≡ Some y → (slice_get xs k ≡ Some y) ⊎ ((k ≡ length xs) × (y ≡ x))
+  push_at : (xs : List UpstreamSupport) (x y : UpstreamSupport) (k : ℕ) → slice_get (xs ++ x ∷ []) k ≡ Some y → (slice_get xs k ≡ Some y) ⊎ ((k ≡ length xs) × (y ≡ x))
   push_at [] x y zero e = inr (refl, let s : y ≡ x = cc in s)
   push_at [] x y (suc k) e = absurd (cc)
   push_at (z ∷ xs) x y zero e = inl e
   push_at (z ∷ xs) x y (suc k) e = grind (arith, push_at xs x y k e)
 
-  pub followed_more : (i : ℕ) (xs : List UpstreamWindows) (buses : List ℕ) → Followed b i xs buses → (r : Row) → slice_get b i ≡ Some r → (x : UpstreamWindows) → Tells b r.path x → Followed b (i + 1) (xs ++ x ∷ []) (slice_set buses (length r.path) (i + 1))
+  pub followed_more : (i : ℕ) (xs : List UpstreamSupport) (buses : List ℕ) → Followed b i xs buses → (r : Row) → slice_get b i ≡ Some r → (x : UpstreamSupport) → Tells b r.path x → Followed b (i + 1) (xs ++ x ∷ []) (slice_set buses (length r.path) (i + 1))
   followed_more i xs buses f r e x told = record {
     count = length-append xs (x ∷ []) ∙ ap (λ n. n + 1) f.count;
     within = let w = slice_get_within b i r e in omega (arith, w);
@@ -127,7 +127,7 @@ module _ (b : Board) (board : IsBoard b) where
       in_buses : length r.path < length buses
       in_buses = omega (arith, (path_at i r e).few, f.depths)
 
-      by_push : (k : ℕ) (s : Row) (y : UpstreamWindows) → slice_get b k ≡ Some s → (slice_get xs k ≡ Some y) ⊎ ((k ≡ length xs) × (y ≡ x)) → Tells b s.path y
+      by_push : (k : ℕ) (s : Row) (y : UpstreamSupport) → slice_get b k ≡ Some s → (slice_get xs k ≡ Some y) ⊎ ((k ≡ length xs) × (y ≡ x)) → Tells b s.path y
       by_push k s y g (inl h) = f.tells k s y g h
       by_push k s y g (inr (h, same)) =
           let at : slice_get b i ≡ Some s = subst (λ n. slice_get b n ≡ Some s) (h ∙ f.count) g in
@@ -148,9 +148,9 @@ module _ (b : Board) (board : IsBoard b) where
           let row : s ≡ r = same_at b i s r (subst (λ n. slice_get b n ≡ Some s) eq g) e in
           ap (λ (z : Row). get_or (slice_set buses (length r.path) (i + 1)) (length z.path) 0) row ∙ get_or-set_same buses (length r.path) (i + 1) 0 in_buses ∙ let m : i + 1 ≡ suc k = omega arith in m
 
-pub more_rows : (rows : List TableRow) → IsBoard (board_in rows) → (i : ℕ) (xs : List UpstreamWindows) (buses : List ℕ) → Followed (board_in rows) i xs buses → (t : TableRow) → slice_get rows i ≡ Some t → (parts : Path) → parts ≡ t.path → (bus : ℕ)
-    → get_or buses (length parts - 1) 0 ≡ bus → (x : UpstreamWindows) → (bus ≡ 0 → x ≡ nothing_above)
-    → ((k : ℕ) (q : TableRow) (up : UpstreamWindows) → bus ≡ suc k → slice_get rows k ≡ Some q → slice_get xs k ≡ Some up → x ≡ behind bus q.decl up) → Followed (board_in rows) (i + 1) (xs ++ x ∷ []) (slice_set buses (length parts) (i + 1))
+pub more_rows : (rows : List TableRow) → IsBoard (board_in rows) → (i : ℕ) (xs : List UpstreamSupport) (buses : List ℕ) → Followed (board_in rows) i xs buses → (t : TableRow) → slice_get rows i ≡ Some t → (parts : Path) → parts ≡ t.path → (bus : ℕ)
+    → get_or buses (length parts - 1) 0 ≡ bus → (x : UpstreamSupport) → (bus ≡ 0 → x ≡ nothing_above)
+    → ((k : ℕ) (q : TableRow) (up : UpstreamSupport) → bus ≡ suc k → slice_get rows k ≡ Some q → slice_get xs k ≡ Some up → x ≡ behind bus q.decl up) → Followed (board_in rows) (i + 1) (xs ++ x ∷ []) (slice_set buses (length parts) (i + 1))
 more_rows rows board i xs buses f t e parts path bus is x root others =
     subst (λ (p : Path). Followed (board_in rows) (i + 1) (xs ++ x ∷ []) (slice_set buses (length p) (i + 1))) (sym path)
     (followed_more (board_in rows) board i xs buses f (row_in t) at x (told_at (board_in rows) board i xs buses f (row_in t) at x (λ z. root (sym same ∙ z)) (λ k q up n g h. of_row k up n h (at_map row_in rows k q g))))
@@ -161,12 +161,12 @@ more_rows rows board i xs buses f t e parts path bus is x root others =
     same : get_or buses (length t.path - 1) 0 ≡ bus
     same = ap (λ (p : Path). get_or buses (length p - 1) 0) (sym path) ∙ is
 
-    of_row : (k : ℕ) {q : Row} (up : UpstreamWindows) → get_or buses (length t.path - 1) 0 ≡ suc k → slice_get xs k ≡ Some up → (s : TableRow) × (slice_get rows k ≡ Some s) × (q ≡ row_in s) → x ≡ behind (get_or buses (length t.path - 1) 0) q.decl up
+    of_row : (k : ℕ) {q : Row} (up : UpstreamSupport) → get_or buses (length t.path - 1) 0 ≡ suc k → slice_get xs k ≡ Some up → (s : TableRow) × (slice_get rows k ≡ Some s) × (q ≡ row_in s) → x ≡ behind (get_or buses (length t.path - 1) 0) q.decl up
     of_row k up n h (s, g, e) = others k s up (sym same ∙ n) g h ∙ ap₂ (λ m (r : Row). behind m r.decl up) (sym same) (sym e)
 
 pub length_board : (rows : List TableRow) → length (board_in rows) ≡ length rows
 length_board rows = length-map rows row_in
 
 -- what is told at an index
-pub tells_at : (b : Board) (xs : List UpstreamWindows) (i : ℕ) (r : Row) (x : UpstreamWindows) → AreAbove b xs → slice_get b i ≡ Some r → slice_get xs i ≡ Some x → Tells b r.path x
+pub tells_at : (b : Board) (xs : List UpstreamSupport) (i : ℕ) (r : Row) (x : UpstreamSupport) → AreAbove b xs → slice_get b i ≡ Some r → slice_get xs i ≡ Some x → Tells b r.path x
 tells_at b xs i r x h at there = grind (arith, maps_at, each_at)

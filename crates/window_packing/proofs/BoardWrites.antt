@@ -4,14 +4,14 @@ use Rattle.lists.{specs.Elements.Each, proofs.EachLemmas.each_append}
 use Rattle.host_bridge.proofs.Lent.{with_file-none}
 use Rattle.model_registers.specs.Registers.{File}
 use Rattle.model_board.{specs.{Paths.{Path, path_eq}, Board.{Board, Decl, is_bridge, stands_at, IsBoard}, BusNumbers.{secondary, subordinate}, State.{BoardFunction, with_file, row_at}, Cycles.{secondary_register, subordinate_register}}, proofs.PathEnds.path_self}
-use Rattle.model_set_up.{specs.Reach.{HasNumbers, address_of}, proofs.Routes.reached_by_numbers}
+use Rattle.model_set_up.{specs.Reach.{HasNumbers, address_of}, proofs.Routes.bdf_reaches_its_function_only}
 use Rattle.window_packing.{specs.WordWrites.{WordWrite, after_word, after_words}, proofs.FileWrites.{written_file, file_after}}
 
 -- ---- a word at the number of a function changes that function alone
 
 word_at : (b : Board) → IsBoard b → (fs : List BoardFunction) → HasNumbers b fs → (p : Path) → IsTrue (stands_at b p) → (w : WordWrite) → after_word (address_of b p) w fs ≡ with_file (written_file w) p fs
 unfolding after_word
-word_at b board fs has p there w = grind (arith, reached_by_numbers)
+word_at b board fs has p there w = grind (arith, bdf_reaches_its_function_only)
 
 -- no function stands at the path
 abbrev pub NoneAt : Path → List BoardFunction → Type 0

@@ -4,12 +4,12 @@ use Rattle.lists.{proofs.{Tests.{and_true, same_test}, Members.{each_in, from_fl
 use Rattle.model_registers.specs.Declarations.{Bridge}
 use Rattle.model_board.{specs.{Paths.{Path, is_ancestor_of, parent, last_part, IsPath}, Board.{Decl, Row, Board, IsBoard}}, proofs.PathEnds.{snoc, leads_up, leads_self, leads_trans, not_before_itself}}
 use Rattle.model_set_up.specs.Pools.{bridge_of, bridges_above, has_io, has_pref, has_pref64}
-use Rattle.window_packing.specs.{declared.upstream_windows.UpstreamWindows.UpstreamWindows, Buses.{bus_path, nothing_above, behind}}
+use Rattle.window_packing.specs.{declared.upstream_windows.UpstreamSupport.UpstreamSupport, Buses.{bus_path, nothing_above, behind}}
 
 -- ---- one row
 
 -- the bus of a path, and what the bridges above it have
-pub record Tells (b : Board) (p : Path) (x : UpstreamWindows) : Type 0 where
+pub record Tells (b : Board) (p : Path) (x : UpstreamSupport) : Type 0 where
   pub bus : bus_path b x.bus ≡ parent p
   pub within : x.bus ≤ length b
   pub io : x.io ≡ list_all (λ d. has_io d.io) (bridges_above b p)
@@ -88,7 +88,7 @@ module _ (b : Board) (board : IsBoard b) (t : Bridge → Bool) where
 pub tells_root : (b : Board) → IsBoard b → (p : Path) → 0 < length p → parent p ≡ [] → Tells b p nothing_above
 tells_root b board p some up = grind (arith, none_over_root)
 
-pub tells_behind : (b : Board) → IsBoard b → (n : ℕ) (r : Row) → slice_get b n ≡ Some r → (p : Path) → 0 < length p → parent p ≡ r.path → (up : UpstreamWindows) → Tells b r.path up → Tells b p (behind (suc n) r.decl up)
+pub tells_behind : (b : Board) → IsBoard b → (n : ℕ) (r : Row) → slice_get b n ≡ Some r → (p : Path) → 0 < length p → parent p ≡ r.path → (up : UpstreamSupport) → Tells b r.path up → Tells b p (behind (suc n) r.decl up)
 tells_behind b board n r e p some at up tells = by_decl r.decl refl
   where
     there : IsIn r b

@@ -4,7 +4,7 @@ use Rattle.model_registers.specs.Apertures.{Apertures, IsLawfulApertures}
 use Rattle.lists.{specs.Elements.{Each, IsIn}, proofs.Indices.{read_at, same_at, index_in}}
 use Rattle.model_board.specs.{Paths.{Part, parent, last_part}, Board.{Row, Board, IsBoard}, Lawful.HasLawfulDecls}
 use Rattle.model_set_up.specs.{Pools.Pool, Placement.{a_window, is_item, spots, offset_in, fits, bus_first}}
-use Rattle.window_packing.{specs.{declared.upstream_windows.UpstreamWindows.UpstreamWindows, Buses.bus_path, Packs.{PackedBus, pack_of, packs_of}, Placed.{bus_paths, IsAboveAt}}, proofs.{SpotSearch.AreStrict, BusIndex.{by_bus, count_buses, bus_behind}, BusIndices.bus_before, PoolSteps.{IsAboveRow, above_row}, Gathering.{front_at, last_at}, PlacedBuses.{highest, spots_strict, window_align, next_first, first_bound}}}
+use Rattle.window_packing.{specs.{declared.upstream_windows.UpstreamSupport.UpstreamSupport, Buses.bus_path, Packs.{PackedBus, pack_of, packs_of}, Placed.{bus_paths, IsAboveAt}}, proofs.{SpotSearch.AreStrict, BusIndex.{by_bus, count_buses, bus_behind}, BusIndices.bus_before, PoolSteps.{IsAboveRow, above_row}, Gathering.{front_at, last_at}, PlacedBuses.{highest, spots_strict, window_align, next_first, first_bound}}}
 
 -- those of the buses up to an index
 pub record AreFirsts (b : Board) (a : Apertures) (pool : Pool) (i : ℕ) (xs : List ℕ) : Type 0 where
@@ -44,7 +44,7 @@ pub count_packs : (b : Board) (a : Apertures) (pool : Pool) (packs : List Packed
 count_packs b a pool packs e = ap length e ∙ count_buses (pack_of b a pool) b
 
 -- a row of a board whose pool fits its aperture, and what stands above it
-pub record IsFittingRow (b : Board) (a : Apertures) (pool : Pool) (i : ℕ) (r : Row) (x : UpstreamWindows) : Type 0 where
+pub record IsFittingRow (b : Board) (a : Apertures) (pool : Pool) (i : ℕ) (r : Row) (x : UpstreamSupport) : Type 0 where
   pub board : IsBoard b
   pub lawful : HasLawfulDecls b
   pub apertures : IsLawfulApertures a
@@ -52,7 +52,7 @@ pub record IsFittingRow (b : Board) (a : Apertures) (pool : Pool) (i : ℕ) (r :
   pub at : slice_get b i ≡ Some r
   pub above : IsAboveAt b i x
 
-module _ {b : Board} {a : Apertures} {pool : Pool} {i : ℕ} {r : Row} {x : UpstreamWindows} (h : IsFittingRow b a pool i r x) where
+module _ {b : Board} {a : Apertures} {pool : Pool} {i : ℕ} {r : Row} {x : UpstreamSupport} (h : IsFittingRow b a pool i r x) where
   there : IsIn r b
   there = index_in b i r h.at
 

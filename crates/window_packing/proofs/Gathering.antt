@@ -2,7 +2,7 @@
 use Rattle.std.{proofs.{Common.{◌≡◌, ℕ, suc, ◌+◌, ◌≤◌, ◌^◌, Bool, true, false, cond, Some, List, [], ◌∷◌, ◌++◌, length, drop, refl, sym, ap, ◌∙◌, subst, arith, length-append, get_or-set_other, get_or-set_same}, lemmas.{Option.{slice_get_within, get_or_from_slice_get}, List.{drop_more, get_or_append_left, drop_all, reverse-append, Sorted.{IsPermutation-trans, IsPermutation-append_comm, IsPermutation-append_left}}, Bool.cases_lt}, Math.ListN.length-set}, specs.{Prelude.{map, flat_map, reverse, slice_get, slice_set, All}, List.Sorted.IsPermutation}}
 use Rattle.lists.{proofs.Indices.read_at, specs.Elements.Each}
 use Rattle.model_board.{specs.{Paths.{Path, path_eq, parent}, Board.{Row, Board, rows_on, IsBoard}}, proofs.{PathOrder.path_same, PathEnds.path_self}}
-use Rattle.model_set_up.{specs.{Pools.Pool, Placement.{PlacementItem, items_of, items_on}}, proofs.Levels.items_by_bus}
+use Rattle.model_set_up.{specs.{Pools.Pool, Placement.{PlacementItem, items_of, items_on}}, proofs.Levels.bus_items_are_bars_and_windows}
 use Rattle.model_registers.specs.Apertures.{Apertures}
 use Rattle.window_packing.{specs.{Buses.bus_path, Packs.{PackedBus, pack_of}}, proofs.BusIndices.{rows_behind, bus_index}}
 
@@ -57,12 +57,12 @@ module _ (b : Board) (a : Apertures) (pool : Pool) (board : IsBoard b) {V : Type
       let there : slice_get (buses ++ v ∷ []) (i + 1) ≡ Some v = subst (λ n. slice_get (buses ++ v ∷ []) n ≡ Some v) count (last_at buses v) in
       let gathered : IsPermutation (items_from b a pool (drop (i + 1) b) (bus_path b (i + 1))) (contents v) = h.own (i + 1) v there in
       let all : items_from b a pool (drop (i + 1) b) (bus_path b (i + 1)) ≡ items_on b a pool r.path =
-      ap (items_from b a pool (drop (i + 1) b)) whole ∙ ap (flat_map (items_of b a pool (items_on b a pool))) (rows_behind b board i r at) ∙ sym (items_by_bus b board a pool r.path) in
+      ap (items_from b a pool (drop (i + 1) b)) whole ∙ ap (flat_map (items_of b a pool (items_on b a pool))) (rows_behind b board i r at) ∙ sym (bus_items_are_bars_and_windows b board a pool r.path) in
       subst (λ (is : List PlacementItem). IsPermutation is (contents v)) all gathered
 
   -- in the end bus 0 has
   pub root_gathered : (v : V) (packs : List PackedBus) → IsGathered b a pool contents 0 (v ∷ []) packs → IsPermutation (items_on b a pool []) (contents v)
-  root_gathered v packs h = subst (λ (is : List PlacementItem). IsPermutation is (contents v)) (sym (items_by_bus b board a pool [])) (h.own 0 v refl)
+  root_gathered v packs h = subst (λ (is : List PlacementItem). IsPermutation is (contents v)) (sym (bus_items_are_bars_and_windows b board a pool [])) (h.own 0 v refl)
 
   -- one row more
   pub more_gathered : (i : ℕ) (r : Row) (buses : List V) (v : V) (packs : List PackedBus) (pack : PackedBus) (k : ℕ) (u w : V) → slice_get b i ≡ Some r

@@ -3,14 +3,14 @@ use Rattle.std.proofs.Common.{◌≡◌, ◌%◌, ◌<◌, refl, subst}
 use Rattle.lists.{specs.Elements.{Each, IsIn}, proofs.Members.{each_in, each_from}}
 use Rattle.model_registers.{specs.{Declarations.{Region, IsLawfulRegion, HasLawfulRegions, Endpoint}, EndpointTable.IsLawfulBase, Apertures.Apertures}, proofs.Bases.whole_bound}
 use Rattle.model_board.specs.Board.{Board, Row, endpoint}
-use Rattle.model_set_up.{specs.{Pools.bridges_above, Layout.{LayoutRow, IsAligned, IsLawful, layout}, PlacementLaws.{HasRows, region_row}, SetUp.first_of, SetUpWrites.placed_base, UniqueClaimant.CanBePlaced}, proofs.{LawfulPlacement.layout_is_lawful, DeclaredRows.rows_are_declared, PlacedRegions.{region_there, lawful_regions}, PlacedReads.{InAperture, fits_register}, SetUpRegisters.FitsRegister}}
+use Rattle.model_set_up.{specs.{Pools.bridges_above, Layout.{LayoutRow, IsAligned, IsLawful, layout}, PlacementLaws.{HasRows, region_row}, SetUp.first_of, SetUpWrites.placed_base, UniqueClaimant.CanBePlaced}, proofs.{LawfulPlacement.layout_is_lawful, DeclaredRows.one_row_per_region_or_window, PlacedRegions.{region_there, lawful_regions}, PlacedReads.{InAperture, fits_register}, SetUpRegisters.FitsRegister}}
 
 module _ (b : Board) (a : Apertures) (can : CanBePlaced b a) where
   lawful : IsLawful b a (layout b a)
   lawful = layout_is_lawful b a can.places can.declarations can.room
 
   has : HasRows b a
-  has = rows_are_declared b a can.places can.declarations
+  has = one_row_per_region_or_window b a can.places can.declarations
 
   base_fits : (r : Row) (e : Endpoint) → IsIn r b → r.decl ≡ endpoint e → (g : Region) → IsIn g e.regions → IsLawfulBase (placed_base b a r.path g)
   base_fits r e m decl_is g k =

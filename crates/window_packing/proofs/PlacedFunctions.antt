@@ -4,7 +4,7 @@ use Rattle.lists.{specs.Elements.{Each, IsIn}, proofs.{Members.{each_in, each_fr
 use Rattle.model_registers.specs.{Declarations.Region, Apertures.Apertures}
 use Rattle.model_board.specs.{Paths.{Part, parent, last_part, IsPath}, Board.{endpoint, Row, Board, IsBoard}, Lawful.HasLawfulDecls}
 use Rattle.model_set_up.{specs.{Pools.{Pool, io_pool, mem_pool, pref_pool, unit_of, bridges_above, pool_of}, Placement.{Placed, a_region, PlacementItem, PlacedItem, is_item, round_up, need, spots, offset_in, items_on, offset_on, bus_first, region_first}, SetUp.{first_of, window_of}}, proofs.Items.item_of}
-use Rattle.window_packing.{specs.{declared.upstream_windows.UpstreamWindows.UpstreamWindows, Buses.bus_path, Packs.{PackedBus, pack_of}, Placed.{bus_paths, PlacedPool, IsPlaced, Placement, IsPlacement, pool_in, IsAboveAt, IsRegionAt}}, proofs.{SpotSearch.AreStrict, BusIndex.{by_bus, count_buses, bus_behind}, PackFits.no_items, PoolSteps.{IsAboveRow, above_row}, FirstsSoFar.{pack_is, count_packs}, PlacedBuses.{spots_strict, region_align, spot_bound, window_bound, found_bound, first_bound, depth}}}
+use Rattle.window_packing.{specs.{declared.upstream_windows.UpstreamSupport.UpstreamSupport, Buses.bus_path, Packs.{PackedBus, pack_of}, Placed.{bus_paths, PlacedPool, IsPlaced, Placement, IsPlacement, pool_in, IsAboveAt, IsRegionAt}}, proofs.{SpotSearch.AreStrict, BusIndex.{by_bus, count_buses, bus_behind}, PackFits.no_items, PoolSteps.{IsAboveRow, above_row}, FirstsSoFar.{pack_is, count_packs}, PlacedBuses.{spots_strict, region_align, spot_bound, window_bound, found_bound, first_bound, depth}}}
 
 pub placed_in : (b : Board) (a : Apertures) (p : Placement) → IsPlacement b a p → (pool : Pool) → IsPlaced b a pool (pool_in p pool)
 placed_in b a p h io_pool = h.io
@@ -70,7 +70,7 @@ module _ {b : Board} {a : Apertures} {pool : Pool} {pl : PlacedPool} (placed : I
 
     -- ---- a region
 
-    module _ {x : UpstreamWindows} (above : IsAboveAt b i x) where
+    module _ {x : UpstreamSupport} (above : IsAboveAt b i x) where
       row : IsAboveRow b r x
       row = above_row b above.all i r x above.told at above.there
 

@@ -3,10 +3,10 @@ use Rattle.std.{proofs.{Common.{ℕ, ◌≡◌, ◌<◌, ◌≤◌, ◌^◌, ◌
 use Rattle.model_registers.specs.Apertures.{IsLawfulApertures, Apertures}
 use Rattle.lists.specs.Elements.{IsIn}
 use Rattle.model_board.specs.{Paths.{Path, is_ancestor_of}, Board.{Board, IsBoard}, Lawful.HasLawfulDecls}
-use Rattle.model_set_up.{specs.{Pools.Pool, Placement.{PlacementItem, in_order, end_from, aperture_end, fits_items, fits, items_on}}, proofs.Nesting.{HasItems, nested, IsWithin, root_has}}
+use Rattle.model_set_up.{specs.{Pools.Pool, Placement.{PlacementItem, in_order, end_from, aperture_end_or_zero, fits_items, fits, items_on}}, proofs.Nesting.{HasItems, nested, IsWithin, root_has}}
 use Rattle.window_packing.proofs.BusItems.{end_is}
 
-ends_below : (a : Apertures) → IsLawfulApertures a → (pool : Pool) → aperture_end a pool ≤ 2 ^ 63
+ends_below : (a : Apertures) → IsLawfulApertures a → (pool : Pool) → aperture_end_or_zero a pool ≤ 2 ^ 63
 ends_below a h pool = grind arith
 
 -- a bus without items ends where it begins

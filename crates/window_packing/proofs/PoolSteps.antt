@@ -4,7 +4,7 @@ use Rattle.lists.{specs.Elements.Each, proofs.{EachLemmas.{each_map, each_both},
 use Rattle.model_board.specs.{Paths.{Path, parent}, Board.{Row, Board, IsBoard}, Lawful.HasLawfulDecls}
 use Rattle.model_set_up.specs.{Pools.{Pool, bridges_above}, Placement.{PlacementItem, items_on}}
 use Rattle.model_registers.specs.Apertures.{Apertures}
-use Rattle.window_packing.{specs.{declared.upstream_windows.UpstreamWindows.UpstreamWindows, Buses.{bus_path, AreAbove}, Packs.{PackedBus, pack_of, IsBounded, IsOver}}, proofs.{BusItems.{alignment_bounds, items_align}, Gathering.{IsGathered, root_gathered}}}
+use Rattle.window_packing.{specs.{declared.upstream_windows.UpstreamSupport.UpstreamSupport, Buses.{bus_path, AreAbove}, Packs.{PackedBus, pack_of, IsBounded, IsOver}}, proofs.{BusItems.{alignment_bounds, items_align}, Gathering.{IsGathered, root_gathered}}}
 
 -- ---- what is said of the bridges above a row
 
@@ -12,15 +12,15 @@ pub maps_at : {A B D : Type 0} (f : A → D) (g : B → D) (xs : List A) (ys : L
 maps_at f g xs ys i x y e at there =
     let same : Some (f x) ≡ Some (g y) = sym (map_at f xs i x at) ∙ ap (λ zs. slice_get zs i) e ∙ map_at g ys i y there in cc
 
-pub above_count : (b : Board) (xs : List UpstreamWindows) → AreAbove b xs → length xs ≡ length b
-above_count b xs h = sym (length-map xs (λ (x : UpstreamWindows). bus_path b x.bus)) ∙ ap length h.buses ∙ length-map b (λ (r : Row). parent r.path)
+pub above_count : (b : Board) (xs : List UpstreamSupport) → AreAbove b xs → length xs ≡ length b
+above_count b xs h = sym (length-map xs (λ (x : UpstreamSupport). bus_path b x.bus)) ∙ ap length h.buses ∙ length-map b (λ (r : Row). parent r.path)
 
-pub record IsAboveRow (b : Board) (r : Row) (x : UpstreamWindows) : Type 0 where
+pub record IsAboveRow (b : Board) (r : Row) (x : UpstreamSupport) : Type 0 where
   pub bus : bus_path b x.bus ≡ parent r.path
   pub within : x.bus ≤ length b
   pub over : IsOver (bridges_above b r.path) x
 
-pub above_row : (b : Board) (xs : List UpstreamWindows) (i : ℕ) (r : Row) (x : UpstreamWindows) → AreAbove b xs → slice_get b i ≡ Some r → slice_get xs i ≡ Some x → IsAboveRow b r x
+pub above_row : (b : Board) (xs : List UpstreamSupport) (i : ℕ) (r : Row) (x : UpstreamSupport) → AreAbove b xs → slice_get b i ≡ Some r → slice_get xs i ≡ Some x → IsAboveRow b r x
 above_row b xs i r x h at there = grind (arith, maps_at, each_at)
 
 -- ---- one bus taken from those that are left

@@ -3,7 +3,7 @@
 use Rattle.std.{proofs.{Common.{◌≡◌, ◌⊎◌, inl, inr, ℕ, Bool, true, List, [], ◌∷◌, Some, None, refl, sym, ap, ◌∙◌, subst, arith, rules}, lemmas.Bool.le-leb}, specs.Prelude.{nat_le, count_by, IsTrue}}
 use Rattle.model_registers.specs.{DeclarationRules.first_broken, Apertures.{IsLawfulApertures, Apertures}}
 use Rattle.model_board.{specs.{Board.{Board, Row, is_bridge, IsBoard}, BusNumbers.Enumerates, Lawful.HasLawfulDecls, State.State, AtReset.board_at}, proofs.StateRows.state_rows}
-use Rattle.model_set_up.{specs.{Pools.{Pool, io_pool, mem_pool, pref_pool, has_io_paths}, Placement.fits, Layout.{IsLawful, layout}, SetUp.{set_up_file, set_up_state}, SetUpWrites.{Plan, planned, placement_rules, set_up_rules}, FunctionTable.{TableRow, sized_table}, UniqueClaimant.CanBePlaced}, proofs.{LawfulPlacement.layout_is_lawful, UniqueClaimant.unique_claimant}}
+use Rattle.model_set_up.{specs.{Pools.{Pool, io_pool, mem_pool, pref_pool, has_io_paths}, Placement.fits, Layout.{IsLawful, layout}, SetUp.{set_up_file, set_up_state}, SetUpWrites.{Plan, planned, placement_rules, set_up_rules}, FunctionTable.{TableRow, sized_table}, UniqueClaimant.CanBePlaced}, proofs.{LawfulPlacement.layout_is_lawful, UniqueClaimant.set_up_gives_unique_claimants}}
 use Rattle.host_bridge.specs.HostState.{HostState}
 use Rattle.bus_scan.specs.{declared.fault.Fault.{Fault, TheVariants.Memory}, Faults.number_of, SizedTables.IsTableOf}
 use Rattle.window_packing.specs.{Plans.IsRefusal, Readies.{ReadyBoard, board_below, IsEnumerated, IsReady, OwnClaims}}
@@ -60,7 +60,7 @@ is_ready b a r can few host table plan =
     grind (arith, placeable, rows_lawful)
 
 pub own_claims : (r : ReadyBoard) → IsReady r → OwnClaims r.host
-own_claims r ready fs same = grind (arith, unique_claimant, placeable)
+own_claims r ready fs same = grind (arith, set_up_gives_unique_claimants, placeable)
 
 -- ---- from reset on
 

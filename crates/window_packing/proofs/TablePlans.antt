@@ -2,7 +2,7 @@
 use Rattle.std.proofs.Common.{◌≡◌, List, [], None, map, sym, ap, ◌∙◌, subst, arith}
 use Rattle.model_registers.specs.{DeclarationRules.first_broken, Apertures.{IsLawfulApertures, Apertures}}
 use Rattle.model_board.specs.{Paths.Path, Board.{Board, IsBoard}, Lawful.HasLawfulDecls}
-use Rattle.model_set_up.{specs.{Layout.IsLawful, SetUpWrites.{Plan, FunctionProgram, planned, placement_rules, settings}, FunctionTable.{TableRow, board_in}, UniqueClaimant.CanBePlaced, Pools.Pool, Placement.items_on}, proofs.FoundBoards.{board_in_table, on_bus, placed_as_found}}
+use Rattle.model_set_up.{specs.{Layout.IsLawful, SetUpWrites.{Plan, FunctionProgram, planned, placement_rules, settings}, FunctionTable.{TableRow, board_in}, UniqueClaimant.CanBePlaced, Pools.Pool, Placement.items_on}, proofs.FoundBoards.{board_in_table, on_bus, scan_finds_all_placement_needs}}
 use Rattle.bus_scan.specs.{declared.fault.Fault.Fault, SizedTables.IsTableOf}
 use Rattle.window_packing.{specs.{LayoutRows.{rows_of, AreListable}, Placed.{Placement, IsPlacement}, Plans.IsRefusal, Uses.{told_by, told_use}}, proofs.{LayoutRows.{layout_rows, are_listable, table_paths}, SetUps.{placeable, rows_lawful}}}
 
@@ -20,10 +20,10 @@ module _ (rows : List TableRow) (board : IsBoard (board_in rows)) (lawful : HasL
 -- the rows that the program reads are the table
 module _ (t rows : List TableRow) (same : rows ≡ t) (b : Board) (h : IsTableOf b t) (a : Apertures) where
   plan_same : planned (board_in rows) a ≡ planned b a
-  plan_same = ap (λ (x : List TableRow). planned (board_in x) a) (same ∙ h.sized) ∙ (placed_as_found b h.board h.declarations).plan a
+  plan_same = ap (λ (x : List TableRow). planned (board_in x) a) (same ∙ h.sized) ∙ (scan_finds_all_placement_needs b h.board h.declarations).plan a
 
   rules_same : placement_rules (board_in rows) a ≡ placement_rules b a
-  rules_same = ap (λ (x : List TableRow). placement_rules (board_in x) a) (same ∙ h.sized) ∙ (placed_as_found b h.board h.declarations).rules a
+  rules_same = ap (λ (x : List TableRow). placement_rules (board_in x) a) (same ∙ h.sized) ∙ (scan_finds_all_placement_needs b h.board h.declarations).rules a
 
   items_same : (pool : Pool) (bus : Path) → items_on (board_in rows) a pool bus ≡ items_on b a pool bus
   items_same pool bus = ap (λ (x : List TableRow). items_on (board_in x) a pool bus) (same ∙ h.sized) ∙ ap (λ (x : Board). items_on x a pool bus) (board_in_table b) ∙ on_bus b a pool bus

@@ -6,17 +6,17 @@ use Rattle.std.specs.{Prelude.{List, [], ◌≡◌, ℕ, zero, suc, ◌≤◌, t
 use Rattle.lists.specs.Elements.{Each}
 use Rattle.model_board.specs.{Paths.{Path, parent}, Board.{Decl, endpoint, bridge, Row, Board}}
 use Rattle.model_set_up.specs.Pools.{bridges_above, has_io, has_pref, has_pref64}
-use Rattle.window_packing.specs.declared.upstream_windows.UpstreamWindows.{UpstreamWindows}
+use Rattle.window_packing.specs.declared.upstream_windows.UpstreamSupport.{UpstreamSupport}
 
 abbrev pub bus_path : Board → ℕ → Path
 bus_path b zero = []
 bus_path b (suc n) = option_map_or (λ (r : Row). r.path) (slice_get b n) []
 
-abbrev pub nothing_above : UpstreamWindows
+abbrev pub nothing_above : UpstreamSupport
 nothing_above = record { bus = 0; io = true; pref = true; pref64 = true }
 
 -- a function on a bus has above it the bridge of the bus, and what the bridge has
-abbrev pub behind : ℕ → Decl → UpstreamWindows → UpstreamWindows
+abbrev pub behind : ℕ → Decl → UpstreamSupport → UpstreamSupport
 behind bus (endpoint d) up = record up { bus = bus }
 behind bus (bridge d) up = record {
   bus = bus;
@@ -25,7 +25,7 @@ behind bus (bridge d) up = record {
   pref64 = up.pref64 && has_pref64 d.pref;
 }
 
-pub record AreAbove (b : Board) (xs : List UpstreamWindows) : Type 0 where
+pub record AreAbove (b : Board) (xs : List UpstreamSupport) : Type 0 where
   pub buses : map (λ x. bus_path b x.bus) xs ≡ map (λ r. parent r.path) b
   pub within : Each (λ x. x.bus ≤ length b) xs
   pub io : map (λ x. x.io) xs ≡ map (λ r. list_all (λ d. has_io d.io) (bridges_above b r.path)) b

@@ -13,7 +13,7 @@ use Rattle.model_registers.specs.{Declarations.{Bar, Bridge, Region}, EndpointTa
 use Rattle.model_board.specs.{Paths.{Part, Path, last_part}, Board.{Board, Decl, endpoint, bridge}}
 use Rattle.model_set_up.specs.{Pools.{Pool, same_pool, unit_of, pool_of, has_pref, has_pref64}, Placement.{a_window, PlacementItem, region_item, in_order, end_from, PlacedItem, spots, alignment, round_up, items_on}, OrderLaws.IsOrderOf}
 use Rattle.bars.specs.Resets.{reset_from}
-use Rattle.window_packing.specs.declared.upstream_windows.UpstreamWindows.{UpstreamWindows}
+use Rattle.window_packing.specs.declared.upstream_windows.UpstreamSupport.{UpstreamSupport}
 
 pub record PackedBus : Type 0 where
   pub spots : List PlacedItem
@@ -49,7 +49,7 @@ pub record IsPackable (is : List PlacementItem) : Type 0 where
   pub aligns : Each HasLawfulAlign is
 
 -- what x says of all bridges above a function is so of these
-pub record IsOver (ds : List Bridge) (x : UpstreamWindows) : Type 0 where
+pub record IsOver (ds : List Bridge) (x : UpstreamSupport) : Type 0 where
   pub pref : x.pref ≡ list_all (λ d. has_pref d.pref) ds
   pub pref64 : x.pref64 ≡ list_all (λ d. has_pref64 d.pref) ds
 

@@ -11,7 +11,7 @@ use Rattle.model_registers.specs.{Apertures.{IsLawfulApertures, Apertures}, Decl
 use Rattle.model_board.specs.{Paths.Path, Board.{endpoint, Row, Board}}
 use Rattle.lists.specs.Elements.{IsIn}
 use Rattle.model_set_up.specs.{Pools.{Pool, io_pool, mem_pool, pref_pool, is_io}, Placement.{fits, bus_first}}
-use Rattle.window_packing.specs.{declared.upstream_windows.UpstreamWindows.UpstreamWindows, Buses.AreAbove, Packs.{PackedBus, packs_of}}
+use Rattle.window_packing.specs.{declared.upstream_windows.UpstreamSupport.UpstreamSupport, Buses.AreAbove, Packs.{PackedBus, packs_of}}
 
 abbrev pub bus_paths : Board → List Path
 bus_paths b = [] ∷ map (λ (r : Row). r.path) b
@@ -43,8 +43,8 @@ pool_in p mem_pool = p.mem
 pool_in p pref_pool = p.pref
 
 -- what is told stands above the function of a row
-pub record IsAboveAt (b : Board) (i : ℕ) (x : UpstreamWindows) : Type 0 where
-  pub all : List UpstreamWindows
+pub record IsAboveAt (b : Board) (i : ℕ) (x : UpstreamSupport) : Type 0 where
+  pub all : List UpstreamSupport
   pub told : AreAbove b all
   pub there : slice_get all i ≡ Some x
 

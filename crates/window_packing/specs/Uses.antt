@@ -3,16 +3,16 @@
 --     told_use      the same, where they extend over 2 ^ 63 bytes at most
 use Rattle.std.specs.Prelude.{List, [], ◌-◌, ◌^◌, if◌then◌else◌, nat_le, Option, Some, None}
 use Rattle.model_board.specs.Board.{Board}
-use Rattle.model_set_up.specs.{Pools.Pool, Placement.{PlacementItem, in_order, end_from, items_on, root_first, aperture_end}}
+use Rattle.model_set_up.specs.{Pools.Pool, Placement.{PlacementItem, in_order, end_from, items_on, root_bus_start, aperture_end_or_zero}}
 use Rattle.model_registers.specs.Apertures.{Apertures}
 use Rattle.window_packing.specs.declared.pool_uses.PoolUse.{PoolUse}
 
 -- by the items of bus 0
 abbrev pub use_by : Apertures → Pool → List PlacementItem → PoolUse
 use_by a pool is = record {
-  first = root_first a pool is;
+  first = root_bus_start a pool is;
   extent = end_from 0 (in_order is);
-  room = aperture_end a pool - root_first a pool is;
+  room = aperture_end_or_zero a pool - root_bus_start a pool is;
 }
 
 abbrev pub told_by : Apertures → Pool → List PlacementItem → Option PoolUse

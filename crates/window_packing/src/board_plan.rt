@@ -5,7 +5,7 @@ use crate::function_program::FunctionProgram;
 use crate::layout_row::PlanRow;
 use crate::pool::Pool;
 use crate::pool_placement::Placement;
-use crate::rows::push_pool;
+use crate::rows::push_pool_rows;
 use host_bridge::Path;
 use std::alloc::{AllocError, Global};
 use std::marker::Model;
@@ -57,9 +57,9 @@ impl Plan {
         ensures { IfOk result (λ v. v.items ≡ self.now.rows) }
     {
         let mut list = Vec::new(alloc);
-        push_pool(&mut list, &self.paths, Pool::Io, &self.placement.io)?;
-        push_pool(&mut list, &self.paths, Pool::Mem, &self.placement.mem)?;
-        push_pool(&mut list, &self.paths, Pool::Pref, &self.placement.pref)?;
+        push_pool_rows(&mut list, &self.paths, Pool::Io, &self.placement.io)?;
+        push_pool_rows(&mut list, &self.paths, Pool::Mem, &self.placement.mem)?;
+        push_pool_rows(&mut list, &self.paths, Pool::Pref, &self.placement.pref)?;
         Ok(list)
     }
 

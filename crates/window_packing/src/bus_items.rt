@@ -8,7 +8,7 @@ use crate::item::PlacementItem;
 use crate::layout_row::Placed;
 use crate::pack::{PackedBus, round_up};
 use crate::pool::{Pool, pool_of};
-use crate::upstream_windows::UpstreamWindows;
+use crate::upstream_windows::UpstreamSupport;
 use bars::BarDecl;
 use bridge_forward::Part;
 use bus_scan::{Enumerated, EnumeratedFunction};
@@ -22,7 +22,7 @@ fn push_region_if_in_pool(
     index: u8,
     bar: Option<BarDecl>,
     pool: Pool,
-    above: &UpstreamWindows,
+    above: &UpstreamSupport,
     apertures: &Apertures,
 ) -> Result<(), AllocError>
     ensures { IfOk result (λ _. (ds : List Bridge) → IsOver ds above.now
@@ -44,12 +44,12 @@ fn push_region_if_in_pool(
 }
 
 /// Appends the regions of an endpoint that belong to the pool.
-fn push_regions(
+fn push_regions_in_pool(
     into: &mut Vec<PlacementItem>,
     part: Part,
     bars: &[Option<BarDecl>; 6],
     pool: Pool,
-    above: &UpstreamWindows,
+    above: &UpstreamSupport,
     apertures: &Apertures,
 ) -> Result<(), AllocError>
     ensures { IfOk result (λ _. (ds : List Bridge) → IsOver ds above.now
@@ -73,7 +73,7 @@ fn push_regions(
 
 /// Appends the window of a bridge, rounded up to the window granularity, unless the bus behind the
 /// bridge is empty.
-fn push_window(
+fn push_window_unless_empty(
     into: &mut Vec<PlacementItem>,
     part: Part,
     pool: Pool,
@@ -97,11 +97,11 @@ fn push_window(
 
 /// Appends the items of a function on its own bus: the regions of an endpoint that belong to the
 /// pool, or the window of a bridge.
-pub(crate) fn push_own(
+pub(crate) fn push_function_items(
     into: &mut Vec<PlacementItem>,
     pool: Pool,
     row: &EnumeratedFunction,
-    above: &UpstreamWindows,
+    above: &UpstreamSupport,
     apertures: &Apertures,
     behind: &PackedBus,
 ) -> Result<(), AllocError>
@@ -113,7 +113,7 @@ pub(crate) fn push_own(
 {
     let part = row.path.last();
     match &row.found {
-        Enumerated::Endpoint { pin: _, bars } => push_regions(
+        Enumerated::Endpoint { pin: _, bars } => push_regions_in_pool(
             into, part, bars, pool, above, apertures,
         ),
         Enumerated::Bridge {
@@ -121,6 +121,6 @@ pub(crate) fn push_own(
             subordinate: _,
             io: _,
             pref: _,
-        } => push_window(into, part, pool, behind),
+        } => push_window_unless_empty(into, part, pool, behind),
     }
 }

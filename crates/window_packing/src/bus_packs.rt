@@ -6,17 +6,17 @@ ghost use Rattle.model_board.specs.{Board.IsBoard, Lawful.HasLawfulDecls};
 ghost use Rattle.model_set_up.specs.{FunctionTable.board_in, Placement.fits};
 ghost use Rattle.window_packing.specs.{Plans.named_pool, Buses.AreAbove, Packs.{pack_of, packs_of, IsBounded}};
 
-use crate::bus_items::push_own;
+use crate::bus_items::push_function_items;
 use crate::item::PlacementItem;
 use crate::pack::{PackedBus, pack_bus};
 use crate::pool::Pool;
-use crate::upstream_windows::UpstreamWindows;
+use crate::upstream_windows::UpstreamSupport;
 use bus_scan::EnumeratedFunction;
 use headers::Apertures;
 use std::alloc::{AllocError, Global};
 
 /// Creates empty item lists for bus 0 and `count` more buses.
-fn no_items(alloc: Global, count: usize) -> Result<Vec<Vec<PlacementItem>>, AllocError>
+fn empty_item_lists(alloc: Global, count: usize) -> Result<Vec<Vec<PlacementItem>>, AllocError>
     ensures buses { IfOk result (λ v. length v.items ≡ count + 1) }
     ensures none { IfOk result (λ v. All (λ own. own.items ≡ []) v.items) }
 {
@@ -37,7 +37,7 @@ pub(crate) fn pack_pool(
     alloc: Global,
     pool: Pool,
     rows: &[EnumeratedFunction],
-    above: &[UpstreamWindows],
+    above: &[UpstreamSupport],
     apertures: &Apertures,
 ) -> Result<Option<Vec<PackedBus>>, AllocError>
     requires board { IsBoard (board_in rows.now) }
@@ -53,7 +53,7 @@ pub(crate) fn pack_pool(
     ensures bounded { IfOk result (λ r. IfSome r (λ packs. Each IsBounded packs.items)) }
 {
     let unit = pool.unit();
-    let mut items = no_items(alloc, rows.len())?;
+    let mut items = empty_item_lists(alloc, rows.len())?;
     let mut packs = Vec::new(alloc);
     'rows: for i in (0..rows.len()).rev() {
         let behind = items.pop().unwrap();
@@ -62,7 +62,7 @@ pub(crate) fn pack_pool(
         };
         let above = &above[i];
         let own = &mut items[above.bus];
-        push_own(own, pool, &rows[i], above, apertures, &pack)?;
+        push_function_items(own, pool, &rows[i], above, apertures, &pack)?;
         packs.push(pack)?;
     }
     let root = items.pop().unwrap();

@@ -33,7 +33,7 @@ impl Model for PlacementItem {
 impl PlacementItem {
     /// Returns the index of the region's first BAR register, which distinguishes the items of one
     /// function. Returns 0 for a window.
-    fn register(&self) -> u8
+    fn bar_index_or_zero(&self) -> u8
         ensures { result ≡ register_of self.now.what }
     {
         match self.what {
@@ -44,23 +44,23 @@ impl PlacementItem {
 
     /// Returns whether this item is placed before the other: larger alignment first, then by
     /// device, function and register.
-    pub(crate) fn is_before(&self, other: &PlacementItem) -> bool
+    pub(crate) fn is_placed_before(&self, other: &PlacementItem) -> bool
         ensures { result ≡ stands_before self.now other.now }
     {
         if self.align != other.align {
             return self.align > other.align;
         }
         self.part.is_before(other.part)
-            || (self.part == other.part && self.register() < other.register())
+            || (self.part == other.part && self.bar_index_or_zero() < other.bar_index_or_zero())
     }
 
     /// Compares two items by the order in which they are placed on a bus.
-    pub(crate) fn compare(&self, other: &PlacementItem) -> Ordering
+    pub(crate) fn compare_placement(&self, other: &PlacementItem) -> Ordering
         ensures { is_lt result ≡ stands_before self.now other.now }
     {
-        if self.is_before(other) {
+        if self.is_placed_before(other) {
             Ordering::Less
-        } else if other.is_before(self) {
+        } else if other.is_placed_before(self) {
             Ordering::Greater
         } else {
             Ordering::Equal

@@ -5,7 +5,7 @@ ghost use Rattle.model_set_up.specs.Placement.{round_up, end_from, spots_from, i
 ghost use Rattle.window_packing.specs.Packs.{pack_items, IsPackable, HasLawfulAlign};
 
 use crate::item::{PlacedItem, PlacementItem};
-use crate::order::sort;
+use crate::order::sort_by_placement;
 use std::alloc::{AllocError, Global};
 use std::marker::Model;
 
@@ -40,7 +40,7 @@ pub(crate) fn round_up(align: u64, n: u64) -> u64
 
 /// Returns the first aligned offset for the item at or after `at`, or `None` if the item would end
 /// above the limit.
-fn place(at: u64, item: &PlacementItem) -> Option<u64>
+fn aligned_offset_if_fits(at: u64, item: &PlacementItem) -> Option<u64>
     requires at { at ≤ 2 ^ 63 }
     requires item { HasLawfulAlign item.now }
     ensures { MatchOption result (2 ^ 63 < round_up item.now.align at + item.now.size) (λ first.
@@ -55,7 +55,7 @@ fn place(at: u64, item: &PlacementItem) -> Option<u64>
 
 /// Places the items one after another. Returns their offsets and the end of the last one, or `None`
 /// if an item would end above the limit.
-fn place_all(
+fn place_items_with_end(
     alloc: Global,
     items: &[PlacementItem],
 ) -> Result<Option<(Vec<PlacedItem>, u64)>, AllocError>
@@ -67,7 +67,7 @@ fn place_all(
     let mut spots = Vec::with_capacity(alloc, items.len())?;
     let mut at = 0;
     'items: for item in items {
-        let first = match place(at, item) {
+        let first = match aligned_offset_if_fits(at, item) {
             Some(first) => first,
             None => return Ok(None),
         };
@@ -78,7 +78,7 @@ fn place_all(
 }
 
 /// Returns the largest alignment of the items, or the window granularity `unit` if that is larger.
-fn alignment(unit: u64, items: &[PlacementItem]) -> u64
+fn largest_alignment(unit: u64, items: &[PlacementItem]) -> u64
     ensures { result ≡ alignment unit items.now }
 {
     let mut greatest = unit;
@@ -101,13 +101,13 @@ pub(crate) fn pack_bus(
     ensures within { IfOk result (λ r. IfSome r (λ p. p.end ≤ 2 ^ 63)) }
 {
     let mut items = items;
-    sort(&mut items);
-    let Some((spots, end)) = place_all(alloc, &items)? else {
+    sort_by_placement(&mut items);
+    let Some((spots, end)) = place_items_with_end(alloc, &items)? else {
         return Ok(None);
     };
     Ok(Some(PackedBus {
         spots,
-        align: alignment(unit, &items),
+        align: largest_alignment(unit, &items),
         end,
     }))
 }

@@ -9,16 +9,16 @@ ghost use Rattle.window_packing.specs.{Buses.AreAbove, Placed.{IsPlacement, is_p
 use crate::board_plan::Plan;
 use crate::pool::Pool;
 use crate::pool_placement::{Placement, place_pool};
-use crate::rows::all_paths;
-use crate::settings::all_settings;
-use crate::upstream_windows::{UpstreamWindows, all_above};
+use crate::rows::copy_paths;
+use crate::settings::all_function_programs;
+use crate::upstream_windows::{UpstreamSupport, all_support};
 use bars::{BarDecl, Kind};
 use bus_scan::{Enumerated, EnumeratedFunction, Fault, FunctionTable};
 use headers::Apertures;
 use std::alloc::Global;
 
 /// Returns whether one of the regions is an I/O region.
-fn has_ports(bars: &[Option<BarDecl>; 6]) -> bool
+fn has_io_region(bars: &[Option<BarDecl>; 6]) -> bool
     ensures { result ≡ list_any is_port bars.now }
 {
     bars.iter().any(|bar| match bar {
@@ -28,11 +28,11 @@ fn has_ports(bars: &[Option<BarDecl>; 6]) -> bool
 }
 
 /// Returns whether a function has I/O regions.
-fn opens_io(row: &EnumeratedFunction) -> bool
+fn function_has_io_region(row: &EnumeratedFunction) -> bool
     ensures { result ≡ opens_io row.now.decl }
 {
     match &row.found {
-        Enumerated::Endpoint { pin: _, bars } => has_ports(bars),
+        Enumerated::Endpoint { pin: _, bars } => has_io_region(bars),
         Enumerated::Bridge {
             secondary: _,
             subordinate: _,
@@ -44,20 +44,20 @@ fn opens_io(row: &EnumeratedFunction) -> bool
 
 /// Returns whether I/O accesses can reach the function's I/O regions, because all bridges above it
 /// have an I/O window. Also returns `true` if it has no I/O regions.
-fn has_io_path(row: &EnumeratedFunction, above: &UpstreamWindows) -> bool
+fn has_io_path_if_needed(row: &EnumeratedFunction, above: &UpstreamSupport) -> bool
     ensures { result ≡ (not (opens_io row.now.decl) || above.now.io) }
 {
-    !opens_io(row) || above.io
+    !function_has_io_region(row) || above.io
 }
 
 /// Returns whether I/O accesses can reach every I/O region: all bridges above them have an I/O
 /// window.
-fn has_io_paths(rows: &[EnumeratedFunction], above: &[UpstreamWindows]) -> bool
+fn has_io_paths(rows: &[EnumeratedFunction], above: &[UpstreamSupport]) -> bool
     requires { AreAbove (board_in rows.now) above.now }
     ensures { result ≡ has_io_paths (board_in rows.now) }
 {
     for i in 0..rows.len() {
-        if !has_io_path(&rows[i], &above[i]) {
+        if !has_io_path_if_needed(&rows[i], &above[i]) {
             return false;
         }
     }
@@ -69,7 +69,7 @@ fn has_io_paths(rows: &[EnumeratedFunction], above: &[UpstreamWindows]) -> bool
 fn place_board(
     alloc: Global,
     rows: &[EnumeratedFunction],
-    above: &[UpstreamWindows],
+    above: &[UpstreamSupport],
     apertures: &Apertures,
 ) -> Result<Placement, Fault>
     requires board { IsBoard (board_in rows.now) }
@@ -115,9 +115,9 @@ pub fn plan(alloc: Global, table: &FunctionTable, apertures: &Apertures) -> Resu
         (b : Board) → IsTableOf b table.now → IsRefusal b apertures.now f) }
 {
     let rows = table.rows();
-    let above = all_above(alloc, rows)?;
+    let above = all_support(alloc, rows)?;
     let placement = place_board(alloc, rows, &above, apertures)?;
-    let paths = all_paths(alloc, rows)?;
-    let settings = all_settings(alloc, rows, &above, apertures, &placement)?;
+    let paths = copy_paths(alloc, rows)?;
+    let settings = all_function_programs(alloc, rows, &above, apertures, &placement)?;
     Ok(Plan::new(paths, placement, settings))
 }

@@ -3,7 +3,7 @@ ghost use Rattle.std.specs.{Prelude.{◌≡◌, ◌<◌, ◌≤◌, ◌^◌, ◌
 ghost use Rattle.model_registers.specs.Apertures.{Aperture as ApertureValue, IsLawfulApertures};
 ghost use Rattle.lists.specs.Elements.{Each, EachPair};
 ghost use Rattle.model_board.specs.{Board.{Board, IsBoard}, Lawful.HasLawfulDecls};
-ghost use Rattle.model_set_up.specs.{FunctionTable.board_in, Pools.aperture_of, Placement.{a_window, stands_before, is_item, offset_in, round_up, aperture_end, fits, bus_first}};
+ghost use Rattle.model_set_up.specs.{FunctionTable.board_in, Pools.aperture_of, Placement.{a_window, stands_before, is_item, offset_in, round_up, aperture_end_or_zero, fits, bus_first}};
 ghost use Rattle.bus_scan.specs.declared.fault.Fault.TheVariants.{Memory};
 ghost use Rattle.window_packing.specs.{Plans.{named_pool, fault_of}, Buses.AreAbove, Packs.{pack_of, packs_of, IsBounded}, Placed.{bus_paths, IsPlaced, pool_in}};
 
@@ -12,8 +12,8 @@ use crate::item::PlacementItem;
 use crate::layout_row::Placed;
 use crate::pack::{PackedBus, round_up};
 use crate::pool::Pool;
-use crate::search::offset_of;
-use crate::upstream_windows::UpstreamWindows;
+use crate::search::item_offset_or_zero;
+use crate::upstream_windows::UpstreamSupport;
 use bridge_forward::Part;
 use bus_scan::{EnumeratedFunction, Fault};
 use headers::{Aperture, Apertures};
@@ -80,7 +80,7 @@ fn aperture_of(apertures: &Apertures, pool: Pool) -> Option<Aperture>
 
 /// Returns the first address of bus 0 in the pool: the start of the aperture, rounded up to the
 /// alignment of the bus.
-pub(crate) fn root_first(apertures: &Apertures, pool: Pool, root: &PackedBus) -> u64
+pub(crate) fn root_bus_start(apertures: &Apertures, pool: Pool, root: &PackedBus) -> u64
     requires some { 0 < root.now.align }
     requires align { root.now.align ≤ 2 ^ 40 }
     ensures { result
@@ -94,8 +94,8 @@ pub(crate) fn root_first(apertures: &Apertures, pool: Pool, root: &PackedBus) ->
 }
 
 /// Returns the address after the end of the aperture, or 0 if there is no aperture.
-pub(crate) fn aperture_end(apertures: &Apertures, pool: Pool) -> u64
-    ensures value { result ≡ aperture_end apertures.now (named_pool pool) }
+pub(crate) fn aperture_end_or_zero(apertures: &Apertures, pool: Pool) -> u64
+    ensures value { result ≡ aperture_end_or_zero apertures.now (named_pool pool) }
     ensures lawful { IsLawfulApertures apertures.now }
 {
     match aperture_of(apertures, pool) {
@@ -105,20 +105,20 @@ pub(crate) fn aperture_end(apertures: &Apertures, pool: Pool) -> u64
 }
 
 /// Returns whether the pool, as packed on bus 0, fits in its aperture, which ends before `end`.
-fn fits(apertures: &Apertures, pool: Pool, end: u64, root: &PackedBus) -> bool
-    requires end { end ≡ aperture_end apertures.now (named_pool pool) }
+fn root_bus_fits(apertures: &Apertures, pool: Pool, end: u64, root: &PackedBus) -> bool
+    requires end { end ≡ aperture_end_or_zero apertures.now (named_pool pool) }
     requires some { 0 < root.now.align }
     requires align { root.now.align ≤ 2 ^ 40 }
     ensures { (b : Board) → root.now ≡ pack_of b apertures.now (named_pool pool) []
         → result ≡ fits b apertures.now (named_pool pool) }
 {
     root.spots.is_empty()
-        || (root.end <= end && root_first(apertures, pool, root) <= end - root.end)
+        || (root.end <= end && root_bus_start(apertures, pool, root) <= end - root.end)
 }
 
 /// Returns the offset of a bridge's window on its bus, or 0 if the bridge has no window in the
 /// pool. The alignment of the bus behind the bridge speeds up the search.
-fn window_offset(pack: &PackedBus, part: Part, behind: &PackedBus) -> u64
+fn window_offset_or_zero(pack: &PackedBus, part: Part, behind: &PackedBus) -> u64
     requires order { EachPair (λ s t. IsTrue (stands_before s.item t.item)) pack.now.spots }
     requires align { Each (λ s. IsTrue (is_item part a_window s.item)
         → s.item.align ≡ behind.now.align) pack.now.spots }
@@ -130,16 +130,16 @@ fn window_offset(pack: &PackedBus, part: Part, behind: &PackedBus) -> u64
         align: behind.align,
         size: 0,
     };
-    offset_of(pack, &key)
+    item_offset_or_zero(pack, &key)
 }
 
 /// Returns the first address of each bus. A bus behind a bridge starts where the bridge's window
 /// starts.
-fn bus_firsts(
+fn bus_start_addresses(
     alloc: Global,
     pool: Pool,
     rows: &[EnumeratedFunction],
-    above: &[UpstreamWindows],
+    above: &[UpstreamSupport],
     apertures: &Apertures,
     packs: &[PackedBus],
 ) -> Result<Vec<u64>, AllocError>
@@ -155,11 +155,11 @@ fn bus_firsts(
         (bus_paths (board_in rows.now))) }
 {
     let mut firsts = Vec::with_capacity(alloc, packs.len())?;
-    firsts.push(root_first(apertures, pool, &packs[0]))?;
+    firsts.push(root_bus_start(apertures, pool, &packs[0]))?;
     for i in 0..rows.len() {
         let row = &rows[i];
         let bus = above[i].bus;
-        let offset = window_offset(&packs[bus], row.path.last(), &packs[i + 1]);
+        let offset = window_offset_or_zero(&packs[bus], row.path.last(), &packs[i + 1]);
         let first = firsts[bus] + offset;
         firsts.push(first)?;
     }
@@ -168,7 +168,7 @@ fn bus_firsts(
 
 impl Pool {
     /// Returns the fault for a pool that doesn't fit in its aperture.
-    fn fault(self) -> Fault
+    fn placement_fault(self) -> Fault
         ensures { result ≡ fault_of self }
     {
         match self {
@@ -184,7 +184,7 @@ pub(crate) fn place_pool(
     alloc: Global,
     pool: Pool,
     rows: &[EnumeratedFunction],
-    above: &[UpstreamWindows],
+    above: &[UpstreamSupport],
     apertures: &Apertures,
 ) -> Result<PlacedPool, Fault>
     requires board { IsBoard (board_in rows.now) }
@@ -196,13 +196,13 @@ pub(crate) fn place_pool(
         (f ≡ Memory) ⊎ ((f ≡ fault_of pool)
         × IsFalse (fits (board_in rows.now) apertures.now (named_pool pool)))) }
 {
-    let end = aperture_end(apertures, pool);
+    let end = aperture_end_or_zero(apertures, pool);
     let Some(packs) = pack_pool(alloc, pool, rows, above, apertures)? else {
-        return Err(pool.fault());
+        return Err(pool.placement_fault());
     };
-    if !fits(apertures, pool, end, &packs[0]) {
-        return Err(pool.fault());
+    if !root_bus_fits(apertures, pool, end, &packs[0]) {
+        return Err(pool.placement_fault());
     }
-    let firsts = bus_firsts(alloc, pool, rows, above, apertures, &packs)?;
+    let firsts = bus_start_addresses(alloc, pool, rows, above, apertures, &packs)?;
     Ok(PlacedPool { packs, firsts })
 }

@@ -1,15 +1,15 @@
 //! How much of its aperture a pool needs.
 ghost use Rattle.std.specs.Prelude.{◌≡◌, ◌-◌, [], IfOk, IfSome, nat_le};
 ghost use Rattle.model_board.specs.{Board.{Board, IsBoard}, Lawful.HasLawfulDecls};
-ghost use Rattle.model_set_up.specs.{FunctionTable.board_in, Placement.{aperture_end, fits}};
+ghost use Rattle.model_set_up.specs.{FunctionTable.board_in, Placement.{aperture_end_or_zero, fits}};
 ghost use Rattle.bus_scan.specs.SizedTables.{IsTableOf};
 ghost use Rattle.window_packing.specs.{Buses.AreAbove, Packs.{pack_of, IsBounded}, Plans.named_pool, Uses.{pool_use, told_use}};
 
 use crate::bus_packs::pack_pool;
 use crate::pack::PackedBus;
 use crate::pool::Pool;
-use crate::pool_placement::{aperture_end, root_first};
-use crate::upstream_windows::{UpstreamWindows, all_above};
+use crate::pool_placement::{aperture_end_or_zero, root_bus_start};
+use crate::upstream_windows::{UpstreamSupport, all_support};
 use bus_scan::{EnumeratedFunction, FunctionTable};
 use headers::Apertures;
 use std::alloc::{AllocError, Global};
@@ -27,13 +27,13 @@ pub struct PoolUse {
 }
 
 /// Computes the space that a pool needs from its packed bus 0 and the end of its aperture.
-fn root_use(apertures: &Apertures, pool: Pool, end: u64, root: &PackedBus) -> PoolUse
-    requires end { end ≡ aperture_end apertures.now (named_pool pool) }
+fn pool_use_of_root_bus(apertures: &Apertures, pool: Pool, end: u64, root: &PackedBus) -> PoolUse
+    requires end { end ≡ aperture_end_or_zero apertures.now (named_pool pool) }
     requires bounded { IsBounded root.now }
     ensures { (b : Board) → root.now ≡ pack_of b apertures.now (named_pool pool) []
         → result ≡ pool_use b apertures.now (named_pool pool) }
 {
-    let first = root_first(apertures, pool, root);
+    let first = root_bus_start(apertures, pool, root);
     PoolUse {
         first,
         extent: root.end,
@@ -42,11 +42,11 @@ fn root_use(apertures: &Apertures, pool: Pool, end: u64, root: &PackedBus) -> Po
 }
 
 /// Computes the space that a pool needs from the rows of a table.
-fn rows_use(
+fn pool_use_of_rows(
     alloc: Global,
     pool: Pool,
     rows: &[EnumeratedFunction],
-    above: &[UpstreamWindows],
+    above: &[UpstreamSupport],
     apertures: &Apertures,
 ) -> Result<Option<PoolUse>, AllocError>
     requires board { IsBoard (board_in rows.now) }
@@ -55,9 +55,9 @@ fn rows_use(
     ensures { IfOk result (λ u.
         u ≡ told_use (board_in rows.now) apertures.now (named_pool pool)) }
 {
-    let end = aperture_end(apertures, pool);
+    let end = aperture_end_or_zero(apertures, pool);
     match pack_pool(alloc, pool, rows, above, apertures)? {
-        Some(packs) => Ok(Some(root_use(apertures, pool, end, &packs[0]))),
+        Some(packs) => Ok(Some(pool_use_of_root_bus(apertures, pool, end, &packs[0]))),
         None => Ok(None),
     }
 }
@@ -80,6 +80,6 @@ pub fn pool_use(
         fits b apertures.now (named_pool pool) ≡ nat_le u.extent u.room)) }
 {
     let rows = table.rows();
-    let above = all_above(alloc, rows)?;
-    rows_use(alloc, pool, rows, &above, apertures)
+    let above = all_support(alloc, rows)?;
+    pool_use_of_rows(alloc, pool, rows, &above, apertures)
 }

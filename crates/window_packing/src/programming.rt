@@ -46,42 +46,44 @@ pub fn program(host: &mut Host, plan: &Plan)
         host.new ≡ record host.old { state = set_up_state b host.old.apertures } }
 {
     for setting in plan.settings() {
-        write_setting(host, setting);
+        program_function(host, setting);
     }
 }
 
 /// Writes the settings of one function.
-fn write_setting(host: &mut Host, setting: &FunctionProgram)
+fn program_function(host: &mut Host, setting: &FunctionProgram)
     ensures { let words = words_of setting.now.writes in
         host.new ≡ host_after
         (after_words setting.now.at words host.old.state.functions) host.old }
 {
     let writes = setting.writes;
     match writes {
-        RegisterValues::Endpoint { command, bases } => write_endpoint(
+        RegisterValues::Endpoint { command, bases } => write_bars_and_command(
             host, setting.at, command, &bases,
         ),
-        RegisterValues::Bridge { io, mem, pref } => write_bridge(host, setting.at, io, mem, pref),
+        RegisterValues::Bridge { io, mem, pref } => write_windows_and_command(
+            host, setting.at, io, mem, pref,
+        ),
     }
 }
 
 /// Writes the base address of each region, and then Command.
-fn write_endpoint(host: &mut Host, at: Bdf, command: u16, bases: &[Option<BarWithBase>; 6])
+fn write_bars_and_command(host: &mut Host, at: Bdf, command: u16, bases: &[Option<BarWithBase>; 6])
     ensures { let words = endpoint_words command (bases_from 0 bases.now) in
         host.new ≡ host_after
         (after_words (bus_address_of at) words host.old.state.functions) host.old }
 {
     for index in 0..6u8 {
         if let Some(region) = bases[usize::from(index)] {
-            write_base(host, at, index, region);
+            write_bar(host, at, index, region);
         }
     }
-    write_word(host, at, COMMAND, LOW_HALF, u32::from(command));
+    write_config_word(host, at, COMMAND, LOW_HALF, u32::from(command));
 }
 
 /// Writes the base address of a region to the BAR register at an index. For a 64-bit BAR, also
 /// writes the upper half to the next register.
-fn write_base(host: &mut Host, at: Bdf, index: u8, region: BarWithBase)
+fn write_bar(host: &mut Host, at: Bdf, index: u8, region: BarWithBase)
     requires { index < 6 }
     ensures { let words = base_words (placed index region) in
         host.new ≡ host_after
@@ -89,16 +91,16 @@ fn write_base(host: &mut Host, at: Bdf, index: u8, region: BarWithBase)
 {
     let register = BASE_ADDRESS + 4 * index;
     let lower = (region.base & 0xffff_ffff) as u32;
-    write_word(host, at, register, WORD, lower);
-    if region.decl.kind().is_wide() {
+    write_config_word(host, at, register, WORD, lower);
+    if region.decl.kind().uses_two_registers() {
         let upper = (region.base >> 32) as u32;
-        write_word(host, at, register + 4, WORD, upper);
+        write_config_word(host, at, register + 4, WORD, upper);
     }
 }
 
 /// Writes the windows, and then Command. The words are the same for every bridge: a bridge ignores
 /// writes to window registers that it doesn't implement, and its decode type bits are read-only.
-fn write_bridge(
+fn write_windows_and_command(
     host: &mut Host,
     at: Bdf,
     io: WindowSetting,
@@ -109,19 +111,19 @@ fn write_bridge(
         host.new ≡ host_after
         (after_words (bus_address_of at) words host.old.state.functions) host.old }
 {
-    write_word(host, at, IO_BASE, LOW_HALF, io_base_and_limit(io));
-    write_word(host, at, MEMORY_BASE, WORD, memory_base_and_limit(mem));
-    write_word(host, at, PREF_BASE, WORD, memory_base_and_limit(pref));
-    write_word(host, at, PREF_BASE_UPPER, WORD, upper_half(pref.first));
-    write_word(host, at, PREF_LIMIT_UPPER, WORD, upper_half(pref.last));
-    write_word(host, at, IO_UPPER, WORD, io_base_and_limit_upper(io));
+    write_config_word(host, at, IO_BASE, LOW_HALF, io_base_and_limit(io));
+    write_config_word(host, at, MEMORY_BASE, WORD, memory_base_and_limit(mem));
+    write_config_word(host, at, PREF_BASE, WORD, memory_base_and_limit(pref));
+    write_config_word(host, at, PREF_BASE_UPPER, WORD, upper_half(pref.first));
+    write_config_word(host, at, PREF_LIMIT_UPPER, WORD, upper_half(pref.last));
+    write_config_word(host, at, IO_UPPER, WORD, io_base_and_limit_upper(io));
     // Enables forwarding of I/O and memory accesses.
-    let command = headers::Command::both_spaces().0;
-    write_word(host, at, COMMAND, LOW_HALF, u32::from(command));
+    let command = headers::Command::both_space_enables().0;
+    write_config_word(host, at, COMMAND, LOW_HALF, u32::from(command));
 }
 
 /// Writes the enabled bytes of the configuration word at `off`.
-fn write_word(host: &mut Host, at: Bdf, off: u8, enables: u8, value: u32)
+fn write_config_word(host: &mut Host, at: Bdf, off: u8, enables: u8, value: u32)
     requires { off % 4 ≡ 0 }
     ensures { let write = word off enables value in
         host.new ≡ host_after

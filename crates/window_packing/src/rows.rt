@@ -14,7 +14,10 @@ use host_bridge::Path;
 use std::alloc::{AllocError, Global};
 
 /// Copies the paths of all functions.
-pub(crate) fn all_paths(alloc: Global, rows: &[EnumeratedFunction]) -> Result<Vec<Path>, AllocError>
+pub(crate) fn copy_paths(
+    alloc: Global,
+    rows: &[EnumeratedFunction],
+) -> Result<Vec<Path>, AllocError>
     ensures { IfOk result (λ v. v.items ≡ map (λ (r : TableRow). r.path) rows.now) }
 {
     let mut paths = Vec::with_capacity(alloc, rows.len())?;
@@ -25,7 +28,7 @@ pub(crate) fn all_paths(alloc: Global, rows: &[EnumeratedFunction]) -> Result<Ve
 }
 
 /// Returns the path of a function on a bus.
-fn path_on(paths: &[Path], bus: usize, part: Part) -> Path
+fn path_on_bus(paths: &[Path], bus: usize, part: Part) -> Path
     requires there { bus ≤ length paths.now }
     requires depth { length (bus_at paths.now bus) < 16 }
     ensures { result ≡ bus_at paths.now bus ++ part ∷ [] }
@@ -39,7 +42,7 @@ fn path_on(paths: &[Path], bus: usize, part: Part) -> Path
 }
 
 /// Appends the rows of a bus whose first address is `first`.
-fn push_bus(
+fn push_bus_rows(
     into: &mut Vec<PlanRow>,
     paths: &[Path],
     pool: Pool,
@@ -56,7 +59,7 @@ fn push_bus(
     for i in 0..pack.spots.len() {
         let spot = &pack.spots[i];
         into.push(PlanRow {
-            path: path_on(paths, bus, spot.item.part),
+            path: path_on_bus(paths, bus, spot.item.part),
             what: spot.item.what,
             pool,
             first: first + spot.first,
@@ -67,7 +70,7 @@ fn push_bus(
 }
 
 /// Appends the rows of a pool.
-pub(crate) fn push_pool(
+pub(crate) fn push_pool_rows(
     into: &mut Vec<PlanRow>,
     paths: &[Path],
     pool: Pool,
@@ -79,7 +82,7 @@ pub(crate) fn push_pool(
 {
     for bus in 0..placed.packs.len() {
         let first = placed.firsts[bus];
-        push_bus(into, paths, pool, bus, first, &placed.packs[bus])?;
+        push_bus_rows(into, paths, pool, bus, first, &placed.packs[bus])?;
     }
     Ok(())
 }

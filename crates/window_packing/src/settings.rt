@@ -14,8 +14,8 @@ use crate::layout_row::Placed;
 use crate::pack::{PackedBus, round_up};
 use crate::pool::{Pool, pool_of};
 use crate::pool_placement::{PlacedPool, Placement};
-use crate::search::offset_of;
-use crate::upstream_windows::UpstreamWindows;
+use crate::search::item_offset_or_zero;
+use crate::upstream_windows::UpstreamSupport;
 use bars::{BarDecl, BarWithBase, Space};
 use bridge_forward::Part;
 use bus_scan::{Enumerated, EnumeratedFunction};
@@ -23,7 +23,7 @@ use headers::Apertures;
 use std::alloc::{AllocError, Global};
 
 /// Returns whether one of the regions is in the address space.
-fn opens(bars: &[Option<BarDecl>; 6], space: Space) -> bool
+fn has_region_in_space(bars: &[Option<BarDecl>; 6], space: Space) -> bool
     ensures { result ≡ list_any (is_bar_in (named_space space)) bars.now }
 {
     bars.iter().any(|bar| match bar {
@@ -33,7 +33,7 @@ fn opens(bars: &[Option<BarDecl>; 6], space: Space) -> bool
 }
 
 /// Returns `value` if `on` is true, and otherwise 0.
-fn bit(on: bool, value: u16) -> u16
+fn value_or_zero(on: bool, value: u16) -> u16
     ensures value { result ≡ (if on then value else 0) }
     ensures bound { result ≤ value }
 {
@@ -42,15 +42,16 @@ fn bit(on: bool, value: u16) -> u16
 
 /// Returns the Command value for an endpoint: bit 0 is set if it has I/O regions, and bit 1 if it
 /// has memory regions (PCI Local Bus 3.0, section 6.2.2).
-fn command_of(bars: &[Option<BarDecl>; 6]) -> u16
+fn command_for_bars(bars: &[Option<BarDecl>; 6]) -> u16
     ensures { (d : EndpointValue) → d.regions ≡ regions_of bars.now →
         result ≡ command_of d }
 {
-    bit(opens(bars, Space::Io), 1) + bit(opens(bars, Space::Mem), 2)
+    value_or_zero(has_region_in_space(bars, Space::Io), 1)
+        + value_or_zero(has_region_in_space(bars, Space::Mem), 2)
 }
 
 /// Returns a region with its base address, on a bus that starts at `first`.
-fn based(part: Part, index: u8, bar: BarDecl, first: u64, pack: &PackedBus) -> BarWithBase
+fn bar_with_base(part: Part, index: u8, bar: BarDecl, first: u64, pack: &PackedBus) -> BarWithBase
     requires order { EachPair (λ s t. IsTrue (stands_before s.item t.item)) pack.now.spots }
     requires align { Each (λ s. IsTrue (is_item part (a_region index) s.item)
         → s.item.align ≡ bar.size) pack.now.spots }
@@ -67,18 +68,18 @@ fn based(part: Part, index: u8, bar: BarDecl, first: u64, pack: &PackedBus) -> B
     };
     BarWithBase {
         decl: bar,
-        base: first + offset_of(pack, &key),
+        base: first + item_offset_or_zero(pack, &key),
     }
 }
 
 /// Returns the region at an index of the endpoint in row `i`, with its base address, or `None` if
 /// no region starts at that register.
-fn base_of(
+fn bar_with_base_if_any(
     rows: &[EnumeratedFunction],
     i: usize,
     index: u8,
     bar: Option<BarDecl>,
-    above: &UpstreamWindows,
+    above: &UpstreamSupport,
     apertures: &Apertures,
     placement: &Placement,
 ) -> Option<BarWithBase>
@@ -98,15 +99,15 @@ fn base_of(
     let placed = placement.pool(pool_of(apertures, above, bar.kind()));
     let first = placed.firsts[above.bus];
     let pack = &placed.packs[above.bus];
-    Some(based(row.path.last(), index, bar, first, pack))
+    Some(bar_with_base(row.path.last(), index, bar, first, pack))
 }
 
 /// Returns the regions of the endpoint in row `i` with their base addresses.
-fn bases_of(
+fn bars_with_bases(
     rows: &[EnumeratedFunction],
     i: usize,
     bars: &[Option<BarDecl>; 6],
-    above: &UpstreamWindows,
+    above: &UpstreamSupport,
     apertures: &Apertures,
     placement: &Placement,
 ) -> [Option<BarWithBase>; 6]
@@ -123,14 +124,14 @@ fn bases_of(
     let mut bases = [None; 6];
     for index in 0..6u8 {
         let at = usize::from(index);
-        bases[at] = base_of(rows, i, index, bars[at], above, apertures, placement);
+        bases[at] = bar_with_base_if_any(rows, i, index, bars[at], above, apertures, placement);
     }
     bases
 }
 
 /// Returns the window of a bus that starts at `first`. For a bus without items, returns a disabled
 /// window: its base register contains the highest value, `closed`, and its limit register 0.
-fn window_of(pool: Pool, closed: u64, first: u64, pack: &PackedBus) -> WindowSetting
+fn window_or_disabled(pool: Pool, closed: u64, first: u64, pack: &PackedBus) -> WindowSetting
     requires closed { closed < 2 ^ 12 }
     requires some { Each (λ s. 0
         < round_up (unit_of (named_pool pool)) pack.now.end) pack.now.spots }
@@ -153,7 +154,7 @@ fn window_of(pool: Pool, closed: u64, first: u64, pack: &PackedBus) -> WindowSet
 }
 
 /// Returns the window in one pool for the bus behind the function in row `i`.
-fn window_behind(
+fn window_behind_row(
     rows: &[EnumeratedFunction],
     i: usize,
     pool: Pool,
@@ -170,14 +171,14 @@ fn window_behind(
         → result ≡ set_up_window (board_in rows.now) apertures.now
         (named_pool pool) closed r.path }
 {
-    window_of(pool, closed, placed.firsts[i + 1], &placed.packs[i + 1])
+    window_or_disabled(pool, closed, placed.firsts[i + 1], &placed.packs[i + 1])
 }
 
 /// Returns the register values for the function in row `i`.
-fn writes_of(
+fn register_values_of_row(
     rows: &[EnumeratedFunction],
     i: usize,
-    above: &UpstreamWindows,
+    above: &UpstreamSupport,
     apertures: &Apertures,
     placement: &Placement,
 ) -> RegisterValues
@@ -192,8 +193,8 @@ fn writes_of(
     let row = &rows[i];
     match &row.found {
         Enumerated::Endpoint { pin: _, bars } => RegisterValues::Endpoint {
-            command: command_of(bars),
-            bases: bases_of(rows, i, bars, above, apertures, placement),
+            command: command_for_bars(bars),
+            bases: bars_with_bases(rows, i, bars, above, apertures, placement),
         },
         Enumerated::Bridge {
             secondary: _,
@@ -201,18 +202,18 @@ fn writes_of(
             io: _,
             pref: _,
         } => RegisterValues::Bridge {
-            io: window_behind(rows, i, Pool::Io, 0xf, apertures, &placement.io),
-            mem: window_behind(rows, i, Pool::Mem, 0xfff, apertures, &placement.mem),
-            pref: window_behind(rows, i, Pool::Pref, 0xfff, apertures, &placement.pref),
+            io: window_behind_row(rows, i, Pool::Io, 0xf, apertures, &placement.io),
+            mem: window_behind_row(rows, i, Pool::Mem, 0xfff, apertures, &placement.mem),
+            pref: window_behind_row(rows, i, Pool::Pref, 0xfff, apertures, &placement.pref),
         },
     }
 }
 
 /// Returns the register values for each function, in path order.
-pub(crate) fn all_settings(
+pub(crate) fn all_function_programs(
     alloc: Global,
     rows: &[EnumeratedFunction],
-    above: &[UpstreamWindows],
+    above: &[UpstreamSupport],
     apertures: &Apertures,
     placement: &Placement,
 ) -> Result<Vec<FunctionProgram>, AllocError>
@@ -227,7 +228,7 @@ pub(crate) fn all_settings(
     for i in 0..rows.len() {
         list.push(FunctionProgram {
             at: rows[i].address(),
-            writes: writes_of(rows, i, &above[i], apertures, placement),
+            writes: register_values_of_row(rows, i, &above[i], apertures, placement),
         })?;
     }
     Ok(list)

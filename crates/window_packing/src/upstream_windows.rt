@@ -2,7 +2,7 @@
 ghost use Rattle.std.specs.Prelude.{◌≡◌, ℕ, suc, ◌≤◌, length, slice_get, IfOk};
 ghost use Rattle.model_board.specs.Board.{IsBoard};
 ghost use Rattle.model_set_up.specs.FunctionTable.{TableRow, board_in};
-ghost use Rattle.window_packing.specs.{Buses.{behind, nothing_above, AreAbove}, declared.upstream_windows.UpstreamWindows.UpstreamWindows as AboveValue};
+ghost use Rattle.window_packing.specs.{Buses.{behind, nothing_above, AreAbove}, declared.upstream_windows.UpstreamSupport.UpstreamSupport as AboveValue};
 
 use bus_scan::{Enumerated, EnumeratedFunction};
 use headers::{IoDecode, PrefDecode};
@@ -12,7 +12,7 @@ use std::alloc::{AllocError, Global};
 /// index 1 + n is the bus behind the function of row n. The flags say whether all bridges above
 /// have an I/O window, a prefetchable window, and a 64-bit prefetchable window.
 #[derive(Clone, Copy)]
-pub(crate) struct UpstreamWindows {
+pub(crate) struct UpstreamSupport {
     pub(crate) bus: usize,
     pub(crate) io: bool,
     pub(crate) pref: bool,
@@ -21,17 +21,17 @@ pub(crate) struct UpstreamWindows {
 
 /// Returns the properties for functions on the bus behind the function of a row, given the
 /// properties `up` of that function.
-fn behind(bus: usize, row: &EnumeratedFunction, up: UpstreamWindows) -> UpstreamWindows
+fn support_behind(bus: usize, row: &EnumeratedFunction, up: UpstreamSupport) -> UpstreamSupport
     ensures { result ≡ behind bus row.now.decl up }
 {
     match row.found {
-        Enumerated::Endpoint { pin: _, bars: _ } => UpstreamWindows { bus, ..up },
+        Enumerated::Endpoint { pin: _, bars: _ } => UpstreamSupport { bus, ..up },
         Enumerated::Bridge {
             secondary: _,
             subordinate: _,
             io,
             pref,
-        } => UpstreamWindows {
+        } => UpstreamSupport {
             bus,
             io: up.io && io != IoDecode::Unimplemented,
             pref: up.pref && pref != PrefDecode::Unimplemented,
@@ -42,7 +42,11 @@ fn behind(bus: usize, row: &EnumeratedFunction, up: UpstreamWindows) -> Upstream
 
 /// Returns the properties of the bridges above a bus, given the properties for the functions in the
 /// first rows.
-fn on_bus(rows: &[EnumeratedFunction], above: &[UpstreamWindows], bus: usize) -> UpstreamWindows
+fn support_of_bus(
+    rows: &[EnumeratedFunction],
+    above: &[UpstreamSupport],
+    bus: usize,
+) -> UpstreamSupport
     requires known { bus ≤ length above.now }
     requires there { length above.now ≤ length rows.now }
     ensures root { bus ≡ 0 → result ≡ nothing_above }
@@ -51,22 +55,22 @@ fn on_bus(rows: &[EnumeratedFunction], above: &[UpstreamWindows], bus: usize) ->
         → slice_get above.now n ≡ Some up → result ≡ behind bus r.decl up }
 {
     if bus == 0 {
-        return UpstreamWindows {
+        return UpstreamSupport {
             bus,
             io: true,
             pref: true,
             pref64: true,
         };
     }
-    behind(bus, &rows[bus - 1], above[bus - 1])
+    support_behind(bus, &rows[bus - 1], above[bus - 1])
 }
 
 /// Returns the properties for each function. In path order, the bridge above a function is the last
 /// one before it whose path is one part shorter.
-pub(crate) fn all_above(
+pub(crate) fn all_support(
     alloc: Global,
     rows: &[EnumeratedFunction],
-) -> Result<Vec<UpstreamWindows>, AllocError>
+) -> Result<Vec<UpstreamSupport>, AllocError>
     requires { IsBoard (board_in rows.now) }
     ensures { IfOk result (λ v. AreAbove (board_in rows.now) v.items) }
 {
@@ -75,7 +79,7 @@ pub(crate) fn all_above(
     for i in 0..rows.len() {
         let row = &rows[i];
         let depth = row.path.parts().len();
-        list.push(on_bus(rows, &list, buses[depth - 1]))?;
+        list.push(support_of_bus(rows, &list, buses[depth - 1]))?;
         buses[depth] = i + 1;
     }
     Ok(list)

@@ -6,7 +6,7 @@ ghost use Rattle.board_file.specs.{KeyProblems.{in_endpoint, with_endpoint, tabl
 use crate::document::keys::fields;
 use crate::document::reading::value_at;
 use crate::document::schema::{Field, TableKind, ValueType, form_at, has_form};
-use crate::document::tables::{level_of, table_at};
+use crate::document::tables::{table_at, table_kind_of_entry};
 use crate::entries::{EndpointEntry, FileEntries};
 use crate::entry::{EndpointPart, Entry};
 use crate::fault::BoardFault;
@@ -18,7 +18,7 @@ use toml::Table;
 use toml::value::Value;
 
 /// Appends the tables of one kind inside an endpoint.
-fn push_part(
+fn push_part_entries(
     tables: &mut Vec<Entry>,
     index: usize,
     part: EndpointPart,
@@ -33,7 +33,7 @@ fn push_part(
 }
 
 /// Appends an endpoint and the tables inside it.
-fn push_tables(
+fn push_endpoint_and_parts(
     tables: &mut Vec<Entry>,
     index: usize,
     endpoint: &EndpointEntry<'_>,
@@ -43,20 +43,20 @@ fn push_tables(
 {
     tables.push(Entry::Endpoint(index))?;
     'parts: for part in EndpointPart::all() {
-        push_part(tables, index, *part, endpoint.count(*part))?;
+        push_part_entries(tables, index, *part, endpoint.count(*part))?;
     }
     Ok(())
 }
 
 /// Returns all tables of a file. Each endpoint is followed by the tables inside it.
-fn tables(alloc: Global, file: &FileEntries<'_>) -> Result<Vec<Entry>, AllocError>
+fn list_table_entries(alloc: Global, file: &FileEntries<'_>) -> Result<Vec<Entry>, AllocError>
     ensures { IfOk result (λ v. v.items ≡ tables_of file.now) }
 {
     let mut tables = Vec::new(alloc);
     tables.push(Entry::File)?;
     tables.push(Entry::Host)?;
     'endpoints: for (index, endpoint) in file.endpoints.iter().enumerate() {
-        push_tables(&mut tables, index, endpoint)?;
+        push_endpoint_and_parts(&mut tables, index, endpoint)?;
     }
     'bridges: for index in 0..file.bridges.len() {
         tables.push(Entry::Bridge(index))?;
@@ -68,7 +68,7 @@ fn tables(alloc: Global, file: &FileEntries<'_>) -> Result<Vec<Entry>, AllocErro
 }
 
 /// Appends a problem at a key, unless the rule is kept.
-fn push_unless<'a>(
+fn push_problem_unless_kept<'a>(
     problems: &mut Vec<Violation<'a>>,
     entry: Entry,
     key: &'a str,
@@ -86,7 +86,7 @@ fn push_unless<'a>(
 }
 
 /// Returns whether a value has the required form. A missing value passes.
-fn keeps_form(form: ValueType, value: Option<&Value>) -> bool
+fn is_none_or_has_form(form: ValueType, value: Option<&Value>) -> bool
     ensures { result
         ≡ option_map_or (has_form form) (option_map (λ v. view v.now) value.entry) true }
 {
@@ -97,7 +97,7 @@ fn keeps_form(form: ValueType, value: Option<&Value>) -> bool
 }
 
 /// Appends the problems of one defined key of a table.
-fn push_field(
+fn push_field_problems(
     problems: &mut Vec<Violation<'_>>,
     entry: Entry,
     table: &Table,
@@ -108,18 +108,18 @@ fn push_field(
 {
     let value = value_at(table, field.key);
     let is_there = !field.needed || value.is_some();
-    push_unless(problems, entry, field.key, Rule::Needed, is_there)?;
-    push_unless(
+    push_problem_unless_kept(problems, entry, field.key, Rule::Needed, is_there)?;
+    push_problem_unless_kept(
         problems,
         entry,
         field.key,
         Rule::Form,
-        keeps_form(field.form, value),
+        is_none_or_has_form(field.form, value),
     )
 }
 
 /// Appends the problems of all defined keys of a table.
-fn push_fields(
+fn push_all_field_problems(
     problems: &mut Vec<Violation<'_>>,
     entry: Entry,
     level: TableKind,
@@ -129,13 +129,13 @@ fn push_fields(
         problems.old.items problems.new.items) }
 {
     'fields: for field in fields(level) {
-        push_field(problems, entry, table, field)?;
+        push_field_problems(problems, entry, table, field)?;
     }
     Ok(())
 }
 
 /// Appends a problem for each key of a table that isn't defined for its level.
-fn push_unknown<'a>(
+fn push_unknown_key_problems<'a>(
     problems: &mut Vec<Violation<'a>>,
     entry: Entry,
     level: TableKind,
@@ -147,13 +147,13 @@ fn push_unknown<'a>(
     'members: for (key, _) in table.iter() {
         let key = key.as_str();
         let is_known = form_at(level, key).is_some();
-        push_unless(problems, entry, key, Rule::Known, is_known)?;
+        push_problem_unless_kept(problems, entry, key, Rule::Known, is_known)?;
     }
     Ok(())
 }
 
 /// Appends the problems of a table's keys.
-fn push_table<'a>(
+fn push_table_key_problems<'a>(
     problems: &mut Vec<Violation<'a>>,
     fault: BoardFault,
     entry: Entry,
@@ -164,14 +164,14 @@ fn push_table<'a>(
         problems.old.items problems.new.items) }
 {
     match fault {
-        BoardFault::Key => push_fields(problems, entry, level, table),
-        BoardFault::UnknownKey => push_unknown(problems, entry, level, table),
+        BoardFault::Key => push_all_field_problems(problems, entry, level, table),
+        BoardFault::UnknownKey => push_unknown_key_problems(problems, entry, level, table),
         _ => Ok(()),
     }
 }
 
 /// Appends the problems of an entry's keys. An entry without a table has none.
-fn push_entry<'a>(
+fn push_entry_key_problems<'a>(
     problems: &mut Vec<Violation<'a>>,
     fault: BoardFault,
     document: &'a Table,
@@ -180,8 +180,8 @@ fn push_entry<'a>(
     ensures { OnOk result (Adds (of_entry fault (table_view document.now) entry)
         problems.old.items problems.new.items) }
 {
-    match (level_of(entry), table_at(document, entry)) {
-        (Some(level), Some(table)) => push_table(problems, fault, entry, level, table),
+    match (table_kind_of_entry(entry), table_at(document, entry)) {
+        (Some(level), Some(table)) => push_table_key_problems(problems, fault, entry, level, table),
         _ => Ok(()),
     }
 }
@@ -195,10 +195,10 @@ pub(crate) fn key_problems<'a>(
     ensures { IfOk result (λ v.
         map found_of v.items ≡ key_problems (table_view source.now.document.now) fault) }
 {
-    let tables = tables(alloc, &source.file)?;
+    let tables = list_table_entries(alloc, &source.file)?;
     let mut problems = Vec::new(alloc);
     'tables: for entry in &tables {
-        push_entry(&mut problems, fault, source.document, *entry)?;
+        push_entry_key_problems(&mut problems, fault, source.document, *entry)?;
     }
     Ok(problems)
 }

@@ -2,14 +2,14 @@
 ghost use Rattle.std.specs.Prelude.{◌≡◌, option_map};
 ghost use Rattle.bars.specs.Kinds.{kind_of};
 ghost use Rattle.headers.specs.Decodes.{io_decode_of, pref_decode_of};
-ghost use Rattle.board_file.specs.Texts.{region_kind, io_decode, pref_decode};
+ghost use Rattle.board_file.specs.Texts.{parse_region_kind, parse_io_decode, parse_pref_decode};
 
 use bars::Kind;
 use headers::{IoDecode, PrefDecode};
 
 /// Parses the kind of a BAR.
-pub(crate) fn region_kind(word: &str) -> Option<Kind>
-    ensures { option_map kind_of result ≡ region_kind word.now }
+pub(crate) fn parse_region_kind(word: &str) -> Option<Kind>
+    ensures { option_map kind_of result ≡ parse_region_kind word.now }
 {
     if word == "io" {
         Some(Kind::Io)
@@ -27,8 +27,8 @@ pub(crate) fn region_kind(word: &str) -> Option<Kind>
 }
 
 /// Parses a bridge's I/O address decoding.
-pub(crate) fn io_decode(word: &str) -> Option<IoDecode>
-    ensures { option_map io_decode_of result ≡ io_decode word.now }
+pub(crate) fn parse_io_decode(word: &str) -> Option<IoDecode>
+    ensures { option_map io_decode_of result ≡ parse_io_decode word.now }
 {
     if word == "none" {
         Some(IoDecode::Unimplemented)
@@ -42,8 +42,8 @@ pub(crate) fn io_decode(word: &str) -> Option<IoDecode>
 }
 
 /// Parses a bridge's prefetchable address decoding.
-pub(crate) fn pref_decode(word: &str) -> Option<PrefDecode>
-    ensures { option_map pref_decode_of result ≡ pref_decode word.now }
+pub(crate) fn parse_pref_decode(word: &str) -> Option<PrefDecode>
+    ensures { option_map pref_decode_of result ≡ parse_pref_decode word.now }
 {
     if word == "none" {
         Some(PrefDecode::Unimplemented)

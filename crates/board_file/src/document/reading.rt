@@ -1,7 +1,7 @@
 //! Conversion of a TOML document to entries.
 ghost use Rattle.std.specs.{Prelude.{◌≡◌, map, unwrap_or, option_and_then, option_map, IfOk, codes}, List.filter_map};
 ghost use Rattle.toml.specs.{Data.{Members, get_member, as_str, as_table, as_array}, View.{view, array_view, table_view}};
-ghost use Rattle.board_file.specs.{Schema.list_of, Values.{number, text_at, text, values, tables, table_at, patterns}, Entries.{integer_of, range_of, range, file}};
+ghost use Rattle.board_file.specs.{Schema.list_of, Values.{number, text_at, text, values, tables, table_at, patterns}, Entries.{as_integer_or_zero, bounds_or_zeros, range, file}};
 
 use crate::entries::{Bounds, FileEntries, PatternTexts};
 use crate::path::text::PathText;
@@ -16,7 +16,7 @@ pub fn value_at<'a>(table: &'a Table, key: &str) -> Option<&'a Value>
 }
 
 /// Returns the integer value of a key. A missing or mistyped value reads as 0.
-pub(crate) fn number(table: &Table, key: &str) -> i64
+pub(crate) fn integer_or_zero(table: &Table, key: &str) -> i64
     ensures { result ≡ number key.now (table_view table.now) }
 {
     match value_at(table, key) {
@@ -33,7 +33,7 @@ fn text_at<'a>(table: &'a Table, key: &str) -> Option<&'a str>
 }
 
 /// Returns the string value of a key. A missing or mistyped value reads as an empty string.
-pub(crate) fn text<'a>(table: &'a Table, key: &str) -> &'a str
+pub(crate) fn text_or_empty<'a>(table: &'a Table, key: &str) -> &'a str
     ensures { result.now ≡ text key.now (table_view table.now) }
 {
     text_at(table, key).unwrap_or("")
@@ -57,7 +57,10 @@ pub(crate) trait FromTable<'a>: Sized + Drop {
 }
 
 /// Reads an entry from each table of an array. Skips items that aren't tables.
-fn entries_of<'a, E: FromTable<'a>>(alloc: Global, items: &'a Array) -> Result<Vec<E>, AllocError>
+fn entries_skipping_non_tables<'a, E: FromTable<'a>>(
+    alloc: Global,
+    items: &'a Array,
+) -> Result<Vec<E>, AllocError>
     ensures { IfOk result (λ v.
         v.items ≡ map E.said (filter_map as_table (list_of (array_view items.now)))) }
 {
@@ -71,7 +74,7 @@ fn entries_of<'a, E: FromTable<'a>>(alloc: Global, items: &'a Array) -> Result<V
 }
 
 /// Reads an entry from each table of the array at a key.
-pub(crate) fn entries<'a, E: FromTable<'a>>(
+pub(crate) fn entries_at_or_empty<'a, E: FromTable<'a>>(
     alloc: Global,
     table: &'a Table,
     key: &str,
@@ -79,13 +82,13 @@ pub(crate) fn entries<'a, E: FromTable<'a>>(
     ensures { IfOk result (λ v. v.items ≡ map E.said (tables key.now (table_view table.now))) }
 {
     match array_at(table, key) {
-        Some(items) => entries_of(alloc, items),
+        Some(items) => entries_skipping_non_tables(alloc, items),
         None => Ok(Vec::new(alloc)),
     }
 }
 
 /// Parses each string of an array as a path. Skips items that aren't strings.
-fn texts_of(alloc: Global, items: &Array) -> Result<Vec<PathText<'_>>, AllocError>
+fn paths_skipping_non_strings(alloc: Global, items: &Array) -> Result<Vec<PathText<'_>>, AllocError>
     ensures { IfOk result (λ v. v.items ≡ filter_map as_str (list_of (array_view items.now))) }
 {
     let mut texts = Vec::new(alloc);
@@ -97,7 +100,7 @@ fn texts_of(alloc: Global, items: &Array) -> Result<Vec<PathText<'_>>, AllocErro
     Ok(texts)
 }
 
-pub(crate) fn patterns(table: &Table) -> PatternTexts<'_>
+pub(crate) fn read_patterns(table: &Table) -> PatternTexts<'_>
     ensures { result ≡ patterns (table_view table.now) }
 {
     PatternTexts {
@@ -108,40 +111,43 @@ pub(crate) fn patterns(table: &Table) -> PatternTexts<'_>
 }
 
 /// Parses the slots of a `guest` table.
-pub(crate) fn slots(alloc: Global, table: &Table) -> Result<Vec<PathText<'_>>, AllocError>
+pub(crate) fn read_slots_or_empty(
+    alloc: Global,
+    table: &Table,
+) -> Result<Vec<PathText<'_>>, AllocError>
     ensures { IfOk result (λ v.
         v.items ≡ filter_map as_str (values (codes "slots") (table_view table.now))) }
 {
     match array_at(table, "slots") {
-        Some(items) => texts_of(alloc, items),
+        Some(items) => paths_skipping_non_strings(alloc, items),
         None => Ok(Vec::new(alloc)),
     }
 }
 
-fn integer_of(value: &Value) -> i64
-    ensures { result ≡ integer_of (view value.now) }
+fn as_integer_or_zero(value: &Value) -> i64
+    ensures { result ≡ as_integer_or_zero (view value.now) }
 {
     value.as_integer().unwrap_or(0)
 }
 
-fn range_of(items: &Array) -> Bounds
-    ensures { result ≡ range_of (list_of (array_view items.now)) }
+fn bounds_or_zeros(items: &Array) -> Bounds
+    ensures { result ≡ bounds_or_zeros (list_of (array_view items.now)) }
 {
     match items.as_slice() {
         [first, last] => Bounds {
-            first: integer_of(first),
-            last: integer_of(last),
+            first: as_integer_or_zero(first),
+            last: as_integer_or_zero(last),
         },
         _ => Bounds { first: 0, last: 0 },
     }
 }
 
 /// Returns the two integers of the array at a key. Anything else reads as two zeros.
-fn range(table: &Table, key: &str) -> Bounds
+fn bounds_at_or_zeros(table: &Table, key: &str) -> Bounds
     ensures { result ≡ range key.now (table_view table.now) }
 {
     match array_at(table, key) {
-        Some(items) => range_of(items),
+        Some(items) => bounds_or_zeros(items),
         None => Bounds { first: 0, last: 0 },
     }
 }
@@ -153,22 +159,22 @@ fn table_at<'a>(table: &'a Table, key: &str) -> Option<&'a Table>
     value_at(table, key)?.as_table()
 }
 
-fn host_range(table: &Table, key: &str) -> Bounds
+fn host_bounds_or_zeros(table: &Table, key: &str) -> Bounds
     ensures { result ≡ range key.now (table_at (codes "host") (table_view table.now)) }
 {
     match table_at(table, "host") {
-        Some(host) => range(host, key),
+        Some(host) => bounds_at_or_zeros(host, key),
         None => Bounds { first: 0, last: 0 },
     }
 }
 
-fn pref_range(table: &Table) -> Option<Bounds>
+fn find_host_pref_bounds(table: &Table) -> Option<Bounds>
     ensures { let host = table_at (codes "host") (table_view table.now) in result
         ≡ option_map (λ _. range (codes "pref") host) (get_member (codes "pref") host) }
 {
     match table_at(table, "host") {
         Some(host) => match value_at(host, "pref") {
-            Some(_) => Some(range(host, "pref")),
+            Some(_) => Some(bounds_at_or_zeros(host, "pref")),
             None => None,
         },
         None => None,
@@ -181,11 +187,11 @@ pub fn read_entries(alloc: Global, table: &Table) -> Result<FileEntries<'_>, All
     ensures { IfOk result (λ f. f ≡ file (table_view table.now)) }
 {
     Ok(FileEntries {
-        io: host_range(table, "io"),
-        mem: host_range(table, "mem"),
-        pref: pref_range(table),
-        endpoints: entries(alloc, table, "endpoint")?,
-        bridges: entries(alloc, table, "bridge")?,
-        guests: entries(alloc, table, "guest")?,
+        io: host_bounds_or_zeros(table, "io"),
+        mem: host_bounds_or_zeros(table, "mem"),
+        pref: find_host_pref_bounds(table),
+        endpoints: entries_at_or_empty(alloc, table, "endpoint")?,
+        bridges: entries_at_or_empty(alloc, table, "bridge")?,
+        guests: entries_at_or_empty(alloc, table, "guest")?,
     })
 }

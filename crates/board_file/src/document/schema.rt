@@ -1,10 +1,10 @@
 //! The kinds of tables in a board file, and the forms of values.
 ghost use Rattle.std.specs.{Prelude.{◌≡◌, is_some}, List.list_all};
 ghost use Rattle.toml.specs.{View.view, Data.{as_integer, as_str, as_table}};
-ghost use Rattle.board_file.specs.Schema.{fields, form_at, is_listed, has_form};
+ghost use Rattle.board_file.specs.Schema.{fields, form_at, is_allowed_word, has_form};
 
 use crate::document::keys::fields;
-use crate::document::keywords::{io_decode, pref_decode, region_kind};
+use crate::document::keywords::{parse_io_decode, parse_pref_decode, parse_region_kind};
 use crate::entry::EndpointPart;
 use toml::value::{Array, Value};
 
@@ -63,22 +63,22 @@ pub fn form_at(level: TableKind, key: &str) -> Option<ValueType>
 }
 
 /// Returns whether the text is one of the words.
-fn is_listed(words: Keyword, text: &str) -> bool
-    ensures { result ≡ is_listed words text.now }
+fn is_allowed_word(words: Keyword, text: &str) -> bool
+    ensures { result ≡ is_allowed_word words text.now }
 {
     match words {
-        Keyword::RegionKind => region_kind(text).is_some(),
-        Keyword::IoDecode => io_decode(text).is_some(),
-        Keyword::PrefDecode => pref_decode(text).is_some(),
+        Keyword::RegionKind => parse_region_kind(text).is_some(),
+        Keyword::IoDecode => parse_io_decode(text).is_some(),
+        Keyword::PrefDecode => parse_pref_decode(text).is_some(),
     }
 }
 
 /// Returns whether the value is a string that is one of the words.
-fn is_word(words: Keyword, value: &Value) -> bool
+fn is_allowed_word_value(words: Keyword, value: &Value) -> bool
     ensures { result ≡ has_form (ValueType.Word words) (view value.now) }
 {
     match value.as_str() {
-        Some(text) => is_listed(words, text),
+        Some(text) => is_allowed_word(words, text),
         None => false,
     }
 }
@@ -90,7 +90,7 @@ pub fn has_form(form: ValueType, value: &Value) -> bool
     match form {
         ValueType::Integer => value.is_integer(),
         ValueType::Text => value.is_str(),
-        ValueType::Word(words) => is_word(words, value),
+        ValueType::Word(words) => is_allowed_word_value(words, value),
         ValueType::Table(_) => value.is_table(),
         ValueType::Pair => match value {
             Value::Array(items) => items.len() == 2 && all_integers(items),

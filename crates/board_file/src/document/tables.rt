@@ -1,7 +1,7 @@
 //! Lookup of entries in a document.
 ghost use Rattle.std.specs.Prelude.{◌≡◌, codes, option_map, option_and_then};
 ghost use Rattle.toml.specs.{Data.{get_member, at, as_table, as_str}, View.{view, table_view}};
-ghost use Rattle.board_file.specs.Tables.{table_in, table_at, value_at, owner_of, owner_key, level_of};
+ghost use Rattle.board_file.specs.Tables.{nth_table_at, table_at, value_at, owner_entry_or_self, name_key, table_kind_of_entry};
 
 use crate::document::reading::value_at as member;
 use crate::document::schema::TableKind;
@@ -18,29 +18,29 @@ fn table_of(list: &Value, index: usize) -> Option<&Table>
 }
 
 /// Returns the table at an index of the array at a key.
-fn table_in<'v>(table: &'v Table, key: &str, index: usize) -> Option<&'v Table>
+fn nth_table_at<'v>(table: &'v Table, key: &str, index: usize) -> Option<&'v Table>
     ensures { option_map (λ t. table_view t.now) result
-        ≡ table_in key.now index (table_view table.now) }
+        ≡ nth_table_at key.now index (table_view table.now) }
 {
     table_of(member(table, key)?, index)
 }
 
 /// Returns the table at an index of an array in an `endpoint` table.
-fn table_in_endpoint<'v>(
+fn nth_table_in_endpoint<'v>(
     table: &'v Table,
     endpoint: usize,
     key: &str,
     index: usize,
 ) -> Option<&'v Table>
     ensures { option_map (λ t. table_view t.now) result
-        ≡ option_and_then (table_in key.now index)
-        (table_in (codes "endpoint") endpoint (table_view table.now)) }
+        ≡ option_and_then (nth_table_at key.now index)
+        (nth_table_at (codes "endpoint") endpoint (table_view table.now)) }
 {
-    table_in(table_in(table, "endpoint", endpoint)?, key, index)
+    nth_table_at(nth_table_at(table, "endpoint", endpoint)?, key, index)
 }
 
 /// Returns the `host` table.
-fn host(table: &Table) -> Option<&Table>
+fn find_host_table(table: &Table) -> Option<&Table>
     ensures { option_map (λ t. table_view t.now) result
         ≡ table_at (table_view table.now) Entry.Host }
 {
@@ -53,11 +53,11 @@ pub fn table_at(table: &Table, entry: Entry) -> Option<&Table>
 {
     match entry {
         Entry::File => Some(table),
-        Entry::Host => host(table),
-        Entry::Endpoint(i) => table_in(table, "endpoint", i),
-        Entry::Part(part, i, j) => table_in_endpoint(table, i, part.key(), j),
-        Entry::Bridge(i) => table_in(table, "bridge", i),
-        Entry::Guest(i) => table_in(table, "guest", i),
+        Entry::Host => find_host_table(table),
+        Entry::Endpoint(i) => nth_table_at(table, "endpoint", i),
+        Entry::Part(part, i, j) => nth_table_in_endpoint(table, i, part.key(), j),
+        Entry::Bridge(i) => nth_table_at(table, "bridge", i),
+        Entry::Guest(i) => nth_table_at(table, "guest", i),
         Entry::Slot(_, _) => None,
     }
 }
@@ -82,8 +82,8 @@ pub fn value_at<'v>(document: &'v Table, entry: Entry, key: &str) -> Option<&'v 
 }
 
 /// Returns the function or guest that an entry belongs to. Other entries are returned unchanged.
-pub fn owner_of(entry: Entry) -> Entry
-    ensures { result ≡ owner_of entry }
+pub fn owner_entry_or_self(entry: Entry) -> Entry
+    ensures { result ≡ owner_entry_or_self entry }
 {
     match entry {
         Entry::Part(_, i, _) => Entry::Endpoint(i),
@@ -93,8 +93,8 @@ pub fn owner_of(entry: Entry) -> Entry
 }
 
 /// Returns the key that identifies the owner of an entry: `at` for a function, `name` for a guest.
-fn owner_key(entry: Entry) -> Option<&'static str>
-    ensures { option_map (λ k. k.now) result ≡ owner_key entry }
+fn name_key(entry: Entry) -> Option<&'static str>
+    ensures { option_map (λ k. k.now) result ≡ name_key entry }
 {
     match entry {
         Entry::File | Entry::Host => None,
@@ -108,16 +108,16 @@ fn owner_key(entry: Entry) -> Option<&'static str>
 pub fn owner_name(document: &Table, entry: Entry) -> Option<&str>
     ensures { option_map (λ s. s.now) result
         ≡ option_and_then as_str
-        (option_and_then (value_at (table_view document.now) (owner_of entry)) (owner_key entry)) }
+        (option_and_then (value_at (table_view document.now) (owner_entry_or_self entry)) (name_key entry)) }
 {
-    let key = owner_key(entry)?;
-    let value = value_at(document, owner_of(entry), key)?;
+    let key = name_key(entry)?;
+    let value = value_at(document, owner_entry_or_self(entry), key)?;
     value.as_str()
 }
 
 /// Returns the kind of table that an entry has to be, or `None` for a slot.
-pub fn level_of(entry: Entry) -> Option<TableKind>
-    ensures { result ≡ level_of entry }
+pub fn table_kind_of_entry(entry: Entry) -> Option<TableKind>
+    ensures { result ≡ table_kind_of_entry entry }
 {
     match entry {
         Entry::File => Some(TableKind::Top),

@@ -1,17 +1,17 @@
 //! The `bar` tables of an endpoint: its BARs.
 ghost use Rattle.std.specs.Prelude.{◌≡◌, nat_abs, IsTrue};
 ghost use Rattle.bars.specs.Kinds.{kind_of};
-ghost use Rattle.board_file.specs.{Bars.{bar, bar_rules, bar_holds, is_region, region}, Rules.{is_between, is_size}};
+ghost use Rattle.board_file.specs.{Bars.{bar, bar_rules, bar_holds, is_region, region}, Rules.{is_between, is_valid_bar_size}};
 ghost use Rattle.board_file.specs.Bars as said;
 
-use crate::document::keywords::region_kind;
-use crate::document::reading::{FromTable, number, patterns, text};
+use crate::document::keywords::parse_region_kind;
+use crate::document::reading::{FromTable, integer_or_zero, read_patterns, text_or_empty};
 use crate::entries::EndpointEntry;
 use crate::entry::Entry;
 use crate::fault::BoardFault;
-use crate::finding::{Violation, push_broken};
-use crate::functions::blocks::{PatternTexts, block, is_block};
-use crate::functions::numbers::{byte, is_between, natural};
+use crate::finding::{Violation, push_broken_rules};
+use crate::functions::blocks::{PatternTexts, are_patterns_valid, build_block_if_valid};
+use crate::functions::numbers::{is_between, magnitude_as_u8, magnitude_as_u64};
 use crate::functions::part::PartEntry;
 use crate::rule::Rule;
 use bars::{BarDecl, Kind};
@@ -47,11 +47,11 @@ impl<'a> FromTable<'a> for BarEntry<'a> {
 
     fn from_table(_alloc: Global, table: &'a Table) -> Result<Self, AllocError> {
         Ok(BarEntry {
-            index: number(table, "index"),
-            kind: region_kind(text(table, "kind")).unwrap_or(Kind::Io),
-            size: number(table, "size"),
-            block: number(table, "block"),
-            patterns: patterns(table),
+            index: integer_or_zero(table, "index"),
+            kind: parse_region_kind(text_or_empty(table, "kind")).unwrap_or(Kind::Io),
+            size: integer_or_zero(table, "size"),
+            block: integer_or_zero(table, "block"),
+            patterns: read_patterns(table),
         })
     }
 }
@@ -69,7 +69,7 @@ impl<'a> UsesBars for BarEntry<'a> {
 }
 
 /// Returns whether the index of a BAR is 0 to 5.
-pub(crate) fn is_index(bar: &BarEntry<'_>) -> bool
+pub(crate) fn has_valid_index(bar: &BarEntry<'_>) -> bool
     ensures { result ≡ is_between 0 5 bar.now.index }
 {
     0 <= bar.index && bar.index <= 5
@@ -77,18 +77,18 @@ pub(crate) fn is_index(bar: &BarEntry<'_>) -> bool
 
 /// Returns whether a BAR of this kind can have this size: a power of two within the limits of the
 /// kind.
-fn is_size(kind: Kind, size: i64) -> bool
-    ensures { result ≡ is_size (kind_of kind) size }
+fn is_valid_bar_size(kind: Kind, size: i64) -> bool
+    ensures { result ≡ is_valid_bar_size (kind_of kind) size }
 {
     0 <= size && BarDecl::new(kind, size.unsigned_abs()).is_ok()
 }
 
 /// Declares a BAR whose size was checked.
 fn bar_decl(kind: Kind, size: i64) -> BarDecl
-    requires { IsTrue (is_size (kind_of kind) size) }
+    requires { IsTrue (is_valid_bar_size (kind_of kind) size) }
     ensures { result ≡ record { kind = kind_of kind; size = nat_abs size } }
 {
-    BarDecl::new(kind, natural(size)).unwrap()
+    BarDecl::new(kind, magnitude_as_u64(size)).unwrap()
 }
 
 impl<'a> PartEntry for BarEntry<'a> {
@@ -114,29 +114,33 @@ impl<'a> PartEntry for BarEntry<'a> {
         match fault {
             BoardFault::Number => {
                 let block = is_between(0, 4096, self.block);
-                push_broken(problems, entry, &[(Rule::BarBlock, block)])
+                push_broken_rules(problems, entry, &[(Rule::BarBlock, block)])
             }
-            BoardFault::Register => push_broken(problems, entry, &[(Rule::Index, is_index(self))]),
-            BoardFault::Size => push_broken(
+            BoardFault::Register => push_broken_rules(
+                problems,
+                entry,
+                &[(Rule::Index, has_valid_index(self))],
+            ),
+            BoardFault::Size => push_broken_rules(
                 problems,
                 entry,
                 &[
-                    (Rule::Size, is_size(self.kind, self.size)),
+                    (Rule::Size, is_valid_bar_size(self.kind, self.size)),
                     (Rule::BlockFits, self.block <= self.size),
                 ],
             ),
             BoardFault::CellMasks => {
-                let masks = is_block(alloc, self.block, &self.patterns)?;
-                push_broken(problems, entry, &[(Rule::BarMasks, masks)])
+                let masks = are_patterns_valid(alloc, self.block, &self.patterns)?;
+                push_broken_rules(problems, entry, &[(Rule::BarMasks, masks)])
             }
             _ => Ok(()),
         }
     }
 
-    fn declare(&self, alloc: Global) -> Result<Option<Region>, AllocError> {
-        match block(alloc, natural(self.block) as usize, &self.patterns)? {
+    fn declare_if_valid(&self, alloc: Global) -> Result<Option<Region>, AllocError> {
+        match build_block_if_valid(alloc, magnitude_as_u64(self.block) as usize, &self.patterns)? {
             Some(block) => Ok(Some(Region {
-                index: byte(self.index),
+                index: magnitude_as_u8(self.index),
                 bar: bar_decl(self.kind, self.size),
                 block,
             })),

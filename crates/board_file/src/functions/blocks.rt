@@ -1,6 +1,6 @@
 //! Register blocks, at the start of a BAR or in configuration space.
 ghost use Rattle.std.specs.{Prelude.{◌≡◌, ◌+◌, ◌<◌, IfOk, length, nat_abs, nat_le, option_map, take}, List.list_all};
-ghost use Rattle.board_file.specs.{Blocks.{decode_hex, is_pattern, decode_pattern, byte_at, are_apart as share_no_bit, cells, is_block, block_cells, Gives}, Rules.are_apart};
+ghost use Rattle.board_file.specs.{Blocks.{decode_hex, is_pattern, decode_pattern_or_zero, repeated_byte_at, are_apart as share_no_bit, cells, are_patterns_valid, block_cells, Gives}, Rules.are_apart};
 ghost use Rattle.board_file.specs.Values as said;
 
 use config_bytes::Cell;
@@ -45,14 +45,14 @@ pub fn decode_hex(alloc: Global, text: &str, max_len: usize) -> Result<Option<Ve
 }
 
 /// Decodes an optional pattern. A missing pattern is one zero byte.
-pub fn decode_pattern(
+pub fn decode_pattern_or_zero(
     alloc: Global,
     text: Option<&str>,
     max_len: usize,
 ) -> Result<Option<Vec<u8>>, AllocError>
     ensures { let given = option_map (λ s. s.now) text.entry in
         IfOk result (λ found. Gives (is_pattern max_len given) found (λ v.
-        (v.items ≡ decode_pattern max_len given) × (0 < length v.items))) }
+        (v.items ≡ decode_pattern_or_zero max_len given) × (0 < length v.items))) }
 {
     match text {
         Some(text) => decode_hex(alloc, text, max_len),
@@ -66,9 +66,9 @@ pub fn decode_pattern(
 
 /// Returns the byte at `index` of the repeated pattern. Most patterns have one byte and skip the
 /// slow division.
-fn byte_at(bytes: &[u8], index: usize) -> u8
+fn repeated_byte_at(bytes: &[u8], index: usize) -> u8
     requires { 0 < length bytes.now }
-    ensures { result ≡ byte_at bytes.now index }
+    ensures { result ≡ repeated_byte_at bytes.now index }
 {
     if bytes.len() == 1 {
         bytes[0]
@@ -79,7 +79,7 @@ fn byte_at(bytes: &[u8], index: usize) -> u8
 
 /// Builds `len` cells from repeated patterns. Returns `None` if a bit is in both the write mask and
 /// the W1C mask.
-fn cells(
+fn cells_unless_masks_overlap(
     alloc: Global,
     len: usize,
     reset: &[u8],
@@ -95,7 +95,11 @@ fn cells(
 {
     let mut cells = Vec::with_capacity(alloc, len)?;
     for i in 0..len {
-        match Cell::new(byte_at(reset, i), byte_at(rw, i), byte_at(w1c, i)) {
+        match Cell::new(
+            repeated_byte_at(reset, i),
+            repeated_byte_at(rw, i),
+            repeated_byte_at(w1c, i),
+        ) {
             Ok(cell) => cells.push(cell)?,
             Err(_) => return Ok(None),
         }
@@ -105,35 +109,36 @@ fn cells(
 
 /// Builds the `len` cells of a register block. Returns `None` if the patterns aren't valid. Fails
 /// only if memory is exhausted.
-pub(crate) fn block(
+pub(crate) fn build_block_if_valid(
     alloc: Global,
     len: usize,
     patterns: &PatternTexts<'_>,
 ) -> Result<Option<Vec<Cell>>, AllocError>
     ensures { IfOk result (λ found.
-        Gives (is_block len patterns.now) found (λ v. v.items ≡ block_cells len patterns.now)) }
+        Gives (are_patterns_valid len patterns.now) found (λ v.
+        v.items ≡ block_cells len patterns.now)) }
 {
-    let Some(reset) = decode_pattern(alloc, patterns.reset, len)? else {
+    let Some(reset) = decode_pattern_or_zero(alloc, patterns.reset, len)? else {
         return Ok(None);
     };
-    let Some(rw) = decode_pattern(alloc, patterns.rw, len)? else {
+    let Some(rw) = decode_pattern_or_zero(alloc, patterns.rw, len)? else {
         return Ok(None);
     };
-    let Some(w1c) = decode_pattern(alloc, patterns.w1c, len)? else {
+    let Some(w1c) = decode_pattern_or_zero(alloc, patterns.w1c, len)? else {
         return Ok(None);
     };
-    cells(alloc, len, &reset, &rw, &w1c)
+    cells_unless_masks_overlap(alloc, len, &reset, &rw, &w1c)
 }
 
 /// Returns whether the patterns are valid for a register block of `len` bytes.
-pub(crate) fn is_block(
+pub(crate) fn are_patterns_valid(
     alloc: Global,
     len: i64,
     patterns: &PatternTexts<'_>,
 ) -> Result<bool, AllocError>
-    ensures { IfOk result (λ b. b ≡ is_block (nat_abs len) patterns.now) }
+    ensures { IfOk result (λ b. b ≡ are_patterns_valid (nat_abs len) patterns.now) }
 {
-    match block(alloc, len.unsigned_abs() as usize, patterns)? {
+    match build_block_if_valid(alloc, len.unsigned_abs() as usize, patterns)? {
         Some(_) => Ok(true),
         None => Ok(false),
     }
@@ -172,14 +177,18 @@ pub fn are_apart(one: ByteRange, other: ByteRange) -> bool
 }
 
 /// Returns whether a range overlaps none of the entries.
-pub(crate) fn is_beside<E: HasExtent>(entries: &[E], range: ByteRange) -> bool
+pub(crate) fn overlaps_none<E: HasExtent>(entries: &[E], range: ByteRange) -> bool
     ensures { result ≡ list_all (λ e. are_apart (E.extent_of e) range) entries.now }
 {
     entries.iter().all(|entry| are_apart(entry.extent(), range))
 }
 
 /// Returns whether a range overlaps none of the first `count` entries.
-pub(crate) fn is_beside_earlier<E: HasExtent>(entries: &[E], count: usize, range: ByteRange) -> bool
+pub(crate) fn overlaps_none_of_first<E: HasExtent>(
+    entries: &[E],
+    count: usize,
+    range: ByteRange,
+) -> bool
     ensures { result ≡ list_all (λ e. are_apart (E.extent_of e) range) (take count entries.now) }
 {
     entries

@@ -6,14 +6,15 @@ ghost use Rattle.board_file.specs.{Entries.bridge, Functions.{bridge as declared
 ghost use Rattle.board_file.specs.Entries as said;
 
 use crate::document::keys::RegisterKey;
-use crate::document::keywords::{io_decode, pref_decode};
-use crate::document::reading::{FromTable, number, text};
+use crate::document::keywords::{parse_io_decode, parse_pref_decode};
+use crate::document::reading::{FromTable, integer_or_zero, text_or_empty};
 use crate::entries::FileEntries;
 use crate::entry::Entry;
 use crate::fault::BoardFault;
-use crate::finding::{Violation, push_broken};
+use crate::finding::{Violation, push_broken_rules};
 use crate::functions::numbers::{
-    byte, fits_byte, fits_half_word, half_word, has_few_slashes, is_between,
+    fits_byte, fits_half_word, has_at_most_15_slashes, is_between, magnitude_as_u8,
+    magnitude_as_u16,
 };
 use crate::path::text::PathText;
 use crate::rule::Rule;
@@ -51,12 +52,14 @@ impl<'a> FromTable<'a> for BridgeEntry<'a> {
 
     fn from_table(_alloc: Global, table: &'a Table) -> Result<Self, AllocError> {
         Ok(BridgeEntry {
-            at: PathText::new(text(table, "at")),
-            vendor: number(table, "vendor"),
-            device: number(table, "device"),
-            revision: number(table, "revision"),
-            io: io_decode(text(table, "io")).unwrap_or(IoDecode::Unimplemented),
-            pref: pref_decode(text(table, "pref")).unwrap_or(PrefDecode::Unimplemented),
+            at: PathText::new(text_or_empty(table, "at")),
+            vendor: integer_or_zero(table, "vendor"),
+            device: integer_or_zero(table, "device"),
+            revision: integer_or_zero(table, "revision"),
+            io: parse_io_decode(text_or_empty(table, "io")).unwrap_or(IoDecode::Unimplemented),
+            pref: parse_pref_decode(text_or_empty(table, "pref")).unwrap_or(
+                PrefDecode::Unimplemented,
+            ),
         })
     }
 }
@@ -71,9 +74,9 @@ impl<'a> BridgeEntry<'a> {
         ensures lawful { IsLawfulBridge result }
     {
         BridgeDecl::new(
-            half_word(self.vendor),
-            half_word(self.device),
-            byte(self.revision),
+            magnitude_as_u16(self.vendor),
+            magnitude_as_u16(self.device),
+            magnitude_as_u8(self.revision),
             self.io,
             self.pref,
         )
@@ -82,7 +85,7 @@ impl<'a> BridgeEntry<'a> {
 }
 
 /// Appends the problems of a bridge.
-fn push_bridge(
+fn push_bridge_problems(
     problems: &mut Vec<Violation<'_>>,
     fault: BoardFault,
     index: usize,
@@ -93,7 +96,7 @@ fn push_bridge(
 {
     let entry = Entry::Bridge(index);
     match fault {
-        BoardFault::Number => push_broken(
+        BoardFault::Number => push_broken_rules(
             problems,
             entry,
             &[
@@ -103,15 +106,15 @@ fn push_bridge(
             ],
         ),
         BoardFault::TooMany => {
-            let slashes = has_few_slashes(&bridge.at);
-            push_broken(problems, entry, &[(Rule::Slashes, slashes)])
+            let slashes = has_at_most_15_slashes(&bridge.at);
+            push_broken_rules(problems, entry, &[(Rule::Slashes, slashes)])
         }
         _ => Ok(()),
     }
 }
 
 /// Appends the problems of all bridges.
-pub(crate) fn push_bridges(
+pub(crate) fn push_all_bridge_problems(
     problems: &mut Vec<Violation<'_>>,
     file: &FileEntries<'_>,
     fault: BoardFault,
@@ -121,7 +124,7 @@ pub(crate) fn push_bridges(
         problems.old.items problems.new.items) }
 {
     'bridges: for (index, bridge) in file.bridges.iter().enumerate() {
-        push_bridge(problems, fault, index, bridge)?;
+        push_bridge_problems(problems, fault, index, bridge)?;
     }
     Ok(())
 }

@@ -3,15 +3,16 @@ ghost use Rattle.std.specs.Prelude.{◌≡◌, ◌%◌, ◌==◌, ◌&&◌, ◌<
 ghost use Rattle.board_file.specs.{Capabilities.{capability, capability_extent, capability_rules, capability_holds, declared_capability, is_capability}, Blocks.Gives, Rules.is_between};
 ghost use Rattle.board_file.specs.Capabilities as said;
 
-use crate::document::reading::{FromTable, number};
+use crate::document::reading::{FromTable, integer_or_zero};
 use crate::entries::{ConfigEntry, EndpointEntry};
 use crate::entry::Entry;
 use crate::fault::BoardFault;
-use crate::finding::{Violation, push_broken};
+use crate::finding::{Violation, push_broken_rules};
 use crate::functions::blocks::{
-    ByteRange, HasExtent, block, is_beside, is_beside_earlier, is_block,
+    ByteRange, HasExtent, are_patterns_valid, build_block_if_valid, overlaps_none,
+    overlaps_none_of_first,
 };
-use crate::functions::numbers::{byte, ends_by, is_between, natural};
+use crate::functions::numbers::{ends_at_or_before, is_between, magnitude_as_u8, magnitude_as_u64};
 use crate::functions::part::PartEntry;
 use crate::rule::Rule;
 use headers::Capability;
@@ -38,7 +39,7 @@ impl<'a> FromTable<'a> for CapabilityEntry<'a> {
 
     fn from_table(alloc: Global, table: &'a Table) -> Result<Self, AllocError> {
         Ok(CapabilityEntry {
-            id: number(table, "id"),
+            id: integer_or_zero(table, "id"),
             config: ConfigEntry::from_table(alloc, table)?,
         })
     }
@@ -50,14 +51,14 @@ impl<'a> HasExtent for CapabilityEntry<'a> {
     /// Returns the range of the structure, with its header of two bytes.
     fn extent(&self) -> ByteRange {
         ByteRange {
-            off: natural(self.config.off),
-            len: 2 + natural(self.config.block),
+            off: magnitude_as_u64(self.config.off),
+            len: 2 + magnitude_as_u64(self.config.block),
         }
     }
 }
 
 /// Returns whether a structure of a capability list may begin at this offset.
-fn is_offset(off: i64) -> bool
+fn is_valid_capability_offset(off: i64) -> bool
     ensures { result ≡ (is_between 0x40 0xfc off && (nat_abs off % 4 == 0)) }
 {
     is_between(0x40, 0xfc, off) && off.unsigned_abs() % 4 == 0
@@ -85,22 +86,25 @@ impl<'a> PartEntry for CapabilityEntry<'a> {
     ) -> Result<(), AllocError> {
         let config = &self.config;
         match fault {
-            BoardFault::Number => push_broken(
+            BoardFault::Number => push_broken_rules(
                 problems,
                 entry,
                 &[
                     (Rule::CapabilityId, is_between(1, 0xff, self.id)),
-                    (Rule::CapabilityOff, is_offset(config.off)),
+                    (Rule::CapabilityOff, is_valid_capability_offset(config.off)),
                     (Rule::CapabilityBlock, is_between(1, 190, config.block)),
                     // (the header has two bytes)
-                    (Rule::ConfigEnd, ends_by(254, config.off, config.block)),
+                    (
+                        Rule::ConfigEnd,
+                        ends_at_or_before(254, config.off, config.block),
+                    ),
                 ],
             ),
             BoardFault::CellMasks => {
-                let masks = is_block(alloc, config.block, &config.patterns)?;
-                let own = is_beside(&endpoint.configs, self.extent())
-                    && is_beside_earlier(&endpoint.capabilities, index, self.extent());
-                push_broken(
+                let masks = are_patterns_valid(alloc, config.block, &config.patterns)?;
+                let own = overlaps_none(&endpoint.configs, self.extent())
+                    && overlaps_none_of_first(&endpoint.capabilities, index, self.extent());
+                push_broken_rules(
                     problems,
                     entry,
                     &[(Rule::ConfigMasks, masks), (Rule::OwnOffsets, own)],
@@ -110,23 +114,30 @@ impl<'a> PartEntry for CapabilityEntry<'a> {
         }
     }
 
-    fn declare(&self, alloc: Global) -> Result<Option<Capability>, AllocError> {
-        structure(alloc, self)
+    fn declare_if_valid(&self, alloc: Global) -> Result<Option<Capability>, AllocError> {
+        declare_capability_if_valid(alloc, self)
     }
 }
 
 /// Builds the structure of a table. Returns `None` if a pattern isn't valid.
-fn structure(alloc: Global, table: &CapabilityEntry<'_>) -> Result<Option<Capability>, AllocError>
+fn declare_capability_if_valid(
+    alloc: Global,
+    table: &CapabilityEntry<'_>,
+) -> Result<Option<Capability>, AllocError>
     requires id { nat_abs table.now.id < 2 ^ 8 }
     requires off { nat_abs table.now.config.off < 2 ^ 8 }
     ensures { IfOk result (λ found.
         Gives (capability_holds table.now) found (λ d. d ≡ declared_capability table.now)) }
 {
     let config = &table.config;
-    match block(alloc, natural(config.block) as usize, &config.patterns)? {
+    match build_block_if_valid(
+        alloc,
+        magnitude_as_u64(config.block) as usize,
+        &config.patterns,
+    )? {
         Some(block) => Ok(Some(Capability {
-            id: byte(table.id),
-            off: byte(config.off),
+            id: magnitude_as_u8(table.id),
+            off: magnitude_as_u8(config.off),
             block,
         })),
         None => Ok(None),

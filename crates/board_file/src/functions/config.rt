@@ -2,15 +2,18 @@
 ghost use Rattle.board_file.specs.Configs.{config, config_extent, config_rules, config_holds, config_block, is_config_block};
 ghost use Rattle.board_file.specs.Configs as said;
 
-use crate::document::reading::{FromTable, number, patterns};
+use crate::document::reading::{FromTable, integer_or_zero, read_patterns};
 use crate::entries::EndpointEntry;
 use crate::entry::Entry;
 use crate::fault::BoardFault;
-use crate::finding::{Violation, push_broken};
+use crate::finding::{Violation, push_broken_rules};
 use crate::functions::blocks::{
-    ByteRange, HasExtent, PatternTexts, block, is_beside_earlier, is_block,
+    ByteRange, HasExtent, PatternTexts, are_patterns_valid, build_block_if_valid,
+    overlaps_none_of_first,
 };
-use crate::functions::numbers::{ends_by, half_word, is_between, natural};
+use crate::functions::numbers::{
+    ends_at_or_before, is_between, magnitude_as_u16, magnitude_as_u64,
+};
 use crate::functions::part::PartEntry;
 use crate::rule::Rule;
 use headers::ConfigBlock;
@@ -37,9 +40,9 @@ impl<'a> FromTable<'a> for ConfigEntry<'a> {
 
     fn from_table(_alloc: Global, table: &'a Table) -> Result<Self, AllocError> {
         Ok(ConfigEntry {
-            off: number(table, "off"),
-            block: number(table, "block"),
-            patterns: patterns(table),
+            off: integer_or_zero(table, "off"),
+            block: integer_or_zero(table, "block"),
+            patterns: read_patterns(table),
         })
     }
 }
@@ -49,8 +52,8 @@ impl<'a> HasExtent for ConfigEntry<'a> {
 
     fn extent(&self) -> ByteRange {
         ByteRange {
-            off: natural(self.off),
-            len: natural(self.block),
+            off: magnitude_as_u64(self.off),
+            len: magnitude_as_u64(self.block),
         }
     }
 }
@@ -76,19 +79,22 @@ impl<'a> PartEntry for ConfigEntry<'a> {
         entry: Entry,
     ) -> Result<(), AllocError> {
         match fault {
-            BoardFault::Number => push_broken(
+            BoardFault::Number => push_broken_rules(
                 problems,
                 entry,
                 &[
                     (Rule::ConfigOff, is_between(0x40, 0xff, self.off)),
                     (Rule::ConfigBlock, is_between(1, 192, self.block)),
-                    (Rule::ConfigEnd, ends_by(256, self.off, self.block)),
+                    (
+                        Rule::ConfigEnd,
+                        ends_at_or_before(256, self.off, self.block),
+                    ),
                 ],
             ),
             BoardFault::CellMasks => {
-                let masks = is_block(alloc, self.block, &self.patterns)?;
-                let own = is_beside_earlier(&endpoint.configs, index, self.extent());
-                push_broken(
+                let masks = are_patterns_valid(alloc, self.block, &self.patterns)?;
+                let own = overlaps_none_of_first(&endpoint.configs, index, self.extent());
+                push_broken_rules(
                     problems,
                     entry,
                     &[(Rule::ConfigMasks, masks), (Rule::OwnOffsets, own)],
@@ -98,10 +104,10 @@ impl<'a> PartEntry for ConfigEntry<'a> {
         }
     }
 
-    fn declare(&self, alloc: Global) -> Result<Option<ConfigBlock>, AllocError> {
-        match block(alloc, natural(self.block) as usize, &self.patterns)? {
+    fn declare_if_valid(&self, alloc: Global) -> Result<Option<ConfigBlock>, AllocError> {
+        match build_block_if_valid(alloc, magnitude_as_u64(self.block) as usize, &self.patterns)? {
             Some(block) => Ok(Some(ConfigBlock {
-                off: half_word(self.off),
+                off: magnitude_as_u16(self.off),
                 block,
             })),
             None => Ok(None),

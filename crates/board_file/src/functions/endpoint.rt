@@ -1,23 +1,24 @@
 //! The `endpoint` tables of a board file.
 ghost use Rattle.std.specs.{Prelude.{◌≡◌, ◌||◌, not, is_none, IsTrue, IfOk, OnOk, flat_map, map}, List.enumerate_from};
 ghost use Rattle.model_registers.specs.DeclarationRules.{first_broken, endpoint_rules as declaration_rules, has_own_registers, with_ordered_regions, IsLawfulEndpoint};
-ghost use Rattle.board_file.specs.{Bars.region, Blocks.Gives, Endpoints.{endpoint, part_count, has_indices, endpoint_numbers, endpoint_rules, is_declarable, masks_hold, declared_endpoint, HasSmallNumbers}, Problems.{Adds, broken, of_bars, of_configs, of_capabilities, of_endpoint}};
+ghost use Rattle.board_file.specs.{Bars.region, Blocks.Gives, Endpoints.{endpoint, part_count, has_valid_bar_indices, endpoint_numbers, endpoint_rules, is_declarable, masks_hold, declared_endpoint, HasSmallNumbers}, Problems.{Adds, broken, of_bars, of_configs, of_capabilities, of_endpoint}};
 ghost use Rattle.board_file.specs.Endpoints as said;
 
 use crate::document::keys::RegisterKey;
-use crate::document::reading::{FromTable, entries, number, text};
+use crate::document::reading::{FromTable, entries_at_or_empty, integer_or_zero, text_or_empty};
 use crate::entries::{BarEntry, CapabilityEntry, ConfigEntry, FileEntries};
 use crate::entry::{EndpointPart, Entry};
 use crate::fault::BoardFault;
-use crate::finding::{Violation, push_broken};
-use crate::functions::bar::is_index;
+use crate::finding::{Violation, push_broken_rules};
+use crate::functions::bar::has_valid_index;
 use crate::functions::numbers::{
-    byte, fits_byte, fits_half_word, half_word, has_few_slashes, has_only_bits, is_between, natural,
+    fits_byte, fits_half_word, has_at_most_15_slashes, has_only_bits, is_between, magnitude_as_u8,
+    magnitude_as_u16, magnitude_as_u64,
 };
-use crate::functions::part::{declare_all, push_parts};
+use crate::functions::part::{declare_all_if_valid, push_part_problems};
 use crate::path::text::PathText;
 use crate::rule::Rule;
-use headers::{ConfigBlock, EndpointDecl, EndpointValues, Region, have_own_registers};
+use headers::{ConfigBlock, EndpointDecl, EndpointValues, Region, have_distinct_bar_registers};
 use std::alloc::{AllocError, Global};
 use std::marker::Model;
 use toml::Table;
@@ -67,20 +68,20 @@ impl<'a> FromTable<'a> for EndpointEntry<'a> {
 
     fn from_table(alloc: Global, table: &'a Table) -> Result<Self, AllocError> {
         Ok(EndpointEntry {
-            at: PathText::new(text(table, "at")),
-            vendor: number(table, "vendor"),
-            device: number(table, "device"),
-            revision: number(table, "revision"),
-            class: number(table, "class"),
-            subvendor: number(table, "subvendor"),
-            subsystem: number(table, "subsystem"),
-            pin: number(table, "pin"),
-            min_gnt: number(table, "min_gnt"),
-            max_lat: number(table, "max_lat"),
-            status: number(table, "status"),
-            bars: entries(alloc, table, "bar")?,
-            configs: entries(alloc, table, "config")?,
-            capabilities: entries(alloc, table, "capability")?,
+            at: PathText::new(text_or_empty(table, "at")),
+            vendor: integer_or_zero(table, "vendor"),
+            device: integer_or_zero(table, "device"),
+            revision: integer_or_zero(table, "revision"),
+            class: integer_or_zero(table, "class"),
+            subvendor: integer_or_zero(table, "subvendor"),
+            subsystem: integer_or_zero(table, "subsystem"),
+            pin: integer_or_zero(table, "pin"),
+            min_gnt: integer_or_zero(table, "min_gnt"),
+            max_lat: integer_or_zero(table, "max_lat"),
+            status: integer_or_zero(table, "status"),
+            bars: entries_at_or_empty(alloc, table, "bar")?,
+            configs: entries_at_or_empty(alloc, table, "config")?,
+            capabilities: entries_at_or_empty(alloc, table, "capability")?,
         })
     }
 }
@@ -99,44 +100,48 @@ impl<'a> EndpointEntry<'a> {
 
     /// Builds the declaration. Returns `None` if a pattern isn't valid, or if configuration blocks
     /// or structures overlap.
-    pub(crate) fn declare(&self, alloc: Global) -> Result<Option<EndpointDecl>, AllocError>
+    pub(crate) fn declare_if_valid(&self, alloc: Global) -> Result<Option<EndpointDecl>, AllocError>
         requires { IsTrue (is_declarable self.now) }
         ensures { IfOk result (λ found.
             Gives (masks_hold self.now) found (λ d. (d ≡ declared_endpoint self.now)
             × IsLawfulEndpoint d)) }
     {
-        let Some(regions) = declare_all(alloc, &self.bars)? else {
+        let Some(regions) = declare_all_if_valid(alloc, &self.bars)? else {
             return Ok(None);
         };
-        let Some(blocks) = declare_all(alloc, &self.configs)? else {
+        let Some(blocks) = declare_all_if_valid(alloc, &self.configs)? else {
             return Ok(None);
         };
-        let Some(capabilities) = declare_all(alloc, &self.capabilities)? else {
+        let Some(capabilities) = declare_all_if_valid(alloc, &self.capabilities)? else {
             return Ok(None);
         };
-        let values = values(self, regions, blocks).with_capabilities(alloc, &capabilities)?;
-        Ok(declared(values))
+        let values = build_endpoint_values(self, regions, blocks).with_capabilities(
+            alloc,
+            &capabilities,
+        )?;
+        Ok(declare_endpoint_if_valid(values))
     }
 }
 
 /// Returns whether the indices of all BARs are valid.
-fn has_indices(endpoint: &EndpointEntry<'_>) -> bool
-    ensures { result ≡ has_indices endpoint.now }
+fn has_valid_bar_indices(endpoint: &EndpointEntry<'_>) -> bool
+    ensures { result ≡ has_valid_bar_indices endpoint.now }
 {
-    endpoint.bars.iter().all(|bar| is_index(bar))
+    endpoint.bars.iter().all(|bar| has_valid_index(bar))
 }
 
 /// Returns whether no BARs share a register and none needs more than the six registers. Also
 /// returns true if an index isn't valid, which is a problem of its own.
-fn has_own_registers(endpoint: &EndpointEntry<'_>) -> bool
+fn has_disjoint_bar_registers(endpoint: &EndpointEntry<'_>) -> bool
     ensures { result
-        ≡ (not (has_indices endpoint.now) || has_own_registers (map region endpoint.now.bars)) }
+        ≡ (not (has_valid_bar_indices endpoint.now)
+        || has_own_registers (map region endpoint.now.bars)) }
 {
-    !has_indices(endpoint) || have_own_registers(&endpoint.bars)
+    !has_valid_bar_indices(endpoint) || have_distinct_bar_registers(&endpoint.bars)
 }
 
 /// Appends the problems of an endpoint's numbers.
-fn push_numbers(
+fn push_number_problems(
     problems: &mut Vec<Violation<'_>>,
     entry: Entry,
     endpoint: &EndpointEntry<'_>,
@@ -144,7 +149,7 @@ fn push_numbers(
     ensures { OnOk result (Adds (broken entry (endpoint_numbers endpoint.now)) problems.old.items
         problems.new.items) }
 {
-    push_broken(
+    push_broken_rules(
         problems,
         entry,
         &[
@@ -163,7 +168,7 @@ fn push_numbers(
 }
 
 /// Appends the problems of an endpoint, except those of the tables inside it.
-fn push_endpoint(
+fn push_own_endpoint_problems(
     problems: &mut Vec<Violation<'_>>,
     fault: BoardFault,
     index: usize,
@@ -174,21 +179,21 @@ fn push_endpoint(
 {
     let entry = Entry::Endpoint(index);
     match fault {
-        BoardFault::Number => push_numbers(problems, entry, endpoint),
+        BoardFault::Number => push_number_problems(problems, entry, endpoint),
         BoardFault::TooMany => {
-            let slashes = has_few_slashes(&endpoint.at);
-            push_broken(problems, entry, &[(Rule::Slashes, slashes)])
+            let slashes = has_at_most_15_slashes(&endpoint.at);
+            push_broken_rules(problems, entry, &[(Rule::Slashes, slashes)])
         }
         BoardFault::Register => {
-            let own = has_own_registers(endpoint);
-            push_broken(problems, entry, &[(Rule::OwnRegisters, own)])
+            let own = has_disjoint_bar_registers(endpoint);
+            push_broken_rules(problems, entry, &[(Rule::OwnRegisters, own)])
         }
         _ => Ok(()),
     }
 }
 
 /// Appends the problems of an endpoint's BARs.
-fn push_bars(
+fn push_bar_problems(
     alloc: Global,
     problems: &mut Vec<Violation<'_>>,
     fault: BoardFault,
@@ -199,11 +204,11 @@ fn push_bars(
         problems.new.items) }
 {
     let (part, bars) = (EndpointPart::Bar, &endpoint.bars);
-    push_parts(alloc, problems, fault, part, index, endpoint, bars)
+    push_part_problems(alloc, problems, fault, part, index, endpoint, bars)
 }
 
 /// Appends the problems of an endpoint's own registers.
-fn push_configs(
+fn push_config_problems(
     alloc: Global,
     problems: &mut Vec<Violation<'_>>,
     fault: BoardFault,
@@ -214,11 +219,11 @@ fn push_configs(
         problems.new.items) }
 {
     let (part, configs) = (EndpointPart::Config, &endpoint.configs);
-    push_parts(alloc, problems, fault, part, index, endpoint, configs)
+    push_part_problems(alloc, problems, fault, part, index, endpoint, configs)
 }
 
 /// Appends the problems of an endpoint's capability list.
-fn push_capabilities(
+fn push_capability_problems(
     alloc: Global,
     problems: &mut Vec<Violation<'_>>,
     fault: BoardFault,
@@ -229,11 +234,11 @@ fn push_capabilities(
         problems.new.items) }
 {
     let (part, capabilities) = (EndpointPart::Capability, &endpoint.capabilities);
-    push_parts(alloc, problems, fault, part, index, endpoint, capabilities)
+    push_part_problems(alloc, problems, fault, part, index, endpoint, capabilities)
 }
 
 /// Appends the problems of an endpoint, and then those of the tables inside it.
-fn push_with_tables(
+fn push_endpoint_problems(
     alloc: Global,
     problems: &mut Vec<Violation<'_>>,
     fault: BoardFault,
@@ -243,14 +248,14 @@ fn push_with_tables(
     ensures { OnOk result
         (Adds (of_endpoint fault (index, endpoint.now)) problems.old.items problems.new.items) }
 {
-    push_endpoint(problems, fault, index, endpoint)?;
-    push_bars(alloc, problems, fault, index, endpoint)?;
-    push_configs(alloc, problems, fault, index, endpoint)?;
-    push_capabilities(alloc, problems, fault, index, endpoint)
+    push_own_endpoint_problems(problems, fault, index, endpoint)?;
+    push_bar_problems(alloc, problems, fault, index, endpoint)?;
+    push_config_problems(alloc, problems, fault, index, endpoint)?;
+    push_capability_problems(alloc, problems, fault, index, endpoint)
 }
 
 /// Appends the problems of all endpoints.
-pub(crate) fn push_endpoints(
+pub(crate) fn push_all_endpoint_problems(
     alloc: Global,
     problems: &mut Vec<Violation<'_>>,
     file: &FileEntries<'_>,
@@ -261,36 +266,40 @@ pub(crate) fn push_endpoints(
         problems.old.items problems.new.items) }
 {
     'endpoints: for (index, endpoint) in file.endpoints.iter().enumerate() {
-        push_with_tables(alloc, problems, fault, index, endpoint)?;
+        push_endpoint_problems(alloc, problems, fault, index, endpoint)?;
     }
     Ok(())
 }
 
 /// Returns the values of an endpoint, with the given BARs and configuration blocks, and without a
 /// capability list.
-fn values(entry: &EndpointEntry<'_>, bar: Vec<Region>, config: Vec<ConfigBlock>) -> EndpointValues
+fn build_endpoint_values(
+    entry: &EndpointEntry<'_>,
+    bar: Vec<Region>,
+    config: Vec<ConfigBlock>,
+) -> EndpointValues
     requires { HasSmallNumbers entry.now }
     ensures { result
         ≡ record (said.plain_values entry.now) { regions = bar.items; blocks = config.items } }
 {
     EndpointValues {
-        vendor: half_word(entry.vendor),
-        device: half_word(entry.device),
-        revision: byte(entry.revision),
-        class: natural(entry.class) as u32,
-        subvendor: half_word(entry.subvendor),
-        subsystem: half_word(entry.subsystem),
-        pin: byte(entry.pin),
-        min_gnt: byte(entry.min_gnt),
-        max_lat: byte(entry.max_lat),
-        status: half_word(entry.status),
+        vendor: magnitude_as_u16(entry.vendor),
+        device: magnitude_as_u16(entry.device),
+        revision: magnitude_as_u8(entry.revision),
+        class: magnitude_as_u64(entry.class) as u32,
+        subvendor: magnitude_as_u16(entry.subvendor),
+        subsystem: magnitude_as_u16(entry.subsystem),
+        pin: magnitude_as_u8(entry.pin),
+        min_gnt: magnitude_as_u8(entry.min_gnt),
+        max_lat: magnitude_as_u8(entry.max_lat),
+        status: magnitude_as_u16(entry.status),
         bar,
         config,
     }
 }
 
 /// Declares an endpoint. Returns `None` if the values break a rule.
-fn declared(values: EndpointValues) -> Option<EndpointDecl>
+fn declare_endpoint_if_valid(values: EndpointValues) -> Option<EndpointDecl>
     ensures { Gives (is_none (first_broken (declaration_rules values))) result (λ d.
         (d ≡ with_ordered_regions values) × IsLawfulEndpoint d) }
 {

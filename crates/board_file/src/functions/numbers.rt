@@ -1,6 +1,6 @@
 //! Ranges and conversions of integers, and limits on the number of entries.
 ghost use Rattle.std.specs.Prelude.{◌≡◌, ◌<◌, ◌+◌, ◌^◌, ◌+ℤ◌, int_le, nat_abs, nat_le, pos, length};
-ghost use Rattle.board_file.specs.Rules.{is_between, fits_byte, fits_half_word, has_only_bits, has_few_slashes};
+ghost use Rattle.board_file.specs.Rules.{is_between, fits_byte, fits_half_word, has_only_bits, has_at_most_15_slashes};
 
 use crate::document::keys::RegisterKey;
 use crate::entries::FileEntries;
@@ -39,7 +39,7 @@ pub(crate) fn fits_half_word(key: RegisterKey, number: i64) -> (Rule, bool)
 }
 
 /// Returns whether the sum of `off` and `block` is at most `end`.
-pub(crate) fn ends_by(end: u16, off: i64, block: i64) -> bool
+pub(crate) fn ends_at_or_before(end: u16, off: i64, block: i64) -> bool
     ensures { result ≡ int_le (off +ℤ block) (pos end) }
 {
     match off.checked_add(block) {
@@ -49,15 +49,15 @@ pub(crate) fn ends_by(end: u16, off: i64, block: i64) -> bool
 }
 
 /// Returns whether the text has at most 15 slashes. A path of 16 parts has 15.
-pub(crate) fn has_few_slashes(at: &PathText<'_>) -> bool
-    ensures { result ≡ has_few_slashes at.now }
+pub(crate) fn has_at_most_15_slashes(at: &PathText<'_>) -> bool
+    ensures { result ≡ has_at_most_15_slashes at.now }
 {
     let text = at.text().as_bytes();
     text.iter().filter(|byte| **byte == b'/').count() <= 15
 }
 
 /// Returns whether the file has at most 1024 endpoints and bridges.
-pub(crate) fn has_few_functions(file: &FileEntries<'_>) -> bool
+pub(crate) fn has_at_most_1024_functions(file: &FileEntries<'_>) -> bool
     ensures { result ≡ nat_le (length file.now.endpoints + length file.now.bridges) 1024 }
 {
     let endpoints = file.endpoints.len();
@@ -66,22 +66,22 @@ pub(crate) fn has_few_functions(file: &FileEntries<'_>) -> bool
 }
 
 /// Converts a number that isn't negative.
-pub(crate) fn natural(number: i64) -> u64
+pub(crate) fn magnitude_as_u64(number: i64) -> u64
     ensures { result ≡ nat_abs number }
 {
     number.unsigned_abs()
 }
 
-pub(crate) fn byte(number: i64) -> u8
+pub(crate) fn magnitude_as_u8(number: i64) -> u8
     requires { nat_abs number < 2 ^ 8 }
     ensures { result ≡ nat_abs number }
 {
-    natural(number) as u8
+    magnitude_as_u64(number) as u8
 }
 
-pub(crate) fn half_word(number: i64) -> u16
+pub(crate) fn magnitude_as_u16(number: i64) -> u16
     requires { nat_abs number < 2 ^ 16 }
     ensures { result ≡ nat_abs number }
 {
-    natural(number) as u16
+    magnitude_as_u64(number) as u16
 }

@@ -5,13 +5,13 @@ ghost use Rattle.board_file.specs.{EntryRules.guest_rules, Problems.{Adds, broke
 use crate::entries::{FileEntries, GuestEntry};
 use crate::entry::Entry;
 use crate::fault::BoardFault;
-use crate::finding::{Violation, push_broken};
-use crate::guests::{is_name, is_own_name};
+use crate::finding::{Violation, push_broken_rules};
+use crate::guests::{is_name_unused_by_first, is_valid_guest_name};
 use crate::rule::Rule;
 use std::alloc::AllocError;
 
 /// Appends the problems of a guest.
-fn push_guest(
+fn push_guest_problems(
     problems: &mut Vec<Violation<'_>>,
     file: &FileEntries<'_>,
     fault: BoardFault,
@@ -25,14 +25,17 @@ fn push_guest(
     let entry = Entry::Guest(index);
     match fault {
         BoardFault::TooMany => {
-            push_broken(problems, entry, &[(Rule::Slots, guest.slots.len() <= 32)])
+            push_broken_rules(problems, entry, &[(Rule::Slots, guest.slots.len() <= 32)])
         }
-        BoardFault::GuestName => push_broken(
+        BoardFault::GuestName => push_broken_rules(
             problems,
             entry,
             &[
-                (Rule::Name, is_name(guest.name)),
-                (Rule::OwnName, is_own_name(&file.guests, index, guest.name)),
+                (Rule::Name, is_valid_guest_name(guest.name)),
+                (
+                    Rule::OwnName,
+                    is_name_unused_by_first(&file.guests, index, guest.name),
+                ),
             ],
         ),
         _ => Ok(()),
@@ -40,7 +43,7 @@ fn push_guest(
 }
 
 /// Appends the problems of all guests.
-pub(crate) fn push_guests(
+pub(crate) fn push_all_guest_problems(
     problems: &mut Vec<Violation<'_>>,
     file: &FileEntries<'_>,
     fault: BoardFault,
@@ -50,7 +53,7 @@ pub(crate) fn push_guests(
         problems.old.items problems.new.items) }
 {
     'guests: for (index, guest) in file.guests.iter().enumerate() {
-        push_guest(problems, file, fault, index, guest)?;
+        push_guest_problems(problems, file, fault, index, guest)?;
     }
     Ok(())
 }

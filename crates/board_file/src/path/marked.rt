@@ -30,11 +30,12 @@ impl<'f, 'a> Model for MarkedPath<'f, 'a> {
 }
 
 /// Returns the path texts of all functions, endpoints first.
-fn place_texts<'f, 'a>(
+fn function_texts<'f, 'a>(
     alloc: Global,
     file: &'f FileEntries<'a>,
 ) -> Result<Vec<(Entry, &'f PathText<'a>)>, AllocError>
-    ensures { IfOk result (λ v. map (λ p. (p.0, p.1.now)) v.items ≡ said.place_texts file.now) }
+    ensures { IfOk result (λ v.
+        map (λ p. (p.0, p.1.now)) v.items ≡ said.function_texts file.now) }
 {
     let mut texts = Vec::new(alloc);
     'endpoints: for (index, endpoint) in file.endpoints.iter().enumerate() {
@@ -47,7 +48,7 @@ fn place_texts<'f, 'a>(
 }
 
 /// Appends the path texts of a guest's slots.
-fn push_slots<'f, 'a>(
+fn push_slot_texts<'f, 'a>(
     texts: &mut Vec<(Entry, &'f PathText<'a>)>,
     index: usize,
     guest: &'f GuestEntry<'a>,
@@ -70,22 +71,22 @@ fn slot_texts<'f, 'a>(
 {
     let mut texts = Vec::new(alloc);
     'guests: for (index, guest) in file.guests.iter().enumerate() {
-        push_slots(&mut texts, index, guest)?;
+        push_slot_texts(&mut texts, index, guest)?;
     }
     Ok(texts)
 }
 
 /// Returns the path texts that a check examines: those of functions or those of slots.
-fn path_texts<'f, 'a>(
+fn path_texts_for_check<'f, 'a>(
     alloc: Global,
     file: &'f FileEntries<'a>,
     fault: BoardFault,
 ) -> Result<Vec<(Entry, &'f PathText<'a>)>, AllocError>
     ensures { IfOk result (λ v.
-        map (λ p. (p.0, p.1.now)) v.items ≡ said.path_texts fault file.now) }
+        map (λ p. (p.0, p.1.now)) v.items ≡ said.path_texts_for_check fault file.now) }
 {
     match fault {
-        BoardFault::Place => place_texts(alloc, file),
+        BoardFault::Place => function_texts(alloc, file),
         BoardFault::Slot => slot_texts(alloc, file),
         _ => Ok(Vec::new(alloc)),
     }
@@ -93,7 +94,10 @@ fn path_texts<'f, 'a>(
 
 /// Adds a text's path to the set. Returns false if the set already contains the path. For an
 /// invalid text, returns true and adds nothing.
-fn take(taken: &mut BTreeSet<Path>, text: &PathText<'_>) -> Result<bool, AllocError>
+fn insert_unless_duplicate(
+    taken: &mut BTreeSet<Path>,
+    text: &PathText<'_>,
+) -> Result<bool, AllocError>
     ensures own { IfOk result (λ own.
         own ≡ (not (is_path_text text.now)
         || not (contains path_cmp taken.old (path_at text.now)))) }
@@ -101,7 +105,7 @@ fn take(taken: &mut BTreeSet<Path>, text: &PathText<'_>) -> Result<bool, AllocEr
         ≡ (contains path_cmp taken.old p || said.has_path p text.now)) }
 {
     if text.is_path() {
-        Ok(taken.insert(text.path())?)
+        Ok(taken.insert(text.path_or_zero())?)
     } else {
         Ok(true)
     }
@@ -121,20 +125,20 @@ fn mark_duplicates<'f, 'a>(
         entries.push(MarkedPath {
             entry: *entry,
             text: *text,
-            is_first: take(&mut taken, text)?,
+            is_first: insert_unless_duplicate(&mut taken, text)?,
         })?;
     }
     Ok(entries)
 }
 
 /// Returns the path texts that a check examines, each marked if its path is a duplicate.
-pub(crate) fn marked_paths<'f, 'a>(
+pub(crate) fn marked_paths_for_check<'f, 'a>(
     alloc: Global,
     file: &'f FileEntries<'a>,
     fault: BoardFault,
 ) -> Result<Vec<MarkedPath<'f, 'a>>, AllocError>
     ensures { IfOk result (λ v.
-        v.items ≡ said.mark_duplicates (said.path_texts fault file.now)) }
+        v.items ≡ said.mark_duplicates (said.path_texts_for_check fault file.now)) }
 {
-    mark_duplicates(alloc, path_texts(alloc, file, fault)?)
+    mark_duplicates(alloc, path_texts_for_check(alloc, file, fault)?)
 }

@@ -32,18 +32,18 @@ pub fn function_paths(
     ensures { IfOk result (λ v. v.items ≡ standings file.now) }
 {
     let endpoints = file.endpoints.iter().map(|endpoint| FunctionPath {
-        path: endpoint.at.path(),
+        path: endpoint.at.path_or_zero(),
         is_bridge: false,
     });
     let bridges = file.bridges.iter().map(|bridge| FunctionPath {
-        path: bridge.at.path(),
+        path: bridge.at.path_or_zero(),
         is_bridge: true,
     });
     endpoints.chain(bridges).collect(alloc)
 }
 
 /// Returns the path of these parts, or `None` if there are no parts.
-pub(crate) fn path_of(parts: &[Part]) -> Option<Path>
+pub(crate) fn path_unless_empty(parts: &[Part]) -> Option<Path>
     requires { length parts.now < 16 }
     ensures { MatchOption result (parts.now ≡ []) (λ p. p ≡ parts.now) }
 {

@@ -4,15 +4,15 @@ ghost use Rattle.board_file.specs.{Functions.standings, Problems.{Adds, of_path,
 
 use crate::entries::FileEntries;
 use crate::fault::BoardFault;
-use crate::finding::{Violation, push_broken};
-use crate::path::marked::{MarkedPath, marked_paths};
+use crate::finding::{Violation, push_broken_rules};
+use crate::path::marked::{MarkedPath, marked_paths_for_check};
 use crate::path::places::FunctionPath;
 use crate::path::sets::PathSets;
 use crate::rule::Rule;
 use std::alloc::{AllocError, Global};
 
 /// Appends the problems of the path of a function or slot.
-fn push_path(
+fn push_path_problems(
     problems: &mut Vec<Violation<'_>>,
     functions: &PathSets<'_>,
     fault: BoardFault,
@@ -23,10 +23,10 @@ fn push_path(
 {
     match fault {
         BoardFault::Place => {
-            let path = at.text.path();
-            let is_behind = functions.is_behind_bridge(path.parent());
+            let path = at.text.path_or_zero();
+            let is_behind = functions.is_existing_bus(path.parent());
             let has_zero = functions.has_path(&path.function_zero());
-            push_broken(
+            push_broken_rules(
                 problems,
                 at.entry,
                 &[
@@ -37,7 +37,7 @@ fn push_path(
                 ],
             )
         }
-        BoardFault::Slot => push_broken(
+        BoardFault::Slot => push_broken_rules(
             problems,
             at.entry,
             &[
@@ -50,7 +50,7 @@ fn push_path(
 }
 
 /// Appends the problems of all paths that a check examines.
-pub(crate) fn push_paths(
+pub(crate) fn push_all_path_problems(
     alloc: Global,
     problems: &mut Vec<Violation<'_>>,
     file: &FileEntries<'_>,
@@ -62,9 +62,9 @@ pub(crate) fn push_paths(
         (Adds (of_paths fault file.now) problems.old.items problems.new.items) }
 {
     let functions = PathSets::new(alloc, functions)?;
-    let entries = marked_paths(alloc, file, fault)?;
+    let entries = marked_paths_for_check(alloc, file, fault)?;
     'entries: for at in &entries {
-        push_path(problems, &functions, fault, at)?;
+        push_path_problems(problems, &functions, fault, at)?;
     }
     Ok(())
 }

@@ -2,9 +2,9 @@
 ghost use Rattle.std.specs.{Prelude.{◌≡◌, ◌<◌, IfOk, length, map, filter}, BTreeSet.IsFromIterResult};
 ghost use Rattle.model_board.specs.Places.{has_path, has_bridge};
 ghost use Rattle.paths.specs.PathOrders.{path_cmp};
-ghost use Rattle.board_file.specs.{EntryRules.is_behind_bridge, Rules.names_endpoint};
+ghost use Rattle.board_file.specs.{EntryRules.is_existing_bus, Rules.names_endpoint};
 
-use crate::path::places::{FunctionPath, path_of};
+use crate::path::places::{FunctionPath, path_unless_empty};
 use crate::path::text::PathText;
 use paths::{Part, Path};
 use std::alloc::{AllocError, Global};
@@ -83,11 +83,11 @@ impl<'a> PathSets<'a> {
     }
 
     /// Returns whether the parts lead to an existing bus: bus 0, or a bus behind a bridge.
-    pub(crate) fn is_behind_bridge(&self, bus: &[Part]) -> bool
+    pub(crate) fn is_existing_bus(&self, bus: &[Part]) -> bool
         requires { length bus.now < 16 }
-        ensures { result ≡ is_behind_bridge self.now bus.now }
+        ensures { result ≡ is_existing_bus self.now bus.now }
     {
-        match path_of(bus) {
+        match path_unless_empty(bus) {
             Some(bridge) => self.has_bridge(&bridge),
             None => true,
         }
@@ -97,7 +97,7 @@ impl<'a> PathSets<'a> {
     pub(crate) fn names_endpoint(&self, text: &PathText<'_>) -> bool
         ensures { result ≡ names_endpoint self.now text.now }
     {
-        let path = text.path();
+        let path = text.path_or_zero();
         text.is_path() && self.has_path(&path) && !self.has_bridge(&path)
     }
 }

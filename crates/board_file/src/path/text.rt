@@ -1,14 +1,14 @@
 //! Parsing of paths.
 ghost use Rattle.std.specs.Prelude.{◌≡◌, ◌+◌, ◌≤◌, ◌++◌, length, option_map, is_some, IfSome};
-ghost use Rattle.board_file.specs.{EntryRules.are_same_place, PathTexts.{one_digit_part, two_digit_part, part_at_front, parts_after, path_of, is_path_text, path_at}};
+ghost use Rattle.board_file.specs.{EntryRules.are_same_valid_path, PathTexts.{parse_one_digit_part, parse_two_digit_part, parse_leading_part, parts_after, parse_path, is_path_text, path_at}};
 
 use paths::{Part, Path};
 use std::marker::Model;
 
 /// Parses a part with a one-digit device at the start of a text. Returns the part and the rest of
 /// the text.
-fn one_digit_part(text: &[u8]) -> Option<(Part, &[u8])>
-    ensures { option_map (λ p. (p.0, p.1.now)) result ≡ one_digit_part text.now }
+fn parse_one_digit_part(text: &[u8]) -> Option<(Part, &[u8])>
+    ensures { option_map (λ p. (p.0, p.1.now)) result ≡ parse_one_digit_part text.now }
 {
     match text {
         [
@@ -23,8 +23,8 @@ fn one_digit_part(text: &[u8]) -> Option<(Part, &[u8])>
 
 /// Parses a part with device 10 to 15 at the start of a text. Returns the part and the rest of the
 /// text.
-fn two_digit_part(text: &[u8]) -> Option<(Part, &[u8])>
-    ensures { option_map (λ p. (p.0, p.1.now)) result ≡ two_digit_part text.now }
+fn parse_two_digit_part(text: &[u8]) -> Option<(Part, &[u8])>
+    ensures { option_map (λ p. (p.0, p.1.now)) result ≡ parse_two_digit_part text.now }
 {
     match text {
         [
@@ -39,18 +39,18 @@ fn two_digit_part(text: &[u8]) -> Option<(Part, &[u8])>
 }
 
 /// Parses the part at the start of a text. Returns the part and the rest of the text.
-fn part_at_front(text: &[u8]) -> Option<(Part, &[u8])>
-    ensures { option_map (λ p. (p.0, p.1.now)) result ≡ part_at_front text.now }
+fn parse_leading_part(text: &[u8]) -> Option<(Part, &[u8])>
+    ensures { option_map (λ p. (p.0, p.1.now)) result ≡ parse_leading_part text.now }
 {
-    match one_digit_part(text) {
+    match parse_one_digit_part(text) {
         Some(found) => Some(found),
-        None => two_digit_part(text),
+        None => parse_two_digit_part(text),
     }
 }
 
 /// Parses the parts of a text, each after a slash, and appends them to the path. Returns false if
 /// the text isn't valid or has more than `room` parts.
-fn push_parts(path: &mut Path, text: &[u8], room: usize) -> bool
+fn parse_parts_into(path: &mut Path, text: &[u8], room: usize) -> bool
     requires { length path.old + room ≤ 16 }
     ensures all { result ≡ is_some (parts_after room text.now) }
     ensures pushed { IfSome (parts_after room text.now) (λ ps. path.new ≡ path.old ++ ps) }
@@ -61,10 +61,10 @@ fn push_parts(path: &mut Path, text: &[u8], room: usize) -> bool
             if room == 0 || *slash != b'/' {
                 return false;
             }
-            match part_at_front(rest) {
+            match parse_leading_part(rest) {
                 Some(found) => {
                     path.push(found.0);
-                    push_parts(path, found.1, room - 1)
+                    parse_parts_into(path, found.1, room - 1)
                 }
                 None => false,
             }
@@ -74,13 +74,13 @@ fn push_parts(path: &mut Path, text: &[u8], room: usize) -> bool
 
 /// Parses a path: 1 to 16 parts, separated by slashes. A part is a device from 0 to 15, a dot and a
 /// function from 0 to 7, without leading zeros.
-pub fn path_of(text: &[u8]) -> Option<Path>
-    ensures { result ≡ path_of text.now }
+pub fn parse_path(text: &[u8]) -> Option<Path>
+    ensures { result ≡ parse_path text.now }
 {
-    match part_at_front(text) {
+    match parse_leading_part(text) {
         Some((part, after)) => {
             let mut path = Path::on_root(part);
-            if push_parts(&mut path, after, 15) {
+            if parse_parts_into(&mut path, after, 15) {
                 Some(path)
             } else {
                 None
@@ -99,13 +99,13 @@ pub struct PathText<'a> {
 
 impl<'a> Model for PathText<'a> {
     ghost use Rattle.std.specs.Prelude.{◌≡◌, ℕ, List};
-    ghost use Rattle.board_file.specs.PathTexts.{path_of};
+    ghost use Rattle.board_file.specs.PathTexts.{parse_path};
 
     ghost Value = { List ℕ };
 
     ghost view = { λ p. p.text.now };
 
-    ghost invariant = { λ p. p.path ≡ path_of p.text.now };
+    ghost invariant = { λ p. p.path ≡ parse_path p.text.now };
 }
 
 impl<'a> PathText<'a> {
@@ -115,7 +115,7 @@ impl<'a> PathText<'a> {
     {
         PathText {
             text,
-            path: path_of(text.as_bytes()),
+            path: parse_path(text.as_bytes()),
         }
     }
 
@@ -134,7 +134,7 @@ impl<'a> PathText<'a> {
     }
 
     /// Returns the path, or `0.0` if the text isn't a valid path.
-    pub fn path(&self) -> Path
+    pub fn path_or_zero(&self) -> Path
         ensures { result ≡ path_at self.now }
     {
         match &self.path {
@@ -146,8 +146,8 @@ impl<'a> PathText<'a> {
 
 /// Returns whether both texts are valid and are the same path. Compares the paths without copying
 /// them.
-pub fn are_same_place(one: &PathText<'_>, other: &PathText<'_>) -> bool
-    ensures { result ≡ are_same_place one.now other.now }
+pub fn are_same_valid_path(one: &PathText<'_>, other: &PathText<'_>) -> bool
+    ensures { result ≡ are_same_valid_path one.now other.now }
 {
     match &one.path {
         Some(first) => match &other.path {

@@ -9,7 +9,7 @@ use host_bridge::Route;
 
 /// Returns whether an access of `width` bytes at a configuration offset includes a byte of Command
 /// or of a base address register.
-pub(crate) fn tells_regions(offset: u64, width: u64) -> bool
+pub(crate) fn touches_command_or_bars(offset: u64, width: u64) -> bool
     requires { IsWidth width }
     ensures { result ≡ any_tells width (config offset) }
 {
@@ -17,7 +17,7 @@ pub(crate) fn tells_regions(offset: u64, width: u64) -> bool
 }
 
 /// Returns the change count, increased by one if `changes` is set. It wraps from 2^64 - 1 to 0.
-pub(crate) fn counted(count: u64, changes: bool) -> u64
+pub(crate) fn increment_if(count: u64, changes: bool) -> u64
     ensures { result ≡ after_change changes count }
 {
     if changes {

@@ -4,16 +4,21 @@ ghost use Rattle.model_registers.specs.{Registers.{config, number}, ByteEnables.
 ghost use Rattle.accesses.specs.Refusals.{number_of};
 ghost use Rattle.monitor.specs.{InSlots.{IsInSlot, IsSlotFault}, Counts.{counts_of, counted_nth}, Configs.{IsSeen, IsHolding, WritesOwn, HoldsAt, WritesGuest}};
 
-use crate::access::change_count::counted;
+use crate::access::change_count::increment_if;
 use crate::guest::{AssignedFunction, Guest};
 use accesses::Refusal;
-use config_bytes::{enables_of, lowered};
+use config_bytes::{enables_of, shift_lanes_down};
 use host_bridge::Host;
 
 /// Reads 1, 2 or 4 bytes at a configuration offset of a function as its guest sees it: Command,
 /// Header Type and the base address registers from the guest's copies, and all other bytes from the
 /// board.
-pub(crate) fn number_read(host: &mut Host, held: &AssignedFunction, off: u8, width: u64) -> u32
+pub(crate) fn read_config_as_guest(
+    host: &mut Host,
+    held: &AssignedFunction,
+    off: u8,
+    width: u64,
+) -> u32
     requires seen { IsSeen host.old held.now }
     requires width { IsWidth width }
     requires aligned { off % width ≡ 0 }
@@ -27,11 +32,14 @@ pub(crate) fn number_read(host: &mut Host, held: &AssignedFunction, off: u8, wid
         .own
         .config_read(u16::from(word), enables_of(from, width));
     let rest = host.config_read_nth(held.index, word, others);
-    lowered(from, own + rest)
+    shift_lanes_down(from, own + rest)
 }
 
 /// Returns the function in a slot.
-pub(crate) fn held_in(slots: &[Option<AssignedFunction>], slot: usize) -> Option<&AssignedFunction>
+pub(crate) fn function_in_slot(
+    slots: &[Option<AssignedFunction>],
+    slot: usize,
+) -> Option<&AssignedFunction>
     ensures empty { IfNone result (unwrap_or (slice_get slots.now slot) None ≡ None) }
     ensures there { IfSome result (λ r. slice_get slots.now slot ≡ Some (Some r.now)) }
 {
@@ -43,7 +51,7 @@ pub(crate) fn held_in(slots: &[Option<AssignedFunction>], slot: usize) -> Option
 
 /// Returns the function in a slot, or the reason why there is none: 303 for a slot above 31, 601
 /// for an empty slot.
-pub(crate) fn function_in(
+pub(crate) fn function_or_refusal(
     slots: &[Option<AssignedFunction>],
     slot: u64,
 ) -> Result<&AssignedFunction, Refusal>
@@ -53,7 +61,7 @@ pub(crate) fn function_in(
     if slot > 31 {
         return Err(Refusal::Range);
     }
-    match held_in(slots, slot as usize) {
+    match function_in_slot(slots, slot as usize) {
         Some(held) => Ok(held),
         None => Err(Refusal::EmptySlot),
     }
@@ -61,7 +69,7 @@ pub(crate) fn function_in(
 
 /// Writes those enabled bytes of a configuration word that the guest has copies of. Returns the
 /// function's index on the host, and the byte enables of the bytes to write on the board.
-pub(crate) fn write_own(
+pub(crate) fn split_config_write(
     slots: &mut [Option<AssignedFunction>],
     slot: usize,
     word: u8,
@@ -82,9 +90,9 @@ pub(crate) fn write_own(
     }
 }
 
-/// Calls `write_own` for a guest's slot, and increments the guest's change count if `changes` is
+/// Calls `split_config_write` for a guest's slot, and increments the guest's change count if `changes` is
 /// set.
-pub(crate) fn write_in(
+pub(crate) fn split_config_write_of_guest(
     guests: &mut [Guest],
     guest: usize,
     slot: usize,
@@ -100,6 +108,6 @@ pub(crate) fn write_in(
     ensures counts { counts_of guests.new ≡ counted_nth guest changes (counts_of guests.old) }
 {
     let guest = &mut guests[guest];
-    guest.changed = counted(guest.changed, changes);
-    write_own(&mut guest.slots, slot, word, enables, value)
+    guest.changed = increment_if(guest.changed, changes);
+    split_config_write(&mut guest.slots, slot, word, enables, value)
 }

@@ -5,7 +5,7 @@ ghost use Rattle.model_guests.specs.Slots.{Slots, landing_from};
 ghost use Rattle.bars.specs.Kinds.{named_space};
 ghost use Rattle.monitor.specs.{Configs.IsHolding, Keeping.AreSlots, Landings.landing_of, Reaches.LandsIn};
 
-use crate::access::config::held_in;
+use crate::access::config::function_in_slot;
 use crate::guest::AssignedFunction;
 use bars::Space;
 use host_bridge::BarOffset;
@@ -13,7 +13,7 @@ use host_bridge::BarOffset;
 /// Finds the region that decodes an address according to the guest's own registers. If several
 /// regions do, the lowest slot wins, then the lowest base address register. Returns the slot, the
 /// register and the offset in the region.
-pub(crate) fn landing(
+pub(crate) fn decode_address(
     slots: &[Option<AssignedFunction>],
     space: Space,
     addr: u64,
@@ -24,7 +24,7 @@ pub(crate) fn landing(
     ensures there { IfSome result (λ l. LandsIn slots.now (named_space space) addr l) }
 {
     for slot in 0..slots.len() {
-        if let Some(held) = held_in(slots, slot) {
+        if let Some(held) = function_in_slot(slots, slot) {
             if let Some((region, offset)) = held.own.decode(space, addr) {
                 return Some((slot, region, offset));
             }
@@ -34,7 +34,7 @@ pub(crate) fn landing(
 }
 
 /// Converts a slot, a base address register and an offset in its region to a location on the board.
-pub(crate) fn located(
+pub(crate) fn slot_bar_to_board(
     slots: &[Option<AssignedFunction>],
     slot: usize,
     region: u8,

@@ -7,16 +7,16 @@ ghost use Rattle.model_handoff.specs.RegionBytes.{byte_reply, opening, register_
 ghost use Rattle.accesses.specs.{Accesses.{op_of, part_of, reply_of}, Replies.{IsRefusal, IsShown}};
 ghost use Rattle.monitor.specs.{Keeping.IsHeld, ByIndex.lone_nth, Counts.after_byte_nth, DeviceBytes.device_byte};
 
-use crate::access::config::function_in;
+use crate::access::config::function_or_refusal;
 use crate::engine::Engine;
 use crate::guest::AssignedFunction;
-use crate::queries::regions::opens;
-use accesses::{Op, Place, Refusal, Reply, master_abort};
+use crate::queries::regions::command_enables_space;
+use accesses::{Op, Place, Refusal, Reply, master_abort_reply};
 use host_bridge::{BarOffset, Route};
 
 /// Returns whether the guest's Command enables the region that contains this byte, or None if no
 /// region contains it.
-fn opening(held: &AssignedFunction, place: Place, off: u64) -> Option<bool>
+fn command_enables_region_byte(held: &AssignedFunction, place: Place, off: u64) -> Option<bool>
     ensures { (s : State) (p : Path) (f : Function) → IsHeld s p f held.now
         → IsLawfulOwn held.now.own → result ≡ opening f (part_of place) off }
 {
@@ -27,7 +27,7 @@ fn opening(held: &AssignedFunction, place: Place, off: u64) -> Option<bool>
         Some(Some(region)) => {
             let size = region.decl.size();
             if off < size {
-                Some(opens(held, region.decl.kind().space()))
+                Some(command_enables_space(held, region.decl.kind().space()))
             } else {
                 None
             }
@@ -39,7 +39,7 @@ fn opening(held: &AssignedFunction, place: Place, off: u64) -> Option<bool>
 
 /// Converts a base address register of a function and an offset in its region to a location on the
 /// board.
-fn byte_at(held: &AssignedFunction, place: Place, off: u64) -> BarOffset
+fn function_bar_to_board(held: &AssignedFunction, place: Place, off: u64) -> BarOffset
     ensures { result
         ≡ record { index = held.now.index; region = register_of (part_of place); offset = off } }
 {
@@ -71,17 +71,17 @@ impl<R: Route> Engine<R> {
         ensures shown { IsShown result }
         ensures refused { IsRefusal result → self.new ≡ self.old }
     {
-        let held = match function_in(&self.guests[guest].slots, slot) {
+        let held = match function_or_refusal(&self.guests[guest].slots, slot) {
             Ok(held) => held,
             Err(why) => return Reply::Refused(why),
         };
-        let Some(opened) = opening(held, place, off) else {
+        let Some(opened) = command_enables_region_byte(held, place, off) else {
             return Reply::Refused(Refusal::Range);
         };
         if !opened {
-            return master_abort(op, 1);
+            return master_abort_reply(op, 1);
         }
-        let at = byte_at(held, place, off);
+        let at = function_bar_to_board(held, place, off);
         match op {
             Op::Read => {
                 let value = self.host.region_read(at, 1);

@@ -15,7 +15,7 @@ use host_bridge::Host;
 
 /// Returns whether the byte exists in the function: its offset is at most 255 in configuration
 /// space, or below the size of the region that begins at the base address register.
-pub(crate) fn has_place(held: &AssignedFunction, place: Place, off: u64) -> bool
+pub(crate) fn has_byte_at(held: &AssignedFunction, place: Place, off: u64) -> bool
     ensures { (s : State) (p : Path) (f : Function) → IsHeld s p f held.now
         → result ≡ is_some (raise_place f (part_of place) off) }
 {
@@ -31,7 +31,7 @@ pub(crate) fn has_place(held: &AssignedFunction, place: Place, off: u64) -> bool
 
 /// Returns whether guests have their own copy of this byte. They have copies of Command, Header
 /// Type and the base address registers.
-fn is_own(place: Place, off: u64) -> bool
+fn has_guest_copy(place: Place, off: u64) -> bool
     ensures { result ≡ is_own (place_of place off) }
 {
     match place {
@@ -42,14 +42,20 @@ fn is_own(place: Place, off: u64) -> bool
 
 /// Sets W1C bits of one register byte of a function on the board. Bytes that guests have a copy of
 /// aren't changed.
-pub(crate) fn raise_on_board(host: &mut Host, index: usize, place: Place, off: u64, mask: u8)
+pub(crate) fn raise_w1c_bits_on_board(
+    host: &mut Host,
+    index: usize,
+    place: Place,
+    off: u64,
+    mask: u8,
+)
     requires { IsSome (endpoint_nth host.old.state.functions index) }
     ensures { let fs = host.old.state.functions in
         host.new ≡ with_functions
         (with_file_nth (raised_beside_copies mask (place_of place off)) index fs) host.old }
 {
-    if is_own(place, off) {
+    if has_guest_copy(place, off) {
         return;
     }
-    host.raise_nth(index, place, off, mask);
+    host.raise_w1c_bits_nth(index, place, off, mask);
 }

@@ -8,8 +8,8 @@ ghost use Rattle.headers.specs.Places.{place_of};
 ghost use Rattle.accesses.specs.{Accesses.{part_of, reply_of}, Refusals.number_of, Replies.{IsRefusal, IsShown}};
 ghost use Rattle.monitor.specs.{ByIndex.name_nth, Keeping.IsHeld, DeviceBytes.{Reaches, Refuses, device_byte}};
 
-use crate::access::config::function_in;
-use crate::device::raise::has_place;
+use crate::access::config::function_or_refusal;
+use crate::device::raise::has_byte_at;
 use crate::engine::Engine;
 use crate::guest::AssignedFunction;
 use accesses::{Place, Refusal, Reply};
@@ -27,17 +27,17 @@ fn is_device_byte(place: Place, off: u64) -> bool
 }
 
 /// Returns whether the byte exists in the function and belongs to its device.
-fn reaches(held: &AssignedFunction, place: Place, off: u64) -> bool
+fn has_device_byte_at(held: &AssignedFunction, place: Place, off: u64) -> bool
     ensures place { (s : State) (p : Path) (f : Function) → IsHeld s p f held.now
         → result ≡ is_some (device_place f (part_of place) off) }
     ensures own { IsTrue result → IsTrue (is_device_byte (place_of place off)) }
 {
-    has_place(held, place, off) && is_device_byte(place, off)
+    has_byte_at(held, place, off) && is_device_byte(place, off)
 }
 
 /// Returns the index of the function in a slot if the byte belongs to its device, or the reason for
 /// a refusal.
-fn reached(
+fn index_for_device_byte(
     slots: &[Option<AssignedFunction>],
     slot: u64,
     place: Place,
@@ -46,11 +46,11 @@ fn reached(
     ensures index { IfOk result (λ i. Reaches slots.now slot place off i) }
     ensures refused { IfErr result (λ why. Refuses slots.now slot place off (number_of why)) }
 {
-    let held = match function_in(slots, slot) {
+    let held = match function_or_refusal(slots, slot) {
         Ok(held) => held,
         Err(why) => return Err(why),
     };
-    if !reaches(held, place, off) {
+    if !has_device_byte_at(held, place, off) {
         return Err(Refusal::Range);
     }
     Ok(held.index)
@@ -74,9 +74,9 @@ impl<R: Route> Engine<R> {
         ensures shown { IsShown result }
     {
         let _ = &self.names;
-        match reached(&self.guests[guest].slots, slot, place, off) {
+        match index_for_device_byte(&self.guests[guest].slots, slot, place, off) {
             Ok(index) => {
-                let value = self.host.device_value_nth(index, place, off);
+                let value = self.host.device_byte_or_zero_nth(index, place, off);
                 Reply::Value(u32::from(value), 1)
             }
             Err(why) => Reply::Refused(why),
@@ -105,9 +105,9 @@ impl<R: Route> Engine<R> {
         ensures refused { IsRefusal result → self.new ≡ self.old }
     {
         let _ = &self.names;
-        match reached(&self.guests[guest].slots, slot, place, off) {
+        match index_for_device_byte(&self.guests[guest].slots, slot, place, off) {
             Ok(index) => {
-                self.host.set_device_value_nth(index, place, off, value);
+                self.host.set_device_byte_nth(index, place, off, value);
                 Reply::Done
             }
             Err(why) => Reply::Refused(why),

@@ -6,11 +6,11 @@ ghost use Rattle.model_images.specs.SavedLaws.{CanBeSaved};
 ghost use Rattle.monitor.specs.Beginnings.{world_on, world_of};
 
 use crate::engine::Engine;
-use crate::handover::guest_records::{guests_of, names_of};
-use crate::handover::takeover::take_over;
+use crate::handover::guest_records::{build_guests, guest_names};
+use crate::handover::takeover::reset_board_for_handover;
 use accesses::GuestDecl;
 use host_bridge::{Host, Route};
-use images::read_declarations;
+use images::prove_board_can_be_saved;
 use std::alloc::{AllocError, Global};
 use window_packing::Ready;
 
@@ -20,7 +20,7 @@ impl<R: Route + Drop> Engine<R> {
     /// registers that guests have copies of, and clears CONFIG_ADDRESS. Fails only if memory is
     /// exhausted, and then returns the board unchanged. Reads all declarations first, which
     /// establishes that all guests can be saved.
-    pub fn over_by_route(
+    pub fn hand_over_with_route(
         alloc: Global,
         host: Host,
         route: R,
@@ -35,18 +35,18 @@ impl<R: Route + Drop> Engine<R> {
         ensures savable { IfOk result (λ m. CanBeSaved m.world) }
         ensures kept { IfErr result (λ h. h ≡ host) }
     {
-        read_declarations(&host);
-        let Ok(kept) = guests_of(alloc, &host, guests) else {
+        prove_board_can_be_saved(&host);
+        let Ok(kept) = build_guests(alloc, &host, guests) else {
             return Err(host);
         };
         let mut host = host;
-        take_over(&mut host, guests);
-        Ok(Engine::of_parts(host, route, names_of(guests), kept))
+        reset_board_for_handover(&mut host, guests);
+        Ok(Engine::from_parts(host, route, guest_names(guests), kept))
     }
 
     /// Assigns functions to guests on a board that set-up has configured, over a route that fits
     /// the board. Fails only if memory is exhausted, and then drops the board.
-    pub fn by_route(
+    pub fn new_with_route(
         alloc: Global,
         ready: Ready,
         route: R,
@@ -59,7 +59,7 @@ impl<R: Route + Drop> Engine<R> {
         ensures savable { IfOk result (λ m. CanBeSaved m.world) }
     {
         let (host, _table, _plan) = ready.into_parts();
-        match Engine::over_by_route(alloc, host, route, guests) {
+        match Engine::hand_over_with_route(alloc, host, route, guests) {
             Ok(engine) => Ok(engine),
             Err(_host) => Err(AllocError),
         }

@@ -9,18 +9,18 @@ ghost use Rattle.monitor.specs.Handovers.{closed_if_given, first_closed_at};
 
 use accesses::GuestDecl;
 use bridge_forward::{Ranges, RoutingRegion, RoutingRow};
-use findings::{LiveBar, opens};
+use findings::{LiveBar, enables_space};
 use host_bridge::Host;
 use paths::Path;
 use std::alloc::{AllocError, Global};
 
 /// Returns the first region of a function for which Command doesn't enable decoding.
-fn closed_in(path: &Path, command: u16, regions: &[RoutingRegion]) -> Option<LiveBar>
+fn first_disabled_region(path: &Path, command: u16, regions: &[RoutingRegion]) -> Option<LiveBar>
     ensures { result ≡ slice_get
         (filter (λ q. not (opens_space command q.space)) (map (region_now path.now) (map base_of regions.now))) 0 }
 {
     for region in regions {
-        if !opens(command, region.kind.space()) {
+        if !enables_space(command, region.kind.space()) {
             return Some(LiveBar {
                 path: path.copied(),
                 region: *region,
@@ -31,11 +31,11 @@ fn closed_in(path: &Path, command: u16, regions: &[RoutingRegion]) -> Option<Liv
 }
 
 /// Returns the first disabled region of a function. A bridge has none.
-fn closed_of(row: &RoutingRow) -> Option<LiveBar>
+fn first_disabled_of_row(row: &RoutingRow) -> Option<LiveBar>
     ensures { result ≡ slice_get (closed_of row.now) 0 }
 {
     match &row.ranges {
-        Ranges::Regions(regions) => closed_in(&row.path, row.command, regions),
+        Ranges::Regions(regions) => first_disabled_region(&row.path, row.command, regions),
         Ranges::Windows {
             io: _,
             mem: _,
@@ -52,7 +52,7 @@ fn has_path(decl: &GuestDecl, path: &Path) -> bool
 }
 
 /// Returns whether the function at a path is to be assigned to a guest.
-fn is_given(decls: &[GuestDecl], path: &Path) -> bool
+fn any_guest_has_path(decls: &[GuestDecl], path: &Path) -> bool
     ensures { result
         ≡ list_any (λ (g : GuestValue). list_any (λ p. path_eq p path.now) g.slots) decls.now }
 {
@@ -60,24 +60,24 @@ fn is_given(decls: &[GuestDecl], path: &Path) -> bool
 }
 
 /// Returns the function's first disabled region, if the function is to be assigned to a guest.
-fn closed_if_given(decls: &[GuestDecl], row: &RoutingRow) -> Option<LiveBar>
+fn first_disabled_if_assigned(decls: &[GuestDecl], row: &RoutingRow) -> Option<LiveBar>
     ensures { let ps = flat_map (λ (g : GuestValue). g.slots) decls.now in
         result ≡ closed_if_given ps row.now }
 {
-    if is_given(decls, &row.path) {
-        closed_of(row)
+    if any_guest_has_path(decls, &row.path) {
+        first_disabled_of_row(row)
     } else {
         None
     }
 }
 
 /// Returns the first disabled region among all functions that are to be assigned to guests.
-fn first_closed_in(rows: &[RoutingRow], decls: &[GuestDecl]) -> Option<LiveBar>
+fn first_disabled_of_rows(rows: &[RoutingRow], decls: &[GuestDecl]) -> Option<LiveBar>
     ensures { let ps = flat_map (λ (g : GuestValue). g.slots) decls.now in
         result ≡ first_closed_at ps rows.now }
 {
     for row in rows {
-        if let Some(closed) = closed_if_given(decls, row) {
+        if let Some(closed) = first_disabled_if_assigned(decls, row) {
             return Some(closed);
         }
     }
@@ -85,7 +85,7 @@ fn first_closed_in(rows: &[RoutingRow], decls: &[GuestDecl]) -> Option<LiveBar>
 }
 
 /// Returns the board's first disabled region among all functions that are to be assigned to guests.
-pub(crate) fn first_closed(
+pub(crate) fn first_disabled_on_board(
     alloc: Global,
     host: &Host,
     decls: &[GuestDecl],
@@ -94,5 +94,5 @@ pub(crate) fn first_closed(
         IfOk result (λ r. r ≡ first_closed_at ps (routing host.now.state.functions)) }
 {
     let rows = host.routing(alloc)?;
-    Ok(first_closed_in(&rows, decls))
+    Ok(first_disabled_of_rows(&rows, decls))
 }

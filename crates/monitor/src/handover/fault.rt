@@ -5,7 +5,7 @@ ghost use Rattle.model_handoff.specs.Regions.{first_fault};
 ghost use Rattle.findings.specs.Findings.{problem_of};
 ghost use Rattle.monitor.specs.{Beginnings.world_on, Handovers.{number_of, handover_words, words_of, IsFaultOf}};
 
-use crate::handover::disabled::first_closed;
+use crate::handover::disabled::first_disabled_on_board;
 use accesses::GuestDecl;
 use findings::{LiveBar, Problem, problems};
 use host_bridge::Host;
@@ -21,7 +21,7 @@ pub enum HandoverFault {
 }
 
 /// Returns the message for a handover fault's number, or an empty string for any other number.
-fn handover_words(number: u32) -> &'static str
+fn handover_message(number: u32) -> &'static str
     ensures { result.now ≡ handover_words number }
 {
     match number {
@@ -48,7 +48,7 @@ impl HandoverFault {
     pub fn words(&self) -> &'static str
         ensures { result.now ≡ words_of self.now }
     {
-        handover_words(u32::from(self.number()))
+        handover_message(u32::from(self.number()))
     }
 }
 
@@ -60,7 +60,7 @@ pub struct Refused<B> {
 }
 
 /// Returns the first problem that an audit reports.
-fn first_problem(alloc: Global, host: &mut Host) -> Result<Option<Problem>, AllocError>
+fn first_audit_problem(alloc: Global, host: &mut Host) -> Result<Option<Problem>, AllocError>
     ensures kept { host.new ≡ host.old }
     ensures first { IfOk result (λ p.
         option_map problem_of p ≡ slice_get (problems host.old.state.functions) 0) }
@@ -73,7 +73,7 @@ fn first_problem(alloc: Global, host: &mut Host) -> Result<Option<Problem>, Allo
 }
 
 /// Returns the first reason to refuse a handover of the board. The board doesn't change.
-pub(crate) fn first_fault(
+pub(crate) fn find_handover_fault(
     alloc: Global,
     host: &mut Host,
     guests: &[GuestDecl],
@@ -83,13 +83,13 @@ pub(crate) fn first_fault(
     ensures none { IfNone result (first_fault (world_on host.old guests.now) host.old.state
         ≡ None) }
 {
-    let Ok(first) = first_problem(alloc, host) else {
+    let Ok(first) = first_audit_problem(alloc, host) else {
         return Some(HandoverFault::Memory);
     };
     if let Some(problem) = first {
         return Some(HandoverFault::NotInOrder(problem));
     }
-    let Ok(closed) = first_closed(alloc, host, guests) else {
+    let Ok(closed) = first_disabled_on_board(alloc, host, guests) else {
         return Some(HandoverFault::Memory);
     };
     match closed {

@@ -19,7 +19,7 @@ use paths::Path;
 use std::alloc::{AllocError, Global};
 
 /// Returns the declaration of a BAR, without its base address.
-fn decl_of(region: Option<BarWithBase>) -> Option<BarDecl>
+fn bar_decl_without_base(region: Option<BarWithBase>) -> Option<BarDecl>
     ensures { result ≡ declared_in region }
 {
     match region {
@@ -29,51 +29,51 @@ fn decl_of(region: Option<BarWithBase>) -> Option<BarDecl>
 }
 
 /// Returns the declarations of a function's BARs, by base address register.
-fn decls_of(placed: &[Option<BarWithBase>; 6]) -> [Option<BarDecl>; 6]
+fn bar_decls_without_bases(placed: &[Option<BarWithBase>; 6]) -> [Option<BarDecl>; 6]
     ensures { result ≡ map declared_in placed.now }
 {
     [
-        decl_of(placed[0]),
-        decl_of(placed[1]),
-        decl_of(placed[2]),
-        decl_of(placed[3]),
-        decl_of(placed[4]),
-        decl_of(placed[5]),
+        bar_decl_without_base(placed[0]),
+        bar_decl_without_base(placed[1]),
+        bar_decl_without_base(placed[2]),
+        bar_decl_without_base(placed[3]),
+        bar_decl_without_base(placed[4]),
+        bar_decl_without_base(placed[5]),
     ]
 }
 
 /// Returns the initial slot record for the endpoint at an index: the guest's copies are at reset,
 /// and the regions have the bases that they have on the host.
-pub(crate) fn held_of(host: &Host, index: usize) -> AssignedFunction
+pub(crate) fn new_assigned_function(host: &Host, index: usize) -> AssignedFunction
     requires { HasLawfulRegions
         (map opened (map with_no_base (bases_nth host.now.state.functions index))) }
     ensures { (p : PathValue) (f : Function) → IsStanding host.now.state index p f →
         IsHeld host.now.state p f result }
 {
-    let placed = host.placed_nth(index);
+    let placed = host.bars_with_base_nth(index);
     AssignedFunction {
-        own: VirtualFunction::new(decls_of(&placed)),
+        own: VirtualFunction::new(bar_decls_without_bases(&placed)),
         placed,
         index,
     }
 }
 
 /// Returns the initial slot record for the endpoint at a path.
-fn held_at(host: &Host, path: &Path) -> AssignedFunction
+fn new_assigned_function_at_path(host: &Host, path: &Path) -> AssignedFunction
     requires board { IsStateOfBoard host.now.state.functions }
     requires there { IsSome (declared (board_below host.now) path.now) }
     ensures { let b = board_below host.now in
         IsSlot host.now.state (Some path.now) (reset_function (declared b path.now)) (Some result) }
 {
     match host.index_of(path) {
-        Some(index) => held_of(host, index),
+        Some(index) => new_assigned_function(host, index),
         None => unreachable!(),
     }
 }
 
 /// Returns a guest's 32 slots: the endpoints at these paths, starting at slot 0, and then empty
 /// slots.
-fn slots_of(
+fn build_slots(
     alloc: Global,
     host: &Host,
     paths: &[Path],
@@ -85,7 +85,7 @@ fn slots_of(
 {
     let mut slots = Vec::with_capacity(alloc, 32)?;
     for path in paths {
-        slots.push(Some(held_at(host, path)))?;
+        slots.push(Some(new_assigned_function_at_path(host, path)))?;
     }
     for _empty in paths.len()..32 {
         slots.push(None)?;
@@ -94,7 +94,7 @@ fn slots_of(
 }
 
 /// Returns the guests, each with CONFIG_ADDRESS 0 and with its endpoints in its slots.
-pub(crate) fn guests_of(
+pub(crate) fn build_guests(
     alloc: Global,
     host: &Host,
     decls: &[GuestDecl],
@@ -110,7 +110,7 @@ pub(crate) fn guests_of(
     for decl in decls {
         guests.push(Guest {
             latch: Latch::new(),
-            slots: slots_of(alloc, host, decl.slots.as_slice())?,
+            slots: build_slots(alloc, host, decl.slots.as_slice())?,
             changed: 0,
         })?;
     }
@@ -118,7 +118,7 @@ pub(crate) fn guests_of(
 }
 
 /// Returns the guests' names.
-pub(crate) fn names_of(decls: &[GuestDecl]) -> Names
+pub(crate) fn guest_names(decls: &[GuestDecl]) -> Names
     requires { length decls.now ≤ 32 }
     ensures { texts result ≡ map (λ (g : GuestValue). g.name) decls.now }
 {

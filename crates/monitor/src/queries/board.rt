@@ -12,7 +12,7 @@ use host_bridge::{Host, Route};
 use std::alloc::{AllocError, Global};
 
 /// Returns guests with these names and with empty slots.
-fn with_no_slots(alloc: Global, names: &Names) -> Result<Vec<GuestDecl>, AllocError>
+fn guests_with_empty_slots(alloc: Global, names: &Names) -> Result<Vec<GuestDecl>, AllocError>
     ensures guests { IfOk result (λ v. v.items ≡ map with_no_slots (texts names.now)) }
     ensures few { IfOk result (λ v. length v.items ≤ 32) }
 {
@@ -47,8 +47,8 @@ impl<R: Route> Engine<R> {
             r.1.items ≡ map with_no_slots (names_now self.now.world)) }
         ensures lawful { IfOk result (λ r. IsLawfulWorld (world_on r.0 r.1.items)) }
     {
-        let host = self.host.at_reset(alloc)?;
-        let guests = with_no_slots(alloc, &self.names)?;
+        let host = self.host.copy_at_reset(alloc)?;
+        let guests = guests_with_empty_slots(alloc, &self.names)?;
         Ok((host, guests))
     }
 }

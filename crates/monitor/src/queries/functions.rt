@@ -7,7 +7,7 @@ ghost use Rattle.model_handoff.specs.Functions.{seat_of, function_nth, slot_answ
 ghost use Rattle.monitor.specs.{ByIndex.name_nth, FunctionsTold.{function_named, seat_kept}};
 ghost use Rattle.model_board.specs.Paths as board;
 
-use crate::access::config::function_in;
+use crate::access::config::function_or_refusal;
 use crate::engine::Engine;
 use crate::guest::Guest;
 use crate::slots::assignment::{Assignment, seat_from};
@@ -27,7 +27,7 @@ pub struct LiveFunction {
 }
 
 /// Returns the description of the function at an index.
-fn function_nth(host: &Host, guests: &[Guest], index: usize) -> Option<LiveFunction>
+fn describe_function_nth(host: &Host, guests: &[Guest], index: usize) -> Option<LiveFunction>
     requires board { IsStateOfBoard host.now.state.functions }
     requires few { length guests.now < 2 ^ 63 }
     ensures { (gs : GuestsNow)
@@ -39,7 +39,7 @@ fn function_nth(host: &Host, guests: &[Guest], index: usize) -> Option<LiveFunct
 {
     let path = host.path_nth(index)?;
     let identity = identity_nth(host, index)?;
-    let ranges = host.ranges_nth(index)?;
+    let ranges = host.live_ranges_nth(index)?;
     Some(LiveFunction {
         at: address_of(host, &path),
         identity,
@@ -65,7 +65,7 @@ impl<R: Route> Engine<R> {
             ≡ function_nth (board_state self.now.world) self.now.world.guests index }
     {
         let _ = &self.names;
-        function_nth(&self.host, &self.guests, index)
+        describe_function_nth(&self.host, &self.guests, index)
     }
 
     /// Returns the description of the function in a slot of a guest. Fails with 303 if the slot is
@@ -77,11 +77,11 @@ impl<R: Route> Engine<R> {
             (name_nth self.now.world guest) slot }
     {
         let _ = &self.names;
-        let held = match function_in(&self.guests[guest].slots, slot) {
+        let held = match function_or_refusal(&self.guests[guest].slots, slot) {
             Ok(held) => held,
             Err(why) => return Err(why.number()),
         };
-        match function_nth(&self.host, &self.guests, held.index) {
+        match describe_function_nth(&self.host, &self.guests, held.index) {
             Some(function) => Ok(function),
             None => Err(601),
         }

@@ -7,8 +7,8 @@ ghost use Rattle.bars.specs.Kinds.{named_space};
 ghost use Rattle.accesses.specs.{Accesses.target_of, Refusals.number_of};
 ghost use Rattle.monitor.specs.{Keeping.AreSlots, ByIndex.{name_nth, lone_nth}, Queries.{IsGuestNth, hit_named}};
 
-use crate::access::config::held_in;
-use crate::access::decode::landing;
+use crate::access::config::function_in_slot;
+use crate::access::decode::decode_address;
 use crate::engine::Engine;
 use crate::guest::{AssignedFunction, Guest};
 use accesses::{Access, At, Op, Place, Refusal};
@@ -26,11 +26,15 @@ pub struct DecodedByte {
 }
 
 /// Returns the byte of a region that an address decodes to.
-fn region_hit(slots: &[Option<AssignedFunction>], space: Space, addr: u64) -> Option<DecodedByte>
+fn decode_region_byte(
+    slots: &[Option<AssignedFunction>],
+    space: Space,
+    addr: u64,
+) -> Option<DecodedByte>
     ensures { (s : State) (qs : List (Option Path)) (fs : Slots) → AreSlots s qs fs slots.now
         → option_map hit_named result ≡ landing_from 0 (named_space space) addr fs }
 {
-    let (slot, region, offset) = landing(slots, space, addr)?;
+    let (slot, region, offset) = decode_address(slots, space, addr)?;
     Some(DecodedByte {
         slot,
         place: Place::Bar(region),
@@ -39,11 +43,15 @@ fn region_hit(slots: &[Option<AssignedFunction>], space: Space, addr: u64) -> Op
 }
 
 /// Returns the byte of configuration space at an offset, if there is a function in the slot.
-fn config_hit(slots: &[Option<AssignedFunction>], slot: usize, offset: u64) -> Option<DecodedByte>
+fn decode_config_byte(
+    slots: &[Option<AssignedFunction>],
+    slot: usize,
+    offset: u64,
+) -> Option<DecodedByte>
     ensures { (s : State) (qs : List (Option Path)) (fs : Slots) → AreSlots s qs fs slots.now
         → option_map hit_named result ≡ landing fs (configuration slot offset) }
 {
-    match held_in(slots, slot) {
+    match function_in_slot(slots, slot) {
         Some(_) => Some(DecodedByte {
             slot,
             place: Place::Cfg,
@@ -54,25 +62,25 @@ fn config_hit(slots: &[Option<AssignedFunction>], slot: usize, offset: u64) -> O
 }
 
 /// Returns the byte that a one-byte access reaches.
-fn hit_in(guest: &Guest, at: At) -> Option<DecodedByte>
+fn decode_byte(guest: &Guest, at: At) -> Option<DecodedByte>
     ensures { (w : WorldNow) (i : ℕ) → IsGuestNth w i guest.now
         → option_map hit_named result ≡ located (lone_nth w i) (target_of at) }
 {
     match at {
-        At::Config { slot, off } => config_hit(&guest.slots, slot as usize, off),
+        At::Config { slot, off } => decode_config_byte(&guest.slots, slot as usize, off),
         At::Io { port } => match guest.latch.select(port) {
-            Select::Ordinary => region_hit(&guest.slots, Space::Io, port),
+            Select::Ordinary => decode_region_byte(&guest.slots, Space::Io, port),
             Select::Nowhere => None,
             Select::Slot(slot, off) => {
-                config_hit(&guest.slots, usize::from(slot), u64::from(off))
+                decode_config_byte(&guest.slots, usize::from(slot), u64::from(off))
             }
         },
-        At::Mem { addr } => region_hit(&guest.slots, Space::Mem, addr),
+        At::Mem { addr } => decode_region_byte(&guest.slots, Space::Mem, addr),
     }
 }
 
 /// Returns the byte that a one-byte access reaches, or the reason why the access is refused.
-fn locate_in(guest: &Guest, at: At) -> Result<Option<DecodedByte>, Refusal>
+fn decode_byte_or_refusal(guest: &Guest, at: At) -> Result<Option<DecodedByte>, Refusal>
     ensures { (w : WorldNow) (i : ℕ) → IsGuestNth w i guest.now
         → result_map_both (option_map hit_named) number_of result
         ≡ location (lone_nth w i) (target_of at) }
@@ -84,7 +92,7 @@ fn locate_in(guest: &Guest, at: At) -> Result<Option<DecodedByte>, Refusal>
     };
     match read.fault() {
         Some(why) => Err(why),
-        None => Ok(hit_in(guest, at)),
+        None => Ok(decode_byte(guest, at)),
     }
 }
 
@@ -100,6 +108,6 @@ impl<R: Route> Engine<R> {
             ≡ location (lone_of self.now.world.guests (name_nth self.now.world guest))
             (target_of at) }
     {
-        locate_in(self.guest(guest), at)
+        decode_byte_or_refusal(self.guest(guest), at)
     }
 }

@@ -7,10 +7,10 @@ ghost use Rattle.model_guests.specs.{Slots.slot_at, Guests.lone_of, WorldNow.Wor
 ghost use Rattle.monitor.specs.{Keeping.IsHeld, ByIndex.{name_nth, lone_nth}, Queries.IsGuestNth, OwnTold.{own_now, own_told, standing}};
 ghost use Rattle.bars.specs.Slots as bars;
 
-use crate::access::config::held_in;
+use crate::access::config::function_in_slot;
 use crate::engine::Engine;
 use crate::guest::{AssignedFunction, Guest};
-use crate::queries::regions::base_of;
+use crate::queries::regions::guest_bar_base;
 use bars::BarWithBase;
 use guest_functions::Latch;
 use host_bridge::Route;
@@ -24,7 +24,7 @@ pub struct OwnRegisters {
 }
 
 /// Returns the guest's Command.
-fn command_of(held: &AssignedFunction) -> u16
+fn guest_command(held: &AssignedFunction) -> u16
     ensures { (file : File) → HoldsOwn file held.now.own → result ≡ command_word file }
 {
     let (command, _) = held.own.config_read(4, 0b0011);
@@ -33,7 +33,7 @@ fn command_of(held: &AssignedFunction) -> u16
 
 /// Returns the region that begins at a base address register, with the base from the guest's
 /// copies.
-fn region_held(held: &AssignedFunction, bar: usize) -> Option<BarWithBase>
+fn bar_with_guest_base(held: &AssignedFunction, bar: usize) -> Option<BarWithBase>
     ensures told { (s : State) (p : Path) (f : Function) → IsHeld s p f held.now
         → IsLawfulOwn held.now.own →
         result ≡ option_map (standing f.file bar) (bars.slot_at held.now.placed bar) }
@@ -44,7 +44,7 @@ fn region_held(held: &AssignedFunction, bar: usize) -> Option<BarWithBase>
             let kind = region.decl.kind();
             Some(BarWithBase {
                 decl: region.decl,
-                base: base_of(held, bar as u16, kind),
+                base: guest_bar_base(held, bar as u16, kind),
             })
         }
         Some(None) => None,
@@ -53,30 +53,30 @@ fn region_held(held: &AssignedFunction, bar: usize) -> Option<BarWithBase>
 }
 
 /// Returns the guest's copies of a function's registers.
-fn registers_of(held: &AssignedFunction) -> OwnRegisters
+fn own_registers_of_function(held: &AssignedFunction) -> OwnRegisters
     ensures { (s : State) (p : Path) (f : Function) → IsHeld s p f held.now
         → IsLawfulOwn held.now.own → own_told result ≡ own_now f }
 {
     OwnRegisters {
-        command: command_of(held),
+        command: guest_command(held),
         regions: [
-            region_held(held, 0),
-            region_held(held, 1),
-            region_held(held, 2),
-            region_held(held, 3),
-            region_held(held, 4),
-            region_held(held, 5),
+            bar_with_guest_base(held, 0),
+            bar_with_guest_base(held, 1),
+            bar_with_guest_base(held, 2),
+            bar_with_guest_base(held, 3),
+            bar_with_guest_base(held, 4),
+            bar_with_guest_base(held, 5),
         ],
     }
 }
 
 /// Returns the guest's copies for the function in a slot, or None if the slot is empty.
-fn registers_in(guest: &Guest, slot: usize) -> Option<OwnRegisters>
+fn own_registers_in_slot(guest: &Guest, slot: usize) -> Option<OwnRegisters>
     ensures { (w : WorldNow) (i : ℕ) → IsGuestNth w i guest.now
         → option_map own_told result ≡ option_map own_now (slot_at (lone_nth w i).slots slot) }
 {
-    match held_in(&guest.slots, slot) {
-        Some(held) => Some(registers_of(held)),
+    match function_in_slot(&guest.slots, slot) {
+        Some(held) => Some(own_registers_of_function(held)),
         None => None,
     }
 }
@@ -114,6 +114,6 @@ impl<R: Route> Engine<R> {
         ensures { let g = lone_of self.now.world.guests (name_nth self.now.world guest) in
             option_map own_told result ≡ option_map own_now (slot_at g.slots slot) }
     {
-        registers_in(self.guest(guest), slot)
+        own_registers_in_slot(self.guest(guest), slot)
     }
 }

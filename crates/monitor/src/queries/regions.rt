@@ -8,7 +8,7 @@ ghost use Rattle.accesses.specs.Refusals.{number_of};
 ghost use Rattle.bars.specs.Kinds.{kind_of, named_space};
 ghost use Rattle.monitor.specs.{Keeping.IsHeld, ByIndex.{name_nth, lone_nth}, Queries.{IsGuestNth, region_named}};
 
-use crate::access::config::function_in;
+use crate::access::config::function_or_refusal;
 use crate::engine::Engine;
 use crate::guest::{AssignedFunction, Guest};
 use accesses::Refusal;
@@ -38,7 +38,7 @@ fn is_prefetchable(kind: Kind) -> bool
 
 /// Returns the base address of a region according to the guest's copies of its BARs. `bar` is the
 /// index of the region's first BAR, 0 to 5.
-pub(crate) fn base_of(held: &AssignedFunction, bar: u16, kind: Kind) -> u64
+pub(crate) fn guest_bar_base(held: &AssignedFunction, bar: u16, kind: Kind) -> u64
     requires { bar < 6 }
     ensures { (file : File) → HoldsOwn file held.now.own →
         bar + registers_of (kind_of kind) ≤ 6
@@ -57,7 +57,7 @@ pub(crate) fn base_of(held: &AssignedFunction, bar: u16, kind: Kind) -> u64
 }
 
 /// Returns whether the guest's Command enables decoding in a space.
-pub(crate) fn opens(held: &AssignedFunction, space: Space) -> bool
+pub(crate) fn command_enables_space(held: &AssignedFunction, space: Space) -> bool
     ensures { (file : File) → HoldsOwn file held.now.own →
         result ≡ is_open file (named_space space) }
 {
@@ -66,7 +66,7 @@ pub(crate) fn opens(held: &AssignedFunction, space: Space) -> bool
 }
 
 /// Returns the region that begins at a base address register of a function in a slot.
-fn region_kept(held: &AssignedFunction, bar: usize) -> Option<GuestRegion>
+fn guest_region_at_bar(held: &AssignedFunction, bar: usize) -> Option<GuestRegion>
     ensures { (s : State) (p : Path) (f : Function) → IsHeld s p f held.now
         → IsLawfulOwn held.now.own →
         option_map region_named result ≡ option_map (region_now f.file) (region_at f bar) }
@@ -77,10 +77,10 @@ fn region_kept(held: &AssignedFunction, bar: usize) -> Option<GuestRegion>
             let space = kind.space();
             Some(GuestRegion {
                 space,
-                first: base_of(held, bar as u16, kind),
+                first: guest_bar_base(held, bar as u16, kind),
                 size: region.decl.size(),
                 prefetchable: is_prefetchable(kind),
-                is_open: opens(held, space),
+                is_open: command_enables_space(held, space),
             })
         }
         Some(None) => None,
@@ -90,16 +90,16 @@ fn region_kept(held: &AssignedFunction, bar: usize) -> Option<GuestRegion>
 
 /// Returns the region that begins at a base address register of the function in a slot, or the
 /// reason for a refusal.
-fn region_in(guest: &Guest, slot: u64, bar: u64) -> Result<GuestRegion, Refusal>
+fn guest_region_or_refusal(guest: &Guest, slot: u64, bar: u64) -> Result<GuestRegion, Refusal>
     ensures { (w : WorldNow) (i : ℕ) → IsGuestNth w i guest.now
         → result_map_both region_named number_of result
         ≡ region_answer (lone_nth w i) slot bar }
 {
-    let held = match function_in(&guest.slots, slot) {
+    let held = match function_or_refusal(&guest.slots, slot) {
         Ok(held) => held,
         Err(why) => return Err(why),
     };
-    match region_kept(held, bar as usize) {
+    match guest_region_at_bar(held, bar as usize) {
         Some(region) => Ok(region),
         None => Err(Refusal::Range),
     }
@@ -115,6 +115,6 @@ impl<R: Route> Engine<R> {
             ≡ region_answer (lone_of self.now.world.guests
             (name_nth self.now.world guest)) slot bar }
     {
-        region_in(self.guest(guest), slot, bar)
+        guest_region_or_refusal(self.guest(guest), slot, bar)
     }
 }

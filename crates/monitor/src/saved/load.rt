@@ -10,14 +10,14 @@ use crate::access::config_address::write_latch;
 use crate::engine::Engine;
 use crate::guest::{AssignedFunction, Guest};
 use crate::saved::load_function::load_function;
-use crate::saved::save::{compare_image, slot_shown};
-use crate::slots::reset_guest::restart;
+use crate::saved::save::{check_image_matches, endpoint_and_guest_copies};
+use crate::slots::reset_guest::reset_slots_and_latch;
 use host_bridge::{Host, Route};
-use images::{ImageFault, after_latch, declaration_size, values_size};
-use model_images::saved_guests_are_taken;
+use images::{ImageFault, count_endpoint_cells, encoded_declaration_size, split_off_latch};
+use model_images::saved_bytes_are_accepted;
 
 /// Returns the bytes after the first `count`, or none if there are fewer.
-fn behind(bytes: &[u8], count: usize) -> &[u8]
+fn skip_up_to(bytes: &[u8], count: usize) -> &[u8]
     ensures { result.now ≡ drop count bytes.now }
 {
     if bytes.len() < count {
@@ -27,7 +27,7 @@ fn behind(bytes: &[u8], count: usize) -> &[u8]
 }
 
 /// Returns the first `count` bytes, or all if there are fewer.
-fn front(bytes: &[u8], count: usize) -> &[u8]
+fn take_up_to(bytes: &[u8], count: usize) -> &[u8]
     ensures { result.now ≡ take count bytes.now }
 {
     if bytes.len() < count {
@@ -38,7 +38,7 @@ fn front(bytes: &[u8], count: usize) -> &[u8]
 
 /// Returns how many bytes of a slot precede its register values, and how many values there are.
 /// Returns None for an empty slot.
-fn value_span(
+fn values_offset_and_count(
     host: &Host,
     slots: &[Option<AssignedFunction>],
     slot: usize,
@@ -46,14 +46,17 @@ fn value_span(
     ensures { let fs = map (slot_shown host.now.state.functions) slots.now in
         result ≡ option_map value_span (slot_at fs slot) }
 {
-    let (endpoint, _) = slot_shown(host, slots.get(slot)?)?;
+    let (endpoint, _) = endpoint_and_guest_copies(host, slots.get(slot)?)?;
     let decl = endpoint.decl();
-    Some((1 + declaration_size(decl), values_size(decl)))
+    Some((
+        1 + encoded_declaration_size(decl),
+        count_endpoint_cells(decl),
+    ))
 }
 
 /// Loads the function in a slot from the front of `bytes`, and returns the bytes after the slot.
 /// Doesn't touch the change count.
-fn load_slot<'a>(
+fn load_slot_and_advance<'a>(
     host: &mut Host,
     guests: &mut [Guest],
     guest: usize,
@@ -72,12 +75,12 @@ fn load_slot<'a>(
         (slot_size (slot_at (lone_nth k.world guest).slots slot)) bytes.now }
     ensures counts { counts_of guests.new ≡ counts_of guests.old }
 {
-    let Some((first, count)) = value_span(host, &guests[guest].slots, slot) else {
-        return behind(bytes, 1);
+    let Some((first, count)) = values_offset_and_count(host, &guests[guest].slots, slot) else {
+        return skip_up_to(bytes, 1);
     };
-    let bytes = behind(bytes, first);
-    load_function(host, guests, guest, slot, front(bytes, count));
-    behind(bytes, count)
+    let bytes = skip_up_to(bytes, first);
+    load_function(host, guests, guest, slot, take_up_to(bytes, count));
+    skip_up_to(bytes, count)
 }
 
 /// Loads all slots of a guest.
@@ -93,16 +96,16 @@ fn load_slots(host: &mut Host, guests: &mut [Guest], guest: usize, bytes: &[u8])
 {
     let mut left = bytes;
     for slot in 0..32 {
-        left = load_slot(host, guests, guest, slot, left);
+        left = load_slot_and_advance(host, guests, guest, slot, left);
     }
 }
 
 /// Returns the value of CONFIG_ADDRESS at the front of the bytes, or 0 if there is no valid one.
-fn latch_in(bytes: &[u8]) -> u32
+fn latch_or_zero(bytes: &[u8]) -> u32
     ensures { (rest : List ℕ) → after_latch bytes.now ≡ Ok rest
         → result ≡ le_number (take 4 bytes.now) }
 {
-    match after_latch(bytes) {
+    match split_off_latch(bytes) {
         Ok((latch, _)) => latch,
         Err(_) => 0,
     }
@@ -110,7 +113,7 @@ fn latch_in(bytes: &[u8]) -> u32
 
 /// Resets the guest, which adds one to its change count, and then loads its functions and its
 /// CONFIG_ADDRESS from bytes that fit the guest.
-fn load_image(host: &mut Host, guests: &mut [Guest], guest: usize, bytes: &[u8])
+fn reset_and_load_image(host: &mut Host, guests: &mut [Guest], guest: usize, bytes: &[u8])
     requires has { HasSlot guests.old guest 31 }
     requires takes { (k : KeepsWorld host.old guests.old)
         × Takes (lone_nth k.world guest) bytes.now }
@@ -120,21 +123,21 @@ fn load_image(host: &mut Host, guests: &mut [Guest], guest: usize, bytes: &[u8])
         IsKept (with_lone_nth guest loaded k.world) host.new k.names guests.new }
     ensures counts { counts_of guests.new ≡ counted_nth guest true (counts_of guests.old) }
 {
-    restart(host, guests, guest);
-    load_slots(host, guests, guest, behind(bytes, 12));
-    write_latch(guests, guest, latch_in(behind(bytes, 8)));
+    reset_slots_and_latch(host, guests, guest);
+    load_slots(host, guests, guest, skip_up_to(bytes, 12));
+    write_latch(guests, guest, latch_or_zero(skip_up_to(bytes, 8)));
 }
 
 impl<R: Route> Engine<R> {
-    /// Loads bytes that `compare_image` accepts for the guest.
-    fn load_taken(&mut self, guest: usize, bytes: &[u8])
+    /// Loads bytes that `check_image_matches` accepts for the guest.
+    fn load_accepted_image(&mut self, guest: usize, bytes: &[u8])
         requires there { guest < length self.old.world.guests }
         requires accepted { let g = lone_of self.old.world.guests (name_nth self.old.world guest) in
             load_fault g bytes.now ≡ None }
         ensures { IsLoaded self.old (name_nth self.old.world guest) bytes.now self.new }
     {
         let _ = &self.names;
-        load_image(&mut self.host, &mut self.guests, guest, bytes);
+        reset_and_load_image(&mut self.host, &mut self.guests, guest, bytes);
     }
 
     /// Loads a guest's saved state: sets the guest's functions and its CONFIG_ADDRESS to the saved
@@ -153,12 +156,12 @@ impl<R: Route> Engine<R> {
         ensures loaded { result ≡ None
             → IsLoaded self.old (name_nth self.old.world guest) bytes.now self.new }
     {
-        saved_guests_are_taken();
+        saved_bytes_are_accepted();
         let _ = &self.names;
-        if let Err(why) = compare_image(&self.host, &self.guests[guest], bytes) {
+        if let Err(why) = check_image_matches(&self.host, &self.guests[guest], bytes) {
             return Some(why);
         }
-        self.load_taken(guest, bytes);
+        self.load_accepted_image(guest, bytes);
         None
     }
 }

@@ -9,26 +9,26 @@ ghost use Rattle.bridge_forward.specs.Lending.{endpoint_nth};
 ghost use Rattle.host_bridge.specs.{ByIndex.with_file_nth, HostState.with_functions};
 ghost use Rattle.monitor.specs.{Configs.HoldsAt, Counts.counts_of, Loadings.{KeepsFunction, Becomes, IsLoadable, filled_with, regions_size}};
 
-use crate::access::config::{held_in, write_in};
+use crate::access::config::{function_in_slot, split_config_write_of_guest};
 use crate::guest::Guest;
 use accesses::Place;
 use config_bytes::{enables_of, to_lanes};
-use headers::register_width;
+use headers::bar_width_in_bytes;
 use host_bridge::Host;
 
 /// Returns the host's index for the function in a guest's slot.
-fn index_in(guests: &[Guest], guest: usize, slot: usize) -> usize
+fn host_index_of_slot(guests: &[Guest], guest: usize, slot: usize) -> usize
     requires { HoldsAt guests.now guest slot }
     ensures { (holds : HoldsAt guests.now guest slot) → result ≡ holds.slot.held.index }
 {
-    match held_in(&guests[guest].slots, slot) {
+    match function_in_slot(&guests[guest].slots, slot) {
         Some(held) => held.index,
         None => unreachable!(),
     }
 }
 
 /// Sets consecutive bytes of an endpoint as its device does, starting at offset `first`.
-fn put_run(host: &mut Host, index: usize, place: Place, first: u64, bytes: &[u8])
+fn device_write_bytes(host: &mut Host, index: usize, place: Place, first: u64, bytes: &[u8])
     requires there { IsSome (endpoint_nth host.old.state.functions index) }
     requires own { (n : ℕ) → n < length bytes.now
         → IsTrue (is_device_byte (place_of place (first + n))) }
@@ -40,7 +40,7 @@ fn put_run(host: &mut Host, index: usize, place: Place, first: u64, bytes: &[u8]
     let mut left = bytes;
     let mut off = first;
     while let Some((byte, rest)) = left.split_first() {
-        host.set_device_value_nth(index, place, off, *byte);
+        host.set_device_byte_nth(index, place, off, *byte);
         off += 1;
         left = rest;
     }
@@ -48,7 +48,14 @@ fn put_run(host: &mut Host, index: usize, place: Place, first: u64, bytes: &[u8]
 
 /// Writes a configuration byte of the function in a slot as its guest does, but doesn't touch the
 /// change count.
-fn write_byte(host: &mut Host, guests: &mut [Guest], guest: usize, slot: usize, off: u8, value: u8)
+fn guest_write_byte(
+    host: &mut Host,
+    guests: &mut [Guest],
+    guest: usize,
+    slot: usize,
+    off: u8,
+    value: u8,
+)
     requires { KeepsFunction host.old guests.old guest slot }
     ensures becomes { (k : KeepsFunction host.old guests.old guest slot)
         → Becomes k (write (all_bytes 1) value (config off) k.f.file) host.new guests.new }
@@ -58,12 +65,14 @@ fn write_byte(host: &mut Host, guests: &mut [Guest], guest: usize, slot: usize, 
     let word = off / 4 * 4;
     let moved = to_lanes(from, u32::from(value));
     let enables = enables_of(from, 1);
-    let (index, others) = write_in(guests, guest, slot, word, enables, moved, false);
+    let (index, others) = split_config_write_of_guest(
+        guests, guest, slot, word, enables, moved, false,
+    );
     host.config_write_nth(index, word, others, moved);
 }
 
 /// Writes consecutive configuration bytes as the guest does, starting at an offset.
-fn write_run(
+fn guest_write_bytes(
     host: &mut Host,
     guests: &mut [Guest],
     guest: usize,
@@ -80,7 +89,7 @@ fn write_run(
     let mut left = bytes;
     let mut off = first;
     while let Some((byte, rest)) = left.split_first() {
-        write_byte(host, guests, guest, slot, off, *byte);
+        guest_write_byte(host, guests, guest, slot, off, *byte);
         off += 1;
         left = rest;
     }
@@ -95,11 +104,11 @@ fn load_header(host: &mut Host, guests: &mut [Guest], guest: usize, slot: usize,
         → Becomes k (header_steps values.now k.f.file) host.new guests.new }
     ensures counts { counts_of guests.new ≡ counts_of guests.old }
 {
-    write_run(host, guests, guest, slot, 0x04, &values[4..6]);
-    let index = index_in(guests, guest, slot);
-    put_run(host, index, Place::Cfg, 0x06, &values[6..8]);
-    write_run(host, guests, guest, slot, 0x0c, &values[12..14]);
-    write_run(host, guests, guest, slot, 0x3c, &values[19..20]);
+    guest_write_bytes(host, guests, guest, slot, 0x04, &values[4..6]);
+    let index = host_index_of_slot(guests, guest, slot);
+    device_write_bytes(host, index, Place::Cfg, 0x06, &values[6..8]);
+    guest_write_bytes(host, guests, guest, slot, 0x0c, &values[12..14]);
+    guest_write_bytes(host, guests, guest, slot, 0x3c, &values[19..20]);
 }
 
 /// Returns how many configuration blocks an endpoint has.
@@ -114,7 +123,7 @@ fn block_count(host: &Host, index: usize) -> usize
 }
 
 /// Returns the offset and the length of a configuration block, in bytes.
-fn block_at(host: &Host, index: usize, block: usize) -> (u16, usize)
+fn block_offset_and_length(host: &Host, index: usize, block: usize) -> (u16, usize)
     requires { (e : Function) × (b : ConfigBlock)
         × (endpoint_nth host.now.state.functions index ≡ Some e)
         × (slice_get e.decl.blocks block ≡ Some b) }
@@ -133,7 +142,7 @@ fn block_at(host: &Host, index: usize, block: usize) -> (u16, usize)
 }
 
 /// Loads the configuration blocks of the function in a slot, and returns the remaining values.
-fn load_blocks<'a>(
+fn load_blocks_and_advance<'a>(
     host: &mut Host,
     guests: &[Guest],
     guest: usize,
@@ -149,13 +158,13 @@ fn load_blocks<'a>(
         → blocks_size k.f.decl.blocks ≤ length values.now
         → result.now ≡ drop (blocks_size k.f.decl.blocks) values.now }
 {
-    let index = index_in(guests, guest, slot);
+    let index = host_index_of_slot(guests, guest, slot);
     let count = block_count(host, index);
     let mut left = values;
     for block in 0..count {
-        let (off, size) = block_at(host, index, block);
+        let (off, size) = block_offset_and_length(host, index, block);
         let (now, rest) = left.split_at(size);
-        put_run(host, index, Place::Cfg, u64::from(off), now);
+        device_write_bytes(host, index, Place::Cfg, u64::from(off), now);
         left = rest;
     }
     left
@@ -174,7 +183,7 @@ fn region_count(host: &Host, index: usize) -> usize
 
 /// Returns a region's base address register, the register's width in bytes, and how many bytes of
 /// the region are declared.
-fn region_at(host: &Host, index: usize, region: usize) -> (u8, usize, usize)
+fn region_bar_width_and_count(host: &Host, index: usize, region: usize) -> (u8, usize, usize)
     requires { (e : Function) × (r : Region)
         × (endpoint_nth host.now.state.functions index ≡ Some e)
         × (slice_get e.decl.regions region ≡ Some r) }
@@ -185,7 +194,7 @@ fn region_at(host: &Host, index: usize, region: usize) -> (u8, usize, usize)
     match host.endpoint_ref_nth(index) {
         Some(endpoint) => {
             let region = &endpoint.decl().values().bar[region];
-            let width = register_width(region.bar.kind());
+            let width = bar_width_in_bytes(region.bar.kind());
             (region.index, usize::from(width), region.block.len())
         }
         None => unreachable!(),
@@ -194,7 +203,7 @@ fn region_at(host: &Host, index: usize, region: usize) -> (u8, usize, usize)
 
 /// Loads the base address register of a region and the declared bytes in the region, and returns
 /// the remaining values.
-fn load_region<'a>(
+fn load_region_and_advance<'a>(
     host: &mut Host,
     guests: &mut [Guest],
     guest: usize,
@@ -215,13 +224,13 @@ fn load_region<'a>(
         → result.now ≡ drop (base_size r + length r.cells) values.now }
     ensures counts { counts_of guests.new ≡ counts_of guests.old }
 {
-    let index = index_in(guests, guest, slot);
-    let (reg, width, count) = region_at(host, index, region);
+    let index = host_index_of_slot(guests, guest, slot);
+    let (reg, width, count) = region_bar_width_and_count(host, index, region);
     let (base, rest) = values.split_at(width);
-    write_run(host, guests, guest, slot, 0x10 + 4 * reg, base);
+    guest_write_bytes(host, guests, guest, slot, 0x10 + 4 * reg, base);
     let (cells, rest) = rest.split_at(count);
-    let index = index_in(guests, guest, slot);
-    put_run(host, index, Place::Bar(reg), 0, cells);
+    let index = host_index_of_slot(guests, guest, slot);
+    device_write_bytes(host, index, Place::Bar(reg), 0, cells);
     rest
 }
 
@@ -234,10 +243,10 @@ fn load_regions(host: &mut Host, guests: &mut [Guest], guest: usize, slot: usize
         → Becomes k (regions_steps k.f.decl.regions values.now k.f.file) host.new guests.new }
     ensures counts { counts_of guests.new ≡ counts_of guests.old }
 {
-    let count = region_count(host, index_in(guests, guest, slot));
+    let count = region_count(host, host_index_of_slot(guests, guest, slot));
     let mut left = values;
     for region in 0..count {
-        left = load_region(host, guests, guest, slot, region, left);
+        left = load_region_and_advance(host, guests, guest, slot, region, left);
     }
 }
 
@@ -250,7 +259,7 @@ fn load_registers(host: &mut Host, guests: &mut [Guest], guest: usize, slot: usi
 {
     load_header(host, guests, guest, slot, values);
     let (_, left) = values.split_at(23);
-    let left = load_blocks(host, guests, guest, slot, left);
+    let left = load_blocks_and_advance(host, guests, guest, slot, left);
     load_regions(host, guests, guest, slot, left);
 }
 

@@ -7,9 +7,9 @@ ghost use Rattle.monitor.specs.{ByIndex.name_nth, ShownImages.lone_shown, Views.
 
 use crate::engine::Engine;
 use crate::guest::{AssignedFunction, Guest};
-use crate::saved::save::{after_slot, compare_image};
+use crate::saved::save::{check_image_matches, strip_slot};
 use host_bridge::{Host, Route};
-use images::{after_header, after_latch};
+use images::{split_off_latch, strip_image_header};
 
 /// The position of the first byte that doesn't fit: its slot (0 to 31, or 32 if the byte is in
 /// front of the slots), and its offset in the bytes.
@@ -20,7 +20,7 @@ pub struct ImageStop {
 }
 
 /// Returns how many slots fit before the first one that doesn't.
-fn slots_read(host: &Host, slots: &[Option<AssignedFunction>], bytes: &[u8]) -> usize
+fn count_matching_slots(host: &Host, slots: &[Option<AssignedFunction>], bytes: &[u8]) -> usize
     requires { length slots.now ≤ 32 }
     ensures { let fs = map (slot_shown host.now.state.functions) slots.now in
         result ≡ slots_read fs bytes.now }
@@ -29,7 +29,7 @@ fn slots_read(host: &Host, slots: &[Option<AssignedFunction>], bytes: &[u8]) -> 
     let mut bytes = bytes;
     let mut number = 0;
     while let Some((slot, rest)) = left.split_first() {
-        let Ok(next) = after_slot(host, slot, bytes) else {
+        let Ok(next) = strip_slot(host, slot, bytes) else {
             return number;
         };
         bytes = next;
@@ -40,25 +40,25 @@ fn slots_read(host: &Host, slots: &[Option<AssignedFunction>], bytes: &[u8]) -> 
 }
 
 /// Returns the slot that contains the first mismatch, or 32 if it is in front of the first slot.
-fn stop_slot(host: &Host, guest: &Guest, bytes: &[u8]) -> usize
+fn first_mismatch_slot(host: &Host, guest: &Guest, bytes: &[u8]) -> usize
     requires { length guest.now.slots.items ≤ 32 }
     ensures { result ≡ stop_slot (lone_shown host.now.state.functions guest.now) bytes.now }
 {
-    let Ok(bytes) = after_header(bytes) else {
+    let Ok(bytes) = strip_image_header(bytes) else {
         return 32;
     };
-    let Ok((_, bytes)) = after_latch(bytes) else {
+    let Ok((_, bytes)) = split_off_latch(bytes) else {
         return 32;
     };
-    slots_read(host, &guest.slots, bytes)
+    count_matching_slots(host, &guest.slots, bytes)
 }
 
 /// Returns whether the guest refuses the bytes with this fault number.
-fn is_refused(host: &Host, guest: &Guest, bytes: &[u8], number: u16) -> bool
+fn is_refused_with(host: &Host, guest: &Guest, bytes: &[u8], number: u16) -> bool
     ensures { let g = lone_shown host.now.state.functions guest.now in
         result ≡ option_map_or (λ n. n == number) (load_fault g bytes.now) false }
 {
-    match compare_image(host, guest, bytes) {
+    match check_image_matches(host, guest, bytes) {
         Ok(()) => false,
         Err(why) => why.number() == number,
     }
@@ -67,7 +67,7 @@ fn is_refused(host: &Host, guest: &Guest, bytes: &[u8], number: u16) -> bool
 /// Returns the offset of the first mismatch in bytes that the guest refuses with this fault number.
 /// A binary search finds the shortest prefix that is refused with it; the mismatch is the prefix's
 /// last byte.
-fn stop_offset(host: &Host, guest: &Guest, bytes: &[u8], number: u16) -> usize
+fn first_mismatch_offset(host: &Host, guest: &Guest, bytes: &[u8], number: u16) -> usize
     requires refused { let g = lone_shown host.now.state.functions guest.now in
         load_fault g bytes.now ≡ Some number }
     requires enough { number ≢ 905 }
@@ -78,7 +78,7 @@ fn stop_offset(host: &Host, guest: &Guest, bytes: &[u8], number: u16) -> usize
     let mut high = bytes.len();
     while high - low > 1 {
         let middle = low + (high - low) / 2;
-        if is_refused(host, guest, &bytes[..middle], number) {
+        if is_refused_with(host, guest, &bytes[..middle], number) {
             high = middle;
         } else {
             low = middle;
@@ -87,7 +87,7 @@ fn stop_offset(host: &Host, guest: &Guest, bytes: &[u8], number: u16) -> usize
     low
 }
 
-fn stop_in(host: &Host, guest: &Guest, bytes: &[u8]) -> Option<ImageStop>
+fn find_first_mismatch(host: &Host, guest: &Guest, bytes: &[u8]) -> Option<ImageStop>
     requires { length guest.now.slots.items ≤ 32 }
     ensures at { let g = lone_shown host.now.state.functions guest.now in
         IfSome result (λ s. StopsAt g bytes.now s.offset) }
@@ -97,15 +97,15 @@ fn stop_in(host: &Host, guest: &Guest, bytes: &[u8]) -> Option<ImageStop>
     ensures told { let g = lone_shown host.now.state.functions guest.now in
         is_some result ≡ is_told (load_fault g bytes.now) }
 {
-    let Err(why) = compare_image(host, guest, bytes) else {
+    let Err(why) = check_image_matches(host, guest, bytes) else {
         return None;
     };
     let number = why.number();
     if number == 905 {
         return None;
     }
-    let slot = stop_slot(host, guest, bytes);
-    let offset = stop_offset(host, guest, bytes, number);
+    let slot = first_mismatch_slot(host, guest, bytes);
+    let offset = first_mismatch_offset(host, guest, bytes, number);
     Some(ImageStop { slot, offset })
 }
 
@@ -124,6 +124,6 @@ impl<R: Route> Engine<R> {
             is_some result ≡ is_told (load_fault g bytes.now) }
     {
         let _ = &self.names;
-        stop_in(&self.host, &self.guests[guest], bytes)
+        find_first_mismatch(&self.host, &self.guests[guest], bytes)
     }
 }

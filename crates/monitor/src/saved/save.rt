@@ -11,13 +11,14 @@ use bridge_forward::EndpointFn;
 use guest_functions::VirtualFunction;
 use host_bridge::{Host, Route};
 use images::{
-    ImageFault, after_function, after_header, after_latch, after_slot_tag, at_end, function_size,
-    header, latch_bytes, put, write_function,
+    ImageFault, image_header_bytes, latch_to_le_bytes, put_bytes_and_advance,
+    put_function_and_advance, refuse_trailing_bytes, saved_function_size, split_off_latch,
+    strip_function, strip_image_header, strip_slot_tag,
 };
 
 /// Returns the function in a slot as its guest sees it: the endpoint on the board, and the guest's
 /// copies.
-pub(crate) fn slot_shown<'a>(
+pub(crate) fn endpoint_and_guest_copies<'a>(
     host: &'a Host,
     slot: &'a Option<AssignedFunction>,
 ) -> Option<(&'a EndpointFn, &'a VirtualFunction)>
@@ -32,18 +33,18 @@ pub(crate) fn slot_shown<'a>(
 }
 
 /// Returns how many bytes a slot occupies in a saved state.
-fn slot_size(host: &Host, slot: &Option<AssignedFunction>) -> usize
+fn saved_slot_size(host: &Host, slot: &Option<AssignedFunction>) -> usize
     requires { HasPlaces (slot_shown host.now.state.functions slot.now) }
     ensures size { result ≡ length (slot_image host.now.state.functions slot.now) }
     ensures bound { result ≤ 99601 }
 {
-    match slot_shown(host, slot) {
-        Some((endpoint, _)) => 1 + function_size(endpoint),
+    match endpoint_and_guest_copies(host, slot) {
+        Some((endpoint, _)) => 1 + saved_function_size(endpoint),
         None => 1,
     }
 }
 
-fn slots_size(host: &Host, slots: &[Option<AssignedFunction>]) -> usize
+fn saved_slots_size(host: &Host, slots: &[Option<AssignedFunction>]) -> usize
     requires places { HavePlaces host.now.state.functions slots.now }
     requires few { length slots.now ≤ 32 }
     ensures size { result ≡ length (slots_image host.now.state.functions slots.now) }
@@ -52,30 +53,40 @@ fn slots_size(host: &Host, slots: &[Option<AssignedFunction>]) -> usize
     let mut left = slots;
     let mut size = 0;
     while let Some((slot, rest)) = left.split_first() {
-        size += slot_size(host, slot);
+        size += saved_slot_size(host, slot);
         left = rest;
     }
     size
 }
 
 /// Writes a slot into a buffer from index `at`, and returns the index after it.
-fn put_slot(host: &Host, slot: &Option<AssignedFunction>, out: &mut [u8], at: usize) -> usize
+fn put_slot_and_advance(
+    host: &Host,
+    slot: &Option<AssignedFunction>,
+    out: &mut [u8],
+    at: usize,
+) -> usize
     requires places { HasPlaces (slot_shown host.now.state.functions slot.now) }
     requires room { at + length (slot_image host.now.state.functions slot.now) ≤ length out.old }
     ensures bytes { out.new
         ≡ put at (slot_image host.now.state.functions slot.now) out.old }
     ensures end { result ≡ at + length (slot_image host.now.state.functions slot.now) }
 {
-    match slot_shown(host, slot) {
+    match endpoint_and_guest_copies(host, slot) {
         Some((endpoint, own)) => {
-            let next = put(out, at, &[1]);
-            write_function(endpoint, own, out, next)
+            let next = put_bytes_and_advance(out, at, &[1]);
+            put_function_and_advance(endpoint, own, out, next)
         }
-        None => put(out, at, &[0]),
+        None => put_bytes_and_advance(out, at, &[0]),
     }
 }
 
-fn put_slots(host: &Host, slots: &[Option<AssignedFunction>], out: &mut [u8], at: usize) -> usize
+fn put_slots_and_advance(
+    host: &Host,
+    slots: &[Option<AssignedFunction>],
+    out: &mut [u8],
+    at: usize,
+) -> usize
     requires places { HavePlaces host.now.state.functions slots.now }
     requires room { at + length (slots_image host.now.state.functions slots.now)
         ≤ length out.old }
@@ -86,7 +97,7 @@ fn put_slots(host: &Host, slots: &[Option<AssignedFunction>], out: &mut [u8], at
     let mut left = slots;
     let mut next = at;
     while let Some((slot, rest)) = left.split_first() {
-        next = put_slot(host, slot, out, next);
+        next = put_slot_and_advance(host, slot, out, next);
         left = rest;
     }
     next
@@ -100,15 +111,15 @@ fn put_image(host: &Host, guest: &Guest, out: &mut [u8])
     ensures { let g = lone_shown host.now.state.functions guest.now in
         out.new ≡ put 0 (image_bytes (image_of_lone g)) out.old }
 {
-    let next = put(out, 0, &header());
-    let next = put(out, next, &latch_bytes(guest.latch.value()));
-    put_slots(host, &guest.slots, out, next);
+    let next = put_bytes_and_advance(out, 0, &image_header_bytes());
+    let next = put_bytes_and_advance(out, next, &latch_to_le_bytes(guest.latch.value()));
+    put_slots_and_advance(host, &guest.slots, out, next);
 }
 
 /// Strips a slot from the front of `bytes`, and returns the rest. Refuses with 906 if the saved
 /// slot has different contents, or with 905 if the bytes end early or a register can't hold its
 /// saved value.
-pub(crate) fn after_slot<'a>(
+pub(crate) fn strip_slot<'a>(
     host: &Host,
     slot: &Option<AssignedFunction>,
     bytes: &'a [u8],
@@ -118,15 +129,15 @@ pub(crate) fn after_slot<'a>(
     ensures refused { let f = slot_shown host.now.state.functions slot.now in
         IfErr result (λ why. after_slot f bytes.now ≡ Err (number_of why)) }
 {
-    match slot_shown(host, slot) {
-        Some((endpoint, _)) => after_function(endpoint, bytes),
-        None => after_slot_tag(false, bytes),
+    match endpoint_and_guest_copies(host, slot) {
+        Some((endpoint, _)) => strip_function(endpoint, bytes),
+        None => strip_slot_tag(false, bytes),
     }
 }
 
 /// Refuses bytes that aren't saved slots of these functions, with 905 or 906. Accepts all values
 /// that the registers can hold.
-fn compare_slots(
+fn check_slots_match(
     host: &Host,
     slots: &[Option<AssignedFunction>],
     bytes: &[u8],
@@ -139,23 +150,27 @@ fn compare_slots(
     let mut left = slots;
     let mut bytes = bytes;
     while let Some((slot, rest)) = left.split_first() {
-        bytes = after_slot(host, slot, bytes)?;
+        bytes = strip_slot(host, slot, bytes)?;
         left = rest;
     }
-    at_end(bytes)
+    refuse_trailing_bytes(bytes)
 }
 
 /// Refuses bytes that aren't a saved state for this guest, with 905, 906 or 908. Accepts all values
 /// that CONFIG_ADDRESS and the other registers can hold.
-pub(crate) fn compare_image(host: &Host, guest: &Guest, bytes: &[u8]) -> Result<(), ImageFault>
+pub(crate) fn check_image_matches(
+    host: &Host,
+    guest: &Guest,
+    bytes: &[u8],
+) -> Result<(), ImageFault>
     ensures all { let g = lone_shown host.now.state.functions guest.now in
         IfOk result (λ _. after_image g bytes.now ≡ Ok []) }
     ensures refused { let g = lone_shown host.now.state.functions guest.now in
         IfErr result (λ why. after_image g bytes.now ≡ Err (number_of why)) }
 {
-    let bytes = after_header(bytes)?;
-    let (_, bytes) = after_latch(bytes)?;
-    compare_slots(host, &guest.slots, bytes)
+    let bytes = strip_image_header(bytes)?;
+    let (_, bytes) = split_off_latch(bytes)?;
+    check_slots_match(host, &guest.slots, bytes)
 }
 
 impl<R: Route> Engine<R> {
@@ -168,7 +183,7 @@ impl<R: Route> Engine<R> {
         ensures bound { result ≤ 3187244 }
     {
         let _ = &self.names;
-        12 + slots_size(&self.host, &self.guests[guest].slots)
+        12 + saved_slots_size(&self.host, &self.guests[guest].slots)
     }
 
     /// Saves a guest's state to the start of a buffer, which must be large enough. The rest of the

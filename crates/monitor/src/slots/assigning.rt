@@ -4,11 +4,11 @@ ghost use Rattle.model_handoff.specs.{Giving.{give_fault, take_reply}, Actions.{
 ghost use Rattle.accesses.specs.{Accesses.reply_of, Replies.{IsRefusal, IsShown}};
 ghost use Rattle.monitor.specs.{ByIndex.name_nth, Seatings.{fault_told, gift_nth}};
 
-use crate::access::config::function_in;
+use crate::access::config::function_or_refusal;
 use crate::engine::Engine;
-use crate::slots::assign_checks::gift;
+use crate::slots::assign_checks::assigned_function_or_error;
 use crate::slots::assign_error::AssignError;
-use crate::slots::moving::exchange_in;
+use crate::slots::moving::replace_slot_of_guest;
 use accesses::Reply;
 use host_bridge::Route;
 use paths::Path;
@@ -28,12 +28,18 @@ impl<R: Route> Engine<R> {
         ensures refused { IfErr result (λ _. self.new ≡ self.old) }
     {
         let _ = &self.names;
-        let held = match gift(&self.host, &self.guests, path, guest, slot) {
+        let held = match assigned_function_or_error(&self.host, &self.guests, path, guest, slot) {
             Ok(held) => held,
             Err(why) => return Err(why),
         };
-        self.host.reset_nth(held.index);
-        let _empty = exchange_in(&mut self.guests, guest, slot as usize, Some(held), true);
+        self.host.reset_endpoint_nth(held.index);
+        let _empty = replace_slot_of_guest(
+            &mut self.guests,
+            guest,
+            slot as usize,
+            Some(held),
+            true,
+        );
         Ok(())
     }
 
@@ -50,12 +56,12 @@ impl<R: Route> Engine<R> {
         ensures refused { IsRefusal result → self.new ≡ self.old }
     {
         let _ = &self.names;
-        let index = match function_in(&self.guests[guest].slots, slot) {
+        let index = match function_or_refusal(&self.guests[guest].slots, slot) {
             Ok(held) => held.index,
             Err(why) => return Reply::Refused(why),
         };
-        self.host.reset_nth(index);
-        let _taken = exchange_in(&mut self.guests, guest, slot as usize, None, true);
+        self.host.reset_endpoint_nth(index);
+        let _taken = replace_slot_of_guest(&mut self.guests, guest, slot as usize, None, true);
         Reply::Done
     }
 }

@@ -12,7 +12,7 @@ pub struct Assignment {
 }
 
 /// Returns whether the function at an index is in a slot.
-pub(crate) fn is_at(slot: &Option<AssignedFunction>, index: usize) -> bool
+pub(crate) fn slot_has_function(slot: &Option<AssignedFunction>, index: usize) -> bool
     ensures { result ≡ is_at index slot.now }
 {
     match slot {
@@ -22,10 +22,10 @@ pub(crate) fn is_at(slot: &Option<AssignedFunction>, index: usize) -> bool
 }
 
 /// Returns the first slot that contains the function at an index.
-fn slot_of(slots: &[Option<AssignedFunction>], index: usize) -> Option<usize>
+fn find_slot_of_function(slots: &[Option<AssignedFunction>], index: usize) -> Option<usize>
     ensures { result ≡ position (is_at index) slots.now }
 {
-    slots.iter().position(|slot| is_at(slot, index))
+    slots.iter().position(|slot| slot_has_function(slot, index))
 }
 
 /// Returns the guest and the slot to which the function at an index is assigned. `first` is the
@@ -36,7 +36,7 @@ pub(crate) fn seat_from(guests: &[Guest], index: usize, first: usize) -> Option<
 {
     match guests {
         [] => None,
-        [guest, rest @ ..] => match slot_of(&guest.slots, index) {
+        [guest, rest @ ..] => match find_slot_of_function(&guest.slots, index) {
             Some(slot) => Some(Assignment { guest: first, slot }),
             None => seat_from(rest, index, first + 1),
         },

@@ -3,23 +3,23 @@ ghost use Rattle.std.specs.Prelude.{◌≡◌, ◌<◌, Some, length, option_map
 ghost use Rattle.accesses.specs.Refusals.{number_of};
 ghost use Rattle.monitor.specs.{Configs.HoldsAt, Counts.{counts_of, counted_both, counted_nth}, Moves.{is_taken, fault_between, HasSlot, IsExchanged, HandsOver}};
 
-use crate::access::change_count::counted;
-use crate::access::config::held_in;
+use crate::access::change_count::increment_if;
+use crate::access::config::function_in_slot;
 use crate::guest::{AssignedFunction, Guest};
 use accesses::Refusal;
 use host_bridge::Host;
 use std::mem::replace;
 
 /// Returns whether a slot is occupied.
-pub(crate) fn is_taken(slots: &[Option<AssignedFunction>], slot: usize) -> bool
+pub(crate) fn is_slot_occupied(slots: &[Option<AssignedFunction>], slot: usize) -> bool
     ensures { result ≡ is_taken slots.now slot }
 {
-    held_in(slots, slot).is_some()
+    function_in_slot(slots, slot).is_some()
 }
 
 /// Returns why a move is refused: 303 if a slot is above 31, else 601 if the source slot is empty,
 /// else 602 if the target slot is occupied. Returns None for any other move.
-pub(crate) fn move_fault(
+pub(crate) fn find_move_refusal(
     from: &[Option<AssignedFunction>],
     slot: u64,
     to: &[Option<AssignedFunction>],
@@ -29,9 +29,9 @@ pub(crate) fn move_fault(
 {
     if slot > 31 || target > 31 {
         Some(Refusal::Range)
-    } else if !is_taken(from, slot as usize) {
+    } else if !is_slot_occupied(from, slot as usize) {
         Some(Refusal::EmptySlot)
-    } else if is_taken(to, target as usize) {
+    } else if is_slot_occupied(to, target as usize) {
         Some(Refusal::SlotTaken)
     } else {
         None
@@ -39,7 +39,7 @@ pub(crate) fn move_fault(
 }
 
 /// Replaces the contents of a slot, and returns the previous contents.
-fn exchange(
+fn replace_slot(
     slots: &mut [Option<AssignedFunction>],
     slot: usize,
     held: Option<AssignedFunction>,
@@ -53,7 +53,7 @@ fn exchange(
 
 /// Replaces the contents of a guest's slot, and returns the previous contents. Increments the
 /// guest's change count if `changes` is set.
-pub(crate) fn exchange_in(
+pub(crate) fn replace_slot_of_guest(
     guests: &mut [Guest],
     guest: usize,
     slot: usize,
@@ -65,14 +65,14 @@ pub(crate) fn exchange_in(
     ensures counts { counts_of guests.new ≡ counted_nth guest changes (counts_of guests.old) }
 {
     let guest = &mut guests[guest];
-    guest.changed = counted(guest.changed, changes);
-    exchange(&mut guest.slots, slot, held)
+    guest.changed = increment_if(guest.changed, changes);
+    replace_slot(&mut guest.slots, slot, held)
 }
 
 /// Moves a function to another slot and resets it: the guest's copies in the slot record, and all
 /// other registers on the board. Increments the change counts of the source guest and the target
 /// guest, only once if they are the same guest.
-pub(crate) fn hand_over(
+pub(crate) fn move_and_reset_function(
     host: &mut Host,
     guests: &mut [Guest],
     from: usize,
@@ -85,10 +85,10 @@ pub(crate) fn hand_over(
     ensures over { HandsOver host.old guests.old from slot to target host.new guests.new }
     ensures counts { counts_of guests.new ≡ counted_both from to (counts_of guests.old) }
 {
-    let Some(mut held) = exchange_in(guests, from, slot, None, true) else {
+    let Some(mut held) = replace_slot_of_guest(guests, from, slot, None, true) else {
         unreachable!()
     };
     held.own.reset();
-    host.reset_nth(held.index);
-    let _empty = exchange_in(guests, to, target, Some(held), to != from);
+    host.reset_endpoint_nth(held.index);
+    let _empty = replace_slot_of_guest(guests, to, target, Some(held), to != from);
 }

@@ -5,9 +5,9 @@ ghost use Rattle.model_handoff.specs.{Actions.calls, Changes.after_on_machine};
 ghost use Rattle.accesses.specs.{Accesses.reply_of, Replies.{IsRefusal, IsShown}};
 ghost use Rattle.monitor.specs.ByIndex.{name_nth};
 
-use crate::access::config::function_in;
+use crate::access::config::function_or_refusal;
 use crate::engine::Engine;
-use crate::slots::moving::hand_over;
+use crate::slots::moving::move_and_reset_function;
 use accesses::Reply;
 use host_bridge::Route;
 
@@ -26,10 +26,10 @@ impl<R: Route> Engine<R> {
         ensures refused { IsRefusal result → self.new ≡ self.old }
     {
         let _ = &self.names;
-        match function_in(&self.guests[guest].slots, slot) {
+        match function_or_refusal(&self.guests[guest].slots, slot) {
             Ok(_) => {
                 let slot = slot as usize;
-                hand_over(&mut self.host, &mut self.guests, guest, slot, guest, slot);
+                move_and_reset_function(&mut self.host, &mut self.guests, guest, slot, guest, slot);
                 Reply::Done
             }
             Err(why) => Reply::Refused(why),

@@ -6,7 +6,7 @@ ghost use Rattle.pciguest_c.specs.{DrivenTold.driven_row, Calls.{AnswersBoard, b
 use crate::handle::Handle;
 use crate::values::function_row::{FunctionTold, function_row};
 use crate::values::interrupts::NO_INTERRUPT;
-use crate::values::numbers::{ARGUMENT, put_result};
+use crate::values::numbers::{ARGUMENT, store_result_if_ok};
 use session::DrivenFunction;
 use std::alloc::Global;
 
@@ -45,7 +45,10 @@ pub extern "C" fn pciguest_raw_board_count(
     ensures { AnswersBoard board_count handle.old handle.new result
         (number count.old) (number count.new) }
 {
-    put_result(handle.ask_board(alloc, |board| Ok(board.count())), count)
+    store_result_if_ok(
+        handle.with_board(alloc, |board| Ok(board.function_count())),
+        count,
+    )
 }
 
 /// Stores a description of the function at an index, in path order, according to the current
@@ -60,9 +63,9 @@ pub extern "C" fn pciguest_raw_board_function(
     ensures { AnswersBoard (board_function index) handle.old handle.new result
         (a_driven told.old) (a_driven told.new) }
 {
-    let answer = handle.ask_board(alloc, |board| match board.function(index) {
+    let answer = handle.with_board(alloc, |board| match board.function(index) {
         Some(function) => Ok(driven_row(&function)),
         None => Err(ARGUMENT),
     });
-    put_result(answer, told)
+    store_result_if_ok(answer, told)
 }

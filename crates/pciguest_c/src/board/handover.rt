@@ -38,7 +38,7 @@ pub extern "C" fn pciguest_raw_board_guests(
     let Some(mut session) = handle.take(alloc) else {
         return NO_MACHINE;
     };
-    if machine.is_live() {
+    if machine.has_session() {
         *handle = Handle::of(session);
         return IN_USE;
     }

@@ -22,7 +22,7 @@ pub extern "C" fn pciguest_raw_board_new(alloc: Global, handle: &mut Handle, fil
     ensures numbers { IfNone (session_of handle.old) (result ≤ 199) }
     ensures file { result ≢ 0 → result < 199 → Refuses file.now result }
 {
-    if handle.is_live() {
+    if handle.has_session() {
         return IN_USE;
     }
     match Session::open(alloc, file) {

@@ -12,17 +12,17 @@ use std::alloc::Global;
 
 /// Recreates the machine's board at reset in an empty handle. Returns 903 if the handle isn't
 /// empty, or 299 if memory is exhausted.
-fn make_anew(alloc: Global, machine: &Monitor, board: &mut Handle) -> u32
+fn recreate_board_into(alloc: Global, machine: &Monitor, board: &mut Handle) -> u32
     ensures { let before = session_of board.old in
         IsMadeAnew (Some machine.now) before (session_of board.new) result }
 {
-    if board.is_live() {
+    if board.has_session() {
         return IN_USE;
     }
-    let Ok(made) = Board::of_machine(alloc, machine) else {
+    let Ok(made) = Board::recreate_at_reset(alloc, machine) else {
         return MEMORY;
     };
-    match Box::new(alloc, Session::over(alloc, made)) {
+    match Box::new(alloc, Session::from_board(alloc, made)) {
         Ok(session) => {
             *board = Handle::of(session);
             0
@@ -33,13 +33,13 @@ fn make_anew(alloc: Global, machine: &Monitor, board: &mut Handle) -> u32
 
 /// Recreates the board of the session's machine at reset, or returns 901 if the session has no
 /// machine.
-fn make_anew_in(alloc: Global, session: &mut Session, board: &mut Handle) -> u32
+fn recreate_board_of_session(alloc: Global, session: &mut Session, board: &mut Handle) -> u32
     ensures made { let before = session_of board.old in
         IsMadeAnew (machine_in session.old) before (session_of board.new) result }
     ensures kept { session.new ≡ session.old }
 {
     match session.monitor() {
-        Some(machine) => make_anew(alloc, machine, board),
+        Some(machine) => recreate_board_into(alloc, machine, board),
         None => NO_MACHINE,
     }
 }
@@ -60,7 +60,7 @@ pub extern "C" fn pciguest_raw_board_anew(
     let Some(mut session) = handle.take(alloc) else {
         return NO_MACHINE;
     };
-    let number = make_anew_in(alloc, &mut session, board);
+    let number = recreate_board_of_session(alloc, &mut session, board);
     *handle = Handle::of(session);
     number
 }

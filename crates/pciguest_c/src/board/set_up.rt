@@ -11,17 +11,17 @@ use std::alloc::Global;
 /// Runs the built-in set-up on the board, and stores the resulting machine in an empty handle.
 /// Returns 903 if the handle isn't empty, 904 if the board isn't at reset, 2xx if the board
 /// can't be set up, or 299 if memory is exhausted.
-fn set_up(alloc: Global, board: &Board, machine: &mut Handle) -> u32
+fn set_up_into(alloc: Global, board: &Board, machine: &mut Handle) -> u32
     ensures { SetsUp (Some board.now) (session_of machine.old) (session_of machine.new) result }
 {
-    if machine.is_live() {
+    if machine.has_session() {
         return IN_USE;
     }
     if !board.is_at_reset() {
         return NOT_AT_RESET;
     }
-    match board.set_up(alloc) {
-        Ok(monitor) => match Box::new(alloc, Session::of(alloc, monitor)) {
+    match board.set_up_copy(alloc) {
+        Ok(monitor) => match Box::new(alloc, Session::from_monitor(alloc, monitor)) {
             Ok(session) => {
                 *machine = Handle::of(session);
                 0
@@ -34,13 +34,13 @@ fn set_up(alloc: Global, board: &Board, machine: &mut Handle) -> u32
 
 /// Runs the built-in set-up on the session's board, or returns 901 if firmware isn't driving a
 /// board in the session.
-fn set_up_in(alloc: Global, session: &mut Session, machine: &mut Handle) -> u32
+fn set_up_session_board(alloc: Global, session: &mut Session, machine: &mut Handle) -> u32
     ensures made { let before = session_of machine.old in
         SetsUp (board_in session.old) before (session_of machine.new) result }
     ensures kept { session.new ≡ session.old }
 {
     match session.board() {
-        Some(board) => set_up(alloc, board, machine),
+        Some(board) => set_up_into(alloc, board, machine),
         None => NO_MACHINE,
     }
 }
@@ -62,7 +62,7 @@ pub extern "C" fn pciguest_raw_set_up(
     let Some(mut session) = handle.take(alloc) else {
         return NO_MACHINE;
     };
-    let number = set_up_in(alloc, &mut session, machine);
+    let number = set_up_session_board(alloc, &mut session, machine);
     *handle = Handle::of(session);
     number
 }

@@ -5,14 +5,14 @@ ghost use Rattle.pciguest_c.specs.Calls.{Answers, give, take, giving, tells, ref
 
 use crate::handle::Handle;
 use crate::values::arguments::check_guest;
-use crate::values::numbers::{status_of, status_of_result};
-use board_file::path::text::path_of;
+use crate::values::numbers::{status_of_reply, status_of_result};
+use board_file::path::text::parse_path;
 use monitor::{AssignError, Monitor};
 use std::alloc::Global;
 
 /// Assigns the function at a path to a guest, or returns the error number.
 #[tactic(auto, unfolding(crate::specs::Calls::giving))]
-fn give_at(machine: &mut Monitor, path: &[u8], guest: usize, slot: u64) -> Result<(), u32>
+fn assign_at_path(machine: &mut Monitor, path: &[u8], guest: usize, slot: u64) -> Result<(), u32>
     ensures given { IfOk result (λ _.
         giving machine.old path.now guest slot ≡ tells nothing (given machine.new)) }
     ensures refused { IfErr result (λ n. giving machine.old path.now guest slot ≡ refusal n) }
@@ -20,7 +20,7 @@ fn give_at(machine: &mut Monitor, path: &[u8], guest: usize, slot: u64) -> Resul
 {
     check_guest(machine, guest)?;
     // A text that isn't a path is reported like a path without an endpoint.
-    let Some(path) = path_of(path) else {
+    let Some(path) = parse_path(path) else {
         return Err(u32::from(AssignError::NoEndpoint.number()));
     };
     match machine.assign(&path, guest, slot) {
@@ -41,7 +41,10 @@ pub extern "C" fn pciguest_raw_give(
 ) -> u32
     ensures { Answers (give path.now guest slot) handle.old handle.new result nothing nothing }
 {
-    status_of_result(handle.ask_machine(alloc, |machine| give_at(machine, path, guest, slot)))
+    status_of_result(handle.with_machine(
+        alloc,
+        |machine| assign_at_path(machine, path, guest, slot),
+    ))
 }
 
 /// Unassigns the function in a guest's slot. The slot is then empty, and the function is at reset
@@ -55,7 +58,7 @@ pub extern "C" fn pciguest_raw_take(
 ) -> u32
     ensures { Answers (take guest slot) handle.old handle.new result nothing nothing }
 {
-    status_of(handle.ask_machine(alloc, |machine| {
+    status_of_reply(handle.with_machine(alloc, |machine| {
         check_guest(machine, guest)?;
         Ok(machine.unassign(guest, slot))
     }))

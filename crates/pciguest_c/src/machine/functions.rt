@@ -8,12 +8,12 @@ use crate::handle::Handle;
 use crate::values::arguments::check_guest;
 use crate::values::function_row::{FunctionTold, function_row};
 use crate::values::interrupts::interrupt_of;
-use crate::values::numbers::{ARGUMENT, put_result};
+use crate::values::numbers::{ARGUMENT, store_result_if_ok};
 use monitor::{LiveFunction, Monitor};
 use std::alloc::Global;
 
 /// Converts a function's description, including its interrupt pin, to its C struct.
-fn told_row(machine: &Monitor, function: &LiveFunction) -> FunctionTold
+fn function_row_with_interrupt(machine: &Monitor, function: &LiveFunction) -> FunctionTold
     ensures { result ≡ function_told machine.now.world (function_named function.now) }
 {
     function_row(function, interrupt_of(machine, function))
@@ -21,14 +21,14 @@ fn told_row(machine: &Monitor, function: &LiveFunction) -> FunctionTold
 
 /// Returns a description of the function in a guest's slot, or the error number.
 #[tactic(auto, unfolding(crate::specs::Calls::telling_slot))]
-fn slot_function(machine: &Monitor, guest: usize, slot: u64) -> Result<FunctionTold, u32>
+fn function_row_in_slot(machine: &Monitor, guest: usize, slot: u64) -> Result<FunctionTold, u32>
     ensures told { IfOk result (λ f.
         telling_slot machine.now guest slot ≡ tells (a_function f) (given machine.now)) }
     ensures refused { IfErr result (λ n. telling_slot machine.now guest slot ≡ refusal n) }
 {
     check_guest(machine, guest)?;
     match machine.slot_function(guest, slot) {
-        Ok(function) => Ok(told_row(machine, &function)),
+        Ok(function) => Ok(function_row_with_interrupt(machine, &function)),
         Err(number) => Err(u32::from(number)),
     }
 }
@@ -39,8 +39,8 @@ pub extern "C" fn pciguest_raw_count(alloc: Global, handle: &mut Handle, count: 
     ensures { Answers function_count handle.old handle.new result
         (number count.old) (number count.new) }
 {
-    put_result(
-        handle.ask_machine(alloc, |machine| Ok(machine.count())),
+    store_result_if_ok(
+        handle.with_machine(alloc, |machine| Ok(machine.count())),
         count,
     )
 }
@@ -57,11 +57,11 @@ pub extern "C" fn pciguest_raw_function(
     ensures { Answers (function_at index) handle.old handle.new result
         (a_function told.old) (a_function told.new) }
 {
-    let answer = handle.ask_machine(alloc, |machine| match machine.function(index) {
-        Some(function) => Ok(told_row(machine, &function)),
+    let answer = handle.with_machine(alloc, |machine| match machine.function(index) {
+        Some(function) => Ok(function_row_with_interrupt(machine, &function)),
         None => Err(ARGUMENT),
     });
-    put_result(answer, told)
+    store_result_if_ok(answer, told)
 }
 
 /// Stores a description of the function in a guest's slot.
@@ -76,6 +76,6 @@ pub extern "C" fn pciguest_raw_slot(
     ensures { Answers (function_in guest slot) handle.old handle.new result
         (a_function told.old) (a_function told.new) }
 {
-    let answer = handle.ask_machine(alloc, |machine| slot_function(machine, guest, slot));
-    put_result(answer, told)
+    let answer = handle.with_machine(alloc, |machine| function_row_in_slot(machine, guest, slot));
+    store_result_if_ok(answer, told)
 }

@@ -6,14 +6,14 @@ ghost use Rattle.accesses.specs.Accesses.{reply_of, target_of};
 ghost use Rattle.pciguest_c.specs.{Told.reply_asked, Calls.{Answers, read, write, raise, guest_named, nothing, number}};
 
 use crate::handle::Handle;
-use crate::values::arguments::{index_named, part_for, target_for};
-use crate::values::numbers::{ARGUMENT, put_result, put_value, status_of};
+use crate::values::arguments::{find_guest, parse_guest_target, parse_part};
+use crate::values::numbers::{ARGUMENT, status_of_reply, store_result_if_ok, store_value_if_ok};
 use accesses::{Access, At, Op, Reply};
 use monitor::Monitor;
 use std::alloc::Global;
 
 /// Reads as a guest. Nothing changes.
-fn read_at(machine: &mut Monitor, guest: usize, at: At, width: u64) -> Reply
+fn read_as_guest(machine: &mut Monitor, guest: usize, at: At, width: u64) -> Reply
     requires { guest < length machine.old.world.guests }
     ensures reply { let e = access (record { target = target_of at; width = width; op = reads }) in
         reply_of result ≡ reply_asked machine.old.world guest e }
@@ -38,11 +38,11 @@ pub extern "C" fn pciguest_raw_read(
     ensures { Answers (read guest space slot place width) handle.old handle.new result
         (number value.old) (number value.new) }
 {
-    let answer = handle.ask_machine(alloc, |machine| {
-        let at = target_for(machine, guest, space, slot, place)?;
-        Ok(read_at(machine, guest, at, u64::from(width)))
+    let answer = handle.with_machine(alloc, |machine| {
+        let at = parse_guest_target(machine, guest, space, slot, place)?;
+        Ok(read_as_guest(machine, guest, at, u64::from(width)))
     });
-    put_value(answer, value)
+    store_value_if_ok(answer, value)
 }
 
 /// Writes the low 1, 2 or 4 bytes of a value as a guest.
@@ -60,8 +60,8 @@ pub extern "C" fn pciguest_raw_write(
     ensures { Answers (write guest space slot place width value) handle.old handle.new result
         nothing nothing }
 {
-    status_of(handle.ask_machine(alloc, |machine| {
-        let at = target_for(machine, guest, space, slot, place)?;
+    status_of_reply(handle.with_machine(alloc, |machine| {
+        let at = parse_guest_target(machine, guest, space, slot, place)?;
         let width = u64::from(width);
         let op = Op::Write(value);
         Ok(machine.step(guest, Access { at, width, op }))
@@ -83,8 +83,8 @@ pub extern "C" fn pciguest_raw_raise(
     ensures { Answers (raise guest slot part offset mask) handle.old handle.new result
         nothing nothing }
 {
-    status_of(handle.ask_machine(alloc, |machine| {
-        let place = part_for(machine, guest, part)?;
+    status_of_reply(handle.with_machine(alloc, |machine| {
+        let place = parse_part(machine, guest, part)?;
         Ok(machine.raise(guest, slot, place, offset, mask))
     }))
 }
@@ -100,9 +100,9 @@ pub extern "C" fn pciguest_raw_guest(
     ensures { Answers (guest_named name.now) handle.old handle.new result
         (number guest.old) (number guest.new) }
 {
-    let answer = handle.ask_machine(alloc, |machine| match index_named(machine, name) {
+    let answer = handle.with_machine(alloc, |machine| match find_guest(machine, name) {
         Some(index) => Ok(index),
         None => Err(ARGUMENT),
     });
-    put_result(answer, guest)
+    store_result_if_ok(answer, guest)
 }

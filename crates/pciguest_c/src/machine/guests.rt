@@ -4,15 +4,15 @@ ghost use Rattle.monitor.specs.ByIndex.{name_nth};
 ghost use Rattle.pciguest_c.specs.{Handles.machine_of, Calls.{Answers, guest_count, guest_name, buffer, number}};
 
 use crate::handle::Handle;
-use crate::texts::reports::tell;
+use crate::texts::reports::store_text_if_fits;
 use crate::values::arguments::guest_count;
-use crate::values::numbers::{ARGUMENT, put_result};
+use crate::values::numbers::{ARGUMENT, store_result_if_ok};
 use arrayvec::ArrayString;
 use monitor::Monitor;
 use std::alloc::Global;
 
 /// Returns a guest's name, or 902 if there is no such guest.
-fn name_of(machine: &Monitor, guest: usize) -> Result<ArrayString<16>, u32>
+fn guest_name_or_error(machine: &Monitor, guest: usize) -> Result<ArrayString<16>, u32>
     ensures name { IfOk result (λ n. n.bytes ≡ name_nth machine.now.world guest) }
     ensures there { IfOk result (λ _. guest < length machine.now.world.guests) }
     ensures none { IfErr result (λ n.
@@ -34,8 +34,8 @@ pub extern "C" fn pciguest_raw_guest_count(
     ensures { Answers guest_count handle.old handle.new result
         (number count.old) (number count.new) }
 {
-    put_result(
-        handle.ask_machine(alloc, |machine| Ok(guest_count(machine))),
+    store_result_if_ok(
+        handle.with_machine(alloc, |machine| Ok(guest_count(machine))),
         count,
     )
 }
@@ -55,8 +55,8 @@ pub extern "C" fn pciguest_raw_guest_name(
     ensures enough { IfSome (machine_of handle.old) (λ m. guest < length m.world.guests →
         16 ≤ length out.old → result ≡ 0) }
 {
-    match handle.ask_machine(alloc, |machine| name_of(machine, guest)) {
-        Ok(name) => tell(name.as_str().as_bytes(), out, needed),
+    match handle.with_machine(alloc, |machine| guest_name_or_error(machine, guest)) {
+        Ok(name) => store_text_if_fits(name.as_str().as_bytes(), out, needed),
         Err(number) => number,
     }
 }

@@ -23,11 +23,11 @@ pub extern "C" fn pciguest_raw_new(alloc: Global, handle: &mut Handle, board: &[
     ensures file { result ≢ 0 → result < 199 → Refuses board.now result }
     ensures placement { 199 < result → result < 299 → Breaks board.now result }
 {
-    if handle.is_live() {
+    if handle.has_session() {
         return IN_USE;
     }
     match open_and_set_up(alloc, board) {
-        Ok(monitor) => match Box::new(alloc, Session::of(alloc, monitor)) {
+        Ok(monitor) => match Box::new(alloc, Session::from_monitor(alloc, monitor)) {
             Ok(session) => {
                 *handle = Handle::of(session);
                 0

@@ -11,7 +11,7 @@ use std::alloc::Global;
 
 /// Loads an image into a guest, or returns the error number.
 #[tactic(auto, unfolding(crate::specs::ImagesTold::load_number))]
-fn load(machine: &mut Monitor, guest: usize, image: &[u8]) -> Result<(), u32>
+fn load_image(machine: &mut Monitor, guest: usize, image: &[u8]) -> Result<(), u32>
     requires { guest < length machine.old.world.guests }
     ensures fits { IfOk result (λ _. load_number machine.old.world guest image.now ≡ 0) }
     ensures fault { IfErr result (λ n. n ≡ load_number machine.old.world guest image.now) }
@@ -39,8 +39,8 @@ pub extern "C" fn pciguest_raw_load(
     ensures { AnswersLoad (λ m. load_asked m guest image.now)
         (λ m n. IsLoaded m (name_nth m.world guest) image.now n) handle.old handle.new result }
 {
-    status_of_result(handle.ask_machine(alloc, |machine| {
+    status_of_result(handle.with_machine(alloc, |machine| {
         check_guest(machine, guest)?;
-        load(machine, guest, image)
+        load_image(machine, guest, image)
     }))
 }

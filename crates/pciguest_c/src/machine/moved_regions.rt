@@ -1,9 +1,9 @@
 //! The call that finds the regions of a guest that have moved since the last call.
 ghost use Rattle.std.specs.Prelude.{◌≡◌, ◌<◌, ◌==◌, Some, count_by, length};
-ghost use Rattle.pciguest_c.specs.{Calls.{Answers, IsAnswer, answer, moved, place_buffer}, MovesTold.{is_same, place_now, place_row, places_from}};
+ghost use Rattle.pciguest_c.specs.{Calls.{Answers, IsAnswer, answer, moved, place_buffer}, MovesTold.{is_same_region, nth_region_or_zeros, region_change_row, places_from}};
 
 use crate::handle::Handle;
-use crate::machine::regions::{NO_REGION, RegionTold, region_for};
+use crate::machine::regions::{NO_REGION, RegionTold, region_to_c};
 use crate::values::arguments::check_guest;
 use crate::values::numbers::NO_MACHINE;
 use monitor::Monitor;
@@ -23,8 +23,8 @@ pub struct PlaceRow {
 
 /// Returns whether two descriptions of a region agree in all fields, including whether decode is
 /// enabled.
-fn is_same(one: &RegionTold, other: &RegionTold) -> bool
-    ensures { result ≡ is_same one.now other.now }
+fn is_same_region(one: &RegionTold, other: &RegionTold) -> bool
+    ensures { result ≡ is_same_region one.now other.now }
 {
     one.first == other.first
         && one.size == other.size
@@ -34,10 +34,10 @@ fn is_same(one: &RegionTold, other: &RegionTold) -> bool
 }
 
 /// Returns the row of a region from its current and its previous description.
-fn place_row(now: RegionTold, before: RegionTold) -> PlaceRow
-    ensures { result ≡ place_row now before }
+fn region_change_row(now: RegionTold, before: RegionTold) -> PlaceRow
+    ensures { result ≡ region_change_row now before }
 {
-    let has_moved = u32::from(!is_same(&now, &before));
+    let has_moved = u32::from(!is_same_region(&now, &before));
     PlaceRow {
         now,
         before,
@@ -48,29 +48,29 @@ fn place_row(now: RegionTold, before: RegionTold) -> PlaceRow
 
 /// Returns the current description of a guest's region by its number, which is 6 times the slot
 /// plus the register.
-fn place_now(machine: &Monitor, guest: usize, number: usize) -> RegionTold
+fn nth_region_or_zeros(machine: &Monitor, guest: usize, number: usize) -> RegionTold
     requires { guest < length machine.now.world.guests }
-    ensures { result ≡ place_now machine.now.world guest number }
+    ensures { result ≡ nth_region_or_zeros machine.now.world guest number }
 {
     match machine.region(guest, (number / 6) as u64, (number % 6) as u64) {
-        Ok(region) => region_for(region),
+        Ok(region) => region_to_c(region),
         Err(_) => NO_REGION,
     }
 }
 
 /// Updates each row from the guest's current registers.
-fn put_places(machine: &Monitor, guest: usize, places: &mut [PlaceRow])
+fn update_rows(machine: &Monitor, guest: usize, places: &mut [PlaceRow])
     requires { guest < length machine.now.world.guests }
     ensures { places.new ≡ places_from machine.now.world guest 0 places.old }
 {
     for number in 0..places.len() {
-        let now = place_now(machine, guest, number);
-        places[number] = place_row(now, places[number].now);
+        let now = nth_region_or_zeros(machine, guest, number);
+        places[number] = region_change_row(now, places[number].now);
     }
 }
 
 /// Returns how many of the rows have moved.
-fn moved_among(places: &[PlaceRow]) -> usize
+fn count_moved_rows(places: &[PlaceRow]) -> usize
     ensures { result ≡ count_by (λ p. p.has_moved == 1) places.now }
 {
     places.iter().filter(|place| place.has_moved == 1).count()
@@ -78,7 +78,7 @@ fn moved_among(places: &[PlaceRow]) -> usize
 
 /// Updates the rows for a guest of the session's machine. Returns 901 if the session has no
 /// machine, or 902 if there is no such guest.
-fn tell_moved(
+fn update_and_count_moved_rows(
     session: &mut Session,
     guest: usize,
     places: &mut [PlaceRow],
@@ -93,8 +93,8 @@ fn tell_moved(
     };
     match check_guest(machine, guest) {
         Ok(()) => {
-            put_places(machine, guest, places);
-            *count = moved_among(places);
+            update_rows(machine, guest, places);
+            *count = count_moved_rows(places);
             0
         }
         Err(number) => number,
@@ -118,7 +118,7 @@ pub extern "C" fn pciguest_raw_moved(
     let Some(mut session) = handle.take(alloc) else {
         return NO_MACHINE;
     };
-    let number = tell_moved(&mut session, guest, places, count);
+    let number = update_and_count_moved_rows(&mut session, guest, places, count);
     *handle = Handle::of(session);
     number
 }

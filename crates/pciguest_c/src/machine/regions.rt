@@ -5,8 +5,8 @@ ghost use Rattle.monitor.specs.Queries.{region_named, hit_named};
 ghost use Rattle.pciguest_c.specs.{Handles.machine_of, Calls.{Answers, region, changed, locate, number, a_region, a_hit}, QueriesTold.{region_told, hit_told}};
 
 use crate::handle::Handle;
-use crate::values::arguments::{check_guest, target_for};
-use crate::values::numbers::put_result;
+use crate::values::arguments::{check_guest, parse_guest_target};
+use crate::values::numbers::store_result_if_ok;
 use accesses::Place;
 use monitor::{DecodedByte, GuestRegion, Space};
 use std::alloc::Global;
@@ -44,7 +44,7 @@ pub const NO_REGION: RegionTold = RegionTold {
 };
 
 /// Converts a region to its C struct.
-pub fn region_for(region: GuestRegion) -> RegionTold
+pub fn region_to_c(region: GuestRegion) -> RegionTold
     ensures { result ≡ region_told (region_named region) }
 {
     RegionTold {
@@ -60,7 +60,7 @@ pub fn region_for(region: GuestRegion) -> RegionTold
 }
 
 /// Converts the target of an access to its C struct.
-fn hit_for(hit: Option<DecodedByte>) -> HitTold
+fn hit_to_c(hit: Option<DecodedByte>) -> HitTold
     ensures { result ≡ hit_told (option_map hit_named hit) }
 {
     match hit {
@@ -96,14 +96,14 @@ pub extern "C" fn pciguest_raw_region(
     ensures { Answers (region guest slot bar) handle.old handle.new result
         (a_region told.old) (a_region told.new) }
 {
-    let answer = handle.ask_machine(alloc, |machine| {
+    let answer = handle.with_machine(alloc, |machine| {
         check_guest(machine, guest)?;
         match machine.region(guest, slot, u64::from(bar)) {
-            Ok(region) => Ok(region_for(region)),
+            Ok(region) => Ok(region_to_c(region)),
             Err(why) => Err(u32::from(why.number())),
         }
     });
-    put_result(answer, told)
+    store_result_if_ok(answer, told)
 }
 
 /// Stores a guest's change count, which increases whenever a result of `pciguest_raw_region` for
@@ -120,11 +120,11 @@ pub extern "C" fn pciguest_raw_changed(
     ensures counted { result ≡ 0 → IfSome (machine_of handle.old) (λ m.
         slice_get m.counts guest ≡ Some count.new) }
 {
-    let answer = handle.ask_machine(alloc, |machine| {
+    let answer = handle.with_machine(alloc, |machine| {
         check_guest(machine, guest)?;
         Ok(machine.changed(guest))
     });
-    put_result(answer, count)
+    store_result_if_ok(answer, count)
 }
 
 /// Stores the byte of the guest's functions that an access reaches, or zeros if it reaches nothing.
@@ -141,12 +141,12 @@ pub extern "C" fn pciguest_raw_locate(
     ensures { Answers (locate guest space slot place) handle.old handle.new result
         (a_hit told.old) (a_hit told.new) }
 {
-    let answer = handle.ask_machine(alloc, |machine| {
-        let at = target_for(machine, guest, space, slot, place)?;
+    let answer = handle.with_machine(alloc, |machine| {
+        let at = parse_guest_target(machine, guest, space, slot, place)?;
         match machine.locate(guest, at) {
-            Ok(hit) => Ok(hit_for(hit)),
+            Ok(hit) => Ok(hit_to_c(hit)),
             Err(why) => Err(u32::from(why.number())),
         }
     });
-    put_result(answer, told)
+    store_result_if_ok(answer, told)
 }

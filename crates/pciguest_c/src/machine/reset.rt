@@ -4,7 +4,7 @@ ghost use Rattle.pciguest_c.specs.{Calls.{Answers, reset, reset_guest, nothing},
 
 use crate::handle::Handle;
 use crate::values::arguments::check_guest;
-use crate::values::numbers::{status_of, status_of_result};
+use crate::values::numbers::{status_of_reply, status_of_result};
 use monitor::Monitor;
 use std::alloc::Global;
 
@@ -19,7 +19,7 @@ pub extern "C" fn pciguest_raw_reset(
 ) -> u32
     ensures { Answers (reset guest slot) handle.old handle.new result nothing nothing }
 {
-    status_of(handle.ask_machine(alloc, |machine| {
+    status_of_reply(handle.with_machine(alloc, |machine| {
         check_guest(machine, guest)?;
         Ok(machine.reset(guest, slot))
     }))
@@ -27,7 +27,7 @@ pub extern "C" fn pciguest_raw_reset(
 
 /// Resets every function of a guest and its CONFIG_ADDRESS.
 #[tactic(auto, unfolding(crate::specs::ImagesTold::after_restart))]
-fn restart(machine: &mut Monitor, guest: usize)
+fn reset_guest_and_latch(machine: &mut Monitor, guest: usize)
     requires { guest < length machine.old.world.guests }
     ensures { machine.new ≡ after_restart machine.old guest }
 {
@@ -40,9 +40,9 @@ fn restart(machine: &mut Monitor, guest: usize)
 pub extern "C" fn pciguest_raw_reset_guest(alloc: Global, handle: &mut Handle, guest: usize) -> u32
     ensures { Answers (reset_guest guest) handle.old handle.new result nothing nothing }
 {
-    status_of_result(handle.ask_machine(alloc, |machine| {
+    status_of_result(handle.with_machine(alloc, |machine| {
         check_guest(machine, guest)?;
-        restart(machine, guest);
+        reset_guest_and_latch(machine, guest);
         Ok(())
     }))
 }

@@ -30,7 +30,7 @@ fn save(machine: &Monitor, guest: usize, out: &mut [u8], needed: &mut usize) -> 
 
 /// Saves a guest of the session's machine. Returns 901 if the session has no machine, or 902 if
 /// there is no such guest.
-fn save_in(session: &mut Session, guest: usize, out: &mut [u8], needed: &mut usize) -> u32
+fn save_in_session(session: &mut Session, guest: usize, out: &mut [u8], needed: &mut usize) -> u32
     ensures saved { IsAnswer (answer (save guest) (Some session.old) (buffer out.old needed.old))
         (Some session.new) result (buffer out.new needed.new) }
     ensures taken { IfSome (machine_in session.old) (λ m.
@@ -63,7 +63,7 @@ pub extern "C" fn pciguest_raw_save(
     let Some(mut session) = handle.take(alloc) else {
         return NO_MACHINE;
     };
-    let number = save_in(&mut session, guest, out, needed);
+    let number = save_in_session(&mut session, guest, out, needed);
     *handle = Handle::of(session);
     number
 }

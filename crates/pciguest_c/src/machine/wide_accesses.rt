@@ -4,9 +4,9 @@
 ghost use Rattle.pciguest_c.specs.{Calls.{Answers, read_wide, write_wide, nothing, number}, declared.values.arguments.Side.TheVariants.{Device, Guest}};
 
 use crate::handle::Handle;
-use crate::values::arguments::{Side, byte_at, part_for};
-use crate::values::bytes::{wide_read, wide_write};
-use crate::values::numbers::{put_result, status_of_result};
+use crate::values::arguments::{Side, byte_at, parse_part};
+use crate::values::bytes::{replace_bytes, wide_read};
+use crate::values::numbers::{status_of_result, store_result_if_ok};
 use std::alloc::Global;
 
 /// Reads 1 to 8 bytes of one part of a guest's function, as its device does, as a little-endian
@@ -25,12 +25,12 @@ pub extern "C" fn pciguest_raw_device_read_wide(
     ensures { Answers (read_wide Device guest slot part offset width) handle.old handle.new result
         (number value.old) (number value.new) }
 {
-    let answer = handle.ask_machine(alloc, |machine| {
-        let place = part_for(machine, guest, part)?;
+    let answer = handle.with_machine(alloc, |machine| {
+        let place = parse_part(machine, guest, part)?;
         let byte = byte_at(Side::Device, slot, place, offset);
         wide_read(machine, guest, byte, width)
     });
-    put_result(answer, value)
+    store_result_if_ok(answer, value)
 }
 
 /// Writes the low 1 to 8 bytes of a value to one part of a guest's function, as its device does, so
@@ -49,10 +49,10 @@ pub extern "C" fn pciguest_raw_device_write_wide(
     ensures { Answers (write_wide Device guest slot part offset width value)
         handle.old handle.new result nothing nothing }
 {
-    status_of_result(handle.ask_machine(alloc, |machine| {
-        let place = part_for(machine, guest, part)?;
+    status_of_result(handle.with_machine(alloc, |machine| {
+        let place = parse_part(machine, guest, part)?;
         let byte = byte_at(Side::Device, slot, place, offset);
-        wide_write(machine, guest, byte, width, value)
+        replace_bytes(machine, guest, byte, width, value)
     }))
 }
 
@@ -72,12 +72,12 @@ pub extern "C" fn pciguest_raw_region_read(
     ensures { Answers (read_wide Guest guest slot part offset width) handle.old handle.new result
         (number value.old) (number value.new) }
 {
-    let answer = handle.ask_machine(alloc, |machine| {
-        let place = part_for(machine, guest, part)?;
+    let answer = handle.with_machine(alloc, |machine| {
+        let place = parse_part(machine, guest, part)?;
         let byte = byte_at(Side::Guest, slot, place, offset);
         wide_read(machine, guest, byte, width)
     });
-    put_result(answer, value)
+    store_result_if_ok(answer, value)
 }
 
 /// Writes the low 1 to 8 bytes of a value to a region as the guest does, within the write masks.
@@ -96,9 +96,9 @@ pub extern "C" fn pciguest_raw_region_write(
     ensures { Answers (write_wide Guest guest slot part offset width value)
         handle.old handle.new result nothing nothing }
 {
-    status_of_result(handle.ask_machine(alloc, |machine| {
-        let place = part_for(machine, guest, part)?;
+    status_of_result(handle.with_machine(alloc, |machine| {
+        let place = parse_part(machine, guest, part)?;
         let byte = byte_at(Side::Guest, slot, place, offset);
-        wide_write(machine, guest, byte, width, value)
+        replace_bytes(machine, guest, byte, width, value)
     }))
 }

@@ -6,14 +6,18 @@ ghost use Rattle.pciguest_c.specs.{Calls.{AnswersBoardOrRunsOut, board_survey, s
 
 use crate::handle::Handle;
 use crate::texts::forms::question_of;
-use crate::texts::reports::tell_counted;
+use crate::texts::reports::store_text_and_count;
 use crate::values::numbers::MEMORY;
 use session::{Board, CountedText, Question};
 use std::alloc::Global;
 
 /// Answers a question about the board's registers, or returns 299 if memory is exhausted.
 #[tactic(auto, unfolding(crate::specs::Calls::surveying))]
-fn survey_of(alloc: Global, board: &mut Board, question: Question) -> Result<CountedText, u32>
+fn ask_or_error_number(
+    alloc: Global,
+    board: &mut Board,
+    question: Question,
+) -> Result<CountedText, u32>
     ensures told { IfOk result (λ t. surveying question board.old
         ≡ tells (counted (string_bytes t.text) t.count) (driven board.old)) }
     ensures memory { IfErr result (λ n.
@@ -43,9 +47,9 @@ pub extern "C" fn pciguest_raw_board_survey(
         (counter out.old needed.old count.old) (counter out.new needed.new count.new) }
 {
     let question = question_of(is_ready, is_json);
-    match handle.ask_board(alloc, |board| survey_of(alloc, board, question)) {
+    match handle.with_board(alloc, |board| ask_or_error_number(alloc, board, question)) {
         Ok(CountedText { text, count: found }) => {
-            tell_counted(text.as_bytes(), found, out, needed, count)
+            store_text_and_count(text.as_bytes(), found, out, needed, count)
         }
         Err(number) => number,
     }

@@ -5,7 +5,7 @@ ghost use Rattle.session.specs.{Faults.number_of, Files.{Refuses, Breaks, IsSetU
 ghost use Rattle.board_told.specs.Listing.{report_in};
 ghost use Rattle.pciguest_c.specs.{Checks.IsCheckOf, TextsTold.{form_of, question_of}};
 
-use board_told::{MessageLayout, WarningLevel, check_text, list_in};
+use board_told::{MessageLayout, WarningLevel, check_board_file, list_board_file};
 use session::{OpenFault, Question, Report, ReportForm};
 use std::alloc::Global;
 
@@ -35,14 +35,14 @@ pub fn question_of(is_ready: bool, is_json: bool) -> Question
 }
 
 /// Returns the report of a board file in a form, or the error number.
-pub fn report_of(alloc: Global, board: &[u8], form: ReportForm) -> Result<String, u32>
+pub fn list_report(alloc: Global, board: &[u8], form: ReportForm) -> Result<String, u32>
     ensures report { IfOk result (λ t.
         (w : World) × IsSetUp board.now w × (string_bytes t ≡ report_in form w)) }
     ensures file { IfErr result (λ n. n < 199 → Refuses board.now n) }
     ensures placement { IfErr result (λ n. 199 < n → n < 299 → Breaks board.now n) }
     ensures numbers { IfErr result (λ n. (n ≢ 0) × (n ≤ 299)) }
 {
-    match list_in(alloc, board, form) {
+    match list_board_file(alloc, board, form) {
         Ok(text) => Ok(text),
         Err(fault) => Err(u32::from(fault.number())),
     }
@@ -63,12 +63,12 @@ const BOARD_NAME: &str = "board.toml";
 
 /// Checks a board file. Returns the text, and the error number of the file or its board, or 0.
 /// Returns 199 or 299 if memory is exhausted.
-pub fn check_of(alloc: Global, board: &[u8]) -> Result<(String, u32), u32>
+pub fn check_text_and_fault_number(alloc: Global, board: &[u8]) -> Result<(String, u32), u32>
     ensures told { IfOk result (λ v. IsCheckOf board.now v.1) }
     ensures numbers { IfOk result (λ v. (v.1 < 299) × (v.1 ≢ 199)) }
     ensures memory { IfErr result (λ n. (n ≡ 199) ⊎ (n ≡ 299)) }
 {
-    match check_text(
+    match check_board_file(
         alloc,
         MessageLayout::Plain,
         WarningLevel::Likely,

@@ -4,12 +4,12 @@ ghost use Rattle.std.specs.Prelude.{◌≡◌, ◌≢◌, ◌<◌, ◌≤◌, �
 ghost use Rattle.model_guests.specs.Text.{Text};
 ghost use Rattle.pciguest_c.specs.{Checks.{IsCheckOf, IsReportIn}, TextsTold.{IsTold, at_front, form_of}};
 
-use crate::texts::forms::{check_of, form_of, report_of};
+use crate::texts::forms::{check_text_and_fault_number, form_of, list_report};
 use crate::values::numbers::ARGUMENT;
 use std::alloc::Global;
 
 /// Copies a text, or rows, to the front of a large enough buffer.
-pub fn put<T: Copy>(out: &mut [T], text: &[T])
+pub fn copy_to_front<T: Copy>(out: &mut [T], text: &[T])
     requires { length text.now ≤ length out.old }
     ensures { out.new ≡ at_front text.now out.old }
 {
@@ -18,7 +18,7 @@ pub fn put<T: Copy>(out: &mut [T], text: &[T])
 
 /// Stores the length of a text in `needed`, and copies the text to the front of `out`. The text may
 /// also be an array of rows, whose length is their number. Returns 902 if `out` is too small.
-pub fn tell<T: Copy>(text: &[T], out: &mut [T], needed: &mut usize) -> u32
+pub fn store_text_if_fits<T: Copy>(text: &[T], out: &mut [T], needed: &mut usize) -> u32
     ensures text { IsTold text.now out.old out.new result }
     ensures needed { needed.new ≡ length text.now }
 {
@@ -26,12 +26,12 @@ pub fn tell<T: Copy>(text: &[T], out: &mut [T], needed: &mut usize) -> u32
     if out.len() < text.len() {
         return ARGUMENT;
     }
-    put(out, text);
+    copy_to_front(out, text);
     0
 }
 
-/// Calls `tell` for a text, and also stores a count if the text fits.
-pub fn tell_counted(
+/// Calls `store_text_if_fits` for a text, and also stores a count if the text fits.
+pub fn store_text_and_count(
     text: &[u8],
     counted: usize,
     out: &mut [u8],
@@ -43,7 +43,7 @@ pub fn tell_counted(
     ensures count { result ≡ 0 → count.new ≡ counted }
     ensures uncounted { result ≢ 0 → count.new ≡ count.old }
 {
-    let number = tell(text, out, needed);
+    let number = store_text_if_fits(text, out, needed);
     if number == 0 {
         *count = counted;
     }
@@ -63,8 +63,8 @@ pub extern "C" fn pciguest_raw_report_in(
     ensures { let form = form_of is_json in
         IsReportIn form board.now out.old out.new needed.old needed.new result }
 {
-    match report_of(alloc, board, form_of(is_json)) {
-        Ok(text) => tell(text.as_bytes(), out, needed),
+    match list_report(alloc, board, form_of(is_json)) {
+        Ok(text) => store_text_if_fits(text.as_bytes(), out, needed),
         Err(number) => number,
     }
 }
@@ -87,9 +87,9 @@ pub extern "C" fn pciguest_raw_check(
         out.new ≡ out.old }
     ensures untold { (result ≡ 199) ⊎ (result ≡ 299) → needed.new ≡ needed.old }
 {
-    match check_of(alloc, board) {
+    match check_text_and_fault_number(alloc, board) {
         Ok((text, number)) => {
-            if tell(text.as_bytes(), out, needed) == 0 {
+            if store_text_if_fits(text.as_bytes(), out, needed) == 0 {
                 number
             } else {
                 ARGUMENT

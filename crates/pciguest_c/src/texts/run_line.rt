@@ -4,22 +4,22 @@ ghost use Rattle.model_guests.specs.Text.{Text};
 ghost use Rattle.pciguest_c.specs.{Calls.{Answers, AnswersLine, run_line, buffer}, Handles.session_of, TextsTold.{IsTold, at_front}};
 
 use crate::handle::Handle;
-use crate::texts::reports::{put, tell, tell_counted};
+use crate::texts::reports::{copy_to_front, store_text_and_count, store_text_if_fits};
 use crate::values::numbers::{ARGUMENT, MEMORY, NO_MACHINE};
-use lines::{Answers, LONGEST_REPLY, LineText, reason_of};
+use lines::{Answers, LONGEST_REPLY, LineText, find_line_error};
 use script::run_line;
 use session::Session;
 use std::alloc::Global;
 
 /// Copies a line's reply to the front of a large enough buffer, and stores the length of the reply.
-fn put_line(text: &LineText, out: &mut [u8], written: &mut usize) -> u32
+fn copy_reply_to_front(text: &LineText, out: &mut [u8], written: &mut usize) -> u32
     requires { 48 ≤ length out.old }
     ensures done { result ≡ 0 }
     ensures text { out.new ≡ at_front text.now.items out.old }
     ensures length { written.new ≡ length text.now.items }
     ensures within { length text.now.items ≤ length out.old }
 {
-    put(out, text.as_slice());
+    copy_to_front(out, text.as_slice());
     *written = text.len();
     0
 }
@@ -39,7 +39,7 @@ pub extern "C" fn pciguest_raw_run_line(
         (buffer out.old written.old) (buffer out.new written.new) }
 {
     let has_room = LONGEST_REPLY <= out.len();
-    let answer = handle.ask_machine(alloc, |machine| {
+    let answer = handle.with_machine(alloc, |machine| {
         if has_room {
             Ok(run_line(machine, line))
         } else {
@@ -47,14 +47,19 @@ pub extern "C" fn pciguest_raw_run_line(
         }
     });
     match answer {
-        Ok(text) => put_line(&text, out, written),
+        Ok(text) => copy_reply_to_front(&text, out, written),
         Err(number) => number,
     }
 }
 
 /// Runs a line of a session and writes its reply to a buffer. Returns 902 if the buffer is too
 /// small, or 299 if memory is exhausted.
-fn run_on(session: &mut Session, line: &[u8], out: &mut [u8], written: &mut usize) -> u32
+fn run_line_on_session(
+    session: &mut Session,
+    line: &[u8],
+    out: &mut [u8],
+    written: &mut usize,
+) -> u32
     ensures { AnswersLine line.now (length out.old) (Some session.old) (Some session.new) result
         (buffer out.old written.old) (buffer out.new written.new) }
 {
@@ -63,8 +68,8 @@ fn run_on(session: &mut Session, line: &[u8], out: &mut [u8], written: &mut usiz
     }
     let mut text = LineText::new();
     match session.run_line(line, &mut text) {
-        Ok(None) => put_line(&text, out, written),
-        Ok(Some(longer)) => tell(longer.as_bytes(), out, written),
+        Ok(None) => copy_reply_to_front(&text, out, written),
+        Ok(Some(longer)) => store_text_if_fits(longer.as_bytes(), out, written),
         Err(_) => MEMORY,
     }
 }
@@ -90,7 +95,7 @@ pub extern "C" fn pciguest_raw_board_run_line(
     let Some(mut session) = handle.take(alloc) else {
         return NO_MACHINE;
     };
-    let number = run_on(&mut session, line, out, written);
+    let number = run_line_on_session(&mut session, line, out, written);
     *handle = Handle::of(session);
     number
 }
@@ -118,7 +123,7 @@ pub extern "C" fn pciguest_raw_explain_line(
     let Some(held) = handle.take(alloc) else {
         return NO_MACHINE;
     };
-    let reason = reason_of(held.guests(), line);
+    let reason = find_line_error(held.guests(), line);
     *handle = Handle::of(held);
-    tell_counted(reason.text.as_bytes(), reason.at, out, needed, word)
+    store_text_and_count(reason.text.as_bytes(), reason.at, out, needed, word)
 }

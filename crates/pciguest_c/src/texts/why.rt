@@ -5,19 +5,19 @@ ghost use Rattle.model_lines.specs.Sessions.{driven, given};
 ghost use Rattle.pciguest_c.specs.{Told.{target_told, at_bus, host_target_told}, Calls.{AnswersOrRunsOut, AnswersBoardOrRunsOut, why, board_why, telling_why, explaining, text, buffer, refusal, tells, unless_out}, TextsTold.form_of};
 
 use crate::handle::Handle;
-use crate::machine::host::host_at;
+use crate::machine::host::parse_host_target;
 use crate::texts::forms::form_of;
-use crate::texts::reports::tell;
-use crate::values::arguments::target_for;
+use crate::texts::reports::store_text_if_fits;
+use crate::values::arguments::parse_guest_target;
 use crate::values::numbers::{ARGUMENT, MEMORY};
-use board_told::guest_why_in;
+use board_told::explain_guest_access;
 use monitor::Monitor;
 use session::{Board, ReportForm};
 use std::alloc::Global;
 
 /// Explains the outcome of a guest's access, or returns the error number.
 #[tactic(auto, unfolding(crate::specs::Calls::telling_why))]
-fn why_of(
+fn explain_raw_access(
     alloc: Global,
     form: ReportForm,
     machine: &Monitor,
@@ -33,8 +33,8 @@ fn why_of(
         unless_out n (telling_why form machine.now guest (target_told space slot place))
         ≡ refusal n) }
 {
-    let at = target_for(machine, guest, space, slot, place)?;
-    guest_why_in(alloc, form, machine, guest, at).map_err(|fault| u32::from(fault.number()))
+    let at = parse_guest_target(machine, guest, space, slot, place)?;
+    explain_guest_access(alloc, form, machine, guest, at).map_err(|fault| u32::from(fault.number()))
 }
 
 /// Writes an explanation of a guest's access to the front of `out`, as lines or as a one-line JSON
@@ -57,11 +57,11 @@ pub extern "C" fn pciguest_raw_why_in(
         (buffer out.old needed.old) (buffer out.new needed.new) }
 {
     let form = form_of(is_json);
-    let answer = handle.ask_machine(alloc, |machine| {
-        why_of(alloc, form, machine, guest, space, slot, place)
+    let answer = handle.with_machine(alloc, |machine| {
+        explain_raw_access(alloc, form, machine, guest, space, slot, place)
     });
     match answer {
-        Ok(text) => tell(text.as_bytes(), out, needed),
+        Ok(text) => store_text_if_fits(text.as_bytes(), out, needed),
         Err(number) => number,
     }
 }
@@ -69,7 +69,7 @@ pub extern "C" fn pciguest_raw_why_in(
 /// Explains which function responds to an address, port or BDF, as JSON. Returns 902 if there is no
 /// such space, device or function, or 299 if memory is exhausted.
 #[tactic(auto, unfolding(crate::specs::Calls::explaining))]
-fn board_why_of(
+fn explain_board_access_as_json(
     alloc: Global,
     board: &mut Board,
     space: u32,
@@ -85,8 +85,10 @@ fn board_why_of(
         IfErr result (λ n. unless_out n (explaining at board.old) ≡ refusal n) }
     ensures kept { board.new ≡ board.old }
 {
-    let at = host_at(space, bus, device, function, place).ok_or(ARGUMENT)?;
-    board.why(alloc, ReportForm::Json, at).map_err(|_| MEMORY)
+    let at = parse_host_target(space, bus, device, function, place).ok_or(ARGUMENT)?;
+    board
+        .explain_access(alloc, ReportForm::Json, at)
+        .map_err(|_| MEMORY)
 }
 
 /// Writes a one-line JSON object to the front of `out` that explains which function responds to an
@@ -108,11 +110,11 @@ pub extern "C" fn pciguest_raw_board_why_json(
     ensures { AnswersBoardOrRunsOut (board_why space bus device function place) handle.old
         handle.new result (buffer out.old needed.old) (buffer out.new needed.new) }
 {
-    let answer = handle.ask_board(alloc, |board| {
-        board_why_of(alloc, board, space, bus, device, function, place)
+    let answer = handle.with_board(alloc, |board| {
+        explain_board_access_as_json(alloc, board, space, bus, device, function, place)
     });
     match answer {
-        Ok(text) => tell(text.as_bytes(), out, needed),
+        Ok(text) => store_text_if_fits(text.as_bytes(), out, needed),
         Err(number) => number,
     }
 }

@@ -56,7 +56,7 @@ pub fn check_guest(machine: &Monitor, guest: usize) -> Result<(), u32>
 }
 
 /// Returns the target of a guest's access. Returns 902 if there is no such guest or space.
-pub fn target_for(
+pub fn parse_guest_target(
     machine: &Monitor,
     guest: usize,
     space: u32,
@@ -81,7 +81,7 @@ pub fn target_for(
 
 /// Returns the part of a function that a raise or a device's access addresses: a BAR for 0 to 5,
 /// configuration space for 6. Returns 902 if there is no such guest or part.
-pub fn part_for(machine: &Monitor, guest: usize, part: u32) -> Result<Place, u32>
+pub fn parse_part(machine: &Monitor, guest: usize, part: u32) -> Result<Place, u32>
     ensures there { IfOk result (λ _. guest < length machine.now.world.guests) }
     ensures told { IfOk result (λ p.
         where_guest machine.now guest (part_told part) ≡ Some (part_of p)) }
@@ -98,15 +98,15 @@ pub fn part_for(machine: &Monitor, guest: usize, part: u32) -> Result<Place, u32
 }
 
 /// Returns the index of the first occurrence of a name.
-fn place_among(name: &[u8], names: &Names) -> Option<usize>
+fn index_of_name(name: &[u8], names: &Names) -> Option<usize>
     ensures { result ≡ position (λ n. bytes_eq n.bytes name.now) names.now.items }
 {
     names.iter().position(|known| known.as_bytes() == name)
 }
 
 /// Returns the index of the first guest with this name.
-pub fn index_named(machine: &Monitor, name: &[u8]) -> Option<usize>
+pub fn find_guest(machine: &Monitor, name: &[u8]) -> Option<usize>
     ensures { result ≡ index_asked machine.now.world name.now }
 {
-    place_among(name, machine.names())
+    index_of_name(name, machine.names())
 }

@@ -2,7 +2,7 @@
 //! by byte, from the lowest offset up.
 ghost use Rattle.std.specs.Prelude.{◌≡◌, ◌+◌, ◌^◌, ◌<◌, ◌≤◌, IfNone, IfOk, length};
 ghost use Rattle.accesses.specs.Accesses.{reply_of};
-ghost use Rattle.pciguest_c.specs.DevicesTold.{byte_of, byte_read, bytes_from, bytes_read, after_bytes, read_reply, after_byte, width_fault, wide_read, after_wide};
+ghost use Rattle.pciguest_c.specs.DevicesTold.{byte_of, read_byte, bytes_from, read_little_endian, after_bytes, read_reply, after_byte, find_access_error, wide_read, after_wide};
 
 use crate::values::arguments::{Byte, Side};
 use accesses::{Op, Refusal, Reply};
@@ -10,8 +10,8 @@ use monitor::Monitor;
 
 /// Returns the error number of an access with this offset and width: 302 if the width isn't 1 to 8,
 /// or 303 if offset plus width doesn't fit in 64 bits.
-fn width_fault(offset: u64, width: u32) -> Option<u32>
-    ensures fault { result ≡ width_fault offset width }
+fn find_access_error(offset: u64, width: u32) -> Option<u32>
+    ensures fault { result ≡ find_access_error offset width }
     ensures few { IfNone result (width ≤ 8) }
     ensures end { IfNone result (offset + width < 2 ^ 64) }
 {
@@ -25,7 +25,7 @@ fn width_fault(offset: u64, width: u32) -> Option<u32>
 }
 
 /// Returns the reply to a read of one byte. Nothing changes.
-fn reply_to_read(machine: &mut Monitor, guest: usize, byte: Byte) -> Reply
+fn read_byte_reply(machine: &mut Monitor, guest: usize, byte: Byte) -> Reply
     requires { guest < length machine.old.world.guests }
     ensures reply { reply_of result
         ≡ read_reply byte.side machine.old.world guest (byte_of byte) }
@@ -54,12 +54,12 @@ fn write_byte(machine: &mut Monitor, guest: usize, byte: Byte, value: u8)
 }
 
 /// Reads one byte, or returns the error number. Nothing changes.
-fn byte_read(machine: &mut Monitor, guest: usize, byte: Byte) -> Result<u8, u32>
+fn read_byte(machine: &mut Monitor, guest: usize, byte: Byte) -> Result<u8, u32>
     requires { guest < length machine.old.world.guests }
-    ensures read { result ≡ byte_read byte.side machine.old.world guest (byte_of byte) }
+    ensures read { result ≡ read_byte byte.side machine.old.world guest (byte_of byte) }
     ensures kept { machine.new ≡ machine.old }
 {
-    match reply_to_read(machine, guest, byte) {
+    match read_byte_reply(machine, guest, byte) {
         Reply::Value(value, _) => Ok((value % 256) as u8),
         Reply::Done => Ok(0),
         Reply::Refused(why) => Err(u32::from(why.number())),
@@ -79,25 +79,30 @@ fn next_byte(byte: Byte) -> Byte
 
 /// Reads up to 8 bytes as a little-endian number, or returns the error number of the first byte
 /// that is refused. Nothing changes.
-fn bytes_read(machine: &mut Monitor, guest: usize, byte: Byte, count: u32) -> Result<u64, u32>
+fn read_little_endian(
+    machine: &mut Monitor,
+    guest: usize,
+    byte: Byte,
+    count: u32,
+) -> Result<u64, u32>
     requires there { guest < length machine.old.world.guests }
     requires few { count ≤ 8 }
     requires end { byte.offset + count < 2 ^ 64 }
     ensures read { result
-        ≡ bytes_read byte.side machine.old.world guest (bytes_from (byte_of byte) count) }
+        ≡ read_little_endian byte.side machine.old.world guest (bytes_from (byte_of byte) count) }
     ensures small { IfOk result (λ n. n < 256 ^ count) }
     ensures kept { machine.new ≡ machine.old }
 {
     if count == 0 {
         return Ok(0);
     }
-    let lowest = byte_read(machine, guest, byte)?;
-    let above = bytes_read(machine, guest, next_byte(byte), count - 1)?;
+    let lowest = read_byte(machine, guest, byte)?;
+    let above = read_little_endian(machine, guest, next_byte(byte), count - 1)?;
     Ok(u64::from(lowest) + 256 * above)
 }
 
 /// Writes the low `count` bytes of a number, lowest first. A refused byte is skipped.
-fn write_bytes(machine: &mut Monitor, guest: usize, byte: Byte, count: u32, value: u64)
+fn write_little_endian(machine: &mut Monitor, guest: usize, byte: Byte, count: u32, value: u64)
     requires there { guest < length machine.old.world.guests }
     requires end { byte.offset + count < 2 ^ 64 }
     ensures { machine.new
@@ -107,7 +112,7 @@ fn write_bytes(machine: &mut Monitor, guest: usize, byte: Byte, count: u32, valu
         return;
     }
     write_byte(machine, guest, byte, (value % 256) as u8);
-    write_bytes(machine, guest, next_byte(byte), count - 1, value / 256);
+    write_little_endian(machine, guest, next_byte(byte), count - 1, value / 256);
 }
 
 /// Reads 1 to 8 bytes as a little-endian number, or returns the error number. Nothing changes.
@@ -117,15 +122,15 @@ pub fn wide_read(machine: &mut Monitor, guest: usize, byte: Byte, width: u32) ->
         ≡ wide_read byte.side machine.old.world guest (byte_of byte) width }
     ensures kept { machine.new ≡ machine.old }
 {
-    match width_fault(byte.offset, width) {
+    match find_access_error(byte.offset, width) {
         Some(number) => Err(number),
-        None => bytes_read(machine, guest, byte, width),
+        None => read_little_endian(machine, guest, byte, width),
     }
 }
 
 /// Writes the low 1 to 8 bytes of a number, and returns the value that the bytes had before. If one
 /// byte can't be read, returns its error number and writes nothing.
-pub fn wide_write(
+pub fn replace_bytes(
     machine: &mut Monitor,
     guest: usize,
     byte: Byte,
@@ -138,10 +143,10 @@ pub fn wide_write(
     ensures after { machine.new
         ≡ after_wide byte.side machine.old guest (byte_of byte) width value }
 {
-    if let Some(number) = width_fault(byte.offset, width) {
+    if let Some(number) = find_access_error(byte.offset, width) {
         return Err(number);
     }
-    let before = bytes_read(machine, guest, byte, width)?;
-    write_bytes(machine, guest, byte, width, value);
+    let before = read_little_endian(machine, guest, byte, width)?;
+    write_little_endian(machine, guest, byte, width, value);
     Ok(before)
 }

@@ -6,9 +6,9 @@ ghost use Rattle.model_handoff.specs.GuestRegions.{is_prefetchable};
 ghost use Rattle.bars.specs.{Kinds.kind_of, Slots.{placed, bases_from}};
 ghost use Rattle.bridge_forward.specs.{RoutingRows.window_of, ByIndex.ranges_told};
 ghost use Rattle.monitor.specs.FunctionsTold.{function_named};
-ghost use Rattle.pciguest_c.specs.{QueriesTold.one_if, FunctionsTold.{no_region, region_row, region_rows, window_row, window_rows, bridge_number, text_row, function_row}};
+ghost use Rattle.pciguest_c.specs.{QueriesTold.one_if, FunctionsTold.{no_region, region_row, region_rows, window_row, window_rows, bridge_flag, zero_padded_text, function_row}};
 
-use crate::texts::reports::put;
+use crate::texts::reports::copy_to_front;
 use crate::values::interrupts::Interrupt;
 use bars::{BarWithBase, Kind, Space};
 use bridge_forward::Window;
@@ -73,7 +73,7 @@ const NO_REGION: RegionRow = RegionRow {
 };
 
 /// Returns 1 for prefetchable memory, 0 for other kinds of region.
-fn prefetchable_of(kind: Kind) -> u32
+fn prefetchable_flag(kind: Kind) -> u32
     ensures { result ≡ one_if (is_prefetchable (kind_of kind)) }
 {
     match kind {
@@ -98,13 +98,13 @@ fn region_row(slot: Option<BarWithBase>) -> RegionRow
             Space::Io => 1,
             Space::Mem => 2,
         },
-        prefetchable: prefetchable_of(kind),
-        is_64_bit: u32::from(kind.is_wide()),
+        prefetchable: prefetchable_flag(kind),
+        is_64_bit: u32::from(kind.uses_two_registers()),
     }
 }
 
 /// Converts the regions of six registers to an array of C structs.
-fn regions_of(slots: &[Option<BarWithBase>; 6]) -> [RegionRow; 6]
+fn region_rows_of_bars(slots: &[Option<BarWithBase>; 6]) -> [RegionRow; 6]
     ensures { result ≡ region_rows (regions (bases_from 0 slots.now)) }
 {
     [
@@ -140,7 +140,7 @@ fn region_rows(ranges: LiveRanges) -> [RegionRow; 6]
     ensures { result ≡ region_rows (ranges_told ranges) }
 {
     match ranges {
-        LiveRanges::Regions(slots) => regions_of(&slots),
+        LiveRanges::Regions(slots) => region_rows_of_bars(&slots),
         LiveRanges::Windows { .. } => [NO_REGION; 6],
     }
 }
@@ -158,8 +158,8 @@ fn window_rows(ranges: LiveRanges) -> [WindowRow; 3]
 }
 
 /// Returns 1 for a bridge, 0 for an endpoint.
-fn bridge_number(ranges: LiveRanges) -> u32
-    ensures { result ≡ bridge_number (ranges_told ranges) }
+fn bridge_flag(ranges: LiveRanges) -> u32
+    ensures { result ≡ bridge_flag (ranges_told ranges) }
 {
     match ranges {
         LiveRanges::Regions(_) => 0,
@@ -168,12 +168,12 @@ fn bridge_number(ranges: LiveRanges) -> u32
 }
 
 /// Copies a text to the front of an 80-byte array and fills the rest with 0.
-pub fn text_row(text: &[u8]) -> [u8; 80]
+pub fn zero_padded_text(text: &[u8]) -> [u8; 80]
     requires { length text.now ≤ 80 }
-    ensures { result ≡ text_row text.now }
+    ensures { result ≡ zero_padded_text text.now }
 {
     let mut bytes = [0; 80];
-    put(&mut bytes, text);
+    copy_to_front(&mut bytes, text);
     bytes
 }
 
@@ -185,7 +185,7 @@ pub fn function_row(function: &LiveFunction, interrupt: Interrupt) -> FunctionTo
     let identity = function.identity;
     let seat = function.seat.unwrap_or(Assignment { guest: 0, slot: 0 });
     FunctionTold {
-        path: text_row(&text),
+        path: zero_padded_text(&text),
         path_length: text.len(),
         bus: u32::from(function.at.bus),
         device: u32::from(function.at.device),
@@ -196,7 +196,7 @@ pub fn function_row(function: &LiveFunction, interrupt: Interrupt) -> FunctionTo
         class_code: identity.class,
         subsystem_vendor_id: identity.subvendor,
         subsystem_id: identity.subsystem,
-        is_bridge: bridge_number(function.ranges),
+        is_bridge: bridge_flag(function.ranges),
         regions: region_rows(function.ranges),
         windows: window_rows(function.ranges),
         guest: seat.guest,

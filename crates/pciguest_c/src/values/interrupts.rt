@@ -4,7 +4,7 @@ ghost use Rattle.model_registers.specs.{ByteEnables.LiesInWord, Registers.{confi
 ghost use Rattle.model_board.specs.Ports.{file_at};
 ghost use Rattle.model_guests.specs.WorldNow.{board_state};
 ghost use Rattle.monitor.specs.FunctionsTold.{function_named, seat_named};
-ghost use Rattle.pciguest_c.specs.InterruptsTold.{own_command, own_or_board_command, pin_route, interrupt_of};
+ghost use Rattle.pciguest_c.specs.InterruptsTold.{guest_command_or_zero, current_command, pin_and_route_or_zeros, interrupt_of};
 
 use crate::values::arguments::guest_count;
 use intx_swizzle::at_root;
@@ -33,22 +33,22 @@ pub const NO_INTERRUPT: Interrupt = Interrupt {
 
 /// Reads a register on the board of the function at a path, or returns 0 if there is no such
 /// function.
-fn number_at(machine: &Monitor, path: &Path, offset: u8, width: u64) -> u32
+fn read_register_or_zero(machine: &Monitor, path: &Path, offset: u8, width: u64) -> u32
     requires { LiesInWord offset width }
     ensures { let fs = (board_state machine.now.world).functions in
         result ≡ number (file_at fs path.now) (config offset) width }
 {
     let host = machine.host();
     match host.index_of(path) {
-        Some(index) => host.number_nth(index, offset, width).unwrap_or(0),
+        Some(index) => host.peek_config_nth(index, offset, width).unwrap_or(0),
         None => 0,
     }
 }
 
 /// Returns the guest's copy of the Command register for the function in a slot, or 0 if there is no
 /// such function.
-fn own_command(machine: &Monitor, seat: Assignment) -> u32
-    ensures { result ≡ own_command machine.now.world (seat_named seat) }
+fn guest_command_or_zero(machine: &Monitor, seat: Assignment) -> u32
+    ensures { result ≡ guest_command_or_zero machine.now.world (seat_named seat) }
 {
     if seat.guest >= guest_count(machine) {
         return 0;
@@ -61,19 +61,19 @@ fn own_command(machine: &Monitor, seat: Assignment) -> u32
 
 /// Returns a function's Command register: the guest's copy if the function is assigned, or else the
 /// register on the board.
-fn own_or_board_command(machine: &Monitor, function: &LiveFunction) -> u32
-    ensures { result ≡ own_or_board_command machine.now.world (function_named function.now) }
+fn current_command(machine: &Monitor, function: &LiveFunction) -> u32
+    ensures { result ≡ current_command machine.now.world (function_named function.now) }
 {
     match function.seat {
-        Some(seat) => own_command(machine, seat),
-        None => number_at(machine, &function.path, 4, 2),
+        Some(seat) => guest_command_or_zero(machine, seat),
+        None => read_register_or_zero(machine, &function.path, 4, 2),
     }
 }
 
 /// Returns a pin with the device and pin on bus 0 to which it is routed, or zeros if the function
 /// has no pin.
-fn pin_route(path: &Path, pin: u32) -> (u32, u32, u32)
-    ensures { result ≡ pin_route path.now pin }
+fn pin_and_route_or_zeros(path: &Path, pin: u32) -> (u32, u32, u32)
+    ensures { result ≡ pin_and_route_or_zeros path.now pin }
 {
     if pin < 1 || pin > 4 {
         return (0, 0, 0);
@@ -87,12 +87,12 @@ fn pin_route(path: &Path, pin: u32) -> (u32, u32, u32)
 pub fn interrupt_of(machine: &Monitor, function: &LiveFunction) -> Interrupt
     ensures { result ≡ interrupt_of machine.now.world (function_named function.now) }
 {
-    let pin = number_at(machine, &function.path, 0x3d, 1);
-    let (pin, root_device, root_pin) = pin_route(&function.path, pin);
+    let pin = read_register_or_zero(machine, &function.path, 0x3d, 1);
+    let (pin, root_device, root_pin) = pin_and_route_or_zeros(&function.path, pin);
     Interrupt {
         pin,
         root_device,
         root_pin,
-        is_disabled: own_or_board_command(machine, function) / 0x400 % 2,
+        is_disabled: current_command(machine, function) / 0x400 % 2,
     }
 }

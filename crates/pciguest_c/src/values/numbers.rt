@@ -24,7 +24,7 @@ pub const FILE_MEMORY: u32 = 199;
 pub const MEMORY: u32 = 299;
 
 /// Returns 0, or the error number of a reply or of the call.
-pub fn status_of(answer: Result<Reply, u32>) -> u32
+pub fn status_of_reply(answer: Result<Reply, u32>) -> u32
     ensures told { IfOk answer (λ r. result ≡ number_told (reply_of r)) }
     ensures refused { IfOk answer (λ r. result ≢ 0 → IsRefusal r) }
     ensures unasked { IfErr answer (λ n. result ≡ n) }
@@ -48,7 +48,7 @@ pub fn status_of_result<T: Drop>(answer: Result<T, u32>) -> u32
 }
 
 /// Stores the value that was read, and returns 0 or the error number.
-pub fn put_value(answer: Result<Reply, u32>, value: &mut u32) -> u32
+pub fn store_value_if_ok(answer: Result<Reply, u32>, value: &mut u32) -> u32
     ensures told { IfOk answer (λ r. result ≡ number_told (reply_of r)) }
     ensures value { IfOk answer (λ r. value.new ≡ value_told value.old (reply_of r)) }
     ensures refused { IfOk answer (λ r. result ≢ 0 → IsRefusal r) }
@@ -59,11 +59,11 @@ pub fn put_value(answer: Result<Reply, u32>, value: &mut u32) -> u32
     if let Ok(Reply::Value(read, _)) = answer {
         *value = read;
     }
-    status_of(answer)
+    status_of_reply(answer)
 }
 
 /// Stores a result and returns 0, or returns the error number.
-pub fn put_result<T: Drop>(answer: Result<T, u32>, told: &mut T) -> u32
+pub fn store_result_if_ok<T: Drop>(answer: Result<T, u32>, told: &mut T) -> u32
     ensures told { IfOk answer (λ v. (result ≡ 0) × (told.new ≡ v)) }
     ensures refused { IfErr answer (λ n. (result ≡ n) × (told.new ≡ told.old)) }
 {

@@ -11,6 +11,6 @@ returns-in-Ok-clause-verdict c =
     let b = board_below c.args.host in
     let table = subst (λ (x : Board). IsTableOf x c.in-Ok.table) c.in-Ok.ensures.found.board c.in-Ok.ensures.found.table in
     let same = c.apertures-apertures.ensures in
-    IfOk-weaker c.judge_table.result _ _
+    IfOk-weaker c.judge_function_table.result _ _
     (λ v said. subst (λ (a : Apertures). IsVerdict c.args.warned c.args.source.now.file b a v) same (said b table))
-    c.judge_table.ensures.verdict
+    c.judge_function_table.ensures.verdict

@@ -13,4 +13,4 @@ returns c =
       is_text = c.requires.read.is_text;
       meaning = ap document_meaning c.requires.read.parsed ∙ c.requires.declared.1;
     } in
-    fault_of board w c.in_ok-verdict.verdict.fault _ c.in_ok-verdict.ensures.known declared c.in_ok-verdict.ensures.verdict.rule c.of_board-fault.ensures
+    fault_of board w c.in_ok-verdict.verdict.fault _ c.in_ok-verdict.ensures.known declared c.in_ok-verdict.ensures.verdict.rule c.wrap_set_up_fault-fault.ensures

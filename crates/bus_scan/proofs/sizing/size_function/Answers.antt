@@ -11,14 +11,14 @@ size_bars-requires-clause-endpoint c =
     endpoint_reached c.args.host.now.state c.requires.registers (bus_address_of c.address-at.result) c.args.row.now c.address-at.ensures c.requires.scanned _
     (ap (λ (t : TableRow). t.decl) (sym c.row.view_is) ∙ ap (decl_of c.row.inside.vendor c.row.inside.device) c.in-Endpoint.is)
 
-pub size_io_window-requires-clause-bridge : goal.size_io_window-requires-clause-bridge
-size_io_window-requires-clause-bridge c =
+pub detect_io_decode-requires-clause-bridge : goal.detect_io_decode-requires-clause-bridge
+detect_io_decode-requires-clause-bridge c =
     bridge_reached c.args.host.now.state c.requires.registers (bus_address_of c.address-at.result) c.args.row.now c.address-at.ensures c.requires.scanned _
     (ap (λ (t : TableRow). t.decl) (sym c.row.view_is) ∙ ap (decl_of c.row.inside.vendor c.row.inside.device) c.in-Bridge.is)
 
-pub size_pref_window-requires-clause-bridge : goal.size_pref_window-requires-clause-bridge
-size_pref_window-requires-clause-bridge c =
-    subst (λ (h : HostState). IsBridgeReached h.state.functions (bus_address_of c.address-at.result)) (sym c.size_io_window.ensures.host)
+pub detect_pref_decode-requires-clause-bridge : goal.detect_pref_decode-requires-clause-bridge
+detect_pref_decode-requires-clause-bridge c =
+    subst (λ (h : HostState). IsBridgeReached h.state.functions (bus_address_of c.address-at.result)) (sym c.detect_io_decode.ensures.host)
     (bridge_reached c.args.host.now.state c.requires.registers (bus_address_of c.address-at.result) c.args.row.now c.address-at.ensures c.requires.scanned _
     (ap (λ (t : TableRow). t.decl) (sym c.row.view_is) ∙ ap (decl_of c.row.inside.vendor c.row.inside.device) c.in-Bridge.is))
 
@@ -40,7 +40,7 @@ returns-clause-sized c =
           let view : row_of x.path x.bus x.vendor x.device (variants.Bridge w.in-Bridge.secondary w.in-Bridge.subordinate w.in-Bridge.io w.in-Bridge.pref) ≡ row =
           ap (row_of x.path x.bus x.vendor x.device) (sym w.in-Bridge.is) ∙ c.row.view_is in
           ap (λ (y : Inside). row_of y.path y.bus y.vendor y.device y.found) w.row-inside-is
-          ∙ sized_bridge s c.requires.registers at row c.address-at.ensures r m met x.path x.bus x.vendor x.device w.in-Bridge.secondary w.in-Bridge.subordinate w.in-Bridge.io w.size_io_window.result w.in-Bridge.pref w.size_pref_window.result
-          view w.size_io_window.ensures.decode
-          (w.size_pref_window.ensures.decode ∙ ap (λ (h : HostState). pref_reached h.state.functions at) w.size_io_window.ensures.host)
+          ∙ sized_bridge s c.requires.registers at row c.address-at.ensures r m met x.path x.bus x.vendor x.device w.in-Bridge.secondary w.in-Bridge.subordinate w.in-Bridge.io w.detect_io_decode.result w.in-Bridge.pref w.detect_pref_decode.result
+          view w.detect_io_decode.ensures.decode
+          (w.detect_pref_decode.ensures.decode ∙ ap (λ (h : HostState). pref_reached h.state.functions at) w.detect_io_decode.ensures.host)
     ]

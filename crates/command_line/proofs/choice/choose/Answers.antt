@@ -12,14 +12,14 @@ is_one = refl
 read : (c : In-Ok-try_get_matches_from) → subcommand_rows_of c.in-Ok-try_get_matches_from.matches ≡ subcommand_of pciguest_app (map (λ (w : Bor (List ℕ)). w.now) c.args.words.now)
 read c = (c.in-Ok-try_get_matches_from.ensures.matches (ap is_simple c.in-Ok.ensures ∙ is_one)).1 ∙ ap (λ a. subcommand_of a (map (λ (w : Bor (List ℕ)). w.now) c.args.words.now)) c.in-Ok.ensures
 
-pub returns-in-Some-asked-clause-asked : goal.returns-in-Some-asked-clause-asked
-returns-in-Some-asked-clause-asked c =
-    let rows = read (goal.at.returns-in-Some-asked-clause-asked c).In-Ok-try_get_matches_from in
+pub returns-in-Some-choice_by_name-clause-asked : goal.returns-in-Some-choice_by_name-clause-asked
+returns-in-Some-choice_by_name-clause-asked c =
+    let rows = read (goal.at.returns-in-Some-choice_by_name-clause-asked c).In-Ok-try_get_matches_from in
     let both = asked c.in-Ok-try_get_matches_from.matches (map (λ (w : Bor (List ℕ)). w.now) c.args.words.now) c.in-Some.name.now (found_of c.in-Some.given.now) rows c.in-Some.ensures.name c.in-Some.ensures.rows in
-    asked_alike both.0 both.1 c.args.is_terminal c.in-Some-asked.choice c.in-Some-asked.ensures.asked
+    asked_alike both.0 both.1 c.args.is_terminal c.in-Some-choice_by_name.choice c.in-Some-choice_by_name.ensures.asked
 
-pub returns-in-Some-asked-clause-only_taken : goal.returns-in-Some-asked-clause-only_taken
-returns-in-Some-asked-clause-only_taken c work =
+pub returns-in-Some-choice_by_name-clause-only_taken : goal.returns-in-Some-choice_by_name-clause-only_taken
+returns-in-Some-choice_by_name-clause-only_taken c work =
     subst (λ (a : App). fault_of a (map (λ w. w.now) c.args.words.now) ≡ []) c.in-Ok.ensures
     (c.in-Ok-try_get_matches_from.ensures.kinds (ap is_simple_and_free c.in-Ok.ensures ∙ simple))
 
@@ -30,4 +30,4 @@ returns-in-Ok-try_get_matches_from-clause-taken c h =
 
 pub returns-clause-taken : goal.returns-clause-taken
 returns-clause-taken c h =
-    rw (c.refusal.ensures.memory (c.in-Err.ensures.passes (ap (λ (a : App). takes a (map (λ w. w.now) c.args.words.now)) c.in-Ok.ensures ∙ h))) refl
+    rw (c.help_or_fault_on_error.ensures.memory (c.in-Err.ensures.passes (ap (λ (a : App). takes a (map (λ w. w.now) c.args.words.now)) c.in-Ok.ensures ∙ h))) refl

@@ -2,15 +2,15 @@ use Rattle.std.{proofs.{Common.{◌≡◌, ◌≤◌, ◌++◌, cond, [], ◌∷
 use Rattle.bars.specs.Kinds.{named_space}
 use Rattle.model_board.specs.{State.BoardFunction, Routing.row_of}
 use Rattle.findings.{specs.{WhyByRows.forwarders_among, WhyTold.forwarder_told}, proofs.{StoppedFrom.{next_one, selected_is}, why_forwarding.forwarders.Goals.{in-Some+in_ok-push, in_default}}}
-use Rattle.model_lines.specs.Why.{forwarder, passes_on}
+use Rattle.model_lines.specs.Why.{forwarder, reaches_and_forwards}
 use Rattle.findings.proofs.why_forwarding.forwarders.Goals as goal
 
 pub loop-index-preserved : goal.loop-index-preserved
 loop-index-preserved c =
-    let told : map forwarder_told c.match-forwarder_nth.told.items ≡ map forwarder_told c.loop-index.told.items ++ option_to_list (option_map forwarder_told c.forwarder_nth.result) =
-    elim c.match-forwarder_nth.branch [ in-Some+in_ok-push w ↦ grind (arith, map-append) | in_default w ↦ grind (arith, append-nil) ] in
+    let told : map forwarder_told c.match-forwarder_nth_if_reached.told.items ≡ map forwarder_told c.loop-index.told.items ++ option_to_list (option_map forwarder_told c.forwarder_nth_if_reached.result) =
+    elim c.match-forwarder_nth_if_reached.branch [ in-Some+in_ok-push w ↦ grind (arith, map-append) | in_default w ↦ grind (arith, append-nil) ] in
     let fs = c.args.host.now.state.functions in
-    next_one (λ (f : BoardFunction). cond (passes_on fs (named_space c.args.asked.now.space) c.args.asked.now.addr f) (forwarder f ∷ []) []) fs c.loop-index.index _ _ _ _ c.loop-index.invariant c.forwarder_nth.ensures told
+    next_one (λ (f : BoardFunction). cond (reaches_and_forwards fs (named_space c.args.asked.now.space) c.args.asked.now.addr f) (forwarder f ∷ []) []) fs c.loop-index.index _ _ _ _ c.loop-index.invariant c.forwarder_nth_if_reached.ensures told
 
 pub returns : goal.returns
 returns c =
@@ -20,4 +20,4 @@ returns c =
     let rows = ap length c.requires ∙ length-map fs row_of in
     let far : length fs ≤ c.loop-index.index = omega (arith, rows) in
     sym (append-nil told) ∙ ap (λ gs. told ++ gs) (sym (at_drop_all (forwarders_among fs space c.args.asked.now.addr) fs c.loop-index.index far)) ∙ c.loop-index.invariant
-    ∙ selected_is (passes_on fs space c.args.asked.now.addr) forwarder fs
+    ∙ selected_is (reaches_and_forwards fs space c.args.asked.now.addr) forwarder fs

@@ -8,5 +8,5 @@ returns-clause-output g c before passed clean = grind (arith, last_output)
 pub returns-clause-after : goal.returns-clause-after
 returns-clause-after g c before passed clean = grind (arith, last_after)
 
-pub returns-in_err-answer_line-clause-stopped : goal.returns-in_err-answer_line-clause-stopped
-returns-in_err-answer_line-clause-stopped g c is before passed clean = grind (arith, same_stop, last_stopped)
+pub returns-in_err-run_line_if_output-clause-stopped : goal.returns-in_err-run_line_if_output-clause-stopped
+returns-in_err-run_line_if_output-clause-stopped g c is before passed clean = grind (arith, same_stop, last_stopped)

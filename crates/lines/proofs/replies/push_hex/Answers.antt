@@ -10,21 +10,21 @@ returns-then-width-gt0-clause-items c =
     let at_first : Written 4 width n start start = nothing_written width n start c.requires.few in
     let after_3 : Written 3 width n start c.if-width-gt3.text.items = elim c.if-width-gt3.branch [
       | then-width-gt3 w ↦ byte_written 3 width n (n / 16777216) start start _ w.if-width-gt3.true
-          (omega arith) (ap (λ t. t.items) w.text-is ∙ w.push_byte.ensures.items) at_first
+          (omega arith) (ap (λ t. t.items) w.text-is ∙ w.push_hex_byte.ensures.items) at_first
       | else-width-gt3 w ↦ byte_passed 3 width n start start _ w.if-width-gt3.false
           (ap (λ t. t.items) w.text-is) at_first
     ] in
     let after_2 : Written 2 width n start c.if-width-gt2.text.items = elim c.if-width-gt2.branch [
       | then-width-gt2 w ↦ byte_written 2 width n (n / 65536 % 256) start c.if-width-gt3.text.items _ w.if-width-gt2.true
-          (omega arith) (ap (λ t. t.items) w.text-is ∙ w.push_byte-then-width-gt2.ensures.items) after_3
+          (omega arith) (ap (λ t. t.items) w.text-is ∙ w.push_hex_byte-then-width-gt2.ensures.items) after_3
       | else-width-gt2 w ↦ byte_passed 2 width n start c.if-width-gt3.text.items _ w.if-width-gt2.false
           (ap (λ t. t.items) w.text-is) after_3
     ] in
     let after_1 : Written 1 width n start c.if-width-gt1.text.items = elim c.if-width-gt1.branch [
       | then-width-gt1 w ↦ byte_written 1 width n (n / 256 % 256) start c.if-width-gt2.text.items _ w.if-width-gt1.true
-          (omega arith) (ap (λ t. t.items) w.text-is ∙ w.push_byte-then-width-gt1.ensures.items) after_2
+          (omega arith) (ap (λ t. t.items) w.text-is ∙ w.push_hex_byte-then-width-gt1.ensures.items) after_2
       | else-width-gt1 w ↦ byte_passed 1 width n start c.if-width-gt2.text.items _ w.if-width-gt1.false
           (ap (λ t. t.items) w.text-is) after_2
     ] in
     all_written width n start _ (byte_written 0 width n (n % 256) start c.if-width-gt1.text.items _ c.if-width-gt0.true
-    (omega arith) c.push_byte-then-width-gt0.ensures.items after_1)
+    (omega arith) c.push_hex_byte-then-width-gt0.ensures.items after_1)

@@ -2,12 +2,12 @@ use Rattle.std.proofs.Common.{Err, ap, arith}
 use Rattle.lines.{specs.Runs.Runs, proofs.{Endings.{output_on, after_on, stopped_last, lacking_last}, Results.{by_stop, by_fault}}}
 use Rattle.lines.proofs.runs.run.Goals as goal
 
-pub returns-in_err-run_pieces-clause-runs : goal.returns-in_err-run_pieces-clause-runs
-returns-in_err-run_pieces-clause-runs g c = grind (arith, by_fault)
+pub returns-in_err-run_until_input_ends-clause-runs : goal.returns-in_err-run_until_input_ends-clause-runs
+returns-in_err-run_until_input_ends-clause-runs g c = grind (arith, by_fault)
 
 pub returns-in_err-run_last-clause-runs : goal.returns-in_err-run_last-clause-runs
 returns-in_err-run_last-clause-runs g c =
-    let before = c.in_ok-run_pieces.ensures in
+    let before = c.in_ok-run_until_input_ends.ensures in
     let runs = before.runs in
     let last = c.in_err-run_last.ensures in
     by_stop (Runs g.S.Answers.protocol c.args.server.now c.run_last.new.server _)
@@ -17,13 +17,13 @@ returns-in_err-run_last-clause-runs g c =
 
 pub returns-clause-runs : goal.returns-clause-runs
 returns-clause-runs g c =
-    let before = c.in_ok-run_pieces.ensures in
+    let before = c.in_ok-run_until_input_ends.ensures in
     let runs = before.runs in
     record {
       read = before.end;
-      output = λ script known. output_on (g.R.Reader.rest c.args.reader.now) (g.R.Reader.rest c.run_pieces.new.reader)
+      output = λ script known. output_on (g.R.Reader.rest c.args.reader.now) (g.R.Reader.rest c.run_until_input_ends.new.reader)
           runs.1 before.end runs.2 before.rest known (g.W.Writer.written c.run_last.new.writer) c.in_ok-run_last.ensures.output;
-      events = λ script known. after_on (g.R.Reader.rest c.args.reader.now) (g.R.Reader.rest c.run_pieces.new.reader)
+      events = λ script known. after_on (g.R.Reader.rest c.args.reader.now) (g.R.Reader.rest c.run_until_input_ends.new.reader)
           runs.1 before.end runs.2 before.rest known c.in_ok-run_last.ensures.after;
       flushed = c.in_ok-run_last.ensures.flushed;
     }

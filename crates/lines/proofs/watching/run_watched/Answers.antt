@@ -7,4 +7,4 @@ returns-in_err-run-clause-runs g c =
 
 pub returns-clause-runs : goal.returns-clause-runs
 returns-clause-runs g c =
-    watched_end g.S.Answers.protocol g.S.Answers.refusal c.args.server _ c.run.new.server _ c.none.ensures c.in_ok-run.ensures.runs
+    watched_end g.S.Answers.protocol g.S.Answers.refusal c.args.server _ c.run.new.server _ c.new.ensures c.in_ok-run.ensures.runs

@@ -4,7 +4,7 @@ use Rattle.session.proofs.stage.answer_handover.Goals as goal
 
 pub returns-in-Ok-clause-text : goal.returns-in-Ok-clause-text
 returns-in-Ok-clause-text c = λ line asks.
-    rw c.short.ensures (c.push_named.ensures
+    rw c.one_line_at_most.ensures (c.push_reply_of_name.ensures
     ∙ (answered (session_now c.args.stage.now) (session_now c.hand_over.new.stage) c.requires.driven c.in-Ok.ensures.given line asks).writes)
 
 pub returns-in-Ok-clause-after : goal.returns-in-Ok-clause-after
@@ -13,7 +13,7 @@ returns-in-Ok-clause-after c = λ line asks.
 
 pub returns-in-Ok-clause-refused : goal.returns-in-Ok-clause-refused
 returns-in-Ok-clause-refused c = λ line asks.
-    rw c.short.ensures (answered (session_now c.args.stage.now) (session_now c.hand_over.new.stage) c.requires.driven c.in-Ok.ensures.given line asks).refused
+    rw c.one_line_at_most.ensures (answered (session_now c.args.stage.now) (session_now c.hand_over.new.stage) c.requires.driven c.in-Ok.ensures.given line asks).refused
 
 pub returns-in_ok-told-in-Err-clause-refused : goal.returns-in_ok-told-in-Err-clause-refused
 returns-in_ok-told-in-Err-clause-refused c = grind (arith, told_refusal)

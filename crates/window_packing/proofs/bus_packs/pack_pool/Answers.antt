@@ -1,5 +1,5 @@
 use Rattle.std.{proofs.{Common.{◌≡◌, ◌+◌, ◌-◌, ◌<◌, ◌≤◌, ◌^◌, length, false, Some, List, [], ◌∷◌, get_or, ◌++◌, sym, ap, ◌∙◌, subst, arith, rules}, lemmas.Option.slice_get-get_or}, specs.{Prelude.{reverse, slice_get}, List.Sorted.IsPermutation}}
-use Rattle.window_packing.{proofs.{AboveRows.length_board, BusIndex.row_in, BusIndices.bus_before, PoolEnds.too_large, BusItems.{packable, pack_is, own_is}, Gathering.{IsGathered, none_gathered, last_gathered, more_gathered}, PoolSteps.{IsAboveRow, above_count, above_row, taken, root_is, all_packed, all_bounded}}, specs.{Plans.named_pool, declared.upstream_windows.UpstreamWindows.UpstreamWindows, Packs.{PackedBus, IsBounded, pack_items, pack_of, own_items}}}
+use Rattle.window_packing.{proofs.{AboveRows.length_board, BusIndex.row_in, BusIndices.bus_before, PoolEnds.too_large, BusItems.{packable, pack_is, own_is}, Gathering.{IsGathered, none_gathered, last_gathered, more_gathered}, PoolSteps.{IsAboveRow, above_count, above_row, taken, root_is, all_packed, all_bounded}}, specs.{Plans.named_pool, declared.upstream_windows.UpstreamSupport.UpstreamSupport, Packs.{PackedBus, IsBounded, pack_items, pack_of, own_items}}}
 use Rattle.lists.{specs.Elements.Each, proofs.Indices.{at_below, read_at, map_at}}
 use Rattle.model_set_up.specs.{FunctionTable.board_in, Pools.{Pool, bridges_above}, Placement.{PlacementItem, items_on}}
 use Rattle.model_board.specs.Board.{Row, Board}
@@ -21,7 +21,7 @@ module _ (c : After-unwrap-behind) where
   abbrev pool : Pool
   pool = named_pool c.args.pool
 
-  abbrev told : UpstreamWindows
+  abbrev told : UpstreamSupport
   told = get_or c.args.above.now (c.rows.i - 1) (record { bus = 0; io = false; pref = false; pref64 = false })
 
   left : IsGathered b c.args.apertures.now pool (λ v. v.items) (c.rows.i - 1 + 1) (c.pop.new.self.items ++ c.unwrap-behind.result ∷ []) c.rows.packs.items
@@ -73,11 +73,11 @@ rows-preserved c =
     packed ∙ ap (λ n. pack_items n c.unwrap-behind.result.items) c.unit-unit.ensures ∙ pack_is (b k) a (pool k) c.requires.declarations c.requires.board _ _ (all k (row_in row) at) in
     let within : c.in-Some.pack.end ≤ 2 ^ 63 = rw c.in-Some.is at c.in_ok-pack.ensures.within in
     let ds = bridges_above (b k) row.path in
-    let pushed : c.push_own.new.into.items ≡ own.items ++ own_items a ds (pool k) row.path row.decl c.in-Some.pack = c.in_ok-push_own.ensures ds up.over in
+    let pushed : c.push_function_items.new.into.items ≡ own.items ++ own_items a ds (pool k) row.path row.decl c.in-Some.pack = c.in_ok-push_function_items.ensures ds up.over in
     let added = pushed ∙ ap (λ (p : PackedBus). own.items ++ own_items a ds (pool k) row.path row.decl p) is ∙ ap (λ (is : List PlacementItem). own.items ++ is) (own_is (b k) a (pool k) row.path row.decl) in
     let here = read_at c.pop.new.self.items (told k).bus own (own_left k (row_in row) at) c.index_mut-own.ensures.value in
     rw c.in_ok-push.ensures.items
-    (more_gathered (b k) a (pool k) c.requires.board _ (c.rows.i - 1) (row_in row) _ _ _ _ _ own c.push_own.new.into at (left k).0 (left k).1 is within up.bus up.within
+    (more_gathered (b k) a (pool k) c.requires.board _ (c.rows.i - 1) (row_in row) _ _ _ _ _ own c.push_function_items.new.into at (left k).0 (left k).1 is within up.bus up.within
     here added)
 
 -- bus 0 alone is left

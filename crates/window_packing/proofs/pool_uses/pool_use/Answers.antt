@@ -15,7 +15,7 @@ module _ {E : Type 0} (t rows : List TableRow) (same : rows ≡ t) (a : Aperture
   fit_all r is = grind (arith, use_fits, use_of)
 
 pub returns-clause-value : goal.returns-clause-value
-returns-clause-value c = of_all c.args.table.now c.rows-rows.result.now c.rows-rows.ensures c.args.apertures.now (named_pool c.args.pool) c.rows_use.result c.rows_use.ensures
+returns-clause-value c = of_all c.args.table.now c.rows-rows.result.now c.rows-rows.ensures c.args.apertures.now (named_pool c.args.pool) c.pool_use_of_rows.result c.pool_use_of_rows.ensures
 
 pub returns-clause-fits : goal.returns-clause-fits
-returns-clause-fits c = fit_all c.args.table.now c.rows-rows.result.now c.rows-rows.ensures c.args.apertures.now (named_pool c.args.pool) c.rows_use.result c.rows_use.ensures
+returns-clause-fits c = fit_all c.args.table.now c.rows-rows.result.now c.rows-rows.ensures c.args.apertures.now (named_pool c.args.pool) c.pool_use_of_rows.result c.pool_use_of_rows.ensures

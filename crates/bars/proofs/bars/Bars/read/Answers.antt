@@ -3,8 +3,8 @@ use Rattle.model_registers.{specs.EndpointTable.HasLawfulBases, proofs.Bases.rea
 use Rattle.bars.proofs.Splits.{lawful_part, read_part, read_unused}
 use Rattle.bars.proofs.bars.Bars.read.Goals as goal
 
-pub shown-requires : goal.shown-requires
-shown-requires c = lawful_part c.self.inside.slots c.self.invariant c.args.reg c.in-Some.part c.in-Some.ensures.used
+pub register_value-requires : goal.register_value-requires
+register_value-requires c = lawful_part c.self.inside.slots c.self.invariant c.args.reg c.in-Some.part c.in-Some.ensures.used
 
 pub returns-in-Some-clause-word : goal.returns-in-Some-clause-word
 returns-in-Some-clause-word c = grind (arith, read_part, reads_of_bases)

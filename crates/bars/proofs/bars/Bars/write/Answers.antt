@@ -7,8 +7,8 @@ pub written-region-requires : goal.written-region-requires
 written-region-requires c = lawful_part c.self.inside.slots c.self.invariant c.args.reg c.in-Some.part c.in-Some.ensures.used
 
 -- the slots after the write
-stored : (c : goal.After-put)
-    → bases_from 0 c.put.new.self ≡ map (rewritten c.args.reg (lanes c.args.enables) c.args.value) (bases_from 0 c.self.inside.slots)
+stored : (c : goal.After-store_region)
+    → bases_from 0 c.store_region.new.self ≡ map (rewritten c.args.reg (lanes c.args.enables) c.args.value) (bases_from 0 c.self.inside.slots)
 stored c = grind (arith, stored_part)
 
 pub invariant_of-self : goal.invariant_of-self

@@ -21,11 +21,11 @@ invariant_of-self-2 c =
     let e = there (goal.at.invariant_of-self-2 c).After-index_mut-node in
     let g = c.access-reply.new.self in
     let y = c.args.cycle in
-    let routes = subst (λ (ms : List Node). AreRoutes ms c.reach.new.known) c.deref.ensures.value c.in_ok-at.ensures.routes in
+    let routes = subst (λ (ms : List Node). AreRoutes ms c.find_reached_function.new.known) c.deref.ensures.value c.in_ok-at.ensures.routes in
     record {
       tree = tree_set nodes c.in_ok-at.at n g e (cells_leaf n.function g _ c.access-reply.ensures.after) c.self.invariant.tree (laid_set nodes c.in_ok-at.at n g e c.self.invariant.tree.laid);
-      routes = routes_cycled nodes c.in_ok-at.at n y.op y.offset y.enables g c.reach.new.known c.forget_if.new.self 256 c.is_bridge_written-changes_routes.result e
-          c.access-reply.ensures.after (sym c.is_bridge_written-changes_routes.ensures) c.forget_if.ensures routes;
+      routes = routes_cycled nodes c.in_ok-at.at n y.op y.offset y.enables g c.find_reached_function.new.known c.invalidate_all_if.new.self 256 c.is_write_to_bridge-changes_routes.result e
+          c.access-reply.ensures.after (sym c.is_write_to_bridge-changes_routes.ensures) c.invalidate_all_if.ensures routes;
     }
 
 pub returns-clause-reply : goal.returns-clause-reply

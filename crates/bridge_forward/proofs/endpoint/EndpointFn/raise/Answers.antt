@@ -10,16 +10,16 @@ invariant_of-self c = grind (arith, cell_invariant, header_changed, constant_rai
 pub returns-in-Cfg : goal.returns-in-Cfg
 returns-in-Cfg c = grind (arith, raise_config)
 
-pub raise-requires-in-Some : goal.raise-requires-in-Some
-raise-requires-in-Some c = short_there c.self.invariant c.from.result c.in-Some.block.now c.in-Some.ensures.item.0 c.in-Some.ensures.item.1
+pub raise_or_ignore-requires-in-Some : goal.raise_or_ignore-requires-in-Some
+raise_or_ignore-requires-in-Some c = short_there c.self.invariant c.from.result c.in-Some.block.now c.in-Some.ensures.item.0 c.in-Some.ensures.item.1
 
 pub invariant_of-self-in-Some : goal.invariant_of-self-in-Some
 invariant_of-self-in-Some c =
-    block_invariant c.self.invariant (change_in_block (raised c.args.mask) c.from.result c.args.off) c.in-Some.ensures.item.0 c.in-Some.ensures.item.1 c.raise-in-Some.ensures
+    block_invariant c.self.invariant (change_in_block (raised c.args.mask) c.from.result c.args.off) c.in-Some.ensures.item.0 c.in-Some.ensures.item.1 c.raise_or_ignore-in-Some.ensures
 
 pub returns-in-Some : goal.returns-in-Some
 returns-in-Some c =
-    block_shown c.self.invariant (change_in_block (raised c.args.mask) c.from.result c.args.off) c.in-Some.ensures.item.0 c.in-Some.ensures.item.1 c.raise-in-Some.ensures c.self.view_is
+    block_shown c.self.invariant (change_in_block (raised c.args.mask) c.from.result c.args.off) c.in-Some.ensures.item.0 c.in-Some.ensures.item.1 c.raise_or_ignore-in-Some.ensures c.self.view_is
     ∙ ap (λ (p : Place). record c.args.self.now { file = raise c.args.mask p c.args.self.now.file }) (ap (λ m. block m c.args.off) c.from.ensures ∙ ap (λ p. place_of p c.args.off) (sym c.in-Bar.is))
 
 pub returns-in_default : goal.returns-in_default

@@ -5,6 +5,6 @@ use Rattle.bridge_forward.proofs.endpoint.EndpointFn.regions.Goals as goal
 
 pub returns : goal.returns
 returns c =
-    subst (λ (bs : List BaseAddress). IfOk c.regions_of.result (λ v. map base_of v.items ≡ bs))
+    subst (λ (bs : List BaseAddress). IfOk c.collect_regions.result (λ v. map base_of v.items ≡ bs))
     (c.regions.ensures.bases ∙ regions_now _ _ _ _ c.self.invariant.parts c.self.inside.command c.regions.ensures.lawful
-    ∙ ap (λ (f : Function). map (base_address f.file) f.decl.regions) c.self.view_is) c.regions_of.ensures
+    ∙ ap (λ (f : Function). map (base_address f.file) f.decl.regions) c.self.view_is) c.collect_regions.ensures

@@ -6,8 +6,8 @@ use Rattle.bridge_forward.proofs.endpoint.EndpointFn.value.Goals as goal
 pub returns-in-Cfg : goal.returns-in-Cfg
 returns-in-Cfg c = grind (arith, cell_of_config, device_away)
 
-pub value-requires-in-Some : goal.value-requires-in-Some
-value-requires-in-Some c = grind (arith, block_there, ltb-true, block_short)
+pub value_or_zero-requires-in-Some : goal.value_or_zero-requires-in-Some
+value_or_zero-requires-in-Some c = grind (arith, block_there, ltb-true, block_short)
 
 pub returns-in-Some : goal.returns-in-Some
 returns-in-Some c = grind (arith, block_there, ltb-true, cell_of_block)

@@ -10,12 +10,12 @@ of_rows space read rows es same h = subst (λ (xs : List RoutingRow). IsSortedOf
 pub invariant_of-result : goal.invariant_of-result
 invariant_of-result c =
     let rows = c.in_ok-rows.rows.items in
-    let paths = c.in_ok-paths_in.field-0.items in
-    let paths_are = c.in_ok-paths_in.ensures ∙ ap (map (λ (r : RoutingRow). r.path)) c.deref.ensures.value in (
-      open_are c.args.host.now c.requires.board c.requires.order paths rows c.in_ok-rows.ensures.rows paths_are io c.in_ok-open_by_address.field-0.items
-          (of_rows io _ _ _ c.deref-2.ensures.value (record { all = c.in_ok-open_by_address.ensures.all; rising = c.in_ok-open_by_address.ensures.rising })),
-      open_are c.args.host.now c.requires.board c.requires.order paths rows c.in_ok-rows.ensures.rows paths_are memory c.in_ok-open_by_address-2.field-0.items
-          (of_rows memory _ _ _ c.deref-3.ensures.value (record { all = c.in_ok-open_by_address-2.ensures.all; rising = c.in_ok-open_by_address-2.ensures.rising })),
+    let paths = c.in_ok-copy_paths.field-0.items in
+    let paths_are = c.in_ok-copy_paths.ensures ∙ ap (map (λ (r : RoutingRow). r.path)) c.deref.ensures.value in (
+      open_are c.args.host.now c.requires.board c.requires.order paths rows c.in_ok-rows.ensures.rows paths_are io c.in_ok-enabled_regions_sorted.field-0.items
+          (of_rows io _ _ _ c.deref-2.ensures.value (record { all = c.in_ok-enabled_regions_sorted.ensures.all; rising = c.in_ok-enabled_regions_sorted.ensures.rising })),
+      open_are c.args.host.now c.requires.board c.requires.order paths rows c.in_ok-rows.ensures.rows paths_are memory c.in_ok-enabled_regions_sorted-2.field-0.items
+          (of_rows memory _ _ _ c.deref-3.ensures.value (record { all = c.in_ok-enabled_regions_sorted-2.ensures.all; rising = c.in_ok-enabled_regions_sorted-2.ensures.rising })),
     )
 
 pub returns : goal.returns

@@ -8,14 +8,14 @@ use Rattle.claim_table.proofs.table.TableRoute.claimant.Goals.{In_ok-entry}
 
 pub returns-in_err-entry : goal.returns-in_err-entry
 returns-in_err-entry c =
-    let found = sym (c.in_err-entry.ensures ∙ ap (find (lies_in c.args.addr)) (c.of_space.ensures ∙ ap₂ (by_space (named_space c.args.space)) c.deref.ensures.value c.deref-2.ensures.value)) in
+    let found = sym (c.in_err-entry.ensures ∙ ap (find (lies_in c.args.addr)) (c.entries_of_space.ensures ∙ ap₂ (by_space (named_space c.args.space)) c.deref.ensures.value c.deref-2.ensures.value)) in
     let none = none_claimed _ _ _ c.args.self.now c.args._host.now c.self.view_is c.requires (named_space c.args.space) c.args.addr found in
     cc none
 
 -- the entry that was found, and its path
 module _ (c : In_ok-entry) where
   found : find (lies_in c.args.addr) (by_space (named_space c.args.space) c.self.inside.ports.items c.self.inside.memory.items) ≡ Some c.in_ok-entry.entry
-  found = sym (c.in_ok-entry.ensures ∙ ap (find (lies_in c.args.addr)) (c.of_space.ensures ∙ ap₂ (by_space (named_space c.args.space)) c.deref.ensures.value c.deref-2.ensures.value))
+  found = sym (c.in_ok-entry.ensures ∙ ap (find (lies_in c.args.addr)) (c.entries_of_space.ensures ∙ ap₂ (by_space (named_space c.args.space)) c.deref.ensures.value c.deref-2.ensures.value))
 
   within : c.in_ok-entry.entry.function < length c.self.inside.paths.items
   within = each_found (λ (e : RegionEntry). e.function < length c.self.inside.paths.items) (lies_in c.args.addr) _ _ (known_in _ _ _ c.self.invariant (named_space c.args.space)) found

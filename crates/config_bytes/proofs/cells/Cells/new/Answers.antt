@@ -7,8 +7,8 @@ use Rattle.config_bytes.proofs.cells.Cells.new.Goals as goal
 stored : (c : goal.After-table-3-1) → c.args.cells.now ≡ c.in_ok-initial.initial.items
 stored c = sym c.in_ok-initial.ensures.items
 
-put : (c : goal.After-table-3-1) → c.place.new.table ≡ placed c.in_ok-initial.initial.items c.in_ok-table.table.items
-put c = c.place.ensures ∙ ap₂ placed (stored c) c.as_mut_slice.ensures.value
+put : (c : goal.After-table-3-1) → c.store_at_offsets.new.table ≡ placed c.in_ok-initial.initial.items c.in_ok-table.table.items
+put c = c.store_at_offsets.ensures ∙ ap₂ placed (stored c) c.as_mut_slice.ensures.value
 
 distinct : (c : goal.After-table-3-1) → HasDistinctOffsets c.in_ok-initial.initial.items
 distinct c = subst HasDistinctOffsets (stored c) c.requires
@@ -24,7 +24,7 @@ invariant_of-result c = search (rules, IsTable-refilled, put, distinct, room, ga
 
 pub returns-clause-cells : goal.returns-clause-cells
 returns-clause-cells c =
-    view_refilled c.in_ok-table.table.len c.in_ok-table.table.items c.place.new.table c.in_ok-initial.initial.items (put c) c.in_ok-table.table.ok.0 (distinct c) (room c)
+    view_refilled c.in_ok-table.table.len c.in_ok-table.table.items c.store_at_offsets.new.table c.in_ok-initial.initial.items (put c) c.in_ok-table.table.ok.0 (distinct c) (room c)
     ∙ ap (λ (cs : List (ℕ × Cell)). let v : CellFile = record { now = file_of cs; initial = file_of cs } in v) (sym (stored c))
 
 pub returns-clause-places : goal.returns-clause-places

@@ -2,8 +2,8 @@ use Rattle.std.proofs.Common.{◌≡◌, ◌∙◌, ap₂, arith, rules}
 use Rattle.config_bytes.{specs.CellFile.placed, proofs.Tables.{HasGaps-table, IsConfigFile-from, KeepsPlaces-from, IsTable-refilled, view_refilled}}
 use Rattle.config_bytes.proofs.cells.Cells.reset.Goals as goal
 
-put : (c : goal.After-self-1) → c.place.new.table ≡ placed c.self.inside.initial.items c.self.inside.table.items
-put c = c.place.ensures ∙ ap₂ placed c.as_slice.ensures.value c.as_mut_slice.ensures.value
+put : (c : goal.After-self-1) → c.store_at_offsets.new.table ≡ placed c.self.inside.initial.items c.self.inside.table.items
+put c = c.store_at_offsets.ensures ∙ ap₂ placed c.as_slice.ensures.value c.as_mut_slice.ensures.value
 
 pub invariant_of-self : goal.invariant_of-self
 invariant_of-self c = search (rules, IsTable-refilled, put, HasGaps-table)

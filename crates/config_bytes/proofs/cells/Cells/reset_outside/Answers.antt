@@ -6,7 +6,7 @@ use Rattle.config_bytes.proofs.cells.Cells.reset_outside.Goals as goal
 abbrev filled : goal.After-self-1 → List Cell
 filled c = placed_outside c.args.first c.args.last c.self.inside.initial.items c.self.inside.table.items
 
-put : (c : goal.After-self-1) → take c.self.inside.table.len (c.place_outside.new.table ++ drop (length c.place_outside.new.table) c.self.inside.table.items) ≡ filled c
+put : (c : goal.After-self-1) → take c.self.inside.table.len (c.store_at_offsets_outside.new.table ++ drop (length c.store_at_offsets_outside.new.table) c.self.inside.table.items) ≡ filled c
 put c = grind (arith, refilled_outside)
 
 pub invariant_of-self : goal.invariant_of-self

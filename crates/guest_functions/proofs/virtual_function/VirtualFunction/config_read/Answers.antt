@@ -11,4 +11,4 @@ returns-clause-together c = λ file holds.
     let own : OwnCopies = record { command = c.self.inside.command; bases = c.self.inside.bars } in
     own_reads own c.self.invariant file (subst (HoldsOwn file) (sym c.self.view_is) holds) (config c.args.off) (lanes c.args.enables)
     ∙ ap₂ (λ (n : ℕ) (ons : List Bool). n + read file (config c.args.off) ons)
-    (ap (λ (o : OwnCopies). read (own_file o) (config c.args.off) (lanes c.args.enables)) c.self.view_is ∙ sym (returns-clause-own c)) (sym c.handed_on.ensures.others)
+    (ap (λ (o : OwnCopies). read (own_file o) (config c.args.off) (lanes c.args.enables)) c.self.view_is ∙ sym (returns-clause-own c)) (sym c.forwarded_byte_enables.ensures.others)

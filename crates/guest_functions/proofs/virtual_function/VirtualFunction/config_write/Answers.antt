@@ -11,4 +11,4 @@ returns-clause-together c = λ file holds p.
     let own : OwnCopies = record { command = c.self.inside.command; bases = c.self.inside.bars } in
     own_writes own file (subst (HoldsOwn file) (sym c.self.view_is) holds) (config c.args.off) p (lanes c.args.enables) c.args.value
     ∙ ap₂ (λ (f : File) (ons : List Bool). cond (is_own p) (cell_at f p) (cell_at (write ons c.args.value (config c.args.off) file) p))
-    (ap (λ (o : OwnCopies). write (lanes c.args.enables) c.args.value (config c.args.off) (own_file o)) c.self.view_is ∙ sym (returns-clause-own c)) (sym c.handed_on.ensures.others)
+    (ap (λ (o : OwnCopies). write (lanes c.args.enables) c.args.value (config c.args.off) (own_file o)) c.self.view_is ∙ sym (returns-clause-own c)) (sym c.forwarded_byte_enables.ensures.others)

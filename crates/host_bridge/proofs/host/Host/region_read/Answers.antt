@@ -21,7 +21,7 @@ returns-clause-value c =
     let is = located _ _ lands.space lands.address c.args.from c.self.view_is lands.claim lands.within in
     let within = lies_in_word _ _ _ _ _ is.claimed c.requires.width lands.aligned in
     let there = endpoint_there_nth _ _ _ _ _ is (distinct_paths _ c.endpoint_nth.ensures.in_order) (sym c.in-Some.ensures.value) in
-    number_read _ _ _ _ _ is.claimed _ _ _ _ within there c.enables_of-enables.ensures c.read.ensures c.lowered.ensures
+    number_read _ _ _ _ _ is.claimed _ _ _ _ within there c.enables_of-enables.ensures c.read.ensures c.shift_lanes_down.ensures
     ∙ ap (λ (h : HostState). claim_reply h.state.functions c.args.width (first_claim h.state.functions lands.space lands.address)) c.self.view_is
     ∙ ap (claim_reply c.args.self.now.state.functions c.args.width) (sym lands.claim)
 

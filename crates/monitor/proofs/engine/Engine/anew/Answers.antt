@@ -6,8 +6,8 @@ use Rattle.model_handoff.{specs.Handoffs.IsHandoff, proofs.Alike.alike_over}
 use Rattle.monitor.{specs.{Beginnings.{with_no_slots, world_on}, Views.texts}, proofs.{Anew.lawful_anew, Calls.kept_in, Shown.names_kept}}
 use Rattle.monitor.proofs.engine.Engine.anew.Goals as goal
 
-pub at_reset-requires : goal.at_reset-requires
-at_reset-requires g c =
+pub copy_at_reset-requires : goal.copy_at_reset-requires
+copy_at_reset-requires g c =
     let kept = kept_in c.self.invariant.1 c.self.view_is in
     (subst IsHandoff (sym kept.agrees) (alike_over c.args.self.now.world.handoff kept.lawful.handoff c.args.self.now.world.guests kept.lawful.seated).handoff).board.places
 

@@ -5,13 +5,13 @@ use Rattle.monitor.proofs.engine.Engine.image_size.Goals as goal
 pub index-requires : goal.index-requires
 index-requires g c = omega (arith, inside_guests c.self.invariant.1 c.self.view_is c.args.guest c.requires)
 
-pub slots_size-requires-clause-places : goal.slots_size-requires-clause-places
-slots_size-requires-clause-places g c =
+pub saved_slots_size-requires-clause-places : goal.saved_slots_size-requires-clause-places
+saved_slots_size-requires-clause-places g c =
     let at = guest_in c.self.invariant.1 c.self.view_is c.args.guest c.requires c.index.ensures in
     subst (HavePlaces c.self.inside.host.state.functions) (sym c.deref.ensures.value) (places_kept at)
 
-pub slots_size-requires-clause-few : goal.slots_size-requires-clause-few
-slots_size-requires-clause-few g c =
+pub saved_slots_size-requires-clause-few : goal.saved_slots_size-requires-clause-few
+saved_slots_size-requires-clause-few g c =
     let at = guest_in c.self.invariant.1 c.self.view_is c.args.guest c.requires c.index.ensures in
     let many = few_slots at in
     let same = ap (λ (os : List (Option AssignedFunction)). length os) c.deref.ensures.value in
@@ -22,4 +22,4 @@ returns-clause-size g c =
     let at = guest_in c.self.invariant.1 c.self.view_is c.args.guest c.requires c.index.ensures in
     let same = ap (λ (os : List (Option AssignedFunction)). length (slots_image c.self.inside.host.state.functions os)) c.deref.ensures.value in
     let whole = size_now at in
-    omega (arith, c.slots_size.ensures.size)
+    omega (arith, c.saved_slots_size.ensures.size)

@@ -7,20 +7,20 @@ use Rattle.monitor.proofs.engine.Engine.image_stop.Goals as goal
 pub index-requires : goal.index-requires
 index-requires g c = omega (arith, inside_guests c.self.invariant.1 c.self.view_is c.args.guest c.requires)
 
-pub stop_in-requires : goal.stop_in-requires
-stop_in-requires g c = let many = few_slots (guest_in c.self.invariant.1 c.self.view_is c.args.guest c.requires c.index.ensures) in omega arith
+pub find_first_mismatch-requires : goal.find_first_mismatch-requires
+find_first_mismatch-requires g c = let many = few_slots (guest_in c.self.invariant.1 c.self.view_is c.args.guest c.requires c.index.ensures) in omega arith
 
 pub returns-clause-at : goal.returns-clause-at
 returns-clause-at g c =
     let at = guest_in c.self.invariant.1 c.self.view_is c.args.guest c.requires c.index.ensures in
-    subst (λ (l : LoneGuest). IfSome c.stop_in.result (λ s. StopsAt l c.args.bytes.now s.offset)) (sym (lone_by_name_is at)) c.stop_in.ensures.at
+    subst (λ (l : LoneGuest). IfSome c.find_first_mismatch.result (λ s. StopsAt l c.args.bytes.now s.offset)) (sym (lone_by_name_is at)) c.find_first_mismatch.ensures.at
 
 pub returns-clause-slot : goal.returns-clause-slot
 returns-clause-slot g c =
     let at = guest_in c.self.invariant.1 c.self.view_is c.args.guest c.requires c.index.ensures in
-    subst (λ (l : LoneGuest). IfSome c.stop_in.result (λ s. s.slot ≡ stop_slot l c.args.bytes.now)) (sym (lone_by_name_is at)) c.stop_in.ensures.slot
+    subst (λ (l : LoneGuest). IfSome c.find_first_mismatch.result (λ s. s.slot ≡ stop_slot l c.args.bytes.now)) (sym (lone_by_name_is at)) c.find_first_mismatch.ensures.slot
 
 pub returns-clause-told : goal.returns-clause-told
 returns-clause-told g c =
     let at = guest_in c.self.invariant.1 c.self.view_is c.args.guest c.requires c.index.ensures in
-    subst (λ (l : LoneGuest). is_some c.stop_in.result ≡ is_told (load_fault l c.args.bytes.now)) (sym (lone_by_name_is at)) c.stop_in.ensures.told
+    subst (λ (l : LoneGuest). is_some c.find_first_mismatch.result ≡ is_told (load_fault l c.args.bytes.now)) (sym (lone_by_name_is at)) c.find_first_mismatch.ensures.told

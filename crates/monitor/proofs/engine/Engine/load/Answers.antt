@@ -14,11 +14,11 @@ returns-in-Err-clause-fault g c =
 
 pub returns-in-Err-clause-no_image : goal.returns-in-Err-clause-no_image
 returns-in-Err-clause-no_image g c = λ is.
-    c.saved_guests_are_taken.ensures.refused _ (savable_nth c.self.invariant.1 c.self.view_is c.args.guest c.requires) c.args.bytes.now
+    c.saved_bytes_are_accepted.ensures.refused _ (savable_nth c.self.invariant.1 c.self.view_is c.args.guest c.requires) c.args.bytes.now
     (sym (returns-in-Err-clause-fault g c) ∙ ap Some is)
 
-pub load_taken-requires-clause-accepted : goal.load_taken-requires-clause-accepted
-load_taken-requires-clause-accepted g c =
+pub load_accepted_image-requires-clause-accepted : goal.load_accepted_image-requires-clause-accepted
+load_accepted_image-requires-clause-accepted g c =
     let at = guest_in c.self.invariant.1 c.self.view_is c.args.guest c.requires c.index.ensures in
     let r : Result (Unit {0}) ImageFault = Ok tt in
     sym (fault_now at r c.args.bytes.now c.in_default.ensures.all tt)

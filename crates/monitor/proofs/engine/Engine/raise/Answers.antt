@@ -6,8 +6,8 @@ use Rattle.monitor.proofs.engine.Engine.raise.Goals as goal
 
 pub returns-clause-reply : goal.returns-clause-reply
 returns-clause-reply g c =
-    c.raise_nth.ensures.reply ∙ ap (λ (l : LoneGuest). answer l (guests.raises (raise_of c.args.slot c.args.place c.args.off c.args.mask))) (lone_by_name (kept_in c.self.invariant.1 c.self.view_is) c.args.guest c.requires)
+    c.raise_in_slot.ensures.reply ∙ ap (λ (l : LoneGuest). answer l (guests.raises (raise_of c.args.slot c.args.place c.args.off c.args.mask))) (lone_by_name (kept_in c.self.invariant.1 c.self.view_is) c.args.guest c.requires)
 
 pub returns-clause-after : goal.returns-clause-after
 returns-clause-after g c =
-    c.raise_nth.ensures.after ∙ by_name c.self.invariant.1 c.self.view_is c.args.guest c.requires (guests.raises (raise_of c.args.slot c.args.place c.args.off c.args.mask))
+    c.raise_in_slot.ensures.after ∙ by_name c.self.invariant.1 c.self.view_is c.args.guest c.requires (guests.raises (raise_of c.args.slot c.args.place c.args.off c.args.mask))

@@ -34,7 +34,7 @@ pub returns-then-not-opened-clause-reply : goal.returns-then-not-opened-clause-r
 returns-then-not-opened-clause-reply g c =
     let at = guest_in c.self.invariant.1 c.self.view_is c.args.guest c.requires c.index.ensures in
     let opening = opening_is at c.deref.ensures.value c.args.slot c.args.place c.args.off c.in-Ok.ensures.there c.in-Some.ensures in
-    c.master_abort.ensures.reply ∙ (byte_closed {m = c.args.self.now} at (op_of c.args.op) (device_byte c.args.slot c.args.place c.args.off) (opening ∙ ap Ok c.if-not-opened.true)).0
+    c.master_abort_reply.ensures.reply ∙ (byte_closed {m = c.args.self.now} at (op_of c.args.op) (device_byte c.args.slot c.args.place c.args.off) (opening ∙ ap Ok c.if-not-opened.true)).0
 
 pub returns-then-not-opened-clause-after : goal.returns-then-not-opened-clause-after
 returns-then-not-opened-clause-after g c =
@@ -45,12 +45,12 @@ returns-then-not-opened-clause-after g c =
 pub region_read-value-requires-clause-landing : goal.region_read-value-requires-clause-landing
 region_read-value-requires-clause-landing g c =
     let at = guest_in c.self.invariant.1 c.self.view_is c.args.guest c.requires c.index.ensures in
-    lands at c.deref.ensures.value c.args.slot c.args.place c.args.off c.in-Ok.ensures.there c.in-Some.ensures refl c.byte_at-at.ensures
+    lands at c.deref.ensures.value c.args.slot c.args.place c.args.off c.in-Ok.ensures.there c.in-Some.ensures refl c.function_bar_to_board-at.ensures
 
 pub region_write-requires-clause-landing : goal.region_write-requires-clause-landing
 region_write-requires-clause-landing g c =
     let at = guest_in c.self.invariant.1 c.self.view_is c.args.guest c.requires c.index.ensures in
-    lands at c.deref.ensures.value c.args.slot c.args.place c.args.off c.in-Ok.ensures.there c.in-Some.ensures refl c.byte_at-at.ensures
+    lands at c.deref.ensures.value c.args.slot c.args.place c.args.off c.in-Ok.ensures.there c.in-Some.ensures refl c.function_bar_to_board-at.ensures
 
 pub returns-in-Read-clause-reply : goal.returns-in-Read-clause-reply
 returns-in-Read-clause-reply g c =
@@ -58,7 +58,7 @@ returns-in-Read-clause-reply g c =
     let opening = opening_is at c.deref.ensures.value c.args.slot c.args.place c.args.off c.in-Ok.ensures.there c.in-Some.ensures in
     let lone = lone_nth c.args.self.now.world c.args.guest in
     let d = device_byte c.args.slot c.args.place c.args.off in
-    read_there at (slot_lent at c.deref.ensures.value c.in-Ok.ensures.there.there) (register_of (part_of c.args.place)) c.args.off c.byte_at-at.ensures 1 c.region_read-value.ensures.value
+    read_there at (slot_lent at c.deref.ensures.value c.in-Ok.ensures.there.there) (register_of (part_of c.args.place)) c.args.off c.function_bar_to_board-at.ensures 1 c.region_read-value.ensures.value
     ∙ sym (ap (reply_there lone reads d) (opening ∙ ap Ok c.if-not-opened.false))
     ∙ ap (λ (op : Op). byte_reply lone (op_of op) d) (sym c.in-Read.is)
 
@@ -76,7 +76,7 @@ returns-in-Read-clause-read g c = λ _. still_shown c.self.invariant.1 c.self.vi
 pub invariant_of-self-in-Write : goal.invariant_of-self-in-Write
 invariant_of-self-in-Write g c =
     let at = guest_in c.self.invariant.1 c.self.view_is c.args.guest c.requires c.index.ensures in
-    let left = written_there at (slot_lent at c.deref.ensures.value c.in-Ok.ensures.there.there) (register_of (part_of c.args.place)) c.args.off c.byte_at-at.ensures 1 c.in-Write.value c.region_write.ensures in (
+    let left = written_there at (slot_lent at c.deref.ensures.value c.in-Ok.ensures.there.there) (register_of (part_of c.args.place)) c.args.off c.function_bar_to_board-at.ensures 1 c.in-Write.value c.region_write.ensures in (
       g.met.R.Route.by_routing c.self.inside.route c.self.inside.host c.region_write.new.self left.routes c.self.invariant.0,
       after_write_sound c.self.invariant.1 c.self.view_is c.args.guest c.requires c.in-Write.value 1
           (Some (let l : Landing = record { slot = c.args.slot; place = block (register_of (part_of c.args.place)) c.args.off } in l)) left,
@@ -98,7 +98,7 @@ returns-in-Write-clause-after g c =
     let m = c.args.self.now in
     let d = device_byte c.args.slot c.args.place c.args.off in
     accessed c.self.invariant.1 c.self.view_is c.args.guest {t = false}
-    (written_there at (slot_lent at c.deref.ensures.value c.in-Ok.ensures.there.there) (register_of (part_of c.args.place)) c.args.off c.byte_at-at.ensures 1 c.in-Write.value c.region_write.ensures) refl refl
+    (written_there at (slot_lent at c.deref.ensures.value c.in-Ok.ensures.there.there) (register_of (part_of c.args.place)) c.args.off c.function_bar_to_board-at.ensures 1 c.in-Write.value c.region_write.ensures) refl refl
     ∙ sym (ap (λ o. after_nth c.args.guest (after_there (lone_nth m.world c.args.guest) (writes c.in-Write.value) d o) false m) (opening ∙ ap Ok c.if-not-opened.false))
     ∙ ap (λ (op : Op). after_byte_nth c.args.guest (op_of op) d m) (sym c.in-Write.is)
 

@@ -10,8 +10,8 @@ returns-in-Err g c =
     let at = guest_in c.self.invariant.1 c.self.view_is c.args.guest c.requires c.index.ensures in
     ap (λ (n : ℕ). Err n) c.number.ensures ∙ slot_assign_error at c.deref.ensures.value c.args.slot c.in-Err.ensures.refused
 
-pub function_nth-requires-clause-board : goal.function_nth-requires-clause-board
-function_nth-requires-clause-board g c = board_kept (kept_in c.self.invariant.1 c.self.view_is)
+pub describe_function_nth-requires-clause-board : goal.describe_function_nth-requires-clause-board
+describe_function_nth-requires-clause-board g c = board_kept (kept_in c.self.invariant.1 c.self.view_is)
 
 pub returns-in-Some : goal.returns-in-Some
 returns-in-Some g c =

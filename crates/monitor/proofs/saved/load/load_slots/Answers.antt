@@ -17,8 +17,8 @@ loop-slot-init c = record {
   low = omega arith;
 }
 
-pub load_slot-left-requires-clause-can : goal.load_slot-left-requires-clause-can
-load_slot-left-requires-clause-can c =
+pub load_slot_and_advance-left-requires-clause-can : goal.load_slot_and_advance-left-requires-clause-can
+load_slot_and_advance-left-requires-clause-can c =
     let k = c.requires.can.0 in
     let at = kept_nth k.kept (at_below c.args.guests.now c.args.guest c.requires.there).1 in
     let far = c.loop-slot.invariant.so_far k c.requires.can.1 in
@@ -31,12 +31,12 @@ loop-slot-preserved c = record {
       let far = c.loop-slot.invariant.so_far k loadable in
       let can = can_so_far at c.args.bytes.now c.loop-slot.slot c.loop-slot.left.now far.rest loadable (omega arith) in
       record {
-        kept = subst (λ (v : WorldNow). IsKept v c.load_slot-left.new.host k.names c.load_slot-left.new.guests) (goes_on at c.args.bytes.now c.loop-slot.slot c.loop-slot.left.now far.rest (c.loop-slot.slot + 1) refl)
-            (c.load_slot-left.ensures.kept (keeps_so_far far) can);
-        rest = rest_so_far at c.args.bytes.now c.loop-slot.slot c.loop-slot.left.now far.rest (c.loop-slot.slot + 1) refl c.load_slot-left.result.now (c.load_slot-left.ensures.behind (keeps_so_far far));
+        kept = subst (λ (v : WorldNow). IsKept v c.load_slot_and_advance-left.new.host k.names c.load_slot_and_advance-left.new.guests) (goes_on at c.args.bytes.now c.loop-slot.slot c.loop-slot.left.now far.rest (c.loop-slot.slot + 1) refl)
+            (c.load_slot_and_advance-left.ensures.kept (keeps_so_far far) can);
+        rest = rest_so_far at c.args.bytes.now c.loop-slot.slot c.loop-slot.left.now far.rest (c.loop-slot.slot + 1) refl c.load_slot_and_advance-left.result.now (c.load_slot_and_advance-left.ensures.behind (keeps_so_far far));
       };
-  count = c.load_slot-left.auto.guests ∙ c.loop-slot.invariant.count;
-  counts = c.load_slot-left.ensures.counts ∙ c.loop-slot.invariant.counts;
+  count = c.load_slot_and_advance-left.auto.guests ∙ c.loop-slot.invariant.count;
+  counts = c.load_slot_and_advance-left.ensures.counts ∙ c.loop-slot.invariant.counts;
   low = omega arith;
 }
 

@@ -7,21 +7,21 @@ load_header-requires-clause-enough c = enough_header c.requires.0 c.requires.1
 pub split_at-requires : goal.split_at-requires
 split_at-requires c = enough_header c.requires.0 c.requires.1
 
-pub load_blocks-left-requires : goal.load_blocks-left-requires
-load_blocks-left-requires c = (go_on c.requires.0 (c.load_header.ensures.becomes c.requires.0), enough_blocks c.requires.0 c.requires.1 c.split_at.result.1.now c.split_at.ensures.back_len)
+pub load_blocks_and_advance-left-requires : goal.load_blocks_and_advance-left-requires
+load_blocks_and_advance-left-requires c = (go_on c.requires.0 (c.load_header.ensures.becomes c.requires.0), enough_blocks c.requires.0 c.requires.1 c.split_at.result.1.now c.split_at.ensures.back_len)
 
 pub load_regions-requires : goal.load_regions-requires
 load_regions-requires c =
     let header = go_on c.requires.0 (c.load_header.ensures.becomes c.requires.0) in
     let enough = enough_blocks c.requires.0 c.requires.1 c.split_at.result.1.now c.split_at.ensures.back_len in
-    (go_on header (c.load_blocks-left.ensures.becomes header enough), enough_regions c.requires.0 c.requires.1 c.split_at.result.1.now c.split_at.ensures.back_len (c.load_blocks-left.ensures.left header enough))
+    (go_on header (c.load_blocks_and_advance-left.ensures.becomes header enough), enough_regions c.requires.0 c.requires.1 c.split_at.result.1.now c.split_at.ensures.back_len (c.load_blocks_and_advance-left.ensures.left header enough))
 
 pub returns-clause-becomes : goal.returns-clause-becomes
 returns-clause-becomes c = λ k l.
     let one = c.load_header.ensures.becomes k in
     let header = go_on k one in
     let enough = enough_blocks k l c.split_at.result.1.now c.split_at.ensures.back_len in
-    let two = c.load_blocks-left.ensures.becomes header enough in
-    let left = c.load_blocks-left.ensures.left header enough in
+    let two = c.load_blocks_and_advance-left.ensures.becomes header enough in
+    let left = c.load_blocks_and_advance-left.ensures.left header enough in
     let three = c.load_regions.ensures.becomes (go_on header two) (enough_regions k l c.split_at.result.1.now c.split_at.ensures.back_len left) in
-    all_parts k c.args.values.now c.split_at.result.1.now c.load_blocks-left.result.now one two three c.split_at.ensures.back left
+    all_parts k c.args.values.now c.split_at.result.1.now c.load_blocks_and_advance-left.result.now one two three c.split_at.ensures.back left

@@ -1,7 +1,0 @@
-use Rattle.std.proofs.Common.{ap}
-use Rattle.model_board.specs.Routing.{routing}
-use Rattle.bench_accesses.proofs.measure_ready.Goals as goal
-
-pub measure-requires : goal.measure-requires
-measure-requires g c =
-    c.in-Ok.ensures c.into_parts-host.result.0 (ap (λ parts. routing parts.0.state.functions) c.into_parts-host.ensures.parts)

@@ -1,5 +1,0 @@
-use Rattle.board_file.{specs.Problems.of_endpoint, proofs.Walks.GoesOn}
-use Rattle.board_file.proofs.functions.endpoint.push_endpoints.Given as goal
-
-abbrev pub invariant-endpoints : goal.invariant-endpoints
-invariant-endpoints l = GoesOn (of_endpoint l.fault) l.file.endpoints l.index l.initial.problems.items l.problems.items

@@ -1,4 +1,0 @@
-use Rattle.board_file.proofs.path.text.+push_parts.Given as goal
-
-abbrev pub decreases-push_parts : goal.decreases-push_parts
-decreases-push_parts l = l.room

@@ -1,7 +1,0 @@
-use Rattle.toml.specs.View.{table_view}
-use Rattle.board_refusal.proofs.Checks.{AreSoFar}
-use Rattle.board_refusal.proofs.problems.placed_problems.Given as goal
-
-abbrev pub invariant-checks : goal.invariant-checks
-invariant-checks l =
-    AreSoFar l.source.bytes.now (table_view l.source.document.now) l.check-items l.check-index l.all.items

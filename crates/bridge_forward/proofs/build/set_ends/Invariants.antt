@@ -1,5 +1,0 @@
-use Rattle.bridge_forward.proofs.Extents.{Done}
-use Rattle.bridge_forward.proofs.build.set_ends.Given as goal
-
-abbrev pub invariant-loop-i : goal.invariant-loop-i
-invariant-loop-i l = Done l.nodes l.initial.nodes l.i

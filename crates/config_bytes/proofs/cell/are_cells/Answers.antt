@@ -1,5 +1,0 @@
-use Rattle.std.proofs.Common.{arith}
-use Rattle.config_bytes.proofs.cell.are_cells.Goals as goal
-
-pub loop-cell-preserved : goal.loop-cell-preserved
-loop-cell-preserved c = grind arith

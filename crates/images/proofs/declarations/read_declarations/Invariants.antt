@@ -1,6 +1,0 @@
-use Rattle.std.proofs.Common.{take}
-use Rattle.model_images.specs.SavedLaws.{AreDeclared}
-use Rattle.images.proofs.declarations.read_declarations.Given as goal
-
-abbrev pub invariant-loop-index : goal.invariant-loop-index
-invariant-loop-index l = AreDeclared (take l.index l.host.state.functions)

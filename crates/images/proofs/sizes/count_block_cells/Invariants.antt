@@ -1,0 +1,14 @@
+use Rattle.std.{proofs.Common.{◌≡◌, ◌+◌, ◌≤◌, length}, specs.Prelude.flat_map}
+use Rattle.lists.specs.Elements.{Each}
+use Rattle.model_registers.specs.{DeclarationRules.IsConfigBlock, EndpointTable.block_cells}
+use Rattle.images.proofs.sizes.count_block_cells.Given as goal
+
+abbrev pub invariant-loop-block : goal.invariant-loop-block
+invariant-loop-block l = record {
+  lawful : Each IsConfigBlock l.left;
+  all : l.size + length (flat_map block_cells l.left) ≡ length (flat_map block_cells l.blocks);
+  bound : l.size ≤ 193;
+}
+
+abbrev pub decreases-loop-block : goal.decreases-loop-block
+decreases-loop-block l = length l.left

@@ -1,0 +1,9 @@
+use Rattle.std.proofs.Common.{◌∙◌, refl, arith}
+use Rattle.images.{specs.Parts.region_bytes, proofs.Puts.next_of}
+use Rattle.images.proofs.writing.put_regions_and_advance.Goals as goal
+
+pub loop-region-preserved : goal.loop-region-preserved
+loop-region-preserved c =
+    let s = next_of region_bytes c.in-Some.region.now c.loop-region.left.now c.in-Some.rest.now c.loop-region.next c.put_region_and_advance-next.result (region_bytes c.in-Some.region.now) c.loop-region.out c.put_region_and_advance-next.new.out (grind arith)
+    refl c.put_region_and_advance-next.ensures.bytes c.put_region_and_advance-next.ensures.end c.loop-region.invariant.room in
+    record { lawful = grind arith; counts = grind arith; room = s.room; end = s.end ∙ c.loop-region.invariant.end; bytes = s.bytes ∙ c.loop-region.invariant.bytes }

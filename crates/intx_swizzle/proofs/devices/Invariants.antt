@@ -1,5 +1,0 @@
-use Rattle.std.proofs.Common.{◌≡◌, ◌≤◌, ◌*◌, take, sum_by}
-use Rattle.intx_swizzle.proofs.devices.Given as goal
-
-abbrev pub invariant-loop-part : goal.invariant-loop-part
-invariant-loop-part l = (l.sum ≡ sum_by (λ p. p.device) (take l.part-index l.parts)) × (l.sum ≤ 15 * l.part-index)

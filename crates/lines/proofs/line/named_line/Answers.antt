@@ -1,7 +1,0 @@
-use Rattle.lines.{specs.Lines.{texts, IsFirst}, proofs.NameLemmas.{found, guests_are_this}}
-use Rattle.lines.proofs.line.named_line.Goals as goal
-
-pub returns-in-Some-clause-first : goal.returns-in-Some-clause-first
-returns-in-Some-clause-first c =
-    let first = (found c.args.names.now c.args.first.now c.in-Some.guest c.in-Some.ensures).first in
-    guests_are_this (IsFirst (texts c.args.names.now)) c.in-Some.guest c.guest_line.result c.guest_line.ensures.guest first

@@ -1,5 +1,0 @@
-use Rattle.model_board.proofs.PlacesLaw.{lawful_places_are_boards}
-use Rattle.model_board.proofs.lawful_places.Goals as goal
-
-pub returns : goal.returns
-returns c = lawful_places_are_boards

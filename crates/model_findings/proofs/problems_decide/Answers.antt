@@ -1,6 +1,0 @@
-use Rattle.std.proofs.Common.{arith}
-use Rattle.model_findings.proofs.{Found.numbering_decides, Problems.routing_decides, Witnesses.{problems_are_real, problems_decide}}
-use Rattle.model_findings.proofs.problems_decide.Goals as goal
-
-pub returns : goal.returns
-returns c = grind (arith, problems_are_real, problems_decide, routing_decides, numbering_decides)

@@ -1,5 +1,0 @@
-use Rattle.model_findings.proofs.SetUpReady.{set_up_is_ready, ready_as_set_up}
-use Rattle.model_findings.proofs.set_up_is_ready.Goals as goal
-
-pub returns : goal.returns
-returns c = record { set_up = set_up_is_ready; later = ready_as_set_up }

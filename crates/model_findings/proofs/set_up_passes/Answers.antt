@@ -1,5 +1,0 @@
-use Rattle.model_findings.proofs.SetUpPasses.{set_up_passes, routed_as_set_up}
-use Rattle.model_findings.proofs.set_up_passes.Goals as goal
-
-pub returns : goal.returns
-returns c = record { set_up = set_up_passes; later = routed_as_set_up }

@@ -1,5 +1,0 @@
-use Rattle.model_guests.proofs.DeviceSeats.{own_after, others_after, seated_after, names_after}
-use Rattle.model_guests.proofs.devices_keep_guests.Goals as goal
-
-pub returns : goal.returns
-returns c = record { own = own_after; others = others_after; seated = seated_after; names = names_after }

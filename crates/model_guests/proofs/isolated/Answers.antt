@@ -1,5 +1,0 @@
-use Rattle.model_guests.proofs.Isolation.{isolated_over}
-use Rattle.model_guests.proofs.isolated.Goals as goal
-
-pub returns : goal.returns
-returns c = isolated_over

@@ -1,5 +1,0 @@
-use Rattle.model_handoff.proofs.Accesses.{region_reads, region_writes, hit_acts, memory_by_space, ports_by_space, cycle_reads, cycle_writes}
-use Rattle.model_handoff.proofs.accesses_reach_files.Goals as goal
-
-pub returns : goal.returns
-returns c = search (region_reads, region_writes, hit_acts, memory_by_space, ports_by_space, cycle_reads, cycle_writes)

@@ -1,5 +1,0 @@
-use Rattle.model_handoff.proofs.DevicesOver.{lawful_after_devices, reset_after_devices}
-use Rattle.model_handoff.proofs.devices_over_handoffs.Goals as goal
-
-pub returns : goal.returns
-returns c = record { lawful = lawful_after_devices; shown = reset_after_devices }

@@ -1,5 +1,0 @@
-use Rattle.model_handoff.proofs.Regions.{region_is_claimed, hit_reaches_over}
-use Rattle.model_handoff.proofs.regions_are_reached.Goals as goal
-
-pub returns : goal.returns
-returns c = record { claimed = region_is_claimed; hits = hit_reaches_over }

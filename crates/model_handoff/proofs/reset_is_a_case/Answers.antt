@@ -1,5 +1,0 @@
-use Rattle.model_handoff.proofs.ResetCase.{reset_is_handoff}
-use Rattle.model_handoff.proofs.reset_is_a_case.Goals as goal
-
-pub returns : goal.returns
-returns c = reset_is_handoff

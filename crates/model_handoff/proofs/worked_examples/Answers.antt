@@ -1,5 +1,0 @@
-use Rattle.model_handoff.proofs.Examples.{worked_examples}
-use Rattle.model_handoff.proofs.worked_examples.Goals as goal
-
-pub returns : goal.returns
-returns c = worked_examples

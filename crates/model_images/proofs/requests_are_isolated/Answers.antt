@@ -1,5 +1,0 @@
-use Rattle.model_images.proofs.Requests.{isolated_by_requests}
-use Rattle.model_images.proofs.requests_are_isolated.Goals as goal
-
-pub returns : goal.returns
-returns c = isolated_by_requests

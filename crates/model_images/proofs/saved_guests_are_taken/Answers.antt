@@ -1,5 +1,0 @@
-use Rattle.model_images.proofs.SavedWorlds.{can_be_saved_at_first, can_be_saved_along, takes_saved_guest, saves_what_was_taken, no_image_is_refused}
-use Rattle.model_images.proofs.saved_guests_are_taken.Goals as goal
-
-pub returns : goal.returns
-returns c = search (can_be_saved_at_first, can_be_saved_along, takes_saved_guest, saves_what_was_taken, no_image_is_refused)

@@ -1,5 +1,0 @@
-use Rattle.model_images.proofs.TakenBytes.{slots_are_taken, image_is_taken, accepted_is_taken}
-use Rattle.model_images.proofs.taken_bytes_are_slots.Goals as goal
-
-pub returns : goal.returns
-returns c = record { slots = slots_are_taken; image = image_is_taken; accepted = accepted_is_taken }

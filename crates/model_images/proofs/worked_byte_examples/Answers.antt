@@ -1,5 +1,0 @@
-use Rattle.model_images.proofs.ByteExamples.{byte_examples}
-use Rattle.model_images.proofs.worked_byte_examples.Goals as goal
-
-pub returns : goal.returns
-returns c = byte_examples

@@ -1,5 +1,0 @@
-use Rattle.model_images.proofs.ImageExamples.{image_examples}
-use Rattle.model_images.proofs.worked_examples.Goals as goal
-
-pub returns : goal.returns
-returns c = image_examples

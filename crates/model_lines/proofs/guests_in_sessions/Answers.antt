@@ -1,5 +1,0 @@
-use Rattle.model_lines.proofs.HandoverLines.{given_by, isolated_sessions}
-use Rattle.model_lines.proofs.guests_in_sessions.Goals as goal
-
-pub returns : goal.returns
-returns c = record { given = given_by; isolated = isolated_sessions }

@@ -1,5 +1,0 @@
-use Rattle.model_lines.proofs.Requests.{request_examples}
-use Rattle.model_lines.proofs.worked_requests.Goals as goal
-
-pub returns : goal.returns
-returns c = request_examples

@@ -1,5 +1,0 @@
-use Rattle.model_registers.proofs.ListedCapabilities.{lists_declared}
-use Rattle.model_registers.proofs.listed_capabilities.Goals as goal
-
-pub returns : goal.returns
-returns c = lists_declared

@@ -1,7 +1,0 @@
-use Rattle.std.proofs.Common.{◌∙◌}
-use Rattle.monitor.proofs.GiftSteps.{closed_told}
-use Rattle.monitor.proofs.slots.assign_checks.has_closed.Goals as goal
-
-pub returns-in-Some : goal.returns-in-Some
-returns-in-Some c = λ f at.
-    c.any_closed.ensures ∙ closed_told c.args.host.now.state.functions c.args.index f at c.in-Some.command c.in-Some.ensures c.placed_nth-placed.result c.placed_nth-placed.ensures

@@ -1,0 +1,13 @@
+use Rattle.std.{proofs.Common.{rules, Option, ap}, specs.Prelude.option_and_then}
+use Rattle.model_lines.specs.Sessions.{SessionNow}
+use Rattle.session.specs.Stages.{board_in}
+use Rattle.pciguest_c.{specs.Handles.session_of, proofs.Options.where_lent}
+use Rattle.pciguest_c.proofs.handle.Handle.with_board.Goals as goal
+
+pub returns-clause-asked : goal.returns-clause-asked
+returns-clause-asked g c =
+    where_lent board_in _ (session_of c.args.self.now) _ _ c.in-Some-board.board.now c.in-Some.ensures.session c.deref_mut.ensures.value c.in-Some-board.ensures.board (
+      c.question-answer.new.arg2,
+      search rules,
+      ap (λ (o : Option SessionNow). option_and_then board_in o) c.of-2.ensures,
+    )
