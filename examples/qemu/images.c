@@ -5,7 +5,7 @@
 #include <stdlib.h>
 #include <string.h>
 
-enum { LONGEST_LINE = 255, MOST = 4 << 20 /* bytes: an image has 3,187,244 at most */ };
+enum { LONGEST_LINE = 255, MOST = 4 << 20 /* bytes, which is more than any image has */ };
 
 /* What a reply says of a number, or of a file. */
 static void reply_by_number(FILE *replies, uint32_t number)

@@ -2,6 +2,7 @@
 //! register byte.
 ghost use Rattle.std.specs.Prelude.{◌≡◌, ◌≤◌, ◌+◌, length};
 ghost use Rattle.model_registers.specs.OwnCopies.{OwnCopies};
+ghost use Rattle.model_images.specs.ImageBytes.{greatest_function};
 ghost use Rattle.images.specs.{Puts.put, Shown.{HasDeclaredPlaces, function_bytes, seen}};
 
 use crate::function_values::put_all_values_and_advance;
@@ -16,7 +17,7 @@ pub fn saved_function_size(endpoint: &EndpointFn) -> usize
     requires { HasDeclaredPlaces endpoint.now }
     ensures size { (own : OwnCopies)
         → result ≡ length (function_bytes (seen endpoint.now own)) }
-    ensures bound { result ≤ 99600 }
+    ensures bound { result ≤ greatest_function }
 {
     let decl = endpoint.decl();
     encoded_declaration_size(decl) + count_endpoint_cells(decl)

@@ -2,7 +2,7 @@
 ghost use Rattle.std.specs.Prelude.{◌≡◌, ◌≤◌, false, flat_map, length};
 ghost use Rattle.lists.specs.Elements.{Each};
 ghost use Rattle.model_registers.specs.{DeclarationRules.IsConfigBlock, EndpointTable.{block_cells, endpoint_reset, region_cells}};
-ghost use Rattle.model_images.specs.ImageBytes.{declaration_bytes};
+ghost use Rattle.model_images.specs.ImageBytes.{declaration_bytes, greatest_declaration, greatest_values};
 ghost use Rattle.images.specs.Parts.{block_bytes, declared_bytes, region_bytes};
 
 use headers::{ConfigBlock, EndpointDecl, Region, bar_width_in_bytes};
@@ -40,7 +40,7 @@ fn encoded_blocks_size(blocks: &[ConfigBlock]) -> usize
 /// Returns the total size of the parts of a declaration, in bytes.
 fn encoded_parts_size(decl: &EndpointDecl) -> usize
     ensures size { result ≡ length (declared_bytes decl.now) }
-    ensures bound { result ≤ 74784 }
+    ensures bound { result ≤ greatest_declaration }
 {
     let values = decl.values();
     19 + encoded_regions_size(&values.bar) + encoded_blocks_size(&values.config)
@@ -50,7 +50,7 @@ fn encoded_parts_size(decl: &EndpointDecl) -> usize
 #[tactic(auto, using(crate::proofs::DeclaredBytes::declared_is))]
 pub fn encoded_declaration_size(decl: &EndpointDecl) -> usize
     ensures size { result ≡ length (declaration_bytes decl.now) }
-    ensures bound { result ≤ 74784 }
+    ensures bound { result ≤ greatest_declaration }
 {
     encoded_parts_size(decl)
 }
@@ -89,7 +89,7 @@ fn count_block_cells(blocks: &[ConfigBlock]) -> usize
 /// Returns how many register bytes a declared endpoint has. Each takes one byte in a saved state.
 pub fn count_endpoint_cells(decl: &EndpointDecl) -> usize
     ensures size { result ≡ length (endpoint_reset decl.now false) }
-    ensures bound { result ≤ 24816 }
+    ensures bound { result ≤ greatest_values }
 {
     let values = decl.values();
     23 + count_block_cells(&values.config) + count_region_cells(&values.bar)

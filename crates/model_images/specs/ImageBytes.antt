@@ -4,7 +4,8 @@
 --     values_layout, function_layout, latch_layout, image_layout      values; a function; CONFIG_ADDRESS; an image
 --     declaration_bytes, image_bytes      the bytes of a declaration, and of an image
 --     image_of bytes      the image that the bytes encode
-use Rattle.std.specs.Prelude.{List, ℕ, ◌==◌, true, false, if◌then◌else◌, nat_lt, length, Option}
+--     greatest_declaration, greatest_values, greatest_function, greatest_image      the most bytes of each
+use Rattle.std.specs.Prelude.{List, ℕ, ◌+◌, ◌*◌, ◌==◌, true, false, if◌then◌else◌, nat_lt, length, Option}
 use Rattle.model_registers.specs.{Cell.Cell, ConfigAddress.latched, Declarations.{Kind, io_kind, mem32, mem64, Region, ConfigBlock, Endpoint}, EndpointTable.endpoint_reset}
 use Rattle.model_images.specs.{Images.{SavedFunction, Image, fit_cells}, Layouts.{Layout, number, checked, through, followed, both, exactly, repeated, counted, optional, whole}}
 
@@ -133,3 +134,18 @@ image_bytes i = image_layout.bytes i
 
 abbrev pub image_of : List ℕ → Option Image
 image_of bytes = whole image_layout bytes
+
+-- ---- the greatest sizes, in bytes
+
+abbrev pub greatest_declaration : ℕ
+greatest_declaration = 74784
+
+abbrev pub greatest_values : ℕ
+greatest_values = 24816
+
+abbrev pub greatest_function : ℕ
+greatest_function = greatest_declaration + greatest_values
+
+-- the header and CONFIG_ADDRESS, then 32 slots
+abbrev pub greatest_image : ℕ
+greatest_image = 12 + 32 * (1 + greatest_function)

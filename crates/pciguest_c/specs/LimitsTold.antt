@@ -1,11 +1,8 @@
 -- Upper limits of sizes, as C receives them.
---     greatest_image      no image of a guest has more bytes: 12 and 32 slots of 99601
 --     limits      functions, guests and slots as board files may have them; registers; cells of a region and of a function
 use Rattle.std.specs.Prelude.{ℕ, replicate}
+use Rattle.model_images.specs.ImageBytes.{greatest_image}
 use Rattle.pciguest_c.specs.declared.machine.limits.LimitsRow.{LimitsRow}
-
-abbrev pub greatest_image : ℕ
-greatest_image = 3187244
 
 abbrev pub limits : LimitsRow
 limits = record {

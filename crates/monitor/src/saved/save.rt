@@ -1,7 +1,7 @@
 //! Saves guests' states, and checks whether a guest can load saved bytes: 905, 906 and 908 say why
 //! it can't. No call allocates memory.
-ghost use Rattle.std.specs.Prelude.{◌≡◌, ◌≤◌, ◌<◌, ◌+◌, [], Ok, Err, IfErr, IfOk, length, map, option_map};
-ghost use Rattle.model_images.specs.{Images.{image_of_guest, image_of_lone}, ImageBytes.image_bytes, LoadedBytes.{after_image, after_slot, after_slots}, SavedLaws.IsTakenByEach};
+ghost use Rattle.std.specs.Prelude.{◌≡◌, ◌≤◌, ◌<◌, ◌+◌, ◌*◌, [], Ok, Err, IfErr, IfOk, length, map, option_map};
+ghost use Rattle.model_images.specs.{Images.{image_of_guest, image_of_lone}, ImageBytes.{image_bytes, greatest_function, greatest_image}, LoadedBytes.{after_image, after_slot, after_slots}, SavedLaws.IsTakenByEach};
 ghost use Rattle.images.specs.{Faults.number_of, Puts.put, Shown.seen};
 ghost use Rattle.monitor.specs.{ByIndex.name_nth, Views.slot_shown, ShownImages.{HasPlaces, HavePlaces, lone_shown, slot_image, slots_image}};
 
@@ -36,7 +36,7 @@ pub(crate) fn endpoint_and_guest_copies<'a>(
 fn saved_slot_size(host: &Host, slot: &Option<AssignedFunction>) -> usize
     requires { HasPlaces (slot_shown host.now.state.functions slot.now) }
     ensures size { result ≡ length (slot_image host.now.state.functions slot.now) }
-    ensures bound { result ≤ 99601 }
+    ensures bound { result ≤ 1 + greatest_function }
 {
     match endpoint_and_guest_copies(host, slot) {
         Some((endpoint, _)) => 1 + saved_function_size(endpoint),
@@ -48,7 +48,7 @@ fn saved_slots_size(host: &Host, slots: &[Option<AssignedFunction>]) -> usize
     requires places { HavePlaces host.now.state.functions slots.now }
     requires few { length slots.now ≤ 32 }
     ensures size { result ≡ length (slots_image host.now.state.functions slots.now) }
-    ensures bound { result ≤ 3187232 }
+    ensures bound { result ≤ 32 * (1 + greatest_function) }
 {
     let mut left = slots;
     let mut size = 0;
@@ -174,13 +174,12 @@ pub(crate) fn check_image_matches(
 }
 
 impl<R: Route> Engine<R> {
-    /// Returns the size of a guest's saved state in bytes: 12, and 1 to 99,601 for each of the 32
-    /// slots.
+    /// Returns the size of a guest's saved state in bytes.
     pub fn image_size(&self, guest: usize) -> usize
         requires { guest < length self.now.world.guests }
         ensures size { let image = image_of_guest (name_nth self.now.world guest) self.now.world in
             result ≡ length (image_bytes image) }
-        ensures bound { result ≤ 3187244 }
+        ensures bound { result ≤ greatest_image }
     {
         let _ = &self.names;
         12 + saved_slots_size(&self.host, &self.guests[guest].slots)
