@@ -5,8 +5,9 @@ of the folders boards and examples, and over random boards with mistakes.
     tests/schema.py PROGRAM [--files N] [--seed S]
 
 What the program accepts the schema accepts. What the program refuses by 102, 103 or 104 the schema refuses, but for a block
-of configuration cells or a structure that ends after offset FFh, which no schema can say. Of 105 to 112 it may tell some.
-The subset of JSON Schema that it uses is judged by the class below, and by the module jsonschema too where that is there.
+of configuration cells or a structure that ends after offset FFh, which no schema can say. It may also tell some with a
+number above 104. The subset of JSON Schema that it uses is judged by the class below, and by the module jsonschema too
+where that is there.
 The last line is 'N passed, M failed'."""
 import json
 import random

@@ -2,7 +2,7 @@
 --     is_between, has_only_bits      a number in a range; one of 16 bits with none outside a mask
 --     has_at_most_15_slashes      a text has at most 15 slashes
 --     is_root, is_endpoint, names_endpoint      bus 0; there is an endpoint at a path; a text is the path of an endpoint
---     is_size      a power of two within the limits of a region's kind
+--     is_valid_bar_size      a power of two within the limits of a region's kind
 --     fits_byte, fits_half_word      the rule that a number fits in its register, and whether it is kept
 --     identity_rules, kept      the rules of what identifies a function; all rules of a list are kept
 --     is_non_negative, is_none_or_non_negative      both addresses of an aperture are 0 or more

@@ -25,6 +25,6 @@ pub use excerpts::{push_excerpt_if_enabled, push_excerpt_of_head};
 pub use heads::{Head, Position, Subject};
 pub use line_numbers::line_of;
 pub use message_layout::{MessageLayout, RenderOptions};
-pub use shown::{Shown, push_as_printable};
+pub use shown::Shown;
 pub use steps::Step;
 pub use text_place::TextPlace;

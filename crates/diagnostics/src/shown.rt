@@ -1,6 +1,5 @@
 //! Displays bytes of a file safely.
 
-use std::alloc::AllocError;
 use std::fmt;
 
 /// Displays bytes as text, with `?` for each byte that isn't printable ASCII.
@@ -18,9 +17,4 @@ impl<'a> fmt::Display for Shown<'a> {
         }
         Ok(())
     }
-}
-
-/// Appends bytes as text, with `?` for each byte that isn't printable ASCII.
-pub fn push_as_printable(text: &mut String, bytes: &[u8]) -> Result<(), AllocError> {
-    write!(text, "{}", Shown(bytes))
 }

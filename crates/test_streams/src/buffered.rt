@@ -39,7 +39,7 @@ fn writes_that_take_nothing_fail(rt: HostRuntime) -> Result<(), Fail> {
 #[derive(Drop)]
 struct KeepsBack<'a> {
     kept: usize,
-    forwarded_byte_enables: &'a Cell<usize>,
+    flushed: &'a Cell<usize>,
 }
 
 impl Write for KeepsBack<'_> {
@@ -49,7 +49,7 @@ impl Write for KeepsBack<'_> {
     }
 
     fn flush(&mut self) -> std::io::Result<()> {
-        self.forwarded_byte_enables.set(self.kept);
+        self.flushed.set(self.kept);
         Ok(())
     }
 }
@@ -58,15 +58,15 @@ impl Write for KeepsBack<'_> {
 /// more is read.
 #[test]
 fn a_flush_goes_to_the_system(rt: HostRuntime) -> Result<(), Fail> {
-    let forwarded_byte_enables = Cell::new(0);
+    let flushed = Cell::new(0);
     let behind = KeepsBack {
         kept: 0,
-        forwarded_byte_enables: &forwarded_byte_enables,
+        flushed: &flushed,
     };
     let mut writer = OutputStream::buffered(rt.alloc(), behind).expect(&rt, "memory");
     assert!(rt; write_all(&mut writer, b"a: ok\n").is_ok());
-    assert_eq!(rt; forwarded_byte_enables.get(), 0);
+    assert_eq!(rt; flushed.get(), 0);
     assert!(rt; writer.flush().is_ok());
-    assert_eq!(rt; forwarded_byte_enables.get(), 6);
+    assert_eq!(rt; flushed.get(), 6);
     Ok(())
 }

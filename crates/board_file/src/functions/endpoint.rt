@@ -131,7 +131,7 @@ fn has_valid_bar_indices(endpoint: &EndpointEntry<'_>) -> bool
 }
 
 /// Returns whether no BARs share a register and none needs more than the six registers. Also
-/// returns true if an index isn't valid, which is a problem of its own.
+/// returns true if an index isn't valid, which another rule reports.
 fn has_disjoint_bar_registers(endpoint: &EndpointEntry<'_>) -> bool
     ensures { result
         ≡ (not (has_valid_bar_indices endpoint.now)
