@@ -3,12 +3,11 @@
 import { grouped } from './findings.js';
 import { hex } from './report.js';
 import { called } from './names.js';
-import { number_of, words_in } from './forms.js';
+import { VERBS, number_of, words_in } from './forms.js';
 import { function_named } from './register_in_line.js';
 import { register_at } from './register_names.js';
 import { owner_in_words } from './marks.js';
 
-const READS = { cw: 'cr', iw: 'ir', mw: 'mr' };
 const range_of = ({ first, last }) => `${hex(first)} to ${hex(last)}`;
 const last_of = region => region.first + region.size - 1n;
 
@@ -66,10 +65,10 @@ export function changes_between(before, after) {
 
 // What a line writes: the read of the same place, and its words; null for a line that writes nothing.
 export function written_by(line, { functions, owners }) {
-  const [who, verb, ...rest] = words_in(line).map(one => one.word), reads = READS[verb];
-  if (reads === undefined) return null;
-  const asks = `${[who, reads, ...rest.slice(0, -1)].join(' ')}`;
-  if (verb !== 'cw') return { line: asks, path: null, offset: 0, words: `${verb === 'iw' ? 'I/O port' : 'memory'} ${rest[0]}${who === 'host' ? '' : ` of ${who}`}` };
+  const [who, verb, ...rest] = words_in(line).map(one => one.word), { space, read_back } = VERBS[verb] ?? {};
+  if (read_back === undefined) return null;
+  const asks = [who, read_back, ...rest.slice(0, -1)].join(' ');
+  if (space !== 'cfg') return { line: asks, path: null, offset: 0, words: `${space === 'io' ? 'I/O port' : 'memory'} ${rest[0]}${who === 'host' ? '' : ` of ${who}`}` };
   const [where, offset, width] = rest, [from, bytes] = [offset, width].map(word => Number(number_of(word ?? '') ?? 0n));
   const one = function_named(who, where ?? '', functions.filter(each => !each.lost), owners), titles = new Set(Array.from({ length: bytes }, (_, nth) => register_at(one?.kind ?? 'endpoint', from + nth)?.title ?? 'bytes of its own'));
   return { line: asks, path: one?.path ?? null, called: one && called(one), offset: from, words: [...titles].join(', ') };

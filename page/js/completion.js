@@ -1,14 +1,12 @@
 // The words that fit where one types in a line: guests, what they do, functions by path or number, registers by name.
 
 import { hex, two_digits } from './report.js';
-import { DOES, form_of, forms_of, number_of, shape_of, words_in } from './forms.js';
+import { VERBS, forms_of, number_of, shape_of, words_in } from './forms.js';
 import { function_named } from './register_in_line.js';
 import { register_at, registers_of } from './register_names.js';
 
 // An offer has what is put in, what is told beside it, and the names by which it is found.
 const offer = (text, told, ...names) => ({ text, told, names: [text, ...names] });
-
-const SPACE = { i: 'io', m: 'mem' };
 
 // Registers are also found by any part of their names, and those of a bridge's windows as such.
 const registers_in = kind => registers_of(kind).map(({ name, title, offset, width }) => ({
@@ -19,28 +17,29 @@ const regions_in = (space, { places }, who) => places(who).filter(one => one.spa
 
 // What may stand in the place of a word of a form.
 function offers_for({ name, words: those = [] }, words, board) {
-  const who = words[0].word, verb = words[1].word, spoken_of = () => function_named(who, words[2].word, board.functions, board.owners);
+  const who = words[0].word, { space } = VERBS[words[1].word], spoken_of = () => function_named(who, words[2].word, board.functions, board.owners);
   if (name === 'the function') return board.functions.filter(one => !one.lost).map(one => offer(one.place, `${one.path} ${one.words}`, one.path));
-  if (name === 'the slot' && verb !== 'move') {
+  if (name === 'the slot') {
     return board.functions.filter(one => board.owners.get(one.path)?.guest === who)
       .map(one => offer(`${board.owners.get(one.path).slot}`, `${one.path} ${one.words}`, one.path));
   }
-  if (name === 'the offset' && /^c[rw]$/.test(verb)) return registers_in(spoken_of()?.kind ?? 'endpoint');
-  if (name === 'the width' && /^c[rw]$/.test(verb)) {
+  if (name === 'the offset' && space === 'cfg') return registers_in(spoken_of()?.kind ?? 'endpoint');
+  if (name === 'the width' && space === 'cfg') {
     const one = spoken_of(), register = one && register_at(one.kind, Number(number_of(words[3].word) ?? 256n));
     return register ? [offer(`${register.width}`, `bytes of ${register.title}`)] : [];
   }
-  if (name === 'the address' || name === 'the port') return regions_in(verb === 'why' ? words[2].word : SPACE[verb[0]], board, who);
+  // A line with `why` names the space itself.
+  if (name === 'the address' || name === 'the port') return regions_in(space ?? words[2].word, board, who);
   return those.map(one => offer(one, ''));
 }
 
 function offers_at(nth, words, board) {
   const names = board.as === 'firmware' ? [] : board.guests;
   if (nth === 0) return [...names.map(one => offer(one, 'guest')), offer('host', board.as === 'firmware' ? 'firmware' : 'the host')];
-  const forms = forms_of(words[0].word, names, board.as);
+  const forms = forms_of(words[0].word, names, board.as, words[2]?.word);
   if (forms === null) return [];
-  if (nth === 1) return Object.keys(forms).map(verb => offer(verb, `${DOES[verb]}: ${shape_of([words[0].word, verb], form_of(forms, verb))}`));
-  const word = form_of(forms, words[1].word, words[2]?.word)?.[nth - 2];
+  if (nth === 1) return Object.keys(forms).map(verb => offer(verb, `${VERBS[verb].does}: ${shape_of([words[0].word, verb], forms[verb])}`));
+  const word = forms[words[1].word]?.[nth - 2];
   return word === undefined ? [] : offers_for(word, words, board);
 }
 

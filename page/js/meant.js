@@ -1,7 +1,7 @@
 // What the reader may have meant by a word that is wrong, and what a line that has its form will be refused for, told while it is typed.
 
 import { hex } from './report.js';
-import { form_of, forms_of, number_of, words_in } from './forms.js';
+import { VERBS, forms_of, number_of, words_in } from './forms.js';
 
 const WIDTHS = [1n, 2n, 4n];
 const PLACES = ['the offset', 'the port', 'the address'];
@@ -19,13 +19,13 @@ export function explained(bad, functions) {
   if (is_path && meant === null) return `the function, '${bad.word.word}', is a path, and no number leads to that function yet`;
   if (is_path) return `the function, '${bad.word.word}', is a path: did you mean its number, ${meant}?`;
   if (meant !== null) return `${bad.name}, '${bad.word.word}': did you mean ${meant}?`;
-  return bad.is_number && bad.name === 'the offset' && /^c[rw]$/.test(bad.verb) ? `${bad.why}; or type part of a register's name, such as command, and choose it from the list` : bad.why;
+  return bad.is_number && bad.name === 'the offset' && VERBS[bad.verb].space === 'cfg' ? `${bad.why}; or type part of a register's name, such as command, and choose it from the list` : bad.why;
 }
 
 // The numbers of a line, by what they are in its form.
 function numbers_in(line, guests, as) {
-  const words = words_in(line).map(one => one.word), forms = forms_of(words[0], as === 'firmware' ? [] : guests, as);
-  const form = forms && form_of(forms, words[1], words[2]);
+  const words = words_in(line).map(one => one.word), forms = forms_of(words[0], as === 'firmware' ? [] : guests, as, words[2]);
+  const form = forms?.[words[1]];
   if (!form) return {};
   const found = form.map(({ name }, nth) => [name, number_of(words[nth + 2] ?? '')]).filter(([, value]) => value !== null);
   return { ...Object.fromEntries(found), place: found.find(([name]) => PLACES.includes(name)) };

@@ -1,12 +1,10 @@
 // The route of a configuration cycle, an address or a port down the tree, bus by bus: which register forwards it or responds to it, and which doesn't.
 
 import { hex, parent_of, regions_of, two_digits, windows_of } from './report.js';
-import { number_of, words_in } from './forms.js';
+import { VERBS, number_of, words_in } from './forms.js';
 import { called } from './names.js';
-import { SPACE_READ } from './why.js';
 
 const WINDOW_NAMES = { io: 'I/O window', mem: 'memory window', pref: 'prefetchable window' };
-const SPACE_OF = { cw: 'cfg', iw: 'io', mw: 'mem', ...SPACE_READ };
 const NUMBER = /^([0-9a-f]{2}):([0-9a-f]{2}\.[0-7])$/i;
 const LATCH_PORT = 0xcf8n, LATCH_DATA = 0xcfcn, LAST_PORT = 0xcffn;
 const is_in = ({ first, last }, place) => first <= place && place <= last;
@@ -16,7 +14,7 @@ const hex_bus = text => parseInt(text, 16);
 
 // What goes down by a line of the host's: { space, place, words }; null where nothing does, as by the latch. `latch` reads CONFIG_ADDRESS.
 export function sent_by(line, latch) {
-  const [who, verb, word] = words_in(line).map(one => one.word), asks = verb === 'why', space = asks ? word : SPACE_OF[verb];
+  const [who, verb, word] = words_in(line).map(one => one.word), asks = verb === 'why', space = asks ? word : VERBS[verb]?.space;
   const place = asks ? words_in(line)[3]?.word : word;
   if (who !== 'host' || space === undefined || place === undefined) return null;
   if (space === 'cfg') return NUMBER.test(place) ? { space, place: place.toLowerCase(), words: `configuration ${place.toLowerCase()}` } : null;
@@ -28,7 +26,7 @@ export function sent_by(line, latch) {
 
 // What goes down by a guest's line: its own address, translated by a region that it has enabled, `open`, or the function in its slot.
 export function sent_by_guest(line, open, path_in_slot, functions) {
-  const [who, verb, word] = words_in(line).map(one => one.word), space = SPACE_OF[verb], at = number_of(word ?? '');
+  const [who, verb, word] = words_in(line).map(one => one.word), space = VERBS[verb]?.space, at = number_of(word ?? '');
   if (space === undefined || at === null) return null;
   const path = space === 'cfg' ? path_in_slot(who, Number(at)) : undefined, in_slot = functions.find(each => each.path === path);
   if (in_slot) return { space, place: in_slot.place, words: `slot ${at} of ${who}, configuration ${in_slot.place} on the board` };

@@ -2,11 +2,10 @@
 
 import { party } from './findings.js';
 import { read_json } from './report.js';
-import { number_of, words_in } from './forms.js';
+import { VERBS, is_read, number_of, words_in } from './forms.js';
 
 const HEAD = 'why: '.length;
 const ALL_ONES = /^(\S+): 0x(?:ff){1,4}$/;
-export const SPACE_READ = { cr: 'cfg', ir: 'io', mr: 'mem' };
 
 // What is asked of firmware's board at an address, a port or a number: the line, the address with its space where it has one, and the words
 // of the call.
@@ -23,8 +22,8 @@ export const question_of = (guest, space, ...places) => ({ line: `why ${guest} $
 
 // What a read asks that was answered by all ones, or null: firmware's of its board, a guest's of the guest.
 export function question_after(line, reply, { as, guests }) {
-  const [who, verb, ...places] = words_in(line).map(one => one.word), space = SPACE_READ[verb];
-  if (space === undefined || ALL_ONES.exec(reply)?.[1] !== who) return null;
+  const [who, verb, ...places] = words_in(line).map(one => one.word), space = VERBS[verb]?.space;
+  if (!is_read(line) || ALL_ONES.exec(reply)?.[1] !== who) return null;
   if (guests.includes(who)) return question_of(who, space, ...places.slice(0, -1));
   return as === 'firmware' && who === 'host' ? question_at(space, places[0]) : null;
 }

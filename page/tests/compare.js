@@ -6,10 +6,10 @@ import { Engine, run } from '../js/engine.js';
 import { joined, same } from './compare_bytes.js';
 import { images_hold } from './compare_images.js';
 import { ways_astray } from './compare_ways.js';
-import { words_in } from '../js/forms.js';
+import { VERBS, is_read, words_in } from '../js/forms.js';
 import { capability_list } from '../js/capabilities.js';
 import { number_at, read_json } from '../js/report.js';
-import { question_at, question_of, read_why, read_why_of_guest, SPACE_READ } from '../js/why.js';
+import { question_at, question_of, read_why, read_why_of_guest } from '../js/why.js';
 
 const to_bytes = text => new TextEncoder().encode(text);
 // what an audit writes of a board in order
@@ -99,8 +99,8 @@ function told_as_read(machine, call, width, reply) {
 // Whether a guest that read a place is told what it found there, as its JSON tells it.
 function guest_is_told(machine, line, output) {
   const [who, verb, ...places] = words_of(line), width = places.pop(), [, name, reply] = /^(\S+): (0x[0-9a-f]+)$/.exec(to_text(output)) ?? [];
-  if (SPACE_READ[verb] === undefined || name !== who || who === 'host') return true;
-  const { call } = question_of(who, SPACE_READ[verb], ...places), text = machine.why(call);
+  if (!is_read(to_text(line)) || name !== who || who === 'host') return true;
+  const { call } = question_of(who, VERBS[verb].space, ...places), text = machine.why(call);
   return are_read(read_why_of_guest(machine.why_json(call), text, String), text.split('\n').length) && told_as_read(machine, call, width, reply);
 }
 
