@@ -70,7 +70,7 @@ export function written_by(line, { functions, owners }) {
   const asks = [who, read_back, ...rest.slice(0, -1)].join(' ');
   if (space !== 'cfg') return { line: asks, path: null, offset: 0, words: `${space === 'io' ? 'I/O port' : 'memory'} ${rest[0]}${who === 'host' ? '' : ` of ${who}`}` };
   const [where, offset, width] = rest, [from, bytes] = [offset, width].map(word => Number(number_of(word ?? '') ?? 0n));
-  const one = function_named(who, where ?? '', functions.filter(each => !each.lost), owners), titles = new Set(Array.from({ length: bytes }, (_, nth) => register_at(one?.kind ?? 'endpoint', from + nth)?.title ?? 'bytes of its own'));
+  const one = function_named(who, where ?? '', functions.filter(each => !each.lost), owners), titles = new Set(Array.from({ length: Math.min(bytes, 4) }, (_, nth) => register_at(one?.kind ?? 'endpoint', from + nth)?.title ?? 'bytes of its own'));
   return { line: asks, path: one?.path ?? null, called: one && called(one), offset: from, words: [...titles].join(', ') };
 }
 
