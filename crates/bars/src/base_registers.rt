@@ -90,7 +90,7 @@ fn extent_of_overlapping(
     let mut extent = Extent::empty();
     for reg in 0..6 {
         if let Some(region) = regions[reg] {
-            extent = extent.widened_by_overlapping(space, first, last, region);
+            extent = extent.widened_if_overlapping(space, first, last, region);
         }
     }
     extent

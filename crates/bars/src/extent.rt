@@ -44,7 +44,7 @@ impl Extent {
 
     /// Returns the extent widened by `region`, if the region is in `space` and overlaps addresses
     /// `first` to `last`.
-    pub fn widened_by_overlapping(
+    pub fn widened_if_overlapping(
         self,
         space: Space,
         first: u64,

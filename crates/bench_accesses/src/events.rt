@@ -9,7 +9,7 @@ use std::time::Instant;
 
 /// Performs a 4-byte access of the first guest. Returns the value read, or 0 for a write or a
 /// refusal.
-fn access_first_guest(monitor: &mut Monitor, at: At, op: Op) -> u32
+fn access_first_guest_or_zero(monitor: &mut Monitor, at: At, op: Op) -> u32
     requires { 0 < length monitor.old.world.guests }
     ensures { length monitor.new.world.guests ≡ length monitor.old.world.guests }
 {
@@ -22,12 +22,12 @@ fn access_first_guest(monitor: &mut Monitor, at: At, op: Op) -> u32
 
 /// Returns whether a memory region begins at a base address register, by writing all ones and
 /// reading the register.
-fn is_memory_bar(monitor: &mut Monitor, register: At) -> bool
+fn probe_is_memory_bar(monitor: &mut Monitor, register: At) -> bool
     requires { 0 < length monitor.old.world.guests }
     ensures { length monitor.new.world.guests ≡ length monitor.old.world.guests }
 {
-    access_first_guest(monitor, register, Op::Write(u32::MAX));
-    let shown = access_first_guest(monitor, register, Op::Read);
+    access_first_guest_or_zero(monitor, register, Op::Write(u32::MAX));
+    let shown = access_first_guest_or_zero(monitor, register, Op::Read);
     shown != 0 && shown % 2 == 0
 }
 
@@ -42,10 +42,10 @@ fn enable_first_memory_bar(monitor: &mut Monitor, slot: u64, base: u32)
             slot,
             off: 0x10 + 4 * register,
         };
-        if is_memory_bar(monitor, at) {
-            access_first_guest(monitor, at, Op::Write(base));
+        if probe_is_memory_bar(monitor, at) {
+            access_first_guest_or_zero(monitor, at, Op::Write(base));
             let command = At::Config { slot, off: 0x04 };
-            access_first_guest(monitor, command, Op::Write(0b10));
+            access_first_guest_or_zero(monitor, command, Op::Write(0b10));
             return;
         }
     }
@@ -60,7 +60,7 @@ fn region_base_of_slot(slot: u8) -> u32
 }
 
 /// Enables a region for each slot below a count, and writes to its first sixteen words.
-fn enable_and_fill_regions(monitor: &mut Monitor, slot_count: u8)
+fn enable_and_write_regions(monitor: &mut Monitor, slot_count: u8)
     requires guest { 0 < length monitor.old.world.guests }
     requires slot_count { slot_count ≤ 32 }
     ensures { length monitor.new.world.guests ≡ length monitor.old.world.guests }
@@ -70,7 +70,7 @@ fn enable_and_fill_regions(monitor: &mut Monitor, slot_count: u8)
         enable_first_memory_bar(monitor, u64::from(slot), base);
         for word in 0..16 {
             let addr = u64::from(base) + 4 * word;
-            access_first_guest(monitor, At::Mem { addr }, Op::Write(0x0101_0101));
+            access_first_guest_or_zero(monitor, At::Mem { addr }, Op::Write(0x0101_0101));
         }
     }
 }
@@ -86,7 +86,7 @@ fn sum_config_reads(monitor: &mut Monitor, slot: u8) -> u64
             slot: u64::from(slot),
             off: call % 4 * 4,
         };
-        sum = sum.wrapping_add(u64::from(access_first_guest(monitor, at, Op::Read)));
+        sum = sum.wrapping_add(u64::from(access_first_guest_or_zero(monitor, at, Op::Read)));
     }
     sum
 }
@@ -101,13 +101,17 @@ fn sum_memory_reads(monitor: &mut Monitor, slot: u8) -> u64
     let mut sum: u64 = 0;
     for call in 0..CALLS {
         let addr = base + call % 16 * 4;
-        sum = sum.wrapping_add(u64::from(access_first_guest(monitor, At::Mem { addr }, Op::Read)));
+        sum = sum.wrapping_add(u64::from(access_first_guest_or_zero(
+            monitor,
+            At::Mem { addr },
+            Op::Read,
+        )));
     }
     sum
 }
 
 /// Writes memory words in the region of a slot, and returns the first word of the region.
-fn write_and_read_first_word(monitor: &mut Monitor, slot: u8) -> u64
+fn write_words_and_read_first(monitor: &mut Monitor, slot: u8) -> u64
     requires guest { 0 < length monitor.old.world.guests }
     requires slot { slot < 32 }
     ensures { length monitor.new.world.guests ≡ length monitor.old.world.guests }
@@ -115,9 +119,9 @@ fn write_and_read_first_word(monitor: &mut Monitor, slot: u8) -> u64
     let base = u64::from(region_base_of_slot(slot));
     for call in 0..CALLS {
         let addr = base + call % 16 * 4;
-        access_first_guest(monitor, At::Mem { addr }, Op::Write(call as u32));
+        access_first_guest_or_zero(monitor, At::Mem { addr }, Op::Write(call as u32));
     }
-    u64::from(access_first_guest(monitor, At::Mem { addr: base }, Op::Read))
+    u64::from(access_first_guest_or_zero(monitor, At::Mem { addr: base }, Op::Read))
 }
 
 /// Prints the time per access and the sum for a guest's configuration reads, for memory reads and
@@ -131,7 +135,7 @@ pub(crate) fn measure_guest_accesses(
     requires some { 0 < slot_count }
     requires slot_count { slot_count ≤ 32 }
 {
-    enable_and_fill_regions(monitor, slot_count);
+    enable_and_write_regions(monitor, slot_count);
     let start = Instant::now(rt)?;
     let sum = sum_config_reads(monitor, 0);
     print_ns_per_call_and_sum(rt, &start, sum)?;
@@ -139,7 +143,7 @@ pub(crate) fn measure_guest_accesses(
     let sum = sum_memory_reads(monitor, 0);
     print_ns_per_call_and_sum(rt, &start, sum)?;
     let start = Instant::now(rt)?;
-    let sum = write_and_read_first_word(monitor, 0);
+    let sum = write_words_and_read_first(monitor, 0);
     print_ns_per_call_and_sum(rt, &start, sum)?;
     let start = Instant::now(rt)?;
     let sum = sum_memory_reads(monitor, slot_count - 1);

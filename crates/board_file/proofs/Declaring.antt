@@ -242,7 +242,7 @@ plain_status s cs h k = ap (λ (t : Bool). bit_or (bit_and s 0xf900) (cond t 0x1
 -- whatever Status and blocks it declares, as long as they are lawful
 lawful_numbers : (e : Endpoint) → is_declarable e ≡ true → (s : ℕ) (bs : List ConfigBlock)
     → status_with bs s ≡ s → list_all rules.is_config_block bs ≡ true
-    → rules.has_lawful_numbers (record (plain_values e) { status = s; blocks = bs }) ≡ true
+    → rules.has_values_in_range (record (plain_values e) { status = s; blocks = bs }) ≡ true
 lawful_numbers e h s bs status blocks =
     let own = small e h in
     let vendor = lt-ltb (nat_abs e.vendor) 0xffff own.vendor in
@@ -264,7 +264,7 @@ by_blocks : (e : Endpoint) → is_declarable e ≡ true → (s : ℕ) (bs : List
     → status_with bs s ≡ s → list_all rules.is_config_block bs ≡ true
     → is_none (first_broken (endpoint_rules (record (plain_values e) { status = s; blocks = bs }))) ≡ all_pairs blocks_apart bs
 by_blocks e h s bs status blocks =
-    by_last (rules.has_lawful_numbers (record (plain_values e) { status = s; blocks = bs })) (rules.has_own_registers (map region e.bars))
+    by_last (rules.has_values_in_range (record (plain_values e) { status = s; blocks = bs })) (rules.has_own_registers (map region e.bars))
     (list_all (λ r. nat_le (length r.cells) r.size) (map region e.bars)) (all_pairs blocks_apart bs) (lawful_numbers e h s bs status blocks)
     (own_of e h) (fitting e h)
 

@@ -11,7 +11,7 @@ use Rattle.std.specs.{Prelude.{ℕ, ℤ, ◌<◌, ◌≤◌, ◌^◌, nat_abs, c
 use Rattle.toml.specs.Data.{Members}
 use Rattle.lists.specs.Elements.{all_pairs}
 use Rattle.model_registers.specs.{DeclarationRules.{has_own_registers, with_ordered_regions}, Capabilities.with_capabilities}
-use Rattle.board_file.specs.{Values.{number, text, tables}, Bars.{Bar, bar, bar_holds, bar_rules, region}, Configs.{Config, config, config_extent, config_holds, config_rules, config_block}, Capabilities.{Capability, capability, capability_extent, capability_holds, capability_rules, declared_capability}, Rules.{is_between, fits_byte, fits_half_word, has_only_bits, has_at_most_15_slashes, identity_rules, are_apart, kept}, declared.{functions.blocks.ByteRange.ByteRange, entry.EndpointPart.EndpointPart, rule.Rule.Rule, fault.BoardFault.BoardFault}}
+use Rattle.board_file.specs.{Values.{number, text, tables}, Bars.{Bar, bar, bar_holds, bar_rules, region}, Configs.{Config, config, config_extent, config_holds, config_rules, config_block}, Capabilities.{Capability, capability, capability_extent, capability_holds, capability_rules, declared_capability}, Rules.{is_between, fits_byte_rule, fits_half_word_rule, has_only_bits, has_at_most_15_slashes, identity_rules, are_apart, kept}, declared.{functions.blocks.ByteRange.ByteRange, entry.EndpointPart.EndpointPart, rule.Rule.Rule, fault.BoardFault.BoardFault}}
 use Rattle.model_registers.specs.Declarations as declared
 use Rattle.board_file.specs.declared.entry.EndpointPart.TheVariants as part
 use Rattle.board_file.specs.declared.fault.BoardFault.TheVariants as fault
@@ -67,11 +67,11 @@ has_valid_bar_indices e = list_all (λ b. is_between 0 5 b.index) e.bars
 abbrev pub value_rules : Endpoint → List (Rule × Bool)
 value_rules e =
     (rule.Class, is_between 0 0xffffff e.class)
-    ∷ fits_half_word register.Subvendor e.subvendor
-    ∷ fits_half_word register.Subsystem e.subsystem
+    ∷ fits_half_word_rule register.Subvendor e.subvendor
+    ∷ fits_half_word_rule register.Subsystem e.subsystem
     ∷ (rule.Pin, is_between 0 4 e.pin)
-    ∷ fits_byte register.MinGnt e.min_gnt
-    ∷ fits_byte register.MaxLat e.max_lat
+    ∷ fits_byte_rule register.MinGnt e.min_gnt
+    ∷ fits_byte_rule register.MaxLat e.max_lat
     ∷ (rule.Status, has_only_bits 0xf900 e.status) ∷ []
 
 abbrev pub endpoint_numbers : Endpoint → List (Rule × Bool)

@@ -3,7 +3,7 @@
 --     has_at_most_15_slashes      a text has at most 15 slashes
 --     is_root, is_endpoint, names_endpoint      bus 0; there is an endpoint at a path; a text is the path of an endpoint
 --     is_valid_bar_size      a power of two within the limits of a region's kind
---     fits_byte, fits_half_word      the rule that a number fits in its register, and whether it is kept
+--     fits_byte_rule, fits_half_word_rule      the rule that a number fits in its register, and whether it is kept
 --     identity_rules, kept      the rules of what identifies a function; all rules of a list are kept
 --     is_non_negative, is_none_or_non_negative      both addresses of an aperture are 0 or more
 --     are_apart      two ranges of offsets don't overlap
@@ -26,18 +26,18 @@ abbrev pub is_valid_bar_size : Kind → ℤ → Bool
 is_valid_bar_size kind n = is_between (least_size kind) (greatest_size kind) n && is_power_of_two (nat_abs n)
 
 -- a number fits in its register of one byte, or of two
-abbrev pub fits_byte : RegisterKey → ℤ → Rule × Bool
-fits_byte k n = (rule.Byte k, is_between 0 0xff n)
+abbrev pub fits_byte_rule : RegisterKey → ℤ → Rule × Bool
+fits_byte_rule k n = (rule.Byte k, is_between 0 0xff n)
 
-abbrev pub fits_half_word : RegisterKey → ℤ → Rule × Bool
-fits_half_word k n = (rule.HalfWord k, is_between 0 0xffff n)
+abbrev pub fits_half_word_rule : RegisterKey → ℤ → Rule × Bool
+fits_half_word_rule k n = (rule.HalfWord k, is_between 0 0xffff n)
 
 -- of an endpoint or a bridge
 abbrev pub identity_rules : ℤ → ℤ → ℤ → List (Rule × Bool)
 identity_rules vendor device revision =
     (rule.Vendor, is_between 0 0xfffe vendor)
-    ∷ fits_half_word register.Device device
-    ∷ fits_byte register.Revision revision ∷ []
+    ∷ fits_half_word_rule register.Device device
+    ∷ fits_byte_rule register.Revision revision ∷ []
 
 abbrev pub kept : List (Rule × Bool) → Bool
 kept rules = list_all (λ r. r.1) rules

@@ -2,7 +2,7 @@
 --     table_at ms entry      the table of an entry
 --     value_at ms entry key      the value at a key of an entry; a slot is its value itself
 --     owner_entry_or_self entry      the function or guest that an entry belongs to
---     name_key entry      the key of its path or name
+--     owner_name_key entry      the key of its path or name
 --     table_kind_of_entry entry      the kind of table that it has to be
 use Rattle.std.specs.Prelude.{ℕ, codes, List, Option, Some, None, option_and_then}
 use Rattle.toml.specs.Data.{Data, Members, get_member, at, as_table}
@@ -33,12 +33,12 @@ owner_entry_or_self (entry.Part p i j) = entry.Endpoint i
 owner_entry_or_self (entry.Slot i j) = entry.Guest i
 owner_entry_or_self e = e
 
-abbrev pub name_key : Entry → Option (List ℕ)
-name_key entry.File = None
-name_key entry.Host = None
-name_key (entry.Guest i) = Some (codes "name")
-name_key (entry.Slot i j) = Some (codes "name")
-name_key e = Some (codes "at")
+abbrev pub owner_name_key : Entry → Option (List ℕ)
+owner_name_key entry.File = None
+owner_name_key entry.Host = None
+owner_name_key (entry.Guest i) = Some (codes "name")
+owner_name_key (entry.Slot i j) = Some (codes "name")
+owner_name_key e = Some (codes "at")
 
 abbrev pub table_kind_of_entry : Entry → Option TableKind
 table_kind_of_entry entry.File = Some level.Top

@@ -16,7 +16,7 @@ use host_bridge::Host;
 use std::alloc::{AllocError, Global};
 
 /// Declares the endpoints. Returns `None` if a pattern isn't valid or configuration blocks overlap.
-fn declare_endpoints_if_valid(
+fn declare_endpoints_if_masks_hold(
     alloc: Global,
     entries: &[EndpointEntry<'_>],
 ) -> Result<Option<Vec<Decl>>, AllocError>
@@ -26,7 +26,7 @@ fn declare_endpoints_if_valid(
 {
     let mut decls = Vec::new(alloc);
     'entries: for entry in entries {
-        match entry.declare_if_valid(alloc)? {
+        match entry.declare_if_masks_hold(alloc)? {
             Some(decl) => decls.push(Decl {
                 path: entry.at.path_or_zero(),
                 function: Declared::Endpoint(decl),
@@ -38,10 +38,7 @@ fn declare_endpoints_if_valid(
 }
 
 /// Appends the declarations of the bridges.
-fn append_bridge_decls(
-    decls: Vec<Decl>,
-    entries: &[BridgeEntry<'_>],
-) -> Result<Vec<Decl>, AllocError>
+fn add_bridge_decls(decls: Vec<Decl>, entries: &[BridgeEntry<'_>]) -> Result<Vec<Decl>, AllocError>
     requires bridges { IsTrue (list_all is_lawful_bridge entries.now) }
     requires lawful { HasLawfulDecls decls.items }
     ensures { IfOk result (λ v.
@@ -59,7 +56,7 @@ fn append_bridge_decls(
 
 /// Declares all functions, endpoints first. Returns `None` if a pattern isn't valid or
 /// configuration blocks overlap.
-fn declare_functions_if_valid(
+fn declare_functions_if_masks_hold(
     alloc: Global,
     file: &FileEntries<'_>,
 ) -> Result<Option<Vec<Decl>>, AllocError>
@@ -67,8 +64,8 @@ fn declare_functions_if_valid(
     ensures { IfOk result (λ found. Gives (list_all masks_hold file.now.endpoints) found (λ v.
         (v.items ≡ said.rows file.now) × HasLawfulDecls v.items)) }
 {
-    match declare_endpoints_if_valid(alloc, &file.endpoints)? {
-        Some(endpoints) => Ok(Some(append_bridge_decls(endpoints, &file.bridges)?)),
+    match declare_endpoints_if_masks_hold(alloc, &file.endpoints)? {
+        Some(endpoints) => Ok(Some(add_bridge_decls(endpoints, &file.bridges)?)),
         None => Ok(None),
     }
 }
@@ -114,7 +111,7 @@ pub(crate) fn check_masks_and_build(
         ⊎ ((e ≡ CellMasks) × (list_all masks_hold file.now.endpoints ≡ false))) }
 {
     let apertures = apertures(file).unwrap();
-    let decls = match declare_functions_if_valid(alloc, file)? {
+    let decls = match declare_functions_if_masks_hold(alloc, file)? {
         Some(decls) => decls,
         None => return Err(BoardFault::CellMasks),
     };

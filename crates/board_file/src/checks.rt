@@ -6,7 +6,7 @@ use crate::fault::BoardFault;
 
 /// Returns the checks of a document in the order in which they are made. Leaves out `CellMasks`,
 /// which is checked last because a block's length limits the length of its patterns.
-pub fn checks_in_order() -> &'static [BoardFault]
+pub fn checks_before_masks() -> &'static [BoardFault]
     ensures { result.now ≡ order }
 {
     &[

@@ -44,7 +44,7 @@ pub(crate) fn push_broken_rules(
 }
 
 /// Appends the problems of the file as a whole.
-fn push_file_problems(
+fn push_own_file_problems(
     problems: &mut Vec<Violation<'_>>,
     fault: BoardFault,
     file: &FileEntries<'_>,
@@ -100,7 +100,7 @@ fn push_non_path_problems(
 ) -> Result<(), AllocError>
     ensures { OnOk result (Adds (of_values fault file.now) problems.old.items problems.new.items) }
 {
-    push_file_problems(problems, fault, file)?;
+    push_own_file_problems(problems, fault, file)?;
     push_aperture_problems(problems, fault, file)?;
     push_all_endpoint_problems(alloc, problems, file, fault)?;
     push_all_bridge_problems(problems, file, fault)?;

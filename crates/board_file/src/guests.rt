@@ -4,7 +4,7 @@ ghost use Rattle.model_guests.specs.World.{is_name_byte, is_name};
 ghost use Rattle.board_file.specs.{Entries.guest, Functions.{guest as declared_guest}, PathTexts.path_at};
 ghost use Rattle.board_file.specs.Entries as said;
 
-use crate::document::reading::{FromTable, read_slots_or_empty, text_or_empty};
+use crate::document::reading::{FromTable, slots_or_empty, text_or_empty};
 use crate::path::text::PathText;
 use accesses::GuestDecl;
 use arrayvec::{ArrayString, ArrayVec};
@@ -34,7 +34,7 @@ impl<'a> FromTable<'a> for GuestEntry<'a> {
     fn from_table(alloc: Global, table: &'a Table) -> Result<Self, AllocError> {
         Ok(GuestEntry {
             name: text_or_empty(table, "name"),
-            slots: read_slots_or_empty(alloc, table)?,
+            slots: slots_or_empty(alloc, table)?,
         })
     }
 }
@@ -50,13 +50,13 @@ impl<'a> GuestEntry<'a> {
         name.push_str(self.name);
         GuestDecl {
             name,
-            slots: slot_paths(&self.slots),
+            slots: slot_paths_or_zero(&self.slots),
         }
     }
 }
 
 /// Returns the paths of a guest's slots.
-fn slot_paths(texts: &[PathText<'_>]) -> ArrayVec<Path, 32>
+fn slot_paths_or_zero(texts: &[PathText<'_>]) -> ArrayVec<Path, 32>
     requires { length texts.now ≤ 32 }
     ensures { result.items ≡ map path_at texts.now }
 {

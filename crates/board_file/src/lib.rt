@@ -19,7 +19,7 @@ pub mod path;
 mod rule;
 mod source;
 
-pub use checks::checks_in_order;
+pub use checks::checks_before_masks;
 pub use entry::{EndpointPart, Entry};
 pub use fault::BoardFault;
 pub use finding::Violation;

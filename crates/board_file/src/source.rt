@@ -8,13 +8,13 @@ ghost use Rattle.board_file.specs.{Functions.standings, KeyProblems.problems_of,
 ghost use Rattle.board_file.specs.Entries as said;
 
 use crate::board::check_masks_and_build;
-use crate::checks::checks_in_order;
+use crate::checks::checks_before_masks;
 use crate::document::key_problems::key_problems;
 use crate::document::reading::read_entries;
 use crate::entries::FileEntries;
 use crate::fault::BoardFault;
 use crate::finding::{Violation, value_problems};
-use crate::path::places::{FunctionPath, function_paths};
+use crate::path::places::{FunctionPath, function_paths_or_zero};
 use accesses::GuestDecl;
 use host_bridge::Host;
 use std::alloc::{AllocError, Global};
@@ -45,7 +45,7 @@ impl<'a> Source<'a> {
         ensures document { IfOk result (λ s. s.document.now ≡ document.now) }
     {
         let file = read_entries(alloc, document)?;
-        let functions = function_paths(alloc, &file)?;
+        let functions = function_paths_or_zero(alloc, &file)?;
         Ok(Source {
             bytes,
             document,
@@ -71,11 +71,11 @@ impl<'a> Source<'a> {
     }
 
     /// Returns the first fault of the document, except `CellMasks`.
-    fn first_early_fault(&self, alloc: Global) -> Result<Option<BoardFault>, AllocError>
+    fn first_fault_before_masks(&self, alloc: Global) -> Result<Option<BoardFault>, AllocError>
         ensures { let ms = table_view self.now.document.now in
             IfOk result (λ found. option_map number_of found ≡ first_broken (early_checks ms)) }
     {
-        'checks: for fault in checks_in_order() {
+        'checks: for fault in checks_before_masks() {
             if !self.problems(alloc, *fault)?.is_empty() {
                 return Ok(Some(*fault));
             }
@@ -93,7 +93,7 @@ impl<'a> Source<'a> {
         ensures refused { let ms = table_view self.now.document.now in
             IfErr result (λ e. e ≢ Memory → meaning ms ≡ Err (number_of e)) }
     {
-        match self.first_early_fault(alloc)? {
+        match self.first_fault_before_masks(alloc)? {
             Some(fault) => Err(fault),
             None => check_masks_and_build(alloc, &self.file),
         }
@@ -119,7 +119,7 @@ fn read_document(
 
 /// Reads a board file. Returns its host bridge and board at reset, with CONFIG_ADDRESS 0, and its
 /// guests in file order. A file that fails checks is refused with the first of them: `NotToml`,
-/// those of [`checks_in_order`](crate::checks::checks_in_order), `CellMasks`. Each check covers the whole file. Bytes
+/// those of [`checks_before_masks`](crate::checks::checks_before_masks), `CellMasks`. Each check covers the whole file. Bytes
 /// that aren't UTF-8 aren't TOML. Exhausted memory can be reported at any point.
 pub fn read_board(alloc: Global, bytes: &[u8]) -> Result<(Host, Vec<GuestDecl>), BoardFault>
     ensures world { IfOk result (λ r.

@@ -6,7 +6,7 @@ use Rattle.model_registers.specs.Declarations.{IoDecode}
 use Rattle.model_board.{specs.{Paths.Path, Board.{Row, Board, is_bridge}, BusNumbers.{bridge_count, numbers_suffice}, Places.{row_inserted, board_of}}, proofs.PlacesLaw.each_to_board}
 use Rattle.model_set_up.specs.Pools.{opens_io, has_io, bridges_above, has_io_paths}
 use Rattle.board_file.{specs.{Bars.Bar, Entries.{Bridge, File}, Endpoints.Endpoint, Functions.{endpoint_row, bridge_row, rows}, PathTexts.path_at}, proofs.{Declaring.declared_regions, FirstBroken.{alone, broken_at}, Searches.{position_none, not_empty, both_empty}}}
-use Rattle.board_fit.{specs.{ReasonLaws.BusAndIoFaultsNameEntries, Misfits.{is_io, has_no_io_window, first_bridge_blocking_io, no_io_window, remarks_on_io_bars, no_io_window_remarks, remarks_on_blocked_io, remark_on_bridge_256}}, proofs.BridgesAbove.{all_above, by_file}}
+use Rattle.board_fit.{specs.{ReasonLaws.BusAndIoFaultsNameEntries, Misfits.{is_io, has_no_io_window, first_bridge_blocking_io, no_io_window, no_io_window_bar_remarks, no_io_window_remarks, remarks_on_blocked_io, remark_on_bridge_256}}, proofs.BridgesAbove.{all_above, by_file}}
 use Rattle.model_registers.specs.Declarations as declared
 
 -- ---- bridges
@@ -47,7 +47,7 @@ opens_none : (e : Endpoint) → list_any (λ (b : Bar). is_io b.kind) e.bars ≡
 opens_none e h = grind (arith, common_steps, declared_regions e, false_from_ne_true, from_any, from_flat_map, from_map, from_filter, both_ways, any_in)
 
 -- what is named behind the first bridge that is closed
-blocked_behind : (bs : List Bridge) (i : ℕ) (e : Endpoint) → no_io_window_remarks bs (i, e) ≡ [] → option_map_or (λ k. remarks_on_io_bars i k e.bars) (first_bridge_blocking_io bs (path_at e.at)) [] ≡ []
+blocked_behind : (bs : List Bridge) (i : ℕ) (e : Endpoint) → no_io_window_remarks bs (i, e) ≡ [] → option_map_or (λ k. no_io_window_bar_remarks i k e.bars) (first_bridge_blocking_io bs (path_at e.at)) [] ≡ []
 unfolding no_io_window_remarks
 blocked_behind bs i e h = h
 
@@ -67,7 +67,7 @@ module _ (f : File) where
           (inr (by_file (λ (d : declared.Bridge). has_io d.io) (path_at e.at) (λ b. has_io b.io) (λ b. refl) f ∙ all_open f.bridges (path_at e.at) is))
       by_bridge (Some k) is =
           either (opens_io (endpoint_row e).decl) (list_all (λ d. has_io d.io) (bridges_above (board_of (rows f)) (path_at e.at)))
-          (inl (opens_none e (no_io_bars i k 0 e.bars (sym (ap (λ (o : Option ℕ). option_map_or (λ k. remarks_on_io_bars i k e.bars) o []) is) ∙ blocked_behind f.bridges i e h))))
+          (inl (opens_none e (no_io_bars i k 0 e.bars (sym (ap (λ (o : Option ℕ). option_map_or (λ k. no_io_window_bar_remarks i k e.bars) o []) is) ∙ blocked_behind f.bridges i e h))))
 
   endpoints_keep : (n : ℕ) (es : List Endpoint) → flat_map (no_io_window_remarks f.bridges) (enumerate_from n es) ≡ [] → Each keeps (map endpoint_row es)
   endpoints_keep n [] h = tt

@@ -31,12 +31,12 @@ abbrev pub no_io_window : ℕ → ℕ → ℕ × Bar → Remark
 no_io_window i k (j, b) = remark.NoIoWindow i j k
 
 -- those of a list of regions
-abbrev pub remarks_on_io_bars : ℕ → ℕ → List Bar → List Remark
-remarks_on_io_bars i k bars = map (no_io_window i k) (filter (λ p. is_io p.1.kind) (enumerate_from 0 bars))
+abbrev pub no_io_window_bar_remarks : ℕ → ℕ → List Bar → List Remark
+no_io_window_bar_remarks i k bars = map (no_io_window i k) (filter (λ p. is_io p.1.kind) (enumerate_from 0 bars))
 
 -- if there is such a bridge
 abbrev pub remarks_on_io_bars_if_blocked : ℕ → Option ℕ → List Bar → List Remark
-remarks_on_io_bars_if_blocked i o bars = option_map_or (λ k. remarks_on_io_bars i k bars) o []
+remarks_on_io_bars_if_blocked i o bars = option_map_or (λ k. no_io_window_bar_remarks i k bars) o []
 
 unfoldable pub no_io_window_remarks : List Bridge → ℕ × Endpoint → List Remark
 no_io_window_remarks bs (i, e) = remarks_on_io_bars_if_blocked i (first_bridge_blocking_io bs (path_at e.at)) e.bars

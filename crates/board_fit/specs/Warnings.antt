@@ -2,8 +2,8 @@
 --     has_none_behind      none of these functions is on the bus behind the bridge at a path
 --     is_given      one of the guests has the function at a path in a slot
 --     is_aperture_too_wide x      the aperture of a pool is more than ten times what the pool uses, and it uses something
---     empty_bridges, endpoints_without_guest (where the file has guests), guests_without_slots      all of which this is so, in order
---     all_wide_apertures xs, wide_apertures_if_all_warned w xs      a remark for each wide aperture; if these are selected
+--     empty_bridge_remarks, unassigned_remarks (where the file has guests), empty_guest_remarks      all of which this is so, in order
+--     wide_aperture_remarks xs, aperture_remarks_if_all_warned w xs      a remark for each wide aperture; if these are selected
 --     warnings w f xs      what is warned of, in order
 use Rattle.std.specs.{Prelude.{ℕ, ◌*◌, ◌==◌, Bool, false, not, ◌&&◌, nat_lt, List, [], ◌++◌, filter, length, map, Option, Some, None, if◌then◌else◌}, List.{list_all, list_any, enumerate_from}}
 use Rattle.model_board.specs.Paths.{Path, path_eq, parent}
@@ -35,8 +35,8 @@ is_behind bridge p = path_eq bridge (parent p)
 abbrev pub has_none_behind : List Path → Path → Bool
 has_none_behind paths bridge = list_all (λ p. not (is_behind bridge p)) paths
 
-abbrev pub empty_bridges : File → List Remark
-empty_bridges f =
+abbrev pub empty_bridge_remarks : File → List Remark
+empty_bridge_remarks f =
     map (with_index remark.EmptyBridge)
     (filter (λ p. has_none_behind (all_function_paths f) (bridge_path p.1)) (enumerate_from 0 f.bridges))
 
@@ -49,16 +49,16 @@ abbrev pub is_given : List Guest → List ℕ → Bool
 is_given gs at = list_any (has_as_slot at) gs
 
 -- a file without guests is for none
-abbrev pub endpoints_without_guest : File → List Remark
-endpoints_without_guest f =
+abbrev pub unassigned_remarks : File → List Remark
+unassigned_remarks f =
     if length f.guests == 0 then []
     else map (with_index remark.EndpointOfNone)
     (filter (λ p. not (is_given f.guests p.1.at)) (enumerate_from 0 f.endpoints))
 
 -- ---- guests
 
-abbrev pub guests_without_slots : List Guest → List Remark
-guests_without_slots gs =
+abbrev pub empty_guest_remarks : List Guest → List Remark
+empty_guest_remarks gs =
     map (with_index remark.GuestWithoutSlots) (filter (λ p. length p.1.slots == 0) (enumerate_from 0 gs))
 
 -- ---- apertures
@@ -77,15 +77,15 @@ is_aperture_too_wide x = is_wide_for x.size x.used
 abbrev pub wide_aperture : PoolFit → Remark
 wide_aperture x = remark.WideAperture x.pool
 
-abbrev pub all_wide_apertures : List PoolFit → List Remark
-all_wide_apertures xs = map wide_aperture (filter is_aperture_too_wide xs)
+abbrev pub wide_aperture_remarks : List PoolFit → List Remark
+wide_aperture_remarks xs = map wide_aperture (filter is_aperture_too_wide xs)
 
 -- on a small board wide apertures are no mistake
-abbrev pub wide_apertures_if_all_warned : WarningLevel → List PoolFit → List Remark
-wide_apertures_if_all_warned warned.Likely xs = []
-wide_apertures_if_all_warned warned.All xs = all_wide_apertures xs
+abbrev pub aperture_remarks_if_all_warned : WarningLevel → List PoolFit → List Remark
+aperture_remarks_if_all_warned warned.Likely xs = []
+aperture_remarks_if_all_warned warned.All xs = wide_aperture_remarks xs
 
 -- ---- all
 
 abbrev pub warnings : WarningLevel → File → List PoolFit → List Remark
-warnings w f xs = empty_bridges f ++ endpoints_without_guest f ++ guests_without_slots f.guests ++ wide_apertures_if_all_warned w xs
+warnings w f xs = empty_bridge_remarks f ++ unassigned_remarks f ++ empty_guest_remarks f.guests ++ aperture_remarks_if_all_warned w xs

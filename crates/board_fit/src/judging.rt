@@ -39,7 +39,7 @@ pub struct Verdict {
 }
 
 /// Returns warnings if there is no fault, and the entries that cause the fault if there is one.
-fn collect_remarks(
+fn warnings_or_causes(
     alloc: Global,
     warned: WarningLevel,
     file: &FileEntries<'_>,
@@ -86,7 +86,7 @@ fn build_verdict(
     ensures places { let s = source.now in IfOk result (λ v.
         Each (IsPlacedRemark s.bytes.now (table_view s.document.now)) v.remarks.items) }
 {
-    let remarks = collect_remarks(alloc, warned, &source.file, &fits, fault)?;
+    let remarks = warnings_or_causes(alloc, warned, &source.file, &fits, fault)?;
     let remarks = locate_remarks_if_any(alloc, source, &remarks)?;
     Ok(Verdict {
         fault,
@@ -96,7 +96,7 @@ fn build_verdict(
 }
 
 /// Computes the fits of the pools and builds the verdict.
-fn compute_fits_and_verdict(
+fn fits_and_verdict(
     alloc: Global,
     warned: WarningLevel,
     source: &Source<'_>,
@@ -118,11 +118,7 @@ fn compute_fits_and_verdict(
 }
 
 /// Checks whether a board with this function table can be set up.
-fn check_can_be_placed(
-    alloc: Global,
-    table: &FunctionTable,
-    apertures: &Apertures,
-) -> Result<(), Fault>
+fn check_placeable(alloc: Global, table: &FunctionTable, apertures: &Apertures) -> Result<(), Fault>
     requires { IsTableOf (board_in table.now) table.now }
     ensures kept { IfOk result (λ _.
         (b : Board) → IsTableOf b table.now →
@@ -149,17 +145,10 @@ fn judge_function_table(
     ensures places { let s = source.now in IfOk result (λ v.
         Each (IsPlacedRemark s.bytes.now (table_view s.document.now)) v.remarks.items) }
 {
-    match check_can_be_placed(alloc, table, apertures) {
-        Ok(()) => compute_fits_and_verdict(alloc, warned, source, table, apertures, None),
+    match check_placeable(alloc, table, apertures) {
+        Ok(()) => fits_and_verdict(alloc, warned, source, table, apertures, None),
         Err(Fault::Memory) => Err(AllocError),
-        Err(fault) => compute_fits_and_verdict(
-            alloc,
-            warned,
-            source,
-            table,
-            apertures,
-            Some(fault),
-        ),
+        Err(fault) => fits_and_verdict(alloc, warned, source, table, apertures, Some(fault)),
     }
 }
 

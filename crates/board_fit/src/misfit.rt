@@ -2,7 +2,7 @@
 ghost use Rattle.std.specs.Prelude.{◌≡◌, IfOk};
 ghost use Rattle.bars.specs.Kinds.{kind_of};
 ghost use Rattle.headers.specs.Decodes.{io_decode_of};
-ghost use Rattle.board_fit.specs.Misfits.{is_io, has_no_io_window, is_above_without_io_window, first_bridge_blocking_io, remarks_on_io_bars, remarks_on_io_bars_if_blocked, no_io_window_remarks, remarks_on_blocked_io, remark_on_bridge_256, remarks_on_fault_causes};
+ghost use Rattle.board_fit.specs.Misfits.{is_io, has_no_io_window, is_above_without_io_window, first_bridge_blocking_io, no_io_window_bar_remarks, remarks_on_io_bars_if_blocked, no_io_window_remarks, remarks_on_blocked_io, remark_on_bridge_256, remarks_on_fault_causes};
 
 use crate::remark::Remark;
 use bars::Kind;
@@ -49,13 +49,13 @@ fn first_bridge_blocking_io(bridges: &[BridgeEntry<'_>], path: &Path) -> Option<
 }
 
 /// Returns a remark for each I/O BAR of an endpoint that is behind the given bridge.
-fn remarks_on_io_bars(
+fn no_io_window_bar_remarks(
     alloc: Global,
     endpoint: usize,
     bridge: usize,
     bars: &[BarEntry<'_>],
 ) -> Result<Vec<Remark>, AllocError>
-    ensures { IfOk result (λ v. v.items ≡ remarks_on_io_bars endpoint bridge bars.now) }
+    ensures { IfOk result (λ v. v.items ≡ no_io_window_bar_remarks endpoint bridge bars.now) }
 {
     bars.iter()
         .enumerate()
@@ -64,7 +64,7 @@ fn remarks_on_io_bars(
         .collect(alloc)
 }
 
-/// Like `remarks_on_io_bars`, but returns no remarks if there is no bridge.
+/// Like `no_io_window_bar_remarks`, but returns no remarks if there is no bridge.
 fn remarks_on_io_bars_if_blocked(
     alloc: Global,
     endpoint: usize,
@@ -75,7 +75,7 @@ fn remarks_on_io_bars_if_blocked(
         v.items ≡ remarks_on_io_bars_if_blocked endpoint bridge bars.now) }
 {
     match bridge {
-        Some(bridge) => remarks_on_io_bars(alloc, endpoint, bridge, bars),
+        Some(bridge) => no_io_window_bar_remarks(alloc, endpoint, bridge, bars),
         None => Ok(Vec::new(alloc)),
     }
 }

@@ -5,7 +5,9 @@ ghost use Rattle.lists.specs.Elements.{Each};
 ghost use Rattle.board_fit.specs.PlacedRemarks.{remark_of, IsPlacedRemark};
 
 use crate::remark::Remark;
-use diagnostics::{Other, Places, TextPlace, find_value_or_entry_place, locate_entry_if_some};
+use diagnostics::{
+    Other, Places, TextPlace, find_value_or_entry_place, locate_entry_value_if_some,
+};
 use std::alloc::{AllocError, Global};
 
 /// A remark, its place in the file if that could be confirmed, and the other entry that the remark
@@ -32,7 +34,7 @@ fn locate_remark(
         (IsPlacedRemark places.now.text.now (table_view places.now.document.now)) }
 {
     let place = find_value_or_entry_place(alloc, places, remark.entry(), remark.key())?;
-    let other = locate_entry_if_some(alloc, places, remark.other(), OTHER_KEY)?;
+    let other = locate_entry_value_if_some(alloc, places, remark.other(), OTHER_KEY)?;
     Ok(PlacedRemark {
         remark,
         place,

@@ -7,7 +7,7 @@ use board_file::{Entry, Source};
 use bus_scan::Fault;
 use diagnostics::{
     Head, Places, RenderOptions, Subject, TextPlace, find_value_or_entry_place,
-    push_excerpt_of_head,
+    push_head_excerpt_if_enabled,
 };
 use std::alloc::{AllocError, Global};
 use std::fmt;
@@ -41,7 +41,7 @@ impl fmt::Display for PoolFit {
 const OPEN_IT: &str = "  help: give the bridge io = \"16\" or \"32\", or the BAR a memory kind\n";
 
 /// Appends what is wrong with the entry of a remark.
-fn push_remark_message(text: &mut String, placed: &PlacedRemark) -> Result<(), AllocError> {
+fn push_why_remarked(text: &mut String, placed: &PlacedRemark) -> Result<(), AllocError> {
     text.push_str(match placed.remark {
         Remark::EmptyBridge(_) => "is a bridge with nothing behind it",
         Remark::EndpointOfNone(_) => "is not in the slots of any guest",
@@ -57,7 +57,7 @@ fn push_remark_message(text: &mut String, placed: &PlacedRemark) -> Result<(), A
 }
 
 /// Appends why a pool doesn't fit its aperture.
-fn push_why_pool_misfits(text: &mut String, fit: &PoolFit) -> Result<(), AllocError> {
+fn push_why_pool_does_not_fit(text: &mut String, fit: &PoolFit) -> Result<(), AllocError> {
     let pool = name_of(fit.pool);
     match fit.used {
         None => write!(
@@ -104,7 +104,7 @@ fn push_fault_number_and_excerpt(
         write!(text, " ({})", fault.number())?;
     }
     text.push('\n')?;
-    push_excerpt_of_head(alloc, text, head)
+    push_head_excerpt_if_enabled(alloc, text, head)
 }
 
 /// Appends the message that a pool doesn't fit its aperture.
@@ -121,12 +121,12 @@ fn push_misfit_message<'a>(
     let place = find_value_or_entry_place(alloc, &places, Entry::Host, key)?;
     let head = error_or_warning_head(options, source, Some(fault), Entry::Host, key, place);
     write!(text, "{head}{key} ")?;
-    push_why_pool_misfits(text, fit)?;
+    push_why_pool_does_not_fit(text, fit)?;
     push_fault_number_and_excerpt(alloc, text, Some(fault), &head)
 }
 
 /// Appends how the pools fit: `ok` and a line for each pool, or the pool that doesn't fit.
-fn push_pool_fit_lines<'a>(
+fn push_fits_or_misfits<'a>(
     alloc: Global,
     text: &mut String,
     options: &RenderOptions<'a>,
@@ -154,12 +154,12 @@ pub fn verdict_text<'a>(
     verdict: &Verdict,
 ) -> Result<String, AllocError> {
     let mut text = String::new(alloc);
-    push_pool_fit_lines(alloc, &mut text, options, source, verdict)?;
+    push_fits_or_misfits(alloc, &mut text, options, source, verdict)?;
     for placed in &verdict.remarks {
         let (entry, key) = (placed.remark.entry(), placed.remark.key());
         let head = error_or_warning_head(options, source, verdict.fault, entry, key, placed.place);
         write!(text, "{head}{} ", Subject(head))?;
-        push_remark_message(&mut text, placed)?;
+        push_why_remarked(&mut text, placed)?;
         push_fault_number_and_excerpt(alloc, &mut text, verdict.fault, &head)?;
         if let Remark::NoIoWindow(_, _, _) = placed.remark {
             text.push_str(OPEN_IT)?;

@@ -2,7 +2,7 @@
 ghost use Rattle.std.specs.{Prelude.{◌≡◌, ◌&&◌, IfOk}, BTreeSet.contains};
 ghost use Rattle.paths.specs.PathOrders.{path_cmp};
 ghost use Rattle.board_file.specs.PathTexts.{is_path_text, path_at};
-ghost use Rattle.board_fit.specs.{PathSets.{remarks_on_bridges_not_in, remarks_on_endpoints_not_in}, Warnings.{all_function_paths, empty_bridges, endpoints_without_guest, guests_without_slots, is_over_ten_times_used, is_aperture_too_wide, all_wide_apertures, wide_apertures_if_all_warned, warnings}};
+ghost use Rattle.board_fit.specs.{PathSets.{remarks_on_bridges_not_in, remarks_on_endpoints_not_in}, Warnings.{all_function_paths, empty_bridge_remarks, unassigned_remarks, empty_guest_remarks, is_over_ten_times_used, is_aperture_too_wide, wide_aperture_remarks, aperture_remarks_if_all_warned, warnings}};
 
 use crate::path_sets::{parent_bridges, valid_slot_paths};
 use crate::pool_fit::PoolFit;
@@ -28,7 +28,7 @@ fn all_function_paths(alloc: Global, file: &FileEntries<'_>) -> Result<Vec<Path>
 }
 
 /// Returns whether anything is behind the bridge at this path.
-fn contains_path_at(filled: &BTreeSet<Path>, at: &PathText<'_>) -> bool
+fn is_bridge_filled(filled: &BTreeSet<Path>, at: &PathText<'_>) -> bool
     ensures { result ≡ contains path_cmp filled.now (path_at at.now) }
 {
     filled.contains(&at.path_or_zero())
@@ -45,14 +45,14 @@ fn remarks_on_bridges_not_in(
     bridges
         .iter()
         .enumerate()
-        .filter(|(_, bridge)| !contains_path_at(filled, &bridge.at))
+        .filter(|(_, bridge)| !is_bridge_filled(filled, &bridge.at))
         .map(|(index, _)| Remark::EmptyBridge(index))
         .collect(alloc)
 }
 
 /// Returns a remark for each bridge with nothing behind it.
-fn empty_bridges(alloc: Global, file: &FileEntries<'_>) -> Result<Vec<Remark>, AllocError>
-    ensures { IfOk result (λ v. v.items ≡ empty_bridges file.now) }
+fn empty_bridge_remarks(alloc: Global, file: &FileEntries<'_>) -> Result<Vec<Remark>, AllocError>
+    ensures { IfOk result (λ v. v.items ≡ empty_bridge_remarks file.now) }
 {
     let paths = all_function_paths(alloc, file)?;
     let filled = parent_bridges(alloc, &paths)?;
@@ -84,8 +84,8 @@ fn remarks_on_endpoints_not_in(
 
 /// Returns a remark for each endpoint that isn't in any guest's slots. Returns none if the file has
 /// no guests.
-fn endpoints_without_guest(alloc: Global, file: &FileEntries<'_>) -> Result<Vec<Remark>, AllocError>
-    ensures { IfOk result (λ v. v.items ≡ endpoints_without_guest file.now) }
+fn unassigned_remarks(alloc: Global, file: &FileEntries<'_>) -> Result<Vec<Remark>, AllocError>
+    ensures { IfOk result (λ v. v.items ≡ unassigned_remarks file.now) }
 {
     if file.guests.len() == 0 {
         return Ok(Vec::new(alloc));
@@ -95,8 +95,8 @@ fn endpoints_without_guest(alloc: Global, file: &FileEntries<'_>) -> Result<Vec<
 }
 
 /// Returns a remark for each guest without slots.
-fn guests_without_slots(alloc: Global, guests: &[GuestEntry<'_>]) -> Result<Vec<Remark>, AllocError>
-    ensures { IfOk result (λ v. v.items ≡ guests_without_slots guests.now) }
+fn empty_guest_remarks(alloc: Global, guests: &[GuestEntry<'_>]) -> Result<Vec<Remark>, AllocError>
+    ensures { IfOk result (λ v. v.items ≡ empty_guest_remarks guests.now) }
 {
     guests
         .iter()
@@ -125,8 +125,8 @@ fn is_aperture_too_wide(fit: &PoolFit) -> bool
 }
 
 /// Returns a remark for each aperture that is more than ten times as large as the part in use.
-fn all_wide_apertures(alloc: Global, fits: &[PoolFit]) -> Result<Vec<Remark>, AllocError>
-    ensures { IfOk result (λ v. v.items ≡ all_wide_apertures fits.now) }
+fn wide_aperture_remarks(alloc: Global, fits: &[PoolFit]) -> Result<Vec<Remark>, AllocError>
+    ensures { IfOk result (λ v. v.items ≡ wide_aperture_remarks fits.now) }
 {
     fits.iter()
         .filter(|fit| is_aperture_too_wide(fit))
@@ -135,16 +135,16 @@ fn all_wide_apertures(alloc: Global, fits: &[PoolFit]) -> Result<Vec<Remark>, Al
 }
 
 /// Returns the remarks on wide apertures if these warnings are selected.
-fn wide_apertures_if_all_warned(
+fn aperture_remarks_if_all_warned(
     alloc: Global,
     warned: WarningLevel,
     fits: &[PoolFit],
 ) -> Result<Vec<Remark>, AllocError>
-    ensures { IfOk result (λ v. v.items ≡ wide_apertures_if_all_warned warned fits.now) }
+    ensures { IfOk result (λ v. v.items ≡ aperture_remarks_if_all_warned warned fits.now) }
 {
     match warned {
         WarningLevel::Likely => Ok(Vec::new(alloc)),
-        WarningLevel::All => all_wide_apertures(alloc, fits),
+        WarningLevel::All => wide_aperture_remarks(alloc, fits),
     }
 }
 
@@ -157,9 +157,9 @@ pub(crate) fn warnings(
 ) -> Result<Vec<Remark>, AllocError>
     ensures { IfOk result (λ v. v.items ≡ warnings warned file.now fits.now) }
 {
-    let mut remarks = empty_bridges(alloc, file)?;
-    remarks.extend_from_slice(&endpoints_without_guest(alloc, file)?)?;
-    remarks.extend_from_slice(&guests_without_slots(alloc, &file.guests)?)?;
-    remarks.extend_from_slice(&wide_apertures_if_all_warned(alloc, warned, fits)?)?;
+    let mut remarks = empty_bridge_remarks(alloc, file)?;
+    remarks.extend_from_slice(&unassigned_remarks(alloc, file)?)?;
+    remarks.extend_from_slice(&empty_guest_remarks(alloc, &file.guests)?)?;
+    remarks.extend_from_slice(&aperture_remarks_if_all_warned(alloc, warned, fits)?)?;
     Ok(remarks)
 }

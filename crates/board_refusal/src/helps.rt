@@ -1,8 +1,8 @@
 //! What to write instead of a wrong value.
 
-use crate::key_causes::push_key_suggestion;
+use crate::key_causes::push_similar_or_all_keys;
 use crate::others::path_text_of_entry;
-use crate::path_causes::push_path_suggestion;
+use crate::path_causes::push_path_help;
 use board_file::document::schema::TableKind;
 use board_file::document::tables::table_kind_of_entry;
 use board_file::entries::FileEntries;
@@ -18,8 +18,8 @@ pub(crate) fn push_remedy_if_any(
 ) -> Result<(), AllocError> {
     let at = path_text_of_entry(file, problem.entry);
     match (problem.rule, table_kind_of_entry(problem.entry), at) {
-        (Rule::Known, Some(level), _) => push_key_suggestion(alloc, text, level, problem.key),
-        (Rule::Path | Rule::NamesEndpoint, _, Some(at)) => push_path_suggestion(
+        (Rule::Known, Some(level), _) => push_similar_or_all_keys(alloc, text, level, problem.key),
+        (Rule::Path | Rule::NamesEndpoint, _, Some(at)) => push_path_help(
             text,
             at.text().as_bytes(),
         ),

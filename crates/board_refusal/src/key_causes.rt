@@ -24,7 +24,7 @@ fn find_similar_key(
 
 /// Appends the key that is spelled most like an unknown one. If none is similar, appends a list of
 /// the keys that the table may have.
-pub(crate) fn push_key_suggestion(
+pub(crate) fn push_similar_or_all_keys(
     alloc: Global,
     text: &mut String,
     level: TableKind,

@@ -38,7 +38,7 @@ fn share_register(bar: &BarEntry<'_>, other: &BarEntry<'_>) -> bool {
 /// Finds the first BAR that has no registers of its own. Returns its index, and the index of the
 /// first earlier BAR that shares a register with it. The second index is `None` if a 64-bit BAR
 /// begins at the last register.
-fn first_bad_bar_and_sharer(bars: &[BarEntry<'_>]) -> Option<(usize, Option<usize>)> {
+fn first_misplaced_bar_and_sharer(bars: &[BarEntry<'_>]) -> Option<(usize, Option<usize>)> {
     for (index, bar) in bars.iter().enumerate() {
         let met = bars
             .iter()
@@ -52,8 +52,8 @@ fn first_bad_bar_and_sharer(bars: &[BarEntry<'_>]) -> Option<(usize, Option<usiz
 }
 
 /// Returns the first BAR of an endpoint that has no registers of its own.
-fn bar_breaking_own_registers(file: &FileEntries<'_>, endpoint: usize) -> Option<Entry> {
-    let (bar, _) = first_bad_bar_and_sharer(&file.endpoints.get(endpoint)?.bars)?;
+fn first_misplaced_bar(file: &FileEntries<'_>, endpoint: usize) -> Option<Entry> {
+    let (bar, _) = first_misplaced_bar_and_sharer(&file.endpoints.get(endpoint)?.bars)?;
     Some(Entry::Part(EndpointPart::Bar, endpoint, bar))
 }
 
@@ -65,7 +65,7 @@ pub(crate) fn specific_cause_if_any(
     rule: Rule,
 ) -> (Option<Entry>, &'static str) {
     match (rule, entry) {
-        (Rule::OwnRegisters, Entry::Endpoint(i)) => (bar_breaking_own_registers(file, i), "index"),
+        (Rule::OwnRegisters, Entry::Endpoint(i)) => (first_misplaced_bar(file, i), "index"),
         (Rule::BarMasks | Rule::ConfigMasks, _) => (
             Some(entry),
             invalid_pattern_key_or_w1c(file, entry),
@@ -108,11 +108,7 @@ fn first_slot_with_path(file: &FileEntries<'_>, at: &PathText<'_>) -> Option<Ent
 
 /// Returns the first entry that conflicts with this one over a path, a name, an offset or a
 /// register. Returns `None` for rules that no other entry is involved in.
-pub(crate) fn first_conflicting_entry(
-    file: &FileEntries<'_>,
-    entry: Entry,
-    rule: Rule,
-) -> Option<Entry> {
+pub(crate) fn conflicting_entry(file: &FileEntries<'_>, entry: Entry, rule: Rule) -> Option<Entry> {
     match (rule, entry) {
         (Rule::OwnPlace, _) => first_function_with_path(file, path_text_of_entry(file, entry)?),
         (Rule::OwnSlot, _) => first_slot_with_path(file, path_text_of_entry(file, entry)?),
@@ -125,7 +121,7 @@ pub(crate) fn first_conflicting_entry(
             first_overlapping_part(file, i, config_range_of_entry(file, entry)?)
         }
         (Rule::OwnRegisters, Entry::Endpoint(i)) => {
-            let (_, met) = first_bad_bar_and_sharer(&file.endpoints.get(i)?.bars)?;
+            let (_, met) = first_misplaced_bar_and_sharer(&file.endpoints.get(i)?.bars)?;
             Some(Entry::Part(EndpointPart::Bar, i, met?))
         }
         _ => None,

@@ -11,7 +11,7 @@ const DECIMAL: &str = "numbers in a path are decimal, without leading zeros";
 
 /// Appends the path that was probably meant by an invalid one, or else the syntax of paths. Appends
 /// nothing for a valid path. Recognises the form of `lspci` and leading zeros.
-pub(crate) fn push_path_suggestion(text: &mut String, at: &[u8]) -> Result<(), AllocError> {
+pub(crate) fn push_path_help(text: &mut String, at: &[u8]) -> Result<(), AllocError> {
     let short = match at {
         [b'0', b'0', b':', rest @ ..] => rest,
         _ => at,
@@ -67,7 +67,7 @@ pub(crate) fn push_missing_function_zero(text: &mut String, at: &[u8]) -> Result
 }
 
 /// Returns why a slot isn't the path of an endpoint alone.
-pub(crate) fn why_slot_has_no_endpoint(source: &Source<'_>, at: &PathText<'_>) -> &'static str {
+pub(crate) fn why_slot_not_endpoint_alone(source: &Source<'_>, at: &PathText<'_>) -> &'static str {
     match parse_path(at.text().as_bytes()) {
         None => "is not a valid path",
         Some(path) if has_bridge(&source.functions, &path) => match first_function_with_path(

@@ -3,10 +3,12 @@ ghost use Rattle.std.specs.Prelude.{◌≡◌, IfOk};
 ghost use Rattle.toml.specs.View.{table_view};
 ghost use Rattle.board_refusal.specs.Telling.{HasPlace, line_or_zero, ArePlaced};
 
-use crate::others::{first_conflicting_entry, specific_cause_if_any};
+use crate::others::{conflicting_entry, specific_cause_if_any};
 use board_file::Violation;
 use board_file::entries::FileEntries;
-use diagnostics::{Other, Places, TextPlace, find_value_or_entry_place, locate_entry_if_some};
+use diagnostics::{
+    Other, Places, TextPlace, find_value_or_entry_place, locate_entry_value_if_some,
+};
 use std::alloc::{AllocError, Global};
 
 /// A problem with its place in the file, if the place was found and confirmed.
@@ -35,9 +37,9 @@ fn locate_problem<'a>(
 {
     let place = find_value_or_entry_place(alloc, places, problem.entry, problem.key)?;
     let (cause, cause_key) = specific_cause_if_any(file, problem.entry, problem.rule);
-    let cause = locate_entry_if_some(alloc, places, cause, cause_key)?;
-    let other = first_conflicting_entry(file, problem.entry, problem.rule);
-    let other = locate_entry_if_some(alloc, places, other, problem.key)?;
+    let cause = locate_entry_value_if_some(alloc, places, cause, cause_key)?;
+    let other = conflicting_entry(file, problem.entry, problem.rule);
+    let other = locate_entry_value_if_some(alloc, places, other, problem.key)?;
     Ok(PlacedBreach {
         problem: *problem,
         place,

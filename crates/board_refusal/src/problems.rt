@@ -4,7 +4,7 @@ ghost use Rattle.toml.specs.View.{table_view};
 ghost use Rattle.board_refusal.specs.Telling.{checks_reported_with, AreProblems};
 
 use crate::placed_breach::{PlacedBreach, locate_and_sort_by_line};
-use board_file::{BoardFault, Source, checks_in_order};
+use board_file::{BoardFault, Source, checks_before_masks};
 use diagnostics::Places;
 use std::alloc::{AllocError, Global};
 
@@ -15,9 +15,9 @@ fn checks_reported_with(fault: BoardFault) -> &'static [BoardFault]
     ensures { result.now ≡ checks_reported_with fault }
 {
     match fault {
-        BoardFault::Key | BoardFault::UnknownKey => &checks_in_order()[..2],
+        BoardFault::Key | BoardFault::UnknownKey => &checks_before_masks()[..2],
         BoardFault::CellMasks => &[BoardFault::CellMasks],
-        _ => &checks_in_order()[2..],
+        _ => &checks_before_masks()[2..],
     }
 }
 

@@ -10,7 +10,7 @@ use crate::sentences::push_problem_sentence;
 use board_file::{BoardFault, Source};
 use diagnostics::{
     Head, MessageLayout, Position, RenderOptions, TextPlace, line_of, push_excerpt_if_enabled,
-    push_excerpt_of_head,
+    push_head_excerpt_if_enabled,
 };
 use std::alloc::{AllocError, Global};
 use toml::de::Error;
@@ -50,7 +50,7 @@ fn push_problem_message<'a>(
     write!(text, "{head}")?;
     push_problem_sentence(text, source, placed, head)?;
     writeln!(text, " ({})", placed.problem.rule.fault().number())?;
-    push_excerpt_of_head(alloc, text, &head)?;
+    push_head_excerpt_if_enabled(alloc, text, &head)?;
     let mut remedy = String::new(alloc);
     push_remedy_if_any(alloc, &mut remedy, &source.file, placed.problem)?;
     if remedy.is_empty() {

@@ -4,11 +4,11 @@ use crate::key_causes::push_expected_form;
 use crate::others::path_text_of_entry;
 use crate::parts::bar_of;
 use crate::path_causes::{
-    push_first_missing_bridge, push_missing_function_zero, why_slot_has_no_endpoint,
+    push_first_missing_bridge, push_missing_function_zero, why_slot_not_endpoint_alone,
 };
 use crate::placed_breach::PlacedBreach;
 use crate::value_causes::{
-    push_size_and_overlap, push_why_pattern_invalid, push_why_size_invalid, why_io_invalid,
+    push_size_and_overlap, push_why_block_patterns_invalid, push_why_size_invalid, why_io_invalid,
     why_mem_invalid, why_pref_invalid,
 };
 use board_file::document::tables::table_kind_of_entry;
@@ -67,7 +67,7 @@ fn push_what_path_lacks(
     match rule {
         Rule::BehindBridge => push_first_missing_bridge(text, &source.functions, path),
         Rule::FunctionZero => push_missing_function_zero(text, path),
-        _ => text.push_str(why_slot_has_no_endpoint(source, at)),
+        _ => text.push_str(why_slot_not_endpoint_alone(source, at)),
     }
 }
 
@@ -81,7 +81,7 @@ fn push_why_bar_or_block_invalid(
     match (rule, bar_of(file, entry)) {
         (Rule::Size, Some(bar)) => push_why_size_invalid(text, bar),
         (Rule::BlockFits, Some(bar)) => write!(text, " (at most {})", bar.size),
-        _ => push_why_pattern_invalid(text, file, entry),
+        _ => push_why_block_patterns_invalid(text, file, entry),
     }
 }
 

@@ -8,7 +8,7 @@ use diagnostics::Other;
 use std::alloc::AllocError;
 
 /// Returns the text for the first rule that isn't kept, or an empty string.
-fn words_of_first_broken_rule(words_and_is_kept: &[(&'static str, bool)]) -> &'static str {
+fn first_broken_words_or_empty(words_and_is_kept: &[(&'static str, bool)]) -> &'static str {
     for (words, is_kept) in words_and_is_kept {
         if !*is_kept {
             return words;
@@ -60,7 +60,7 @@ fn is_megabyte_aligned(bounds: Bounds) -> bool {
 
 /// Returns why the I/O aperture isn't valid.
 pub(crate) fn why_io_invalid(io: Bounds) -> &'static str {
-    words_of_first_broken_rule(&[
+    first_broken_words_or_empty(&[
         (NEGATIVE, is_non_negative(io)),
         (EMPTY, io.first <= io.last),
         (
@@ -74,7 +74,7 @@ pub(crate) fn why_io_invalid(io: Bounds) -> &'static str {
 
 /// Returns why the memory aperture isn't valid.
 pub(crate) fn why_mem_invalid(mem: Bounds) -> &'static str {
-    words_of_first_broken_rule(&[
+    first_broken_words_or_empty(&[
         (NEGATIVE, is_non_negative(mem)),
         (EMPTY, mem.first <= mem.last),
         (MEGABYTES, is_megabyte_aligned(mem)),
@@ -84,7 +84,7 @@ pub(crate) fn why_mem_invalid(mem: Bounds) -> &'static str {
 
 /// Returns why the prefetchable aperture isn't valid.
 pub(crate) fn why_pref_invalid(mem: Bounds, pref: Bounds) -> &'static str {
-    words_of_first_broken_rule(&[
+    first_broken_words_or_empty(&[
         (NEGATIVE, is_non_negative(pref)),
         (EMPTY, pref.first <= pref.last),
         (MEGABYTES, is_megabyte_aligned(pref)),
@@ -103,9 +103,9 @@ const TOO_LONG: &str = "has more bytes than block";
 
 /// Returns why a pattern isn't valid for `block_len` bytes. Returns an empty string if the pattern is
 /// valid.
-fn why_pattern_invalid(block_len: i64, pattern: &str) -> &'static str {
+fn pattern_error_or_empty(block_len: i64, pattern: &str) -> &'static str {
     let digits = pattern.as_bytes();
-    words_of_first_broken_rule(&[
+    first_broken_words_or_empty(&[
         (
             "begins with 0x: write only the hexadecimal digits",
             !pattern.starts_with("0x"),
@@ -132,7 +132,7 @@ fn why_pattern_invalid(block_len: i64, pattern: &str) -> &'static str {
 
 /// Returns the key and the text of the first pattern of a register block that isn't valid, and the
 /// size of the block.
-fn bad_pattern_key_text_and_block<'a>(
+fn invalid_pattern_and_block_len<'a>(
     file: &FileEntries<'a>,
     entry: Entry,
 ) -> Option<(&'static str, &'a str, i64)> {
@@ -143,7 +143,7 @@ fn bad_pattern_key_text_and_block<'a>(
         ("w1c", patterns.w1c),
     ] {
         if let Some(pattern) = *pattern {
-            if !why_pattern_invalid(block, pattern).is_empty() {
+            if !pattern_error_or_empty(block, pattern).is_empty() {
                 return Some((*key, pattern, block));
             }
         }
@@ -153,22 +153,22 @@ fn bad_pattern_key_text_and_block<'a>(
 
 /// Returns the key of the first pattern of a register block that isn't valid.
 pub(crate) fn invalid_pattern_key_or_w1c(file: &FileEntries<'_>, entry: Entry) -> &'static str {
-    match bad_pattern_key_text_and_block(file, entry) {
+    match invalid_pattern_and_block_len(file, entry) {
         Some((key, _, _)) => key,
         None => "w1c",
     }
 }
 
 /// Appends why a pattern of a register block is invalid, or that its masks share a bit.
-pub(crate) fn push_why_pattern_invalid(
+pub(crate) fn push_why_block_patterns_invalid(
     text: &mut String,
     file: &FileEntries<'_>,
     entry: Entry,
 ) -> Result<(), AllocError> {
-    let Some((_, pattern, block)) = bad_pattern_key_text_and_block(file, entry) else {
+    let Some((_, pattern, block)) = invalid_pattern_and_block_len(file, entry) else {
         return text.push_str("has a bit that is also in rw: a bit can be in only one of them");
     };
-    let words = why_pattern_invalid(block, pattern);
+    let words = pattern_error_or_empty(block, pattern);
     if words == TOO_LONG {
         return write!(
             text,

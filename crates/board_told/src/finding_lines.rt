@@ -107,7 +107,7 @@ fn push_disabled_bar_place(text: &mut String, closed: &ClosedInSlot) -> Result<(
 }
 
 /// Appends the line for a disabled BAR.
-fn push_disabled_bar(text: &mut String, closed: &ClosedInSlot) -> Result<(), AllocError>
+fn push_disabled_bar_line(text: &mut String, closed: &ClosedInSlot) -> Result<(), AllocError>
     ensures { OnOk result (Adds text.old text.new (closed_line closed.now)) }
 {
     push_disabled_bar_place(text, closed)?;
@@ -116,23 +116,26 @@ fn push_disabled_bar(text: &mut String, closed: &ClosedInSlot) -> Result<(), All
 }
 
 /// Appends a line for each disabled BAR.
-fn push_disabled_bars(text: &mut String, all: &[ClosedInSlot]) -> Result<(), AllocError>
+fn push_disabled_bar_lines(text: &mut String, all: &[ClosedInSlot]) -> Result<(), AllocError>
     ensures { OnOk result (Adds text.old text.new (told_lines all.now)) }
 {
     for closed in all {
-        push_disabled_bar(text, closed)?;
+        push_disabled_bar_line(text, closed)?;
     }
     Ok(())
 }
 
 /// Appends a line for each disabled BAR that contains an unclaimed address. Appends nothing for
 /// other findings.
-pub(crate) fn push_bars_if_unclaimed(text: &mut String, finding: &Finding) -> Result<(), AllocError>
+pub(crate) fn push_bar_lines_if_unclaimed(
+    text: &mut String,
+    finding: &Finding,
+) -> Result<(), AllocError>
     ensures { OnOk result (Adds text.old text.new
         (lines_of_closed (finding_told finding.now))) }
 {
     match finding {
-        Finding::Nobody(all) => push_disabled_bars(text, all),
+        Finding::Nobody(all) => push_disabled_bar_lines(text, all),
         Finding::Answers(_) | Finding::Empty { .. } | Finding::NoSlot { .. } => Ok(()),
     }
 }

@@ -10,10 +10,10 @@ ghost use Rattle.board_told.specs.{GuestFindings.{lone_asked, fault_at, closed_t
 
 use crate::closed::ClosedInSlot;
 use crate::finding::{Finding, WhyFault, find_target};
-use crate::finding_lines::{push_bars_if_unclaimed, push_finding_line};
+use crate::finding_lines::{push_bar_lines_if_unclaimed, push_finding_line};
 use accesses::{At, Place};
 use findings::{PortUse, port_use};
-use findings_render::push_port_use_line;
+use findings_render::push_port_line_if_any;
 use json_texts::{HasValue, bdf_value, explanation_json, values};
 use monitor::Monitor;
 use paths::Latch;
@@ -23,7 +23,7 @@ use std::alloc::{AllocError, Global};
 
 /// Appends the line about the role of an I/O port in the configuration mechanism. Appends nothing
 /// for other ports and for other places.
-fn push_use_if_config_port(
+fn push_use_line_if_config_port(
     alloc: Global,
     text: &mut String,
     latch: Latch,
@@ -33,7 +33,7 @@ fn push_use_if_config_port(
         (text_of_lines (map why_line (target_lines latch (target_of at))))) }
 {
     match at {
-        At::Io { port } => push_port_use_line(alloc, text, latch, port, port_use(latch, port)),
+        At::Io { port } => push_port_line_if_any(alloc, text, latch, port, port_use(latch, port)),
         At::Config { .. } | At::Mem { .. } => Ok(()),
     }
 }
@@ -49,9 +49,9 @@ fn finding_text(
         string_bytes t ≡ text_told latch (target_of at) (finding_told finding.now)) }
 {
     let mut text = String::new(alloc);
-    push_use_if_config_port(alloc, &mut text, latch, at)?;
+    push_use_line_if_config_port(alloc, &mut text, latch, at)?;
     push_finding_line(&mut text, at, finding)?;
-    push_bars_if_unclaimed(&mut text, finding)?;
+    push_bar_lines_if_unclaimed(&mut text, finding)?;
     Ok(text)
 }
 

@@ -6,7 +6,7 @@ ghost use Rattle.bars.specs.Kinds.{named_space};
 ghost use Rattle.headers.specs.WindowPairs.{pair_of};
 ghost use Rattle.bridge_forward.specs.{ByIndex.ranges_told, Decoded.IsDecoded, RoutingRows.named_ranges};
 
-use crate::by_index::LiveRanges;
+use crate::by_index::ProgrammedRanges;
 use crate::routing::{Ranges, window_from_pair};
 use bars::Space;
 use config_bytes::{Cells, enables_of, from_lanes};
@@ -152,13 +152,13 @@ impl BridgeFn {
     }
 
     /// Returns the windows programmed in the registers, without allocating.
-    pub(crate) fn live_windows(&self) -> LiveRanges
+    pub(crate) fn programmed_window_ranges(&self) -> ProgrammedRanges
         ensures { let file = self.now.file in let d = self.now.decl in
             ranges_told result
             ≡ windows (io_window d.io file) (mem_window file) (pref_window d.pref file) }
     {
         let Decoded { io, mem, pref, .. } = self.decoded;
-        LiveRanges::Windows {
+        ProgrammedRanges::Windows {
             io: window_from_pair(io),
             mem: window_from_pair(mem),
             pref: window_from_pair(pref),

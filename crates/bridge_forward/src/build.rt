@@ -111,7 +111,7 @@ fn set_subtree_ends(nodes: &mut [Node])
 }
 
 /// Sets `bridge` in each node, from the last node to the first.
-fn set_next_bridges(nodes: &mut [Node])
+fn set_first_bridges(nodes: &mut [Node])
     requires { IsLaidOut nodes.old }
     ensures tree { IsTree nodes.new }
     ensures functions { functions_of nodes.new ≡ functions_of nodes.old }
@@ -133,5 +133,5 @@ pub(crate) fn link_into_tree(nodes: &mut [Node])
     ensures functions { functions_of nodes.new ≡ functions_of nodes.old }
 {
     set_subtree_ends(nodes);
-    set_next_bridges(nodes);
+    set_first_bridges(nodes);
 }

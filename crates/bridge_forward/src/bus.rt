@@ -275,14 +275,14 @@ impl Bus {
 
     /// Resets the endpoint at a path, except for its Command register and BARs. Changes nothing if
     /// there is no endpoint at the path.
-    pub fn reset_endpoint(&mut self, path: &Path)
+    pub fn reset_except_routing(&mut self, path: &Path)
         ensures { self.new ≡ with_endpoint_reset path.now self.old }
     {
         let Some(at) = find_index_of_path(&self.nodes, path) else {
             return;
         };
         let node = &mut self.nodes[at];
-        node.function.reset_endpoint();
+        node.function.reset_except_routing();
     }
 
     /// Borrows the endpoint at an index, if there is one. Changes through the borrow affect no

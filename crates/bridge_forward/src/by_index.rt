@@ -3,7 +3,7 @@
 ghost use Rattle.std.specs.{Prelude.{◌≡◌, length, option_map, slice_get}, Option.option_copied};
 ghost use Rattle.model_registers.specs.{Registers.{config, number}, ByteEnables.LiesInWord};
 ghost use Rattle.model_board.specs.State.{BoardFunction};
-ghost use Rattle.bridge_forward.specs.{BridgeDecls.declared_bridge_nth, ByIndex.{ranges_told, live_ranges_nth}, Lending.endpoint_nth};
+ghost use Rattle.bridge_forward.specs.{BridgeDecls.declared_bridge_nth, ByIndex.{ranges_told, programmed_ranges_nth}, Lending.endpoint_nth};
 
 use crate::bus::Bus;
 use crate::endpoint::EndpointFn;
@@ -15,7 +15,7 @@ use paths::Path;
 /// The programmed address ranges of a function: the regions of an endpoint, each at the index of
 /// its first BAR register, or the windows of a bridge.
 #[derive(Clone, Copy, Debug)]
-pub enum LiveRanges {
+pub enum ProgrammedRanges {
     Regions([Option<BarWithBase>; 6]),
     Windows {
         io: Option<Window>,
@@ -76,10 +76,10 @@ impl Bus {
     }
 
     /// Returns the regions or windows of the function at an index.
-    pub fn live_ranges_nth(&self, index: usize) -> Option<LiveRanges>
-        ensures { option_map ranges_told result ≡ live_ranges_nth self.now index }
+    pub fn programmed_ranges_nth(&self, index: usize) -> Option<ProgrammedRanges>
+        ensures { option_map ranges_told result ≡ programmed_ranges_nth self.now index }
     {
         let node = self.nodes.get(index)?;
-        Some(node.function.live_ranges())
+        Some(node.function.programmed_ranges())
     }
 }

@@ -78,7 +78,7 @@ impl HasPath for Decl {
 /// Returns whether the functions, in any order, form a valid board: their paths are unique, every
 /// path is on bus 0 or behind one of the bridges, and every device has a function 0. Doesn't
 /// allocate.
-pub fn lawful_places(decls: &[Decl]) -> bool
+pub fn is_lawful_board(decls: &[Decl]) -> bool
     ensures { IsTrue result ↔ IsBoard (board_of decls.now) }
 {
     are_lawful_places(decls)

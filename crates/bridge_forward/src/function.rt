@@ -6,7 +6,7 @@ ghost use Rattle.bars.specs.Slots.{bases_from};
 ghost use Rattle.bridge_forward.specs.{BasesNow.bases_of, BridgeDecls.declared_bridge, ByIndex.ranges_told, RoutingRows.{named_ranges, primary_of, secondary_of}};
 
 use crate::bridge::BridgeFn;
-use crate::by_index::LiveRanges;
+use crate::by_index::ProgrammedRanges;
 use crate::decl::Declared;
 use crate::endpoint::EndpointFn;
 use crate::routing::{Ranges, RoutingRow};
@@ -166,12 +166,12 @@ impl Function {
     }
 
     /// Returns the programmed regions of an endpoint or windows of a bridge, without allocating.
-    pub(crate) fn live_ranges(&self) -> LiveRanges
+    pub(crate) fn programmed_ranges(&self) -> ProgrammedRanges
         ensures { ranges_told result ≡ ranges_of (file_of self.now) (decl_of self.now) }
     {
         match self {
-            Function::Endpoint(endpoint) => LiveRanges::Regions(endpoint.bars_with_bases()),
-            Function::Bridge(bridge) => bridge.live_windows(),
+            Function::Endpoint(endpoint) => ProgrammedRanges::Regions(endpoint.bars_with_bases()),
+            Function::Bridge(bridge) => bridge.programmed_window_ranges(),
         }
     }
 
@@ -202,7 +202,7 @@ impl Function {
     }
 
     /// Resets an endpoint, except for its Command register and BARs. Does nothing to a bridge.
-    pub(crate) fn reset_endpoint(&mut self)
+    pub(crate) fn reset_except_routing(&mut self)
         ensures { self.new
             ≡ with_cells self.old (after_leaf_reset (decl_of self.old) (file_of self.old)) }
     {

@@ -20,9 +20,9 @@ mod routing_region;
 mod walk;
 
 pub use bus::{BarOffset, Bus, Claim};
-pub use by_index::LiveRanges;
+pub use by_index::ProgrammedRanges;
 pub use cycle::{Cycle, CycleType};
-pub use decl::{Decl, Declared, lawful_places};
+pub use decl::{Decl, Declared, is_lawful_board};
 pub use endpoint::EndpointFn;
 pub use paths::{Part, Path};
 pub use places::{HasPath, are_lawful_places};

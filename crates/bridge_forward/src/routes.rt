@@ -63,7 +63,7 @@ impl Routes {
     }
 
     /// Caches the bridge for a bus number. `None` invalidates the entry.
-    pub(crate) fn cache_bridge(&mut self, bus: u8, bridge: Option<usize>)
+    pub(crate) fn set_cached_bridge(&mut self, bus: u8, bridge: Option<usize>)
         ensures { self.new ≡ slice_set self.old bus bridge }
     {
         self.bridges[usize::from(bus)] = cache_entry(self.time, bridge);

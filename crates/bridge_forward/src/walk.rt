@@ -106,7 +106,7 @@ fn find_bridge_with_cache(nodes: &[Node], known: &mut Routes, bus: u8) -> Option
         return Some(at);
     }
     let found = search_bridge_to_bus(nodes, bus);
-    known.cache_bridge(bus, found);
+    known.set_cached_bridge(bus, found);
     found
 }
 

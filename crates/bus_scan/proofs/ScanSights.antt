@@ -1,7 +1,7 @@
 -- What a scan sees at a part, and where it goes on.
 use Rattle.std.{proofs.Common.{◌≡◌, ℕ, ◌+◌, ◌%◌, Bool, true, false, not, cond, ◌&&◌, List, [], ◌∷◌, ◌++◌, Option, Some, None, refl, sym, ap, ◌∙◌, eqb, arith}, specs.Prelude.find}
 use Rattle.model_board.{specs.{Paths.{Path, path_eq}, Board.{Decl, endpoint, bridge, Board, Row, is_bridge, stands_at, is_multifunction}, BusNumbers.{bus_behind, bus_of}, State.{BoardFunction, State}, Cycles.{BusAddress, reached}, Lawful.IsLawfulDecl}, proofs.PathEnds.parent_snoc}
-use Rattle.model_set_up.specs.{FunctionTable.TableRow, Scanning.{BusNumbers, scan_numbers, scan_state, numbered_file}, ScanOrder.{nth_part, on, next_position_to_probe}}
+use Rattle.model_set_up.specs.{FunctionTable.TableRow, Scanning.{BusNumbers, scan_numbers, scan_state, numbered_file}, ScanOrder.{nth_part, on, next_devfn_to_probe}}
 use Rattle.lists.proofs.Members.{each_in}
 use Rattle.bus_scan.{specs.{declared.{probed_header.{ProbedHeader.ProbedHeader, Layout.TheVariants.{Endpoint as EndpointLayout, Bridge as BridgeLayout}}, table.Enumerated.TheVariants.Endpoint as FoundEndpoint}, Rows.decl_of, Sights.seen_of, Scans.{met_row, IsAt, OnBus, IsFound, IsBridgeThere}}, proofs.{States.{numbered, none_stands, one_stands, stands}, ScanSteps.{before_on, reaches, next_is, stands_true, past_endpoint}}}
 
@@ -45,7 +45,7 @@ none_seen none h = grind arith
 pub record Finds (b : Board) (bus : Path) (number n : ℕ) (seen : ProbedHeader) : Type 0 where
   pub row : Row
   pub found : IsFound b bus number n row seen
-  pub next : (m : ℕ) → m ≡ cond (eqb (n % 8) 0 && not seen.is_multifunction) (n + 8) (n + 1) → m ≡ next_position_to_probe b bus n
+  pub next : (m : ℕ) → m ≡ cond (eqb (n % 8) 0 && not seen.is_multifunction) (n + 8) (n + 1) → m ≡ next_devfn_to_probe b bus n
 
 pub finds : {b : Board} {bus : Path} {number n : ℕ} {o : Option ProbedHeader} → Sight b bus number n o → {seen : ProbedHeader} → o ≡ Some seen → Finds b bus number n seen
 finds (Nothing none e) h = cc
@@ -64,10 +64,10 @@ endpoint_row path number pin seen = record {
 }
 
 pub past_function : {b : Board} {bus : Path} {number n pin : ℕ} {r : Row} {seen : ProbedHeader} → IsFound b bus number n r seen → seen.layout ≡ EndpointLayout pin → {path : Path} → path ≡ on bus n → {s : State} {rows : List TableRow} {last : ℕ}
-    → IsAt b (on bus n) s rows last → IsAt b (on bus (next_position_to_probe b bus n)) s (rows ++ endpoint_row path number pin seen ∷ []) last
+    → IsAt b (on bus n) s rows last → IsAt b (on bus (next_devfn_to_probe b bus n)) s (rows ++ endpoint_row path number pin seen ∷ []) last
 past_function {b} {bus} {number} {n} {pin} {r} {seen} found h {path} path_is {s} {rows} {last} at = by_decl r.decl refl
   where
-    by_decl : (d : Decl) → r.decl ≡ d → IsAt b (on bus (next_position_to_probe b bus n)) s (rows ++ endpoint_row path number pin seen ∷ []) last
+    by_decl : (d : Decl) → r.decl ≡ d → IsAt b (on bus (next_devfn_to_probe b bus n)) s (rows ++ endpoint_row path number pin seen ∷ []) last
     by_decl (bridge d) e = let bad : BridgeLayout ≡ EndpointLayout pin = ap (λ (x : ProbedHeader). x.layout) (sym (found.shows ∙ ap (seen_of (is_multifunction b (on bus n))) e)) ∙ h in cc
     by_decl (endpoint d) e =
         let shows : seen ≡ seen_of (is_multifunction b (on bus n)) (endpoint d) = found.shows ∙ ap (seen_of (is_multifunction b (on bus n))) e in
@@ -79,7 +79,7 @@ past_function {b} {bus} {number} {n} {pin} {r} {seen} found h {path} path_is {s}
           behind = None;
           decl = decl_of (shows i).vendor (shows i).device (FoundEndpoint (same_pin i) (None ∷ None ∷ None ∷ None ∷ None ∷ None ∷ []));
         } in
-        past_endpoint b found.on_bus.board bus n (next_position_to_probe b bus n) r found.stands (ap is_bridge e) s rows last
+        past_endpoint b found.on_bus.board bus n (next_devfn_to_probe b bus n) r found.stands (ap is_bridge e) s rows last
         (ap (λ t. cond (eqb (n % 8) 0 && not (t && is_multifunction b (on bus n))) (n + 8) (n + 1)) (stands_true b (on bus n) r found.stands))
         at (endpoint_row path number pin seen) (row ∙ ap (λ (d : Decl). met_row b (scan_numbers b (on bus n)) (record r { decl = d })) (sym e))
 

@@ -2,7 +2,7 @@
 use Rattle.model_board.{proofs.{PlacesLaw.before_apart, PathOrder.{one, path_same, leads_before, part_self}, PathEnds.{path_self, leads_self, parent_snoc, leads_longer}}, specs.{Paths.{Part, Path, path_eq, path_before, IsPath}, Board.{Decl, endpoint, bridge, Board, Row, is_bridge, is_bridge_at, stands_at, is_multifunction, IsBoard}, BusNumbers.{secondary, subordinate, bus_behind, bus_of, Enumerates}, State.{BoardFunction, State, state_of}, Cycles.{BusAddress, reached}, AtReset.{reset_file, reset_state}}}
 use Rattle.std.{proofs.{Common.{◌≡◌, ℕ, ◌+◌, ◌%◌, ◌≤◌, ◌<◌, Bool, true, false, not, cond, ◌&&◌, List, [], ◌∷◌, ◌++◌, length, append_assoc, map, Some, refl, sym, ap, ap₂, ◌∙◌, subst, arith, eqb, get_or}, Math.{ListN.set, Seq.get_or-append_seam}, lemmas.List.{map-append, length-map}}, specs.Prelude.{find, count_by}}
 use Rattle.model_registers.specs.Declarations.{no_io, no_pref}
-use Rattle.model_set_up.{specs.{FunctionTable.{TableRow, met_decl, scanned_table, table_row}, Scanning.{BusNumbers, no_numbers, board_numbers, open_numbers, scan_numbers, scan_state, numbered_file, numbered_state}, ScanOrder.{nth_part, on, next_position_to_probe, met, GivesNumbersInPathOrder}}, proofs.{Partings.bridge_at, Scanning.{goes_before, met_before, scan_reaches_buses_found_so_far, numbers_of_scan_state}, ScanParts.{before_first, before_last, leads_place, row_path}, ScanOrder.{scan_meets, scan_gives_numbers, no_bridge_here, no_bridge_none}}}
+use Rattle.model_set_up.{specs.{FunctionTable.{TableRow, met_decl, scanned_table, table_row}, Scanning.{BusNumbers, no_numbers, board_numbers, open_numbers, scan_numbers, scan_state, numbered_file, numbered_state}, ScanOrder.{nth_part, on, next_devfn_to_probe, met, GivesNumbersInPathOrder}}, proofs.{Partings.bridge_at, Scanning.{goes_before, met_before, scan_reaches_buses_found_so_far, numbers_of_scan_state}, ScanParts.{before_first, before_last, leads_place, row_path}, ScanOrder.{scan_meets, scan_gives_numbers, no_bridge_here, no_bridge_none}}}
 use Rattle.lists.proofs.Members.{any_in, from_filter, filter_same}
 use Rattle.bus_scan.{specs.{declared.probed_header.ProbedHeader.ProbedHeader, Rows.ended as ended_range, Scans.{met_row, given, IsAt, OnBus, StandsAt, IsFound}}, proofs.{States.{Numbers, numbered, map_same, same_state, bridge_there}, MetRows.{count_more, row_same, rows_same, rows_more, met_grows, row_filled}}}
 
@@ -23,7 +23,7 @@ reaches b bus number on_bus here s rows last at before n =
 -- ---- from part to part
 
 -- the next part, as the program finds it
-pub next_is : (b : Board) (bus : Path) (n m : ℕ) (t multifunction : Bool) → stands_at b (on bus n) ≡ t → (t && is_multifunction b (on bus n)) ≡ multifunction → m ≡ cond (eqb (n % 8) 0 && not multifunction) (n + 8) (n + 1) → m ≡ next_position_to_probe b bus n
+pub next_is : (b : Board) (bus : Path) (n m : ℕ) (t multifunction : Bool) → stands_at b (on bus n) ≡ t → (t && is_multifunction b (on bus n)) ≡ multifunction → m ≡ cond (eqb (n % 8) 0 && not multifunction) (n + 8) (n + 1) → m ≡ next_devfn_to_probe b bus n
 next_is b bus n m t multifunction e f h = h ∙ ap (λ x. cond (eqb (n % 8) 0 && not x) (n + 8) (n + 1)) (sym f ∙ ap (λ x. x && is_multifunction b (on bus n)) (sym e))
 
 -- where no function is met in between, and no number changes
@@ -33,7 +33,7 @@ goes_on b lawful p q same numbers s rows last at = grind (arith, same_state, row
 pub past_nothing : (b : Board) → IsBoard b → (bus : Path) (n m : ℕ) (s : State) (rows : List TableRow) (last : ℕ) → stands_at b (on bus n) ≡ false → m ≡ cond (eqb (n % 8) 0 && true) (n + 8) (n + 1) → IsAt b (on bus n) s rows last → IsAt b (on bus m) s rows last
 past_nothing b lawful bus n m s rows last none is at =
     subst (λ k. IsAt b (on bus k) s rows last) (sym (next_is b bus n m false false none refl is))
-    (goes_on b lawful (on bus n) (on bus (next_position_to_probe b bus n)) ((scan_meets b lawful).none bus n none) ((scan_gives_numbers b lawful).no_bridge bus n (no_bridge_none b lawful (on bus n) none)) s rows last at)
+    (goes_on b lawful (on bus n) (on bus (next_devfn_to_probe b bus n)) ((scan_meets b lawful).none bus n none) ((scan_gives_numbers b lawful).no_bridge bus n (no_bridge_none b lawful (on bus n) none)) s rows last at)
 
 pub stands_true : (b : Board) (p : Path) (r : Row) → StandsAt b p r → stands_at b p ≡ true
 stands_true b p r is = any_in (λ (s : Row). path_eq s.path p) r b is.member (ap (λ (x : Path). path_eq x p) is.path ∙ path_self p)
@@ -47,20 +47,20 @@ pub past_endpoint : (b : Board) → IsBoard b → (bus : Path) (n m : ℕ) (r : 
 past_endpoint b lawful bus n m r is none s rows last next at row shown =
     subst (λ k. IsAt b (on bus k) s (rows ++ row ∷ []) last) (sym (next_is b bus n m true (is_multifunction b (on bus n)) (stands_true b (on bus n) r is) refl next))
     (record {
-      state = at.state ∙ same_state b (scan_numbers b (on bus n)) (scan_numbers b (on bus (next_position_to_probe b bus n))) (λ x k. sym (numbers x k));
-      rows_met = ap (λ (x : TableRow). rows ++ x ∷ []) (shown ∙ row_same b (scan_numbers b (on bus n)) (scan_numbers b (on bus (next_position_to_probe b bus n))) r (λ k. let bad : true ≡ false = sym k ∙ none in cc))
-          ∙ rows_more b (on bus n) (on bus (next_position_to_probe b bus n)) (scan_numbers b (on bus n)) (scan_numbers b (on bus (next_position_to_probe b bus n))) r more (λ x k before bridge_is. sym (numbers x.path (bridge_there b x k bridge_is))) rows at.rows_met;
-      last_given = omega (arith, laws.next_number (on bus (next_position_to_probe b bus n)), ap (λ (rs : Board). count_by (λ x. is_bridge x.decl) rs) more, count_more (λ x. is_bridge x.decl) (met b (on bus n)) r, ap one none, laws.next_number (on bus n), at.last_given);
+      state = at.state ∙ same_state b (scan_numbers b (on bus n)) (scan_numbers b (on bus (next_devfn_to_probe b bus n))) (λ x k. sym (numbers x k));
+      rows_met = ap (λ (x : TableRow). rows ++ x ∷ []) (shown ∙ row_same b (scan_numbers b (on bus n)) (scan_numbers b (on bus (next_devfn_to_probe b bus n))) r (λ k. let bad : true ≡ false = sym k ∙ none in cc))
+          ∙ rows_more b (on bus n) (on bus (next_devfn_to_probe b bus n)) (scan_numbers b (on bus n)) (scan_numbers b (on bus (next_devfn_to_probe b bus n))) r more (λ x k before bridge_is. sym (numbers x.path (bridge_there b x k bridge_is))) rows at.rows_met;
+      last_given = omega (arith, laws.next_number (on bus (next_devfn_to_probe b bus n)), ap (λ (rs : Board). count_by (λ x. is_bridge x.decl) rs) more, count_more (λ x. is_bridge x.decl) (met b (on bus n)) r, ap one none, laws.next_number (on bus n), at.last_given);
       last_fits = at.last_fits;
     })
   where
     laws : GivesNumbersInPathOrder b
     laws = scan_gives_numbers b lawful
 
-    more : met b (on bus (next_position_to_probe b bus n)) ≡ met b (on bus n) ++ r ∷ []
+    more : met b (on bus (next_devfn_to_probe b bus n)) ≡ met b (on bus n) ++ r ∷ []
     more = (scan_meets b lawful).endpoint bus n r is.member is.path none
 
-    numbers : (x : Path) → is_bridge_at b x ≡ true → scan_numbers b (on bus (next_position_to_probe b bus n)) x ≡ scan_numbers b (on bus n) x
+    numbers : (x : Path) → is_bridge_at b x ≡ true → scan_numbers b (on bus (next_devfn_to_probe b bus n)) x ≡ scan_numbers b (on bus n) x
     numbers = laws.no_bridge bus n (subst (λ (p : Path). is_bridge_at b p ≡ false) is.path (no_bridge_here b lawful r is.member none))
 
 -- ---- bridges
@@ -135,10 +135,10 @@ closed_at b lawful p to r is bridge_is same back s rows last at new written i in
 
 pub closed : (b : Board) → IsBoard b → (bus : Path) (n : ℕ) (r : Row) → StandsAt b (on bus n) r → is_bridge r.decl ≡ true → (s : State) (rows : List TableRow) (last : ℕ)
     → IsAt b (on (on bus n) 128) s rows last → (new : State) → new ≡ state_of b (numbered_file b (given (on bus n) (board_numbers b (on bus n)) (scan_numbers b (on (on bus n) 128))))
-    → (i : ℕ) → i ≡ length (met b (on bus n)) → (row : TableRow) → row ≡ met_row b (board_numbers b) r → IsAt b (on bus (next_position_to_probe b bus n)) new (set rows i row) last
+    → (i : ℕ) → i ≡ length (met b (on bus n)) → (row : TableRow) → row ≡ met_row b (board_numbers b) r → IsAt b (on bus (next_devfn_to_probe b bus n)) new (set rows i row) last
 closed b lawful bus n r is bridge_is s rows last at new written i index row shown =
     let there : is_bridge_at b (on bus n) ≡ true = bridge_true b (on bus n) r is bridge_is in
-    closed_at b lawful (on bus n) (on bus (next_position_to_probe b bus n)) r is bridge_is ((scan_meets b lawful).back bus n there) ((scan_gives_numbers b lawful).back bus n there) s rows last at new written i index row shown
+    closed_at b lawful (on bus n) (on bus (next_devfn_to_probe b bus n)) r is bridge_is ((scan_meets b lawful).back bus n there) ((scan_gives_numbers b lawful).back bus n there) s rows last at new written i index row shown
 
 -- the 256th bridge has no number
 pub too_many : (b : Board) → IsBoard b → (p : Path) (r : Row) → StandsAt b p r → is_bridge r.decl ≡ true → (s : State) (rows : List TableRow) (last : ℕ) → last ≡ 255 → IsAt b p s rows last → Enumerates b → ⊥
@@ -251,7 +251,7 @@ ended_row b bus n r lawful is bridge_is last last_is = grind (arith, leads_self)
 pub bridge_closed : (b : Board) (bus : Path) (number n : ℕ) (r : Row) → OnBus b bus number → StandsAt b (on bus n) r → is_bridge r.decl ≡ true → (k : ℕ) → k ≡ secondary b (on bus n) → (s : State) (rows : List TableRow) (last : ℕ)
     → IsAt b (on (on bus n) 128) s rows last → (at : BusAddress) → at ≡ record { bus = number; part = nth_part n } → (new : State) → WritesNumbers s new at (record { primary = number; secondary = k; subordinate = last })
     → (i : ℕ) → i ≡ length (met b (on bus n)) → (item row : TableRow) → item ≡ get_or rows i item → row ≡ record item { behind = ended_range last item.behind }
-    → IsAt b (on bus (next_position_to_probe b bus n)) new (set rows i row) last
+    → IsAt b (on bus (next_devfn_to_probe b bus n)) new (set rows i row) last
 bridge_closed b bus number n r on_bus is bridge_is k k_is s rows last here at at_is new written i index item row item_is row_is =
     let lawful = on_bus.board in
     let there : is_bridge_at b (on bus n) ≡ true = bridge_true b (on bus n) r is bridge_is in

@@ -14,7 +14,7 @@ pub(crate) const PARTS: u8 = 128;
 pub(crate) const DEEPEST: usize = 16;
 
 /// Returns the BDF at position `n` of the scan order of a bus.
-pub(crate) fn bdf_at_position(bus: u8, n: u8) -> Bdf
+pub(crate) fn bdf_at_devfn(bus: u8, n: u8) -> Bdf
     requires { n < PARTS }
     ensures { bus_address_of result ≡ record { bus = bus; part = nth_part n } }
 {
@@ -27,7 +27,7 @@ pub(crate) fn bdf_at_position(bus: u8, n: u8) -> Bdf
 
 /// Returns the position to probe after `n`: the next device if `n` is function 0 of a
 /// single-function device, and `n + 1` otherwise.
-pub(crate) fn next_position_to_probe(n: u8, is_multifunction: bool) -> u8
+pub(crate) fn next_devfn_to_probe(n: u8, is_multifunction: bool) -> u8
     requires { n < PARTS }
     ensures next { result ≡ (if n % 8 == 0 && not is_multifunction then n + 8 else n + 1) }
     ensures later { n < result }

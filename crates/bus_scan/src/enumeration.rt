@@ -2,11 +2,11 @@
 //! 3.2.5).
 ghost use Rattle.std.specs.Prelude.{◌≡◌, ◌⊎◌, ◌<◌, ◌+◌, [], ◌∷◌, ◌++◌, length, IfOk, IfErr, MatchResult, IsTrue, Some, find, ℕ, ◌≤◌};
 ghost use Rattle.model_board.specs.{Paths.{Path as PathValue, path_eq}, Board.{Board, Row, is_bridge_at, is_multifunction, IsBoard}, BusNumbers.{Enumerates, secondary}, State.state_of, Cycles.reached, AtReset.{board_at, IsAtReset}};
-ghost use Rattle.model_set_up.specs.{Scanning.{BusNumbers, numbered_file, numbered_state, IsNumbered, HasOwnNumbers}, ScanOrder.{on, next_position_to_probe, met}, FunctionTable.{TableRow, scanned_table}};
+ghost use Rattle.model_set_up.specs.{Scanning.{BusNumbers, numbered_file, numbered_state, IsNumbered, HasOwnNumbers}, ScanOrder.{on, next_devfn_to_probe, met}, FunctionTable.{TableRow, scanned_table}};
 ghost use Rattle.paths.specs.BusAddresses.{bus_address_of};
 ghost use Rattle.bus_scan.specs.{declared.fault.Fault.TheVariants.{Buses, Memory}, Scans.{given, ComesTo, OnBus, IsBridgeThere, IsRefused}, Sights.seen_of, Rows.{decl_of, range_of}};
 
-use crate::bus_parts::{DEEPEST, PARTS, bdf_at_position, next_position_to_probe, path_at_devfn};
+use crate::bus_parts::{DEEPEST, PARTS, bdf_at_devfn, next_devfn_to_probe, path_at_devfn};
 use crate::fault::Fault;
 use crate::probed_header::{Layout, ProbedHeader, probe_header};
 use crate::table::{Enumerated, EnumeratedFunction, FunctionTable};
@@ -70,7 +70,7 @@ impl Enumeration {
     /// Assigns the next bus number to the secondary bus of a bridge, and returns that number.
     /// Forwards all higher bus numbers as well, so that the scan can reach every bus behind the
     /// bridge.
-    fn assign_secondary_bus(
+    fn push_and_number_bridge(
         &mut self,
         host: &mut Host,
         at: Bdf,
@@ -107,26 +107,19 @@ impl Enumeration {
 
     /// Sets the Subordinate Bus Number of a bridge to the last assigned bus number, in its register
     /// and in its row.
-    fn write_final_subordinate(
-        &mut self,
-        host: &mut Host,
-        at: Bdf,
-        bus: u8,
-        number: u8,
-        index: usize,
-    )
+    fn set_final_subordinate(&mut self, host: &mut Host, at: Bdf, bus: u8, number: u8, index: usize)
         requires { index < length self.old.rows.items }
         ensures closed { (b : Board) (on_path : PathValue) (n : ℕ) (r : Row) →
             IsBridgeThere b on_path bus n r (bus_address_of at)
             → number ≡ secondary b (on on_path n) → index ≡ length (met b (on on_path n))
             → ComesTo b (on (on on_path n) 128) host.old self.old
-            → ComesTo b (on on_path (next_position_to_probe b on_path n)) host.new self.new }
+            → ComesTo b (on on_path (next_devfn_to_probe b on_path n)) host.new self.new }
         ensures rows { length self.new.rows.items ≡ length self.old.rows.items }
         ensures kept { host.new.apertures ≡ host.old.apertures }
     {
         let last = self.last;
         let row = &mut self.rows[index];
-        row.set_subordinate(last);
+        row.set_subordinate_if_bridge(last);
         write_bus_numbers(host, at, bus, number, last);
     }
 
@@ -145,26 +138,26 @@ impl Enumeration {
             → path ≡ on on_path n → seen ≡ seen_of (is_multifunction b path) r.decl
             → ComesTo b (on on_path n) host.old self.old
             → MatchResult result
-            (λ _. ComesTo b (on on_path (next_position_to_probe b on_path n)) host.new self.new)
+            (λ _. ComesTo b (on on_path (next_devfn_to_probe b on_path n)) host.new self.new)
             (λ f. IsRefused b f host.new.state) }
         ensures rows { IfOk result (λ _.
             length self.old.rows.items ≤ length self.new.rows.items) }
         ensures kept { host.new.apertures ≡ host.old.apertures }
     {
         let index = self.rows.len();
-        let number = self.assign_secondary_bus(host, at, bus, path.copied(), seen)?;
+        let number = self.push_and_number_bridge(host, at, bus, path.copied(), seen)?;
         let parts = path.parts();
         if parts.len() < DEEPEST {
             self.scan_bus(host, parts, number)?;
         }
-        self.write_final_subordinate(host, at, bus, number, index);
+        self.set_final_subordinate(host, at, bus, number, index);
         Ok(())
     }
 
     /// Adds the function at position `n` of the scan order of a bus, and everything behind it, to
     /// the table. Returns the position to probe next.
     #[cycle(scan)]
-    fn scan_and_next_position(
+    fn scan_and_next_devfn(
         &mut self,
         host: &mut Host,
         bus: &[Part],
@@ -183,9 +176,9 @@ impl Enumeration {
             length self.old.rows.items ≤ length self.new.rows.items) }
         ensures kept { host.new.apertures ≡ host.old.apertures }
     {
-        let at = bdf_at_position(number, n);
+        let at = bdf_at_devfn(number, n);
         let Some(seen) = probe_header(host, at) else {
-            return Ok(next_position_to_probe(n, false));
+            return Ok(next_devfn_to_probe(n, false));
         };
         let path = path_at_devfn(bus, n);
         match seen.layout {
@@ -195,7 +188,7 @@ impl Enumeration {
             }
             Layout::Bridge => self.scan_bridge(host, at, number, path, seen)?,
         }
-        Ok(next_position_to_probe(n, seen.is_multifunction))
+        Ok(next_devfn_to_probe(n, seen.is_multifunction))
     }
 
     /// Adds all functions on a bus and behind it to the table. `bus` is the path of the bridge
@@ -214,7 +207,7 @@ impl Enumeration {
     {
         let mut n = 0;
         while n < PARTS {
-            n = self.scan_and_next_position(host, bus, number, n)?;
+            n = self.scan_and_next_devfn(host, bus, number, n)?;
         }
         Ok(())
     }

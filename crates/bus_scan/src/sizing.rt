@@ -24,7 +24,7 @@ const PREFETCHABLE_WINDOW: u8 = 0x24;
 
 /// Writes all ones to the enabled bytes of a register, reads them back, and restores the previous
 /// value. Returns the value that was read back.
-fn probe_writable_bits(host: &mut Host, at: Bdf, off: u8, enables: u8) -> u32
+fn probe_with_all_ones(host: &mut Host, at: Bdf, off: u8, enables: u8) -> u32
     requires word { off % 4 ≡ 0 }
     requires taken { TakesBack host.old.state (bus_address_of at) off (lanes enables) }
     ensures mask { result
@@ -62,9 +62,9 @@ fn size_bar(host: &mut Host, at: Bdf, reg: u8) -> Option<BarDecl>
     ensures host { host.new ≡ host.old }
 {
     let off = BASES + 4 * reg;
-    let low = probe_writable_bits(host, at, off, 0b1111);
+    let low = probe_with_all_ones(host, at, off, 0b1111);
     let high = if reg < 5 && low & 0b111 == 0b100 {
-        probe_writable_bits(host, at, off + 4, 0b1111)
+        probe_with_all_ones(host, at, off + 4, 0b1111)
     } else {
         0
     };
@@ -114,7 +114,7 @@ fn detect_io_decode(host: &mut Host, at: Bdf) -> IoDecode
         ≡ io_reached host.old.state.functions (bus_address_of at) }
     ensures host { host.new ≡ host.old }
 {
-    let mask = probe_writable_bits(host, at, IO_WINDOW, 0b0011);
+    let mask = probe_with_all_ones(host, at, IO_WINDOW, 0b0011);
     if mask == 0 {
         IoDecode::Unimplemented
     } else if mask & 0xf == 0 {
@@ -132,7 +132,7 @@ fn detect_pref_decode(host: &mut Host, at: Bdf) -> PrefDecode
         ≡ pref_reached host.old.state.functions (bus_address_of at) }
     ensures host { host.new ≡ host.old }
 {
-    let mask = probe_writable_bits(host, at, PREFETCHABLE_WINDOW, 0b1111);
+    let mask = probe_with_all_ones(host, at, PREFETCHABLE_WINDOW, 0b1111);
     if mask == 0 {
         PrefDecode::Unimplemented
     } else if mask & 0xf == 0 {

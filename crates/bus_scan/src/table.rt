@@ -69,7 +69,7 @@ impl EnumeratedFunction {
     }
 
     /// Sets the last bus number behind a bridge. Does nothing to an endpoint.
-    pub(crate) fn set_subordinate(&mut self, last: u8)
+    pub(crate) fn set_subordinate_if_bridge(&mut self, last: u8)
         ensures { self.new ≡ record self.old { behind = ended last self.old.behind } }
     {
         if let Enumerated::Bridge { subordinate, .. } = &mut self.found {

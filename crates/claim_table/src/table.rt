@@ -47,7 +47,7 @@ impl Table {
 
     /// Builds the table of a consistently routed board, regardless of who programmed it. The table
     /// fits every host with the same routing registers. Fails only if memory is exhausted.
-    pub fn of_open_regions(alloc: Global, host: &Host) -> Result<Table, AllocError>
+    pub fn of_enabled_regions(alloc: Global, host: &Host) -> Result<Table, AllocError>
         requires board { IsStateOfBoard host.now.state.functions }
         requires order { IsOrderly (routing host.now.state.functions) }
         ensures { IfOk result (λ t.
@@ -71,7 +71,7 @@ impl Table {
             (h : HostState) → routing h.state.functions ≡ routing ready.now.host.state.functions
             → FitsTable t h) }
     {
-        Table::of_open_regions(alloc, ready.host())
+        Table::of_enabled_regions(alloc, ready.host())
     }
 }
 

@@ -86,7 +86,7 @@ fn is_free(off: u16, cells: &[(u16, Cell)]) -> bool
 /// Returns whether none of these cells is at offset `off`, checking the cell at index `off` first.
 /// The cells of a region's block are consecutive from offset 0, so for a block the first check is
 /// enough.
-fn is_gap(off: u16, cells: &[(u16, Cell)]) -> bool
+fn is_free_fast(off: u16, cells: &[(u16, Cell)]) -> bool
     ensures { result ≡ list_all (λ c. not (off == c.0)) cells.now }
 {
     let at = usize::from(off);
@@ -226,7 +226,7 @@ impl Cells {
         ensures places { IsConfigFile self.new.now }
         ensures kept { KeepsPlaces self.new }
     {
-        if is_gap(off, &self.initial) {
+        if is_free_fast(off, &self.initial) {
             return;
         }
         let at = usize::from(off);

@@ -4,7 +4,7 @@
 --     are_ordered_within from len places      the places lie in a text of this length, from an offset on, each after the
 --                                       one before
 --     replace_with_marks text from places      the text from an offset on, with its mark in each of these places
---     is_mark_of_start      the value is the mark of a place
+--     is_mark_of_place_at      the value is the mark of a place
 use Rattle.std.specs.{Prelude.{ℕ, ◌-◌, codes, Bool, ◌&&◌, nat_le, nat_lt, List, [], ◌∷◌, ◌++◌, take, drop, decimal, Option, option_and_then, false}, Option.option_map_or, Str.bytes_eq}
 use Rattle.toml.specs.Data.{Data, as_str}
 use Rattle.diagnostics.specs.declared.scanning.Extent.{Extent}
@@ -24,5 +24,5 @@ abbrev pub replace_with_marks : List ℕ → ℕ → List Extent → List ℕ
 replace_with_marks text from [] = drop from text
 replace_with_marks text from (e ∷ es) = take (e.start - from) (drop from text) ++ (quoted (mark e.start) ++ replace_with_marks text e.end es)
 
-abbrev pub is_mark_of_start : ℕ → Option Data → Bool
-is_mark_of_start start found = option_map_or (bytes_eq (mark start)) (option_and_then as_str found) false
+abbrev pub is_mark_of_place_at : ℕ → Option Data → Bool
+is_mark_of_place_at start found = option_map_or (bytes_eq (mark start)) (option_and_then as_str found) false

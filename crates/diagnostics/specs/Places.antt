@@ -7,7 +7,7 @@
 --     IsPlaceWithin      the place of a value at the end of a way, or of one inside that value
 use Rattle.std.specs.{Prelude.{◌≡◌, ℕ, true, false, List, ◌++◌, length, Some, option_map}, List.slice_get}
 use Rattle.toml.specs.{Data.{table, Members}, Parse.parse_document}
-use Rattle.diagnostics.specs.{declared.{steps.Step.Step, scanning.Extent.Extent, text_place.TextPlace.TextPlace}, LineNumbers.line_of, Marks.{are_ordered_within, replace_with_marks, is_mark_of_start}, Shapes.members_have_same_shape, Ways.value_at}
+use Rattle.diagnostics.specs.{declared.{steps.Step.Step, scanning.Extent.Extent, text_place.TextPlace.TextPlace}, LineNumbers.line_of, Marks.{are_ordered_within, replace_with_marks, is_mark_of_place_at}, Shapes.members_have_same_shape, Ways.value_at}
 
 pub record IsMarked (text : List ℕ) (before : Members) (places : List Extent) : Type 0 where
   pub in_order : are_ordered_within 0 (length text) places ≡ true
@@ -26,9 +26,9 @@ pub record IsPlace (text : List ℕ) (before : Members) (way : List Step) (p : T
   pub stands : Stands places p.start p.end
   pub is_line : p.line ≡ line_of p.start text
   pub is_mark_now :
-      option_map (λ after. is_mark_of_start p.start (value_at way (table after))) (parse_document (replace_with_marks text 0 places))
+      option_map (λ after. is_mark_of_place_at p.start (value_at way (table after))) (parse_document (replace_with_marks text 0 places))
       ≡ Some true
-  pub was_other : is_mark_of_start p.start (value_at way (table before)) ≡ false
+  pub was_other : is_mark_of_place_at p.start (value_at way (table before)) ≡ false
 
 -- ---- a place inside a value
 

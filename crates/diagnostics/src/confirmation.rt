@@ -7,7 +7,9 @@ ghost use Rattle.diagnostics.specs.{LineNumbers.{line_of, first_line}, Marks.rep
 
 use crate::descent::push_steps_to_first_scalar;
 use crate::line_numbers::line_numbers_of_starts;
-use crate::marking::{are_ordered_within, is_mark_of_start, parse_mark_value, replace_with_marks};
+use crate::marking::{
+    are_ordered_within, is_mark_of_place_at, parse_mark_value, replace_with_marks,
+};
 use crate::scanning::{Extent, scan_scalars};
 use crate::shapes::members_have_same_shape;
 use crate::steps::{Step, value_at};
@@ -117,8 +119,8 @@ impl<'a> Places<'a> {
         let value = value_at(way, &marked.table)?;
         let start = parse_mark_value(value)?;
         let known = find_line_and_end(&self.places, &marked.lines, start)?;
-        if is_mark_of_start(start, Some(value))
-            && !is_mark_of_start(start, value_at(way, self.document))
+        if is_mark_of_place_at(start, Some(value))
+            && !is_mark_of_place_at(start, value_at(way, self.document))
         {
             return Some(TextPlace {
                 line: known.0,
@@ -131,7 +133,7 @@ impl<'a> Places<'a> {
 
     /// Returns the place of the scalar at the end of a key path, or of the first scalar inside the
     /// value there. Returns `None` if the place couldn't be confirmed.
-    pub fn place_within(
+    pub fn first_scalar_place(
         &self,
         alloc: Global,
         way: &[Step<'_>],

@@ -81,15 +81,15 @@ pub fn find_value_or_entry_place(
 {
     if value_at(places.document, entry, key).is_some() {
         let way = key_path_of_value(alloc, entry, key)?;
-        places.place_within(alloc, &way)
+        places.first_scalar_place(alloc, &way)
     } else {
         let way = key_path_of_entry(alloc, entry)?;
-        places.place_within(alloc, &way)
+        places.first_scalar_place(alloc, &way)
     }
 }
 
 /// Returns the entry together with the place of its value at `key`, or `None` if there is no entry.
-pub fn locate_entry_if_some(
+pub fn locate_entry_value_if_some(
     alloc: Global,
     places: &Places<'_>,
     entry: Option<Entry>,

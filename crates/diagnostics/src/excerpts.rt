@@ -123,7 +123,7 @@ pub fn push_excerpt_if_enabled(
 
 /// Appends the excerpt below the header of a message: the line of the file that the header names,
 /// with marks below the value if the key has one.
-pub fn push_excerpt_of_head(
+pub fn push_head_excerpt_if_enabled(
     alloc: Global,
     shown: &mut String,
     head: &Head<'_>,

@@ -6,7 +6,7 @@ use crate::message_layout::RenderOptions;
 use crate::shown::Shown;
 use crate::text_place::TextPlace;
 use board_file::Entry;
-use board_file::document::tables::{owner_name, value_at};
+use board_file::document::tables::{owner_path_or_name, value_at};
 use std::fmt;
 use toml::Table;
 use toml::value::Value;
@@ -60,7 +60,7 @@ impl<'a> Head<'a> {
     fn owner_name_unless_shown(&self) -> Option<&'a str> {
         match self.key {
             "at" | "name" => None,
-            _ => owner_name(self.document, self.entry),
+            _ => owner_path_or_name(self.document, self.entry),
         }
     }
 }

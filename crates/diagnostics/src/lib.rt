@@ -20,8 +20,8 @@ mod steps;
 mod text_place;
 
 pub use confirmation::Places;
-pub use entry_places::{Other, find_value_or_entry_place, locate_entry_if_some};
-pub use excerpts::{push_excerpt_if_enabled, push_excerpt_of_head};
+pub use entry_places::{Other, find_value_or_entry_place, locate_entry_value_if_some};
+pub use excerpts::{push_excerpt_if_enabled, push_head_excerpt_if_enabled};
 pub use heads::{Head, Position, Subject};
 pub use line_numbers::line_of;
 pub use message_layout::{MessageLayout, RenderOptions};

@@ -2,7 +2,7 @@
 //! is the offset at which the place begins.
 ghost use Rattle.std.specs.Prelude.{◌≡◌, ◌<◌, ◌^◌, ◌++◌, ℕ, true, IfOk, OnOk, IsTrue, Some, length, option_map};
 ghost use Rattle.toml.specs.View.{view};
-ghost use Rattle.diagnostics.specs.Marks.{are_ordered_within, mark, quoted, replace_with_marks, is_mark_of_start};
+ghost use Rattle.diagnostics.specs.Marks.{are_ordered_within, mark, quoted, replace_with_marks, is_mark_of_place_at};
 
 use crate::scanning::Extent;
 use itoa::Buffer;
@@ -55,8 +55,8 @@ pub(crate) fn replace_with_marks(
 }
 
 /// Returns whether a value is the mark of the place that begins at `start`.
-pub(crate) fn is_mark_of_start(start: usize, value: Option<&Value>) -> bool
-    ensures { result ≡ is_mark_of_start start (option_map (λ v. view v.now) value.entry) }
+pub(crate) fn is_mark_of_place_at(start: usize, value: Option<&Value>) -> bool
+    ensures { result ≡ is_mark_of_place_at start (option_map (λ v. view v.now) value.entry) }
 {
     match value {
         Some(Value::String(text)) => {
@@ -83,7 +83,7 @@ fn parse_mark_start(text: &str) -> Option<usize>
 /// Returns the number after the `@` of a mark, or `None` if the value isn't a string of this form.
 pub(crate) fn parse_mark_value(value: &Value) -> Option<usize>
     ensures { (start : ℕ) → start < 2 ^ 64
-        → is_mark_of_start start (Some (view value.now)) ≡ true → result ≡ Some start }
+        → is_mark_of_place_at start (Some (view value.now)) ≡ true → result ≡ Some start }
 {
     match value {
         Value::String(text) => parse_mark_start(text.as_str()),

@@ -73,7 +73,7 @@ fn is_closing_quotes_at(text: &[u8], at: usize, quotes: Quotes) -> bool
 
 /// Returns the end offset of a string, including its closing quotes. `from` is the offset after the
 /// opening quotes.
-fn string_end(text: &[u8], from: usize, quotes: Quotes) -> usize {
+fn quoted_string_end(text: &[u8], from: usize, quotes: Quotes) -> usize {
     let mut is_escaped = false;
     for at in from..text.len() {
         if is_escaped {
@@ -133,7 +133,7 @@ impl ScalarScanner {
         requires { at < length text.now }
     {
         match text[at] {
-            byte @ (b'"' | b'\'') => self.next = string_end(
+            byte @ (b'"' | b'\'') => self.next = quoted_string_end(
                 text,
                 at + 1,
                 Quotes { byte, count: 1 },
@@ -152,9 +152,9 @@ impl ScalarScanner {
         let end = if byte != b'"' && byte != b'\'' {
             unquoted_scalar_end(text, at)
         } else if has_three_at(text, at, byte) {
-            string_end(text, at + 3, Quotes { byte, count: 3 })
+            quoted_string_end(text, at + 3, Quotes { byte, count: 3 })
         } else {
-            string_end(text, at + 1, Quotes { byte, count: 1 })
+            quoted_string_end(text, at + 1, Quotes { byte, count: 1 })
         };
         self.mode = Mode::After;
         self.next = end;
@@ -197,7 +197,7 @@ impl ScalarScanner {
     }
 
     /// Handles the first byte of a token.
-    fn scan_byte(&mut self, text: &[u8], at: usize) -> Result<(), AllocError>
+    fn scan_token_start(&mut self, text: &[u8], at: usize) -> Result<(), AllocError>
         requires { at < length text.now }
     {
         match (text[at], self.mode) {
@@ -219,7 +219,7 @@ pub(crate) fn scan_scalars(alloc: Global, text: &[u8]) -> Result<Vec<Extent>, Al
     let mut scanner = ScalarScanner::new(alloc);
     for at in 0..text.len() {
         if at >= scanner.next {
-            scanner.scan_byte(text, at)?;
+            scanner.scan_token_start(text, at)?;
         }
     }
     Ok(scanner.scalars)

@@ -2,7 +2,7 @@
 use Rattle.std.{proofs.{Common.{◌≡◌, ℕ, suc, ◌+◌, ◌-◌, ◌<◌, Bool, true, false, cond, List, [], ◌∷◌, ◌++◌, ◌&&◌, not, Option, Some, None, refl, sym, ap, ap₂, ◌∙◌, arith, append_assoc, append-nil}, lemmas.List.map-append}, specs.{Prelude.{map, filter, length, option_map, ◌==◌}, Option.{option_map_or, option_to_list}}}
 use Rattle.model_board.specs.{Routing.routing, Paths.{Path, path_eq}, State.BoardFunction, Cycles.{secondary_register, taker, BusAddress, reached}}
 use Rattle.model_lines.specs.Ways.{takers, takers_by, takers_down, WayEnd, on_bus, no_taker, end_by, way_end, takers_on_way, end_of, Missing, missing, has_number, is_found, why_number}
-use Rattle.findings.specs.{declared.cycle_way.Taken.Taken, WhyByRows.selected, WhyOnWay.{taken, missing_by, unreached}}
+use Rattle.findings.specs.{declared.cycle_way.Taken.Taken, WhyByRows.selected, WhyOnWay.{taken, missing_by, unreached_at_bdf}}
 
 abbrev path_of : BoardFunction → Path
 path_of f = f.path
@@ -84,7 +84,7 @@ taking_at t None = refl
 taking_at t (Some f) = append-nil (cond (t f) (f.path ∷ []) [])
 
 -- the functions that have a number and aren't found by it
-pub unfound_is : (fs : List BoardFunction) (at : BusAddress) (o : Option BoardFunction) (gs : List BoardFunction) → unreached fs at (option_map path_of o) (routing gs) ≡ map path_of (filter (λ f. has_number fs at f && not (is_found o f)) gs)
+pub unfound_is : (fs : List BoardFunction) (at : BusAddress) (o : Option BoardFunction) (gs : List BoardFunction) → unreached_at_bdf fs at (option_map path_of o) (routing gs) ≡ map path_of (filter (λ f. has_number fs at f && not (is_found o f)) gs)
 unfound_is fs at o [] = refl
 unfound_is fs at o (g ∷ gs) = grind (arith, unfound_is fs at o gs)
 
@@ -94,7 +94,7 @@ missing_is fs at e same = grind arith
 
 -- all that is told of a number
 pub number_is : (fs : List BoardFunction) (at : BusAddress) (r : Option Path) (bs ns : List Path) (m : Option Missing) → r ≡ option_map path_of (reached fs at) → bs ≡ map path_of (takers_on_way fs at)
-    → m ≡ missing_by r (end_of fs at) at → ns ≡ unreached fs at r (routing fs) → record { reached = r; bridges = bs; missing = m; not_found = ns } ≡ why_number fs at
+    → m ≡ missing_by r (end_of fs at) at → ns ≡ unreached_at_bdf fs at r (routing fs) → record { reached = r; bridges = bs; missing = m; not_found = ns } ≡ why_number fs at
 number_is fs at r bs ns m found taken missed lost = grind (arith, missing_is, unfound_is)
 
 -- nothing is above bus 0

@@ -45,9 +45,9 @@ module _ (fs : List BoardFunction) (space : Space) (n : ℕ) where
           with_path f (is_held space n (first_claim fs space n)) (map (base_address f.file) d.regions)
           ∙ ap (map (tell f)) (filter_both (holds space n) (λ q. not (is_answering_bar (first_claim fs space n) q)) (map (region_now f.path) (map (base_address f.file) d.regions)))
 
-  all_unanswered : (gs : List BoardFunction) → map (told_from fs space n) (silent_holders space n (first_claim fs space n) (routing gs)) ≡ flat_map (told_of fs space n) gs
-  all_unanswered [] = refl
-  all_unanswered (f ∷ gs) = grind (arith, map-append, function_told, all_unanswered gs)
+  causes_unless_at_reset : (gs : List BoardFunction) → map (told_from fs space n) (silent_holders space n (first_claim fs space n) (routing gs)) ≡ flat_map (told_of fs space n) gs
+  causes_unless_at_reset [] = refl
+  causes_unless_at_reset (f ∷ gs) = grind (arith, map-append, function_told, causes_unless_at_reset gs)
 
   -- ---- regions where reset leaves them
 
@@ -69,12 +69,12 @@ module _ (fs : List BoardFunction) (space : Space) (n : ℕ) where
   told_apart [] = refl
   told_apart (h ∷ hs) = grind (arith, as_at_reset, told_apart hs)
 
-  count_unplaced : (hs : List RegionWithCommand) → count_by (is_held_as_at_reset space) hs ≡ at_reset (map (told_from fs space n) hs)
-  count_unplaced hs = grind (arith, as_at_reset, fold-map)
+  count_as_at_reset : (hs : List RegionWithCommand) → count_by (is_held_as_at_reset space) hs ≡ at_reset (map (told_from fs space n) hs)
+  count_as_at_reset hs = grind (arith, as_at_reset, fold-map)
 
   -- what is told by rows is what is told of the address
   pub why_by_rows : (answer : Option Claim) (hs : List RegionWithCommand) (gs : List Forwarder) (ts : List UnansweredRegion) (k : ℕ)
       → answer ≡ first_claim fs space n → hs ≡ silent_holders space n answer (routing fs) → gs ≡ forwarders fs space n
       → ts ≡ map (told_from fs space n) (held_apart space hs) → k ≡ count_by (is_held_as_at_reset space) hs
       → record { answer = answer; forwarders = gs; told = ts; at_reset = k } ≡ why fs space n
-  why_by_rows answer hs gs ts k claimed held forwarded tells left = grind (arith, all_unanswered, told_apart, count_unplaced)
+  why_by_rows answer hs gs ts k claimed held forwarded tells left = grind (arith, causes_unless_at_reset, told_apart, count_as_at_reset)

@@ -3,7 +3,7 @@
 --     bars_to_check c      the regions to check for this kind of violation
 --     first_violating_address c r q      the lowest address of a region that the bridge of a row mishandles
 --     blame c q r      the bridge's violation, if the bridge is above the region
---     blames_of c rows q, all_violations c rows      the violation of the first such bridge above a region; for all regions
+--     blames_of c rows q, first_violations c rows      the violation of the first such bridge above a region; for all regions
 --     unforwarded_problem, prefetched_issue      the problem or readiness issue for a violation
 use Rattle.std.specs.{Prelude.{List, ℕ, if◌then◌else◌, Option, None, flat_map}, Option.{option_map, option_to_list}}
 use Rattle.lists.specs.Elements.{first_some}
@@ -28,8 +28,8 @@ blame c q r =
 abbrev pub blames_of : ViolationKind → List RoutingRow → PlacedRegion → List BridgeViolation
 blames_of c rows q = option_to_list (first_some (blame c q) rows)
 
-abbrev pub all_violations : ViolationKind → List RoutingRow → List BridgeViolation
-all_violations c rows = flat_map (blames_of c rows) (all_selected_bars (bars_to_check c) rows)
+abbrev pub first_violations : ViolationKind → List RoutingRow → List BridgeViolation
+first_violations c rows = flat_map (blames_of c rows) (all_selected_bars (bars_to_check c) rows)
 
 abbrev pub unforwarded_problem : BridgeViolation → Problem
 unforwarded_problem b = not_forwarded b.region b.bridge b.address

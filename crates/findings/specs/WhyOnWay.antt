@@ -33,6 +33,6 @@ missing_by (Some p) e at = None
 abbrev pub has_bdf_but_not_reached : List BoardFunction → BusAddress → Option Path → Path → Bool
 has_bdf_but_not_reached fs at reached p = ways.address_eq (current_bdf fs p) at && not (is_there p reached)
 
-abbrev pub unreached : List BoardFunction → BusAddress → Option Path → List RoutingRow → List Path
-unreached fs at reached rows =
+abbrev pub unreached_at_bdf : List BoardFunction → BusAddress → Option Path → List RoutingRow → List Path
+unreached_at_bdf fs at reached rows =
     map (λ (r : RoutingRow). r.path) (filter (λ (r : RoutingRow). has_bdf_but_not_reached fs at reached r.path) rows)

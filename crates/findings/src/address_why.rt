@@ -23,7 +23,7 @@ fn is_as_at_reset(asked: &AddressQuery, held: &RegionWithCommand) -> bool
 }
 
 /// Returns what keeps each BAR in the list from answering. Leaves out BARs in their reset state.
-fn all_unanswered(
+fn causes_unless_at_reset(
     alloc: Global,
     host: &Host,
     rows: &[RoutingRow],
@@ -49,7 +49,7 @@ fn all_unanswered(
 }
 
 /// Returns how many BARs in the list are in their reset state.
-fn count_unplaced(asked: &AddressQuery, held: &[RegionWithCommand]) -> usize
+fn count_as_at_reset(asked: &AddressQuery, held: &[RegionWithCommand]) -> usize
     ensures { let left = is_held_as_at_reset (named_space asked.now.space) in
         result ≡ count_by left held.now }
 {
@@ -71,8 +71,8 @@ pub fn why_address(alloc: Global, host: &Host, space: Space, addr: u64) -> Resul
         answer: host.claimant(space, addr),
     };
     let held = silent_holders(alloc, &asked, &rows)?;
-    let told = all_unanswered(alloc, host, &rows, &asked, &held)?;
-    let at_reset = count_unplaced(&asked, &held);
+    let told = causes_unless_at_reset(alloc, host, &rows, &asked, &held)?;
+    let at_reset = count_as_at_reset(&asked, &held);
     Ok(Why {
         forwarders: forwarders(alloc, host, &rows, &asked)?,
         answer: asked.answer,

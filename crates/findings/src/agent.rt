@@ -4,7 +4,7 @@ ghost use Rattle.bars.specs.Kinds.{named_space};
 ghost use Rattle.model_board.specs.Paths.{path_eq};
 ghost use Rattle.model_findings.specs.Agents.{extent_holds, region_agent, bridge_agent, on_one_bus};
 
-use crate::region::{LiveBar, bar_window};
+use crate::region::{LiveBar, bar_extent};
 use crate::row::{either_holds, forwarding_windows};
 use bars::Space;
 use bridge_forward::{Part, Path, RoutingRow, Window};
@@ -46,7 +46,7 @@ impl Agent {
             path: region.path.copied(),
             register: Some(region.region.index),
             space: region.region.kind.space(),
-            one: Some(bar_window(region.region)),
+            one: Some(bar_extent(region.region)),
             other: None,
         }
     }

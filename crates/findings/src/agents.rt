@@ -20,11 +20,7 @@ fn add_region_agents(told: &mut Vec<Agent>, regions: &[LiveBar]) -> Result<(), A
 }
 
 /// Appends the responders for a function.
-fn add_function_agents(
-    alloc: Global,
-    told: &mut Vec<Agent>,
-    row: &RoutingRow,
-) -> Result<(), AllocError>
+fn add_row_agents(alloc: Global, told: &mut Vec<Agent>, row: &RoutingRow) -> Result<(), AllocError>
     ensures { OnOk result (told.new.items ≡ told.old.items ++ agents_of row.now) }
 {
     match &row.ranges {
@@ -47,7 +43,7 @@ pub(crate) fn agents(alloc: Global, rows: &[RoutingRow]) -> Result<Vec<Agent>, A
 {
     let mut told = Vec::new(alloc);
     for row in rows {
-        add_function_agents(alloc, &mut told, row)?;
+        add_row_agents(alloc, &mut told, row)?;
     }
     Ok(told)
 }

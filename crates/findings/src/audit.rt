@@ -4,12 +4,12 @@ ghost use Rattle.model_findings.specs.Problems.{problems, routing_problems};
 ghost use Rattle.findings.specs.Findings.{problem_of};
 
 use crate::agents::agents;
-use crate::bridge_violation::{ViolationKind, all_violations};
+use crate::bridge_violation::{ViolationKind, first_violations};
 use crate::contention::add_all_contentions;
 use crate::forwarding::add_not_forwarded_problems;
 use crate::numbering::add_numbering_problems;
 use crate::problem::Problem;
-use crate::span::agents_in_overlapping_groups;
+use crate::span::overlapping_agents;
 use bridge_forward::RoutingRow;
 use host_bridge::Host;
 use std::alloc::{AllocError, Global};
@@ -20,12 +20,12 @@ use std::alloc::{AllocError, Global};
 fn routing_problems(alloc: Global, rows: &[RoutingRow]) -> Result<Vec<Problem>, AllocError>
     ensures { IfOk result (λ v. map problem_of v.items ≡ routing_problems rows.now) }
 {
-    let unforwarded = all_violations(alloc, ViolationKind::NotForwarded, rows)?;
+    let unforwarded = first_violations(alloc, ViolationKind::NotForwarded, rows)?;
     let mut told = Vec::new(alloc);
     add_not_forwarded_problems(&mut told, &unforwarded)?;
     let agents = agents(alloc, rows)?;
-    let agents_in_overlapping_groups = agents_in_overlapping_groups(alloc, &agents)?;
-    add_all_contentions(&mut told, &agents_in_overlapping_groups)?;
+    let overlapping_agents = overlapping_agents(alloc, &agents)?;
+    add_all_contentions(&mut told, &overlapping_agents)?;
     Ok(told)
 }
 

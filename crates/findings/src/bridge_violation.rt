@@ -2,7 +2,7 @@
 ghost use Rattle.std.specs.Prelude.{◌≡◌, ◌++◌, map, filter, flat_map, IfOk, OnOk};
 ghost use Rattle.lists.specs.Elements.{first_some};
 ghost use Rattle.model_board.specs.Paths.{is_ancestor_of};
-ghost use Rattle.findings.specs.{BridgeViolations.{bars_to_check, first_violating_address, blame, blames_of, all_violations}, Regions.regions_of};
+ghost use Rattle.findings.specs.{BridgeViolations.{bars_to_check, first_violating_address, blame, blames_of, first_violations}, Regions.regions_of};
 
 use crate::forwarding::first_unforwarded_address;
 use crate::prefetching::first_prefetched_address;
@@ -83,7 +83,7 @@ fn first_violation(
 }
 
 /// Appends a violation for each of these BARs that one of the bridges mishandles.
-fn add_violations(
+fn add_first_violations(
     told: &mut Vec<BridgeViolation>,
     charge: ViolationKind,
     above: &[&RoutingRow],
@@ -134,16 +134,16 @@ fn add_function_violations(
     let mut regions = Vec::new(alloc);
     add_selected_of_function(&mut regions, bars_to_check(charge), row)?;
     let above = bridge_rows_above(alloc, rows, &row.path)?;
-    add_violations(told, charge, &above, &regions)
+    add_first_violations(told, charge, &above, &regions)
 }
 
 /// Returns the violations for the BARs of all functions.
-pub(crate) fn all_violations(
+pub(crate) fn first_violations(
     alloc: Global,
     charge: ViolationKind,
     rows: &[RoutingRow],
 ) -> Result<Vec<BridgeViolation>, AllocError>
-    ensures { IfOk result (λ v. v.items ≡ all_violations charge rows.now) }
+    ensures { IfOk result (λ v. v.items ≡ first_violations charge rows.now) }
 {
     let mut told = Vec::new(alloc);
     for row in rows {

@@ -57,7 +57,7 @@ fn nth_claims_bus_cycles(host: &Host, index: usize, number: u8) -> bool
 }
 
 /// Returns whether the function at an index is on the bus and claims cycles for bus `number`.
-fn nth_on_bus_claims_cycles(host: &Host, index: usize, bus: &Option<Path>, number: u8) -> bool
+fn nth_is_on_bus_and_claims(host: &Host, index: usize, bus: &Option<Path>, number: u8) -> bool
     ensures { let fs = host.now.state.functions in result
         ≡ option_map_or (is_taker (unwrap_or bus.now []) number) (slice_get fs index) false }
 {
@@ -68,12 +68,12 @@ fn nth_on_bus_claims_cycles(host: &Host, index: usize, bus: &Option<Path>, numbe
 }
 
 /// Returns the index of the first bridge on the bus that claims cycles for bus `number`.
-fn index_of_claiming_bridge(host: &Host, bus: &Option<Path>, number: u8) -> Option<usize>
+fn first_claiming_index(host: &Host, bus: &Option<Path>, number: u8) -> Option<usize>
     ensures { let fs = host.now.state.functions in
         option_and_then (slice_get fs) result ≡ taker fs (unwrap_or bus.now []) number }
 {
     for index in 0..host.count() {
-        if nth_on_bus_claims_cycles(host, index, bus, number) {
+        if nth_is_on_bus_and_claims(host, index, bus, number) {
             return Some(index);
         }
     }
@@ -84,7 +84,7 @@ fn index_of_claiming_bridge(host: &Host, bus: &Option<Path>, number: u8) -> Opti
 fn next_bridge(host: &Host, bus: &Option<Path>, number: u8) -> Option<Taken>
     ensures { result ≡ taken host.now.state.functions (unwrap_or bus.now []) number }
 {
-    let index = index_of_claiming_bridge(host, bus, number)?;
+    let index = first_claiming_index(host, bus, number)?;
     let path = host.path_nth(index)?;
     let secondary = host.peek_config_nth(index, 0x19, 1)?;
     Some(Taken {
@@ -95,11 +95,11 @@ fn next_bridge(host: &Host, bus: &Option<Path>, number: u8) -> Option<Taken>
 
 /// Returns the path of the function at an index if it is on the bus and claims cycles for bus
 /// `number`.
-fn path_if_claiming_nth(host: &Host, index: usize, bus: &Option<Path>, number: u8) -> Option<Path>
+fn path_if_claims_bus(host: &Host, index: usize, bus: &Option<Path>, number: u8) -> Option<Path>
     ensures { let one = option_to_list (slice_get host.now.state.functions index) in
         option_to_list result ≡ paths_taking (unwrap_or bus.now []) number one }
 {
-    if !nth_on_bus_claims_cycles(host, index, bus, number) {
+    if !nth_is_on_bus_and_claims(host, index, bus, number) {
         return None;
     }
     host.path_nth(index)
@@ -118,7 +118,7 @@ fn add_claiming_bridges(
         ++ map (λ (f : BoardFunction). f.path) (takers fs number (unwrap_or bus.now []))) }
 {
     for index in 0..host.count() {
-        if let Some(path) = path_if_claiming_nth(host, index, bus, number) {
+        if let Some(path) = path_if_claims_bus(host, index, bus, number) {
             told.push(path)?;
         }
     }
@@ -127,7 +127,7 @@ fn add_claiming_bridges(
 
 /// Follows a configuration cycle for a bus other than bus 0, starting at bus 0, until the cycle
 /// ends. Sixteen steps are enough, because at most 15 bridges are above a function.
-pub(crate) fn follow_cycle_to_bus(alloc: Global, host: &Host, number: u8) -> Result<Way, AllocError>
+pub(crate) fn follow_type_1_cycle(alloc: Global, host: &Host, number: u8) -> Result<Way, AllocError>
     ensures bridges { let fs = host.now.state.functions in IfOk result (λ w.
         w.bridges.items ≡ map (λ (f : BoardFunction). f.path) (takers_down fs number 16 [])) }
     ensures end { let fs = host.now.state.functions in

@@ -83,11 +83,7 @@ fn named_windows_in_space(
 
 /// Returns the reason why a bridge doesn't forward an address. The caller has checked that it
 /// doesn't.
-pub(crate) fn block_reason_of(
-    row: &RoutingRow,
-    decl: Option<BridgeDecl>,
-    space: Space,
-) -> BlockReason
+pub(crate) fn block_reason(row: &RoutingRow, decl: Option<BridgeDecl>, space: Space) -> BlockReason
     ensures { hindrance_told result ≡ row_hindrance (named_space space) decl row.now }
 {
     let Some(decl) = decl else {

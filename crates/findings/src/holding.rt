@@ -47,7 +47,7 @@ fn holds_without_answering(asked: &AddressQuery, region: &LiveBar) -> bool
 }
 
 /// Appends each of these BARs that contains the address without answering it.
-fn add_regions_not_answering(
+fn add_silent_bars(
     held: &mut Vec<RegionWithCommand>,
     asked: &AddressQuery,
     path: &Path,
@@ -75,7 +75,7 @@ fn add_regions_not_answering(
 }
 
 /// Appends the BARs of a function that contain the address without answering it.
-fn add_function_not_answering(
+fn add_function_silent_bars(
     held: &mut Vec<RegionWithCommand>,
     asked: &AddressQuery,
     row: &RoutingRow,
@@ -84,13 +84,7 @@ fn add_function_not_answering(
         ≡ held.old.items ++ held_of space asked.now.addr asked.now.answer row.now) }
 {
     match &row.ranges {
-        Ranges::Regions(regions) => add_regions_not_answering(
-            held,
-            asked,
-            &row.path,
-            row.command,
-            regions,
-        ),
+        Ranges::Regions(regions) => add_silent_bars(held, asked, &row.path, row.command, regions),
         Ranges::Windows { .. } => Ok(()),
     }
 }
@@ -108,7 +102,7 @@ pub(crate) fn silent_holders(
 {
     let mut held = Vec::new(alloc);
     for row in rows {
-        add_function_not_answering(&mut held, asked, row)?;
+        add_function_silent_bars(&mut held, asked, row)?;
     }
     Ok(held)
 }

@@ -39,7 +39,7 @@ fn address_if_missed(
 }
 
 /// Returns the address after a window if it is in the BAR and in neither of the two windows.
-fn window_end_if_missed(
+fn address_after_if_missed(
     region: &LiveBar,
     one: Option<Window>,
     other: Option<Window>,
@@ -50,7 +50,7 @@ fn window_end_if_missed(
         holds q.space n q && not (list_any (extent_holds n) (extents_of one other)))
         (map (λ e. e.end) (option_to_list (option_map extent_of window))) }
 {
-    let end = region.window_end_if_held(window?)?;
+    let end = region.address_after_if_held(window?)?;
     if either_holds(one, other, end) {
         None
     } else {
@@ -67,7 +67,7 @@ pub(crate) fn first_missed_address(
     ensures { result ≡ first_missed_address (extents_of one other) region.now }
 {
     let first = address_if_missed(region, one, other, Some(region.region.base));
-    let after_one = window_end_if_missed(region, one, other, one);
-    let after_other = window_end_if_missed(region, one, other, other);
+    let after_one = address_after_if_missed(region, one, other, one);
+    let after_other = address_after_if_missed(region, one, other, other);
     min_of_present(first, min_of_present(after_one, after_other))
 }

@@ -4,9 +4,9 @@ ghost use Rattle.std.specs.Prelude.{◌≡◌, map, option_map, IfOk};
 ghost use Rattle.model_board.specs.{Cycles.reached, State.BoardFunction, Routing.routing};
 ghost use Rattle.model_lines.specs.Ways.{takers_on_way, end_of, missing_at, why_number};
 ghost use Rattle.paths.specs.BusAddresses.{bus_address_of};
-ghost use Rattle.findings.specs.{WhyOnWay.{end_told, missing_by, has_bdf_but_not_reached, unreached}, WhyTold.{missing_told, number_told}};
+ghost use Rattle.findings.specs.{WhyOnWay.{end_told, missing_by, has_bdf_but_not_reached, unreached_at_bdf}, WhyTold.{missing_told, number_told}};
 
-use crate::cycle_way::{Way, WayEnd, follow_cycle_to_bus};
+use crate::cycle_way::{Way, WayEnd, follow_type_1_cycle};
 use crate::numbering::{current_bdf, is_reached_path};
 use bridge_forward::{Path, RoutingRow};
 use host_bridge::{Bdf, Host};
@@ -54,7 +54,7 @@ fn follow_cycle_to_bdf(alloc: Global, host: &Host, at: Bdf) -> Result<Way, Alloc
             end: WayEnd::OnBus(None),
         });
     }
-    follow_cycle_to_bus(alloc, host, at.bus)
+    follow_type_1_cycle(alloc, host, at.bus)
 }
 
 /// Returns the path of the function that a BDF reaches, if any.
@@ -114,14 +114,15 @@ fn has_bdf_but_not_reached(
 
 /// Returns the functions that have this BDF according to the bridges above them, but aren't reached
 /// by it.
-fn unreached(
+fn unreached_at_bdf(
     alloc: Global,
     host: &Host,
     at: Bdf,
     reached: &Option<Path>,
 ) -> Result<Vec<Path>, AllocError>
     ensures { let fs = host.now.state.functions in
-        IfOk result (λ v. v.items ≡ unreached fs (bus_address_of at) reached.now (routing fs)) }
+        IfOk result (λ v. v.items
+        ≡ unreached_at_bdf fs (bus_address_of at) reached.now (routing fs)) }
 {
     let rows = host.routing(alloc)?;
     let mut told = Vec::new(alloc);
@@ -144,7 +145,7 @@ pub fn why_number(alloc: Global, host: &mut Host, at: Bdf) -> Result<WhyNumber, 
 {
     let way = follow_cycle_to_bdf(alloc, host, at)?;
     let reached = path_reached(host, at);
-    let not_found = unreached(alloc, host, at, &reached)?;
+    let not_found = unreached_at_bdf(alloc, host, at, &reached)?;
     let missing = missing_unless_reached(&reached, way.end, at);
     Ok(WhyNumber {
         reached,

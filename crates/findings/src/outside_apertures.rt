@@ -13,7 +13,7 @@ use headers::{Aperture, Apertures};
 use std::alloc::AllocError;
 
 /// Returns the addresses of an aperture.
-fn aperture_window(aperture: Aperture) -> Window
+fn as_window(aperture: Aperture) -> Window
     ensures { extent_of result ≡ aperture_extent aperture }
 {
     Window {
@@ -27,10 +27,10 @@ fn main_and_pref_apertures(apertures: &Apertures, space: Space) -> (Option<Windo
     ensures { extents_of result.0 result.1 ≡ aperture_extents apertures.now (named_space space) }
 {
     match space {
-        Space::Io => (Some(aperture_window(apertures.io())), None),
+        Space::Io => (Some(as_window(apertures.io())), None),
         Space::Mem => (
-            Some(aperture_window(apertures.mem())),
-            apertures.pref().map(aperture_window),
+            Some(as_window(apertures.mem())),
+            apertures.pref().map(as_window),
         ),
     }
 }

@@ -9,7 +9,7 @@ use paths::{Part, Path};
 pub type PathBytes = ArrayVec<u8, 79>;
 
 /// Returns the decimal digits of a device or function number.
-fn number_text(number: u8) -> &'static [u8]
+fn decimal_below_16(number: u8) -> &'static [u8]
     requires { number < 16 }
     ensures text { result.now ≡ decimal number }
     ensures short { length result.now ≤ 2 }
@@ -49,9 +49,9 @@ fn push_part(text: &mut PathBytes, part: Part)
     ensures items { text.new.items ≡ text.old.items ++ part_text part }
     ensures len { length text.new.items ≤ length text.old.items + 4 }
 {
-    push_bytes(text, number_text(part.device()));
+    push_bytes(text, decimal_below_16(part.device()));
     push_bytes(text, b".");
-    push_bytes(text, number_text(part.function()));
+    push_bytes(text, decimal_below_16(part.function()));
 }
 
 /// Appends parts, separated by slashes.

@@ -54,11 +54,7 @@ fn address_if_prefetched(row: &RoutingRow, region: &LiveBar, addr: u64) -> Optio
 }
 
 /// Returns the first address of a window if it is in the BAR and the bridge prefetches it.
-fn window_start_if_prefetched(
-    row: &RoutingRow,
-    region: &LiveBar,
-    window: Option<Window>,
-) -> Option<u64>
+fn first_if_prefetched(row: &RoutingRow, region: &LiveBar, window: Option<Window>) -> Option<u64>
     ensures { let q = region.now in option_to_list result
         ≡ filter (λ n. holds q.space n q && prefetches n row.now)
         (map (λ e. e.first) (option_to_list (option_map extent_of window))) }
@@ -67,7 +63,7 @@ fn window_start_if_prefetched(
 }
 
 /// Returns the address after a window if it is in the BAR and the bridge prefetches it.
-fn window_end_if_prefetched(
+fn address_after_if_prefetched(
     row: &RoutingRow,
     region: &LiveBar,
     window: Option<Window>,
@@ -76,7 +72,7 @@ fn window_end_if_prefetched(
         ≡ filter (λ n. holds q.space n q && prefetches n row.now)
         (map (λ e. e.end) (option_to_list (option_map extent_of window))) }
 {
-    let end = region.window_end_if_held(window?)?;
+    let end = region.address_after_if_held(window?)?;
     if prefetches(row, end) {
         Some(end)
     } else {
@@ -90,8 +86,8 @@ pub(crate) fn first_prefetched_address(row: &RoutingRow, region: &LiveBar) -> Op
 {
     let (mem, pref) = memory_windows(row);
     let base = address_if_prefetched(row, region, region.region.base);
-    let first = window_start_if_prefetched(row, region, pref);
-    let end = window_end_if_prefetched(row, region, mem);
+    let first = first_if_prefetched(row, region, pref);
+    let end = address_after_if_prefetched(row, region, mem);
     min_of_present(base, min_of_present(first, end))
 }
 

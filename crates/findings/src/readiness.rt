@@ -4,7 +4,7 @@ ghost use Rattle.model_findings.specs.ReadinessIssues.{not_open, readiness_issue
 ghost use Rattle.findings.specs.Findings.{issue_of};
 
 use crate::audit::problems;
-use crate::bridge_violation::{ViolationKind, all_violations};
+use crate::bridge_violation::{ViolationKind, first_violations};
 use crate::outside_apertures::add_outside_issues;
 use crate::prefetching::add_prefetched_issues;
 use crate::primaries::add_primary_bus_issues;
@@ -16,10 +16,7 @@ use host_bridge::Host;
 use std::alloc::{AllocError, Global};
 
 /// Appends a readiness issue for each disabled BAR.
-fn add_disabled_bar_issues(
-    told: &mut Vec<ReadinessIssue>,
-    closed: &[LiveBar],
-) -> Result<(), AllocError>
+fn add_disabled_issues(told: &mut Vec<ReadinessIssue>, closed: &[LiveBar]) -> Result<(), AllocError>
     ensures { OnOk result (map issue_of told.new.items
         ≡ map issue_of told.old.items ++ map not_open closed.now) }
 {
@@ -45,9 +42,9 @@ pub fn readiness_issues(
     let rows = host.routing(alloc)?;
     let closed = all_selected_bars(alloc, Sort::Closed, &rows)?;
     let open = all_selected_bars(alloc, Sort::Open, &rows)?;
-    let prefetched = all_violations(alloc, ViolationKind::Prefetched, &rows)?;
+    let prefetched = first_violations(alloc, ViolationKind::Prefetched, &rows)?;
     let mut told = Vec::new(alloc);
-    add_disabled_bar_issues(&mut told, &closed)?;
+    add_disabled_issues(&mut told, &closed)?;
     add_outside_issues(&mut told, apertures, &open)?;
     add_prefetched_issues(&mut told, &prefetched)?;
     add_primary_bus_issues(&mut told, host, &rows)?;

@@ -25,7 +25,7 @@ impl Model for LiveBar {
 }
 
 /// Returns the addresses of a BAR.
-pub(crate) fn bar_window(region: RoutingRegion) -> Window
+pub(crate) fn bar_extent(region: RoutingRegion) -> Window
     ensures { extent_of result ≡ record { first = region.base; end = region.base + region.size } }
 {
     Window {
@@ -39,15 +39,15 @@ impl LiveBar {
     pub fn holds(&self, addr: u64) -> bool
         ensures { result ≡ holds self.now.space addr self.now }
     {
-        holds(bar_window(self.region), addr)
+        holds(bar_extent(self.region), addr)
     }
 
     /// Returns the address after a window if it is in the BAR.
-    pub fn window_end_if_held(&self, window: Window) -> Option<u64>
+    pub fn address_after_if_held(&self, window: Window) -> Option<u64>
         ensures { option_to_list result
             ≡ filter (λ n. holds self.now.space n self.now) ((extent_of window).end ∷ []) }
     {
-        let held = bar_window(self.region);
+        let held = bar_extent(self.region);
         let end = window.last.checked_add(1)?;
         if holds(held, end) { Some(end) } else { None }
     }

@@ -104,7 +104,7 @@ fn sorted_spans(alloc: Global, agents: &[Agent]) -> Result<Vec<Span>, AllocError
 }
 
 /// Returns whether a span ends before the next one begins, or belongs to another bus or space.
-fn ends_before(before: Span, here: Span) -> bool
+fn is_apart_from_next(before: Span, here: Span) -> bool
     ensures { IsTrue result → EndsBefore before here }
 {
     before.group != here.group || before.last < here.first
@@ -124,12 +124,12 @@ fn add_unless_last(groups: &mut Vec<u64>, group: u64) -> Result<(), AllocError>
 }
 
 /// Returns the groups in which a span overlaps the next one.
-fn groups_with_overlap(alloc: Global, spans: &[Span]) -> Result<Vec<u64>, AllocError>
+fn overlapping_group_hashes(alloc: Global, spans: &[Span]) -> Result<Vec<u64>, AllocError>
     ensures { IfOk result (λ v. AreApartBut v.items spans.now) }
 {
     let mut groups = Vec::new(alloc);
     for index in 1..spans.len() {
-        if !ends_before(spans[index - 1], spans[index]) {
+        if !is_apart_from_next(spans[index - 1], spans[index]) {
             add_unless_last(&mut groups, spans[index].group)?;
         }
     }
@@ -145,14 +145,11 @@ fn contains_group(groups: &[u64], group: u64) -> bool
 
 /// Returns the responders in groups whose addresses overlap. All other responders share no address
 /// with any responder on their bus.
-pub(crate) fn agents_in_overlapping_groups(
-    alloc: Global,
-    agents: &[Agent],
-) -> Result<Vec<Agent>, AllocError>
+pub(crate) fn overlapping_agents(alloc: Global, agents: &[Agent]) -> Result<Vec<Agent>, AllocError>
     ensures { IfOk result (λ v. contentions v.items ≡ contentions agents.now) }
 {
     let spans = sorted_spans(alloc, agents)?;
-    let groups = groups_with_overlap(alloc, &spans)?;
+    let groups = overlapping_group_hashes(alloc, &spans)?;
     agents_in_groups(alloc, agents, &groups)
 }
 

@@ -7,7 +7,7 @@ ghost use Rattle.bridge_forward.specs.BridgeDecls.{declared_bridge_nth};
 ghost use Rattle.findings.specs.{WhyByRows.{row_stop, causes_at}, WhyTold.cause_told};
 
 use crate::causes::Cause;
-use crate::hindering::{block_reason_of, forwards};
+use crate::hindering::{block_reason, forwards};
 use crate::holding::{AddressQuery, RegionWithCommand};
 use crate::row::enables_space;
 use bridge_forward::{Path, RoutingRow};
@@ -34,12 +34,12 @@ fn blocking_cause(
     let decl = host.bridge_decl_nth(index);
     Some(Cause::StoppedAt {
         bridge: row.path.copied(),
-        hindrance: block_reason_of(row, decl, asked.space),
+        hindrance: block_reason(row, decl, asked.space),
     })
 }
 
 /// Looks up the row of the function at an index and returns the cause, as `blocking_cause` does.
-fn blocker_nth(
+fn blocking_cause_nth(
     host: &Host,
     rows: &[RoutingRow],
     asked: &AddressQuery,
@@ -73,7 +73,7 @@ fn blockers(
 {
     let mut causes = Vec::new(alloc);
     for index in 0..rows.len() {
-        if let Some(cause) = blocker_nth(host, rows, asked, path, index) {
+        if let Some(cause) = blocking_cause_nth(host, rows, asked, path, index) {
             causes.push(cause)?;
         }
     }

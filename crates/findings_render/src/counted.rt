@@ -3,8 +3,8 @@ ghost use Rattle.std.specs.Prelude.{◌≡◌, ◌+◌, length, map, IfOk, strin
 ghost use Rattle.model_findings.specs.{AuditText.audit_text, ReadyText.ready_text};
 ghost use Rattle.findings.specs.Findings.{problem_of, issue_of};
 
-use crate::issue_lines::{push_issues, push_ready_count};
-use crate::problem_lines::{push_problem_count, push_problems};
+use crate::issue_lines::{push_issue_lines, push_ready_total_line};
+use crate::problem_lines::{push_problem_count_line, push_problem_lines};
 use findings::{Problem, ReadinessIssue};
 use std::alloc::{AllocError, Global};
 
@@ -25,8 +25,8 @@ impl CountedText {
     {
         let count = problems.len();
         let mut text = String::new(alloc);
-        push_problems(&mut text, problems)?;
-        push_problem_count(&mut text, count)?;
+        push_problem_lines(&mut text, problems)?;
+        push_problem_count_line(&mut text, count)?;
         Ok(CountedText { text, count })
     }
 
@@ -45,9 +45,9 @@ impl CountedText {
             IfOk result (λ t. t.count ≡ length ps + length ls) }
     {
         let mut text = String::new(alloc);
-        push_problems(&mut text, problems)?;
-        push_issues(&mut text, readiness_issues)?;
-        push_ready_count(&mut text, problems.len(), readiness_issues.len())?;
+        push_problem_lines(&mut text, problems)?;
+        push_issue_lines(&mut text, readiness_issues)?;
+        push_ready_total_line(&mut text, problems.len(), readiness_issues.len())?;
         let count = problems.len() + readiness_issues.len();
         Ok(CountedText { text, count })
     }

@@ -63,7 +63,7 @@ fn push_description(text: &mut String, issue: &ReadinessIssue) -> Result<(), All
 }
 
 /// Appends the line of a readiness issue.
-fn push_issue(text: &mut String, issue: &ReadinessIssue) -> Result<(), AllocError>
+fn push_issue_line(text: &mut String, issue: &ReadinessIssue) -> Result<(), AllocError>
     ensures { OnOk result (Adds text.old text.new
         (ended (ready_line (issue_text (issue_of issue.now))))) }
 {
@@ -73,20 +73,20 @@ fn push_issue(text: &mut String, issue: &ReadinessIssue) -> Result<(), AllocErro
 }
 
 /// Appends the lines of all readiness issues.
-pub(crate) fn push_issues(
+pub(crate) fn push_issue_lines(
     text: &mut String,
     readiness_issues: &[ReadinessIssue],
 ) -> Result<(), AllocError>
     ensures { OnOk result (Adds text.old text.new (issue_lines readiness_issues.now)) }
 {
     for issue in readiness_issues {
-        push_issue(text, issue)?;
+        push_issue_line(text, issue)?;
     }
     Ok(())
 }
 
 /// Appends the line that counts the problems and the readiness issues.
-pub(crate) fn push_ready_count(
+pub(crate) fn push_ready_total_line(
     text: &mut String,
     problems: usize,
     readiness_issues: usize,

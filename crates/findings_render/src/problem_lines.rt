@@ -68,7 +68,7 @@ fn push_contended(
 }
 
 /// Appends the description of a function that isn't reached by its BDF.
-fn push_not_found(
+fn push_not_reached_by_bdf(
     text: &mut String,
     path: &Path,
     at: Bdf,
@@ -109,12 +109,12 @@ fn push_description(text: &mut String, problem: &Problem) -> Result<(), AllocErr
             path,
             address,
             instead,
-        } => push_not_found(text, path, *address, instead),
+        } => push_not_reached_by_bdf(text, path, *address, instead),
     }
 }
 
 /// Appends the line of a problem.
-pub fn push_problem(text: &mut String, problem: &Problem) -> Result<(), AllocError>
+pub fn push_problem_line(text: &mut String, problem: &Problem) -> Result<(), AllocError>
     ensures { OnOk result (Adds text.old text.new
         (ended (audit_line (problem_text (problem_of problem.now))))) }
 {
@@ -124,11 +124,11 @@ pub fn push_problem(text: &mut String, problem: &Problem) -> Result<(), AllocErr
 }
 
 /// Appends the lines of all problems.
-pub(crate) fn push_problems(text: &mut String, problems: &[Problem]) -> Result<(), AllocError>
+pub(crate) fn push_problem_lines(text: &mut String, problems: &[Problem]) -> Result<(), AllocError>
     ensures { OnOk result (Adds text.old text.new (problem_lines problems.now)) }
 {
     for problem in problems {
-        push_problem(text, problem)?;
+        push_problem_line(text, problem)?;
     }
     Ok(())
 }
@@ -154,7 +154,7 @@ impl fmt::Display for ProblemCount {
 }
 
 /// Appends the line that counts the problems.
-pub(crate) fn push_problem_count(text: &mut String, count: usize) -> Result<(), AllocError>
+pub(crate) fn push_problem_count_line(text: &mut String, count: usize) -> Result<(), AllocError>
     ensures { OnOk result (Adds text.old text.new (ended (audit_line (total_text count)))) }
 {
     writeln!(text, "audit: {}", ProblemCount(count))

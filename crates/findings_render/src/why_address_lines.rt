@@ -102,12 +102,12 @@ impl<'a> fmt::Display for ShownCauses<'a> {
 
 /// Displays a BAR that contains the address, with the reasons why it doesn't answer.
 #[derive(Clone, Copy)]
-pub(crate) struct ShownSilent<'a> {
+pub(crate) struct ShownSilentBar<'a> {
     pub(crate) space: Space,
     pub(crate) told: &'a UnansweredRegion,
 }
 
-impl<'a> fmt::Display for ShownSilent<'a> {
+impl<'a> fmt::Display for ShownSilentBar<'a> {
     ghost output = { λ t. Some (told_text (named_space t.space) (region_told t.told.now)) };
 
     fn fmt<W: fmt::Write>(&self, f: &mut fmt::Formatter<W>) -> fmt::Result {

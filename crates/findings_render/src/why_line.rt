@@ -7,9 +7,9 @@ ghost use Rattle.findings_render.specs.WhyLines.{line_text};
 
 use crate::counts::Counted;
 use crate::region_texts::{Reached, shown_bdf};
-use crate::why_address_lines::{ShownAddress, ShownSilent, push_forwarder};
+use crate::why_address_lines::{ShownAddress, ShownSilentBar, push_forwarder};
 use crate::why_number_lines::ShownMissing;
-use crate::why_port_lines::push_port_role;
+use crate::why_port_lines::push_port_role_if_any;
 use bars::Space;
 use bridge_forward::Path;
 use findings::{Bdf, Forwarder, Missing, PortUse, UnansweredRegion, Why, WhyNumber};
@@ -47,10 +47,10 @@ fn push_description(text: &mut String, line: Line) -> Result<(), AllocError>
     ensures { OnOk result (Adds text.old text.new (line_text line.entry)) }
 {
     match line {
-        Line::Port(latch, port, used) => push_port_role(text, latch, port, used),
+        Line::Port(latch, port, used) => push_port_role_if_any(text, latch, port, used),
         Line::Address(space, addr, why) => write!(text, "{}", ShownAddress { space, addr, why }),
         Line::Forwarder(forwarder) => push_forwarder(text, forwarder),
-        Line::Region(space, told) => write!(text, "{}", ShownSilent { space, told }),
+        Line::Region(space, told) => write!(text, "{}", ShownSilentBar { space, told }),
         Line::AtReset(count) => {
             let bars = Counted {
                 count,

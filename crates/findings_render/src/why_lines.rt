@@ -105,7 +105,7 @@ pub(crate) fn add_bdf_lines<'a>(
 
 /// Adds the line about the role of a port in the configuration mechanism. Adds nothing for an
 /// ordinary port.
-pub(crate) fn add_port_use_line<'a>(
+pub(crate) fn add_port_use_line_if_any<'a>(
     lines: &mut Vec<Line<'a>>,
     latch: u32,
     port: u64,

@@ -41,7 +41,7 @@ impl fmt::Display for ShownLatch {
 }
 
 /// Appends the byte of configuration space that CONFIG_ADDRESS selects.
-fn push_selected_config_byte(
+fn push_config_selection(
     text: &mut String,
     port: ShownPort,
     latch: ShownLatch,
@@ -62,7 +62,7 @@ fn push_selected_config_byte(
 }
 
 /// Appends the role of a port. Appends nothing for an ordinary port.
-pub(crate) fn push_port_role(
+pub(crate) fn push_port_role_if_any(
     text: &mut String,
     latch: u32,
     port: u64,
@@ -74,9 +74,7 @@ pub(crate) fn push_port_role(
     let latch = ShownLatch(latch);
     match *used {
         PortUse::HoldsLatch => write!(text, "{port}4-byte accesses go to {latch}"),
-        PortUse::ShowsData { at, offset } => push_selected_config_byte(
-            text, port, latch, at, offset,
-        ),
+        PortUse::ShowsData { at, offset } => push_config_selection(text, port, latch, at, offset),
         PortUse::HidesData => write!(text, "{port}{latch} is disabled"),
         PortUse::LikeOthers => Ok(()),
     }

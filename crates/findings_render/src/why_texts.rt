@@ -10,7 +10,7 @@ ghost use Rattle.findings.specs.WhyTold.{use_told};
 ghost use Rattle.findings_render.specs.WhyLines.{line_text};
 
 use crate::why_line::{Line, push_lines};
-use crate::why_lines::{add_address_lines, add_bdf_lines, add_port_use_line};
+use crate::why_lines::{add_address_lines, add_bdf_lines, add_port_use_line_if_any};
 use accesses::HostAt;
 use bars::Space;
 use findings::{Bdf, PortUse, port_use, why_address, why_number};
@@ -20,7 +20,7 @@ use std::alloc::{AllocError, Global};
 
 /// Appends the line about the role of a port in the configuration mechanism. Appends nothing for an
 /// ordinary port.
-pub fn push_port_use_line(
+pub fn push_port_line_if_any(
     alloc: Global,
     text: &mut String,
     latch: Latch,
@@ -31,12 +31,12 @@ pub fn push_port_use_line(
         (text_of_lines (map why_line (use_lines latch port (use_told used))))) }
 {
     let mut lines = Vec::new(alloc);
-    add_port_use_line(&mut lines, latch.value(), port, &used)?;
+    add_port_use_line_if_any(&mut lines, latch.value(), port, &used)?;
     push_lines(text, &lines)
 }
 
 /// Renders the lines, followed by a line that counts them.
-fn render_with_count(alloc: Global, lines: &mut Vec<Line>) -> Result<String, AllocError>
+fn push_total_and_render(alloc: Global, lines: &mut Vec<Line>) -> Result<String, AllocError>
     ensures { IfOk result (λ t.
         string_bytes t ≡ whole_text (map line_text lines.old.items)) }
 {
@@ -62,9 +62,9 @@ fn render_address_why(
 {
     let why = why_address(alloc, host, space, addr)?;
     let mut lines = Vec::new(alloc);
-    add_port_use_line(&mut lines, host.latch().value(), addr, used)?;
+    add_port_use_line_if_any(&mut lines, host.latch().value(), addr, used)?;
     add_address_lines(&mut lines, space, addr, &why)?;
-    render_with_count(alloc, &mut lines)
+    push_total_and_render(alloc, &mut lines)
 }
 
 /// Renders the explanation of a BDF. The line about the port that selects it comes first, if there
@@ -83,9 +83,9 @@ fn render_bdf_why(
 {
     let why = why_number(alloc, host, at)?;
     let mut lines = Vec::new(alloc);
-    add_port_use_line(&mut lines, host.latch().value(), port, used)?;
+    add_port_use_line_if_any(&mut lines, host.latch().value(), port, used)?;
     add_bdf_lines(&mut lines, &at, &why)?;
-    render_with_count(alloc, &mut lines)
+    push_total_and_render(alloc, &mut lines)
 }
 
 /// Explains where an access to a port goes in the current registers. For CONFIG_ADDRESS and

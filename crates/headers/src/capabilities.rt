@@ -1,6 +1,6 @@
 //! Capability lists (PCI Local Bus 3.0, chapter 6.7).
 ghost use Rattle.std.specs.Prelude.{◌≡◌, ◌++◌, IfOk, OnOk};
-ghost use Rattle.model_registers.specs.Capabilities.{first_offset_or_zero, structure, structures, pointer, with_capabilities, value_at_or_zero, is_pointed_to, as_listed_capability, capabilities_from_pointer, capabilities_in_blocks, listed};
+ghost use Rattle.model_registers.specs.Capabilities.{first_offset_or_zero, structure, structures, pointer, with_capabilities, value_at_or_zero, is_pointed_to, as_listed_capability, capabilities_linked_forward, capabilities_if_pointer_first, listed};
 
 use crate::config_block::ConfigBlock;
 use crate::endpoint_decl::{EndpointDecl, EndpointValues};
@@ -55,7 +55,7 @@ fn capability_block(
 }
 
 /// Appends the registers of all structures of a list.
-fn push_structures(
+fn push_capability_blocks(
     alloc: Global,
     blocks: &mut Vec<ConfigBlock>,
     list: &[Capability],
@@ -97,7 +97,7 @@ impl EndpointValues {
         let mut values = self;
         let mut blocks = Vec::new(alloc);
         blocks.push(pointer_block(alloc, list)?)?;
-        push_structures(alloc, &mut blocks, list)?;
+        push_capability_blocks(alloc, &mut blocks, list)?;
         blocks.append(&mut values.config)?;
         values.config = blocks;
         values.status |= 0x10;
@@ -148,12 +148,12 @@ fn as_listed_capability(block: &ConfigBlock) -> ListedCapability
 }
 
 /// Returns the structures among these blocks that a pointer with the value `first` leads to.
-fn capabilities_from_pointer(
+fn capabilities_linked_forward(
     alloc: Global,
     first: u8,
     blocks: &[ConfigBlock],
 ) -> Result<Vec<ListedCapability>, AllocError>
-    ensures { IfOk result (λ v. v.items ≡ capabilities_from_pointer first blocks.now) }
+    ensures { IfOk result (λ v. v.items ≡ capabilities_linked_forward first blocks.now) }
 {
     let mut found = Vec::new(alloc);
     let mut at = first;
@@ -170,16 +170,16 @@ fn capabilities_from_pointer(
 
 /// Returns the structures that the Capabilities Pointer leads to, if the first block is that
 /// register.
-fn capabilities_in_blocks(
+fn capabilities_if_pointer_first(
     alloc: Global,
     blocks: &[ConfigBlock],
 ) -> Result<Vec<ListedCapability>, AllocError>
-    ensures { IfOk result (λ v. v.items ≡ capabilities_in_blocks blocks.now) }
+    ensures { IfOk result (λ v. v.items ≡ capabilities_if_pointer_first blocks.now) }
 {
     match blocks.split_first() {
         Some((first, rest)) => {
             if first.off == 0x34 {
-                capabilities_from_pointer(alloc, value_at_or_zero(first, 0), rest)
+                capabilities_linked_forward(alloc, value_at_or_zero(first, 0), rest)
             } else {
                 Ok(Vec::new(alloc))
             }
@@ -198,6 +198,6 @@ impl EndpointDecl {
         if values.status & 0x10 == 0 {
             return Ok(Vec::new(alloc));
         }
-        capabilities_in_blocks(alloc, &values.config)
+        capabilities_if_pointer_first(alloc, &values.config)
     }
 }

@@ -31,7 +31,7 @@ fn push_blocks(cells: &mut Vec<(u16, Cell)>, blocks: &[ConfigBlock]) -> Result<(
 }
 
 /// Returns the header registers of an endpoint, without its BARs.
-pub fn endpoint_header_rows(decl: &EndpointDecl, multifunction: bool) -> [ConfigRegister; 14]
+pub fn endpoint_rows_without_bars(decl: &EndpointDecl, multifunction: bool) -> [ConfigRegister; 14]
     ensures cells { flat_map row_cells result ≡ header_cells decl.now multifunction 0 }
     ensures rows { Each IsRow result }
 {
@@ -69,7 +69,7 @@ impl Endpoint {
             }) }
     {
         let mut cells = Vec::with_capacity(alloc, 64)?;
-        push_rows(&mut cells, &endpoint_header_rows(decl, multifunction))?;
+        push_rows(&mut cells, &endpoint_rows_without_bars(decl, multifunction))?;
         push_blocks(&mut cells, &decl.values().config)?;
         Cells::new(alloc, &cells)
     }

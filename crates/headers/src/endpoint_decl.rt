@@ -1,13 +1,13 @@
 //! The declaration of an endpoint.
 ghost use Rattle.std.specs.{Prelude.{◌≡◌, [], IfNone, IfOk, map, option_map}, Result.result_err};
 ghost use Rattle.lists.specs.Elements.{Each};
-ghost use Rattle.model_registers.specs.{Declarations.{IsLawfulSize, HasLawfulRegions}, EndpointTable.{opened, closed}, DeclarationRules.{first_broken, has_lawful_numbers, has_own_registers, endpoint_rules, with_ordered_regions, IsLawfulEndpoint}};
+ghost use Rattle.model_registers.specs.{Declarations.{IsLawfulSize, HasLawfulRegions}, EndpointTable.{opened, closed}, DeclarationRules.{first_broken, has_values_in_range, has_own_registers, endpoint_rules, with_ordered_regions, IsLawfulEndpoint}};
 ghost use Rattle.bars.specs.Resets.{at_reset};
 ghost use Rattle.headers.specs.Faults.{number_of};
 
 use crate::config_block::{self, ConfigBlock};
 use crate::fault::DeclFault;
-use crate::own_registers::have_distinct_bar_registers;
+use crate::own_registers::have_valid_bar_registers;
 use crate::region::{self, Region};
 use bars::BarDecl;
 use std::alloc::Global;
@@ -67,8 +67,8 @@ impl EndpointValues {
         }
     }
 
-    fn has_lawful_numbers(&self) -> bool
-        ensures { result ≡ has_lawful_numbers self.now }
+    fn has_values_in_range(&self) -> bool
+        ensures { result ≡ has_values_in_range self.now }
     {
         self.vendor < 0xffff
             && self.class < 1 << 24
@@ -79,10 +79,10 @@ impl EndpointValues {
             && config_block::are_lawful(&self.config)
     }
 
-    fn has_distinct_bar_registers(&self) -> bool
+    fn has_valid_bar_registers(&self) -> bool
         ensures { result ≡ has_own_registers self.now.regions }
     {
-        have_distinct_bar_registers(&self.bar)
+        have_valid_bar_registers(&self.bar)
     }
 
     /// Returns the first rule that the values break.
@@ -90,11 +90,11 @@ impl EndpointValues {
         ensures first { option_map number_of result ≡ first_broken (endpoint_rules self.now) }
         ensures sizes { IfNone result (Each (λ r. IsLawfulSize r.kind r.size) self.now.regions) }
     {
-        if !self.has_lawful_numbers() {
+        if !self.has_values_in_range() {
             Some(DeclFault::Number)
-        } else if !self.has_distinct_bar_registers() {
+        } else if !self.has_valid_bar_registers() {
             Some(DeclFault::Register)
-        } else if !region::blocks_fit_regions(&self.bar) {
+        } else if !region::each_block_fits_its_region(&self.bar) {
             Some(DeclFault::Size)
         } else if !config_block::are_disjoint(&self.config) {
             Some(DeclFault::CellMasks)
@@ -147,10 +147,10 @@ impl EndpointDecl {
     }
 
     /// Returns the BAR declarations by index, in the form that `bars::Bars::new` requires.
-    pub fn base_registers(&self) -> [Option<BarDecl>; 6]
+    pub fn bar_decls_by_index(&self) -> [Option<BarDecl>; 6]
         ensures bases { at_reset result ≡ map closed self.now.regions }
         ensures lawful { HasLawfulRegions (map opened (at_reset result)) }
     {
-        region::base_registers(&self.values.bar)
+        region::bar_decls_by_index(&self.values.bar)
     }
 }

@@ -77,7 +77,7 @@ fn use_registers_at_most_once<T: UsesBars>(regions: &[T]) -> bool
 }
 
 /// Returns whether each region's registers are among the six, and no register is used twice.
-pub fn have_distinct_bar_registers<T: UsesBars>(regions: &[T]) -> bool
+pub fn have_valid_bar_registers<T: UsesBars>(regions: &[T]) -> bool
     ensures { result ≡ has_own_registers (map T.region regions.now) }
 {
     are_within_bar_registers(regions) && use_registers_at_most_once(regions)

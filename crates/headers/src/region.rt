@@ -87,7 +87,7 @@ pub(crate) fn blocks_are_within_limit(regions: &[Region]) -> bool
 }
 
 /// Returns whether each block fits its region.
-pub(crate) fn blocks_fit_regions(regions: &[Region]) -> bool
+pub(crate) fn each_block_fits_its_region(regions: &[Region]) -> bool
     ensures value { result ≡ list_all (λ r. nat_le (length r.cells) r.size) regions.now }
     ensures sizes { OnTrue result (Each (λ r. IsLawfulSize r.kind r.size) regions.now) }
 {
@@ -102,7 +102,7 @@ pub(crate) fn blocks_fit_regions(regions: &[Region]) -> bool
 }
 
 /// Returns the declared BARs by index.
-pub(crate) fn base_registers(regions: &[Region]) -> [Option<BarDecl>; 6]
+pub(crate) fn bar_decls_by_index(regions: &[Region]) -> [Option<BarDecl>; 6]
     requires { HasLawfulRegions regions.now }
     ensures bases { at_reset result ≡ map closed regions.now }
     ensures lawful { HasLawfulRegions (map opened (at_reset result)) }

@@ -57,8 +57,8 @@ module _ (fs : List BoardFunction) (i : ℕ) (e : Function) (is : endpoint_nth f
         ∙ changed_endpoint g lent_at.function.path e fs distinct lent_at.lent
         ∙ sym (ap (λ (o : Option BoardFunction). option_map_or (λ (f : BoardFunction). with_file g f.path fs) o fs) lent_at.there)
 
-    pub reset_endpoint_nth : with_endpoint_nth i (record e { file = after_reset e.decl e.file }) fs ≡ with_reset_nth i fs
-    reset_endpoint_nth =
+    pub reset_except_routing_nth : with_endpoint_nth i (record e { file = after_reset e.decl e.file }) fs ≡ with_reset_nth i fs
+    reset_except_routing_nth =
         changed_nth (after_reset e.decl)
         ∙ sym (ap (λ (o : Option Function). option_map_or (λ (x : Function). with_file_nth (after_reset x.decl) i fs) o fs) is)
 

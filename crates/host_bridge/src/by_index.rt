@@ -3,11 +3,11 @@ ghost use Rattle.std.specs.{Prelude.{◌≡◌, ◌%◌, IsSome, IsTrue, length,
 ghost use Rattle.model_registers.specs.{Registers.{cell_at, config, number, raise, read, write}, ByteEnables.{LiesInWord, lanes}, DeviceBytes.{is_device_byte, set_value}};
 ghost use Rattle.model_board.specs.State.{BoardFunction};
 ghost use Rattle.headers.specs.Places.{place_of};
-ghost use Rattle.bridge_forward.specs.{BridgeDecls.declared_bridge_nth, ByIndex.{ranges_told, live_ranges_nth}, Lending.endpoint_nth};
+ghost use Rattle.bridge_forward.specs.{BridgeDecls.declared_bridge_nth, ByIndex.{ranges_told, programmed_ranges_nth}, Lending.endpoint_nth};
 ghost use Rattle.host_bridge.specs.{ByIndex.{file_nth, with_file_nth, with_reset_nth}, HostState.with_functions, Landings.IsReached};
 
 use crate::host::Host;
-use bridge_forward::{EndpointFn, LiveRanges, Path};
+use bridge_forward::{EndpointFn, Path, ProgrammedRanges};
 use headers::{BridgeDecl, Place};
 
 impl Host {
@@ -53,10 +53,11 @@ impl Host {
     }
 
     /// Returns the regions or windows of the function at an index.
-    pub fn live_ranges_nth(&self, index: usize) -> Option<LiveRanges>
-        ensures { option_map ranges_told result ≡ live_ranges_nth self.now.state.functions index }
+    pub fn programmed_ranges_nth(&self, index: usize) -> Option<ProgrammedRanges>
+        ensures { option_map ranges_told result
+            ≡ programmed_ranges_nth self.now.state.functions index }
     {
-        self.root.live_ranges_nth(index)
+        self.root.programmed_ranges_nth(index)
     }
 
     /// Reads the enabled bytes of the configuration word at `off`, a multiple of 4, of the endpoint
@@ -139,7 +140,7 @@ impl Host {
 
     /// Resets the endpoint at an index, except for its Command register and BARs. Does nothing if
     /// there is no endpoint. Other functions, CONFIG_ADDRESS and the apertures don't change.
-    pub fn reset_endpoint_nth(&mut self, index: usize)
+    pub fn reset_except_routing_nth(&mut self, index: usize)
         ensures { self.new
             ≡ with_functions (with_reset_nth index self.old.state.functions) self.old }
     {

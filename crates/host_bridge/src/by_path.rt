@@ -27,12 +27,12 @@ impl Host {
 
     /// Resets the endpoint at a path, except for its Command register and BARs. Does nothing if
     /// there is no endpoint. Other functions, CONFIG_ADDRESS and the apertures don't change.
-    pub fn reset_endpoint(&mut self, path: &Path)
+    pub fn reset_except_routing(&mut self, path: &Path)
         ensures { let fs = self.old.state.functions in
             self.new ≡ with_functions (with_endpoint_reset path.now fs) self.old }
     {
         match self.index_of(path) {
-            Some(index) => self.reset_endpoint_nth(index),
+            Some(index) => self.reset_except_routing_nth(index),
             None => {}
         }
     }

@@ -259,13 +259,7 @@ impl Host {
     }
 
     /// Reads `width` bytes at an address. An unclaimed address reads all ones.
-    fn read_claimed_or_ones<R: Route>(
-        &mut self,
-        route: &R,
-        space: Space,
-        addr: u64,
-        width: u64,
-    ) -> u32
+    fn claimed_or_ones<R: Route>(&mut self, route: &R, space: Space, addr: u64, width: u64) -> u32
         requires fits { R.fits route.now self.old }
         requires width { IsWidth width }
         requires aligned { addr % width ≡ 0 }
@@ -319,7 +313,7 @@ impl Host {
                 addr,
                 self.read_config_data(enables_of(addr, width)),
             ),
-            Target::Ordinary => self.read_claimed_or_ones(route, Space::Io, addr, width),
+            Target::Ordinary => self.claimed_or_ones(route, Space::Io, addr, width),
         }
     }
 
@@ -352,7 +346,7 @@ impl Host {
         ensures value { result ≡ memory_reply self.old.state addr width }
         ensures after { self.new ≡ self.old }
     {
-        self.read_claimed_or_ones(route, Space::Mem, addr, width)
+        self.claimed_or_ones(route, Space::Mem, addr, width)
     }
 
     /// Writes the low 1, 2 or 4 bytes of a value at a memory address. Drops the write if no region

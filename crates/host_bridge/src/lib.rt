@@ -27,7 +27,7 @@ mod latch;
 mod route;
 
 pub use bars::Space;
-pub use bridge_forward::{BarOffset, Claim, LiveRanges, Path};
+pub use bridge_forward::{BarOffset, Claim, Path, ProgrammedRanges};
 pub use host::Host;
 pub use paths::Bdf;
 pub use route::{Route, TreeWalk};

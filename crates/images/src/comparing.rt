@@ -42,7 +42,7 @@ fn strip_cells<'a>(cells: &[Cell], bytes: &'a [u8]) -> Result<&'a [u8], ImageFau
     Ok(bytes)
 }
 
-fn strip_region<'a>(region: &Region, bytes: &'a [u8]) -> Result<&'a [u8], ImageFault>
+fn strip_region_decl<'a>(region: &Region, bytes: &'a [u8]) -> Result<&'a [u8], ImageFault>
     requires lawful { IsLawfulRegion region.now }
     requires count { length region.now.cells ≤ 4096 }
     ensures left { IfOk result (λ rest.
@@ -54,7 +54,7 @@ fn strip_region<'a>(region: &Region, bytes: &'a [u8]) -> Result<&'a [u8], ImageF
     strip_cells(&region.block, bytes)
 }
 
-fn strip_regions<'a>(regions: &[Region], bytes: &'a [u8]) -> Result<&'a [u8], ImageFault>
+fn strip_region_decls<'a>(regions: &[Region], bytes: &'a [u8]) -> Result<&'a [u8], ImageFault>
     requires lawful { Each IsLawfulRegion regions.now }
     requires counts { Each (λ r. length r.cells ≤ 4096) regions.now }
     ensures left { IfOk result (λ rest.
@@ -65,13 +65,13 @@ fn strip_regions<'a>(regions: &[Region], bytes: &'a [u8]) -> Result<&'a [u8], Im
     let mut left = regions;
     let mut bytes = bytes;
     while let Some((region, rest)) = left.split_first() {
-        bytes = strip_region(region, bytes)?;
+        bytes = strip_region_decl(region, bytes)?;
         left = rest;
     }
     Ok(bytes)
 }
 
-fn strip_block<'a>(block: &ConfigBlock, bytes: &'a [u8]) -> Result<&'a [u8], ImageFault>
+fn strip_block_decl<'a>(block: &ConfigBlock, bytes: &'a [u8]) -> Result<&'a [u8], ImageFault>
     requires { IsConfigBlock block.now }
     ensures left { IfOk result (λ rest.
         after_bytes 906 (block_bytes block.now) bytes.now ≡ Ok rest.now) }
@@ -82,7 +82,7 @@ fn strip_block<'a>(block: &ConfigBlock, bytes: &'a [u8]) -> Result<&'a [u8], Ima
     strip_cells(&block.block, bytes)
 }
 
-fn strip_blocks<'a>(blocks: &[ConfigBlock], bytes: &'a [u8]) -> Result<&'a [u8], ImageFault>
+fn strip_block_decls<'a>(blocks: &[ConfigBlock], bytes: &'a [u8]) -> Result<&'a [u8], ImageFault>
     requires { Each IsConfigBlock blocks.now }
     ensures left { IfOk result (λ rest.
         after_bytes 906 (flat_map block_bytes blocks.now) bytes.now ≡ Ok rest.now) }
@@ -92,7 +92,7 @@ fn strip_blocks<'a>(blocks: &[ConfigBlock], bytes: &'a [u8]) -> Result<&'a [u8],
     let mut left = blocks;
     let mut bytes = bytes;
     while let Some((block, rest)) = left.split_first() {
-        bytes = strip_block(block, bytes)?;
+        bytes = strip_block_decl(block, bytes)?;
         left = rest;
     }
     Ok(bytes)
@@ -108,7 +108,7 @@ fn strip_counted_blocks<'a>(blocks: &[ConfigBlock], bytes: &'a [u8]) -> Result<&
         after_bytes 906 (counted_blocks blocks.now) bytes.now ≡ Err (number_of why)) }
 {
     let bytes = strip_expected_bytes(&[blocks.len() as u8], bytes)?;
-    strip_blocks(blocks, bytes)
+    strip_block_decls(blocks, bytes)
 }
 
 /// Strips the regions and the blocks of a declaration.
@@ -122,7 +122,7 @@ fn strip_regions_and_blocks<'a>(
     ensures refused { IfErr result (λ why.
         after_bytes 906 (rest_bytes values.now) bytes.now ≡ Err (number_of why)) }
 {
-    let bytes = strip_regions(&values.bar, bytes)?;
+    let bytes = strip_region_decls(&values.bar, bytes)?;
     strip_counted_blocks(&values.config, bytes)
 }
 

@@ -12,7 +12,7 @@ use config_bytes::prove_cells_are_lawful;
 use headers::{ConfigBlock, EndpointDecl, Region};
 use host_bridge::Host;
 
-fn prove_region_cells_are_bytes(regions: &[Region])
+fn prove_region_cells_are_lawful(regions: &[Region])
     ensures { Each (λ r. Each IsCell r.cells) regions.now }
 {
     let mut left = regions;
@@ -22,7 +22,7 @@ fn prove_region_cells_are_bytes(regions: &[Region])
     }
 }
 
-fn prove_block_cells_are_bytes(blocks: &[ConfigBlock])
+fn prove_block_cells_are_lawful(blocks: &[ConfigBlock])
     ensures { Each (λ b. Each IsCell b.cells) blocks.now }
 {
     let mut left = blocks;
@@ -36,8 +36,8 @@ fn prove_endpoint_can_be_saved(decl: &EndpointDecl)
     ensures { IsDeclared decl.now }
 {
     let values = decl.values();
-    prove_region_cells_are_bytes(&values.bar);
-    prove_block_cells_are_bytes(&values.config);
+    prove_region_cells_are_lawful(&values.bar);
+    prove_block_cells_are_lawful(&values.config);
 }
 
 /// Establishes that the declaration of the function at an index can be saved. For a bridge there is

@@ -20,7 +20,7 @@ fn has_guest_copy(off: u8) -> bool
 
 /// Reads one byte of configuration space as the guest does, by a cycle that enables only this byte.
 /// Returns the whole word, in which the other bytes are 0.
-fn read_byte_in_word(endpoint: &EndpointFn, own: &VirtualFunction, off: u8) -> u32
+fn read_byte_in_its_lane(endpoint: &EndpointFn, own: &VirtualFunction, off: u8) -> u32
     ensures { let ons = lanes (enables_of off 1) in
         result ≡ read (source endpoint.now own.now (config off)) (config (off / 4 * 4)) ons }
 {
@@ -34,15 +34,15 @@ fn read_byte_in_word(endpoint: &EndpointFn, own: &VirtualFunction, off: u8) -> u
 }
 
 /// Returns a byte of configuration space.
-fn read_config_byte(endpoint: &EndpointFn, own: &VirtualFunction, off: u8) -> u8
+fn read_shown_config_byte(endpoint: &EndpointFn, own: &VirtualFunction, off: u8) -> u8
     ensures { result ≡ shown_byte endpoint.now own.now (config off) }
 {
-    (shift_lanes_down(u64::from(off), read_byte_in_word(endpoint, own, off)) % 256) as u8
+    (shift_lanes_down(u64::from(off), read_byte_in_its_lane(endpoint, own, off)) % 256) as u8
 }
 
 /// Returns a byte of configuration space or of a region.
 #[tactic(auto, unfolding(crate::specs::Shown::shown_byte))]
-pub(crate) fn read_register_byte(
+pub(crate) fn read_shown_byte(
     endpoint: &EndpointFn,
     own: &VirtualFunction,
     place: Place,
@@ -52,7 +52,7 @@ pub(crate) fn read_register_byte(
     ensures { result ≡ shown_byte endpoint.now own.now (place_of place off) }
 {
     match place {
-        Place::Cfg => read_config_byte(endpoint, own, off as u8),
+        Place::Cfg => read_shown_config_byte(endpoint, own, off as u8),
         Place::Bar(region) => endpoint.value(Place::Bar(region), off),
     }
 }

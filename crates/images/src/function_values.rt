@@ -5,7 +5,7 @@ ghost use Rattle.model_registers.specs.{Declarations.IsLawfulRegion, Declaration
 ghost use Rattle.headers.specs.{declared.place.Place.TheVariants.Cfg, Places.place_of};
 ghost use Rattle.images.specs.{Puts.put, Shown.{block_values, bytes_from, header_values, region_values, shown_values}};
 
-use crate::function_bytes::read_register_byte;
+use crate::function_bytes::read_shown_byte;
 use crate::writing::put_bytes_and_advance;
 use bridge_forward::EndpointFn;
 use guest_functions::VirtualFunction;
@@ -33,7 +33,7 @@ fn put_shown_and_advance(
     let mut off = first;
     let mut left = count;
     while left > 0 {
-        next = put_bytes_and_advance(out, next, &[read_register_byte(endpoint, own, place, off)]);
+        next = put_bytes_and_advance(out, next, &[read_shown_byte(endpoint, own, place, off)]);
         off += 1;
         left -= 1;
     }
@@ -41,7 +41,7 @@ fn put_shown_and_advance(
 }
 
 /// Writes the 23 bytes of the header that are outside the base address registers.
-fn put_header_and_advance(
+fn put_non_bar_header_and_advance(
     endpoint: &EndpointFn,
     own: &VirtualFunction,
     out: &mut [u8],
@@ -56,7 +56,7 @@ fn put_header_and_advance(
     put_shown_and_advance(endpoint, own, Place::Cfg, 0x3c, 4, out, next)
 }
 
-fn put_block_and_advance(
+fn put_values_of_block_and_advance(
     endpoint: &EndpointFn,
     own: &VirtualFunction,
     block: &ConfigBlock,
@@ -72,7 +72,7 @@ fn put_block_and_advance(
     put_shown_and_advance(endpoint, own, Place::Cfg, first, block.block.len(), out, at)
 }
 
-fn put_blocks_and_advance(
+fn put_values_of_blocks_and_advance(
     endpoint: &EndpointFn,
     own: &VirtualFunction,
     blocks: &[ConfigBlock],
@@ -90,14 +90,14 @@ fn put_blocks_and_advance(
     let mut left = blocks;
     let mut next = at;
     while let Some((block, rest)) = left.split_first() {
-        next = put_block_and_advance(endpoint, own, block, out, next);
+        next = put_values_of_block_and_advance(endpoint, own, block, out, next);
         left = rest;
     }
     next
 }
 
 /// Writes the values of a region's base address register and of the declared bytes at its start.
-fn put_region_and_advance(
+fn put_values_of_region_and_advance(
     endpoint: &EndpointFn,
     own: &VirtualFunction,
     region: &Region,
@@ -118,7 +118,7 @@ fn put_region_and_advance(
     put_shown_and_advance(endpoint, own, place, 0, region.block.len(), out, next)
 }
 
-fn put_regions_and_advance(
+fn put_values_of_regions_and_advance(
     endpoint: &EndpointFn,
     own: &VirtualFunction,
     regions: &[Region],
@@ -137,7 +137,7 @@ fn put_regions_and_advance(
     let mut left = regions;
     let mut next = at;
     while let Some((region, rest)) = left.split_first() {
-        next = put_region_and_advance(endpoint, own, region, out, next);
+        next = put_values_of_region_and_advance(endpoint, own, region, out, next);
         left = rest;
     }
     next
@@ -159,7 +159,7 @@ pub(crate) fn put_all_values_and_advance(
     ensures lawful { IsLawfulEndpoint endpoint.now.decl }
 {
     let values = endpoint.decl().values();
-    let next = put_header_and_advance(endpoint, own, out, at);
-    let next = put_blocks_and_advance(endpoint, own, &values.config, out, next);
-    put_regions_and_advance(endpoint, own, &values.bar, out, next)
+    let next = put_non_bar_header_and_advance(endpoint, own, out, at);
+    let next = put_values_of_blocks_and_advance(endpoint, own, &values.config, out, next);
+    put_values_of_regions_and_advance(endpoint, own, &values.bar, out, next)
 }

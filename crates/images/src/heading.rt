@@ -19,7 +19,7 @@ pub fn image_header_bytes() -> [u8; 8]
 }
 
 /// Returns the bytes of CONFIG_ADDRESS, least significant byte first.
-pub fn latch_to_le_bytes(latch: u32) -> [u8; 4]
+pub fn u32_to_le_bytes(latch: u32) -> [u8; 4]
     ensures { result ≡ le_bytes 4 latch }
 {
     let mut bytes = [0; 4];
@@ -45,7 +45,7 @@ fn strip_version(version: u32, bytes: &[u8]) -> Result<&[u8], ImageFault>
     ensures refused { IfErr result (λ why.
         after_version version bytes.now ≡ Err (number_of why)) }
 {
-    match strip_expected_bytes(&latch_to_le_bytes(version), bytes) {
+    match strip_expected_bytes(&u32_to_le_bytes(version), bytes) {
         Ok(rest) => Ok(rest),
         Err(fault) => Err(mismatch_to_version_fault(fault)),
     }

@@ -21,11 +21,11 @@ mod writing;
 
 pub use declarations::prove_board_can_be_saved;
 pub use fault::ImageFault;
-pub use function_comparing::strip_function;
+pub use function_comparing::strip_fitting_slot;
 pub use function_writing::{put_function_and_advance, saved_function_size};
 pub use heading::{
-    image_header_bytes, latch_to_le_bytes, refuse_trailing_bytes, split_off_latch,
-    strip_image_header, strip_slot_tag,
+    image_header_bytes, refuse_trailing_bytes, split_off_latch, strip_image_header, strip_slot_tag,
+    u32_to_le_bytes,
 };
 pub use sizes::{count_endpoint_cells, encoded_declaration_size};
 pub use writing::put_bytes_and_advance;

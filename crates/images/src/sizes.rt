@@ -56,7 +56,7 @@ pub fn encoded_declaration_size(decl: &EndpointDecl) -> usize
 }
 
 /// Returns how many register bytes the regions have, including their base address registers.
-fn count_region_cells(regions: &[Region]) -> usize
+fn count_bar_and_region_cells(regions: &[Region]) -> usize
     requires counts { Each (λ r. length r.cells ≤ 4096) regions.now }
     requires few { length (flat_map (region_cells (λ r. 0)) regions.now) ≤ 24600 }
     ensures size { result ≡ length (flat_map (region_cells (λ r. 0)) regions.now) }
@@ -92,5 +92,5 @@ pub fn count_endpoint_cells(decl: &EndpointDecl) -> usize
     ensures bound { result ≤ greatest_values }
 {
     let values = decl.values();
-    23 + count_block_cells(&values.config) + count_region_cells(&values.bar)
+    23 + count_block_cells(&values.config) + count_bar_and_region_cells(&values.bar)
 }

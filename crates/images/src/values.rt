@@ -7,7 +7,7 @@ ghost use Rattle.headers.specs.Rows.{IsRow, row_cells};
 ghost use Rattle.images.specs.Faults.{number_of};
 
 use crate::fault::ImageFault;
-use headers::{ConfigBlock, ConfigRegister, EndpointDecl, Region, endpoint_header_rows};
+use headers::{ConfigBlock, ConfigRegister, EndpointDecl, Region, endpoint_rows_without_bars};
 
 /// Returns whether the lowest byte of a register can hold a value. Status and device-specific
 /// registers can hold any; elsewhere bits outside the masks must be as declared.
@@ -30,7 +30,7 @@ fn low_byte_can_hold(row: &ConfigRegister, byte: u8) -> bool
 }
 
 /// Checks the saved value of each byte of a register, and returns the bytes after them.
-fn strip_values_of_row(row: ConfigRegister, bytes: &[u8]) -> Result<&[u8], ImageFault>
+fn strip_fitting_values_of_row(row: ConfigRegister, bytes: &[u8]) -> Result<&[u8], ImageFault>
     requires { IsRow row }
     ensures left { IfOk result (λ rest. after_values (row_cells row) bytes.now ≡ Ok rest.now) }
     ensures refused { IfErr result (λ why.
@@ -64,7 +64,7 @@ fn skip_bytes(count: usize, bytes: &[u8]) -> Result<&[u8], ImageFault>
 }
 
 /// Checks the saved values of a list of registers, and returns the bytes after them.
-fn strip_values_of_rows<'a>(
+fn strip_fitting_values_of_rows<'a>(
     rows: &[ConfigRegister],
     bytes: &'a [u8],
 ) -> Result<&'a [u8], ImageFault>
@@ -77,7 +77,7 @@ fn strip_values_of_rows<'a>(
     let mut left = rows;
     let mut bytes = bytes;
     while let Some((row, rest)) = left.split_first() {
-        bytes = strip_values_of_row(*row, bytes)?;
+        bytes = strip_fitting_values_of_row(*row, bytes)?;
         left = rest;
     }
     Ok(bytes)
@@ -85,10 +85,7 @@ fn strip_values_of_rows<'a>(
 
 /// Returns the bytes after the saved values of the device-specific configuration registers, which
 /// can hold any value.
-fn strip_values_of_blocks<'a>(
-    blocks: &[ConfigBlock],
-    bytes: &'a [u8],
-) -> Result<&'a [u8], ImageFault>
+fn skip_block_values<'a>(blocks: &[ConfigBlock], bytes: &'a [u8]) -> Result<&'a [u8], ImageFault>
     requires { Each IsConfigBlock blocks.now }
     ensures left { IfOk result (λ rest.
         after_values (flat_map block_cells blocks.now) bytes.now ≡ Ok rest.now) }
@@ -106,7 +103,10 @@ fn strip_values_of_blocks<'a>(
 
 /// Checks the saved values of the regions, and returns the bytes after them. The values of a region
 /// are those of its base address register, and then its declared bytes.
-fn strip_values_of_regions<'a>(regions: &[Region], bytes: &'a [u8]) -> Result<&'a [u8], ImageFault>
+fn strip_fitting_values_of_regions<'a>(
+    regions: &[Region],
+    bytes: &'a [u8],
+) -> Result<&'a [u8], ImageFault>
     requires { Each IsLawfulRegion regions.now }
     ensures left { IfOk result (λ rest.
         after_values (flat_map (region_cells (λ r. 0)) regions.now) bytes.now ≡ Ok rest.now) }
@@ -117,7 +117,7 @@ fn strip_values_of_regions<'a>(regions: &[Region], bytes: &'a [u8]) -> Result<&'
     let mut left = regions;
     let mut bytes = bytes;
     while let Some((region, rest)) = left.split_first() {
-        let cells = strip_values_of_row(region.bar_register_row(), bytes)?;
+        let cells = strip_fitting_values_of_row(region.bar_register_row(), bytes)?;
         bytes = skip_bytes(region.block.len(), cells)?;
         left = rest;
     }
@@ -126,7 +126,7 @@ fn strip_values_of_regions<'a>(regions: &[Region], bytes: &'a [u8]) -> Result<&'
 
 /// Checks a saved value for each register byte of an endpoint, and returns the bytes after them.
 /// Refuses with 905 if the bytes end early or a register can't hold its value.
-pub(crate) fn strip_values_of_endpoint<'a>(
+pub(crate) fn strip_fitting_values_of_endpoint<'a>(
     decl: &EndpointDecl,
     bytes: &'a [u8],
 ) -> Result<&'a [u8], ImageFault>
@@ -136,7 +136,7 @@ pub(crate) fn strip_values_of_endpoint<'a>(
         after_values (endpoint_reset decl.now false) bytes.now ≡ Err (number_of why)) }
 {
     let values = decl.values();
-    let bytes = strip_values_of_rows(&endpoint_header_rows(decl, false), bytes)?;
-    let bytes = strip_values_of_blocks(&values.config, bytes)?;
-    strip_values_of_regions(&values.bar, bytes)
+    let bytes = strip_fitting_values_of_rows(&endpoint_rows_without_bars(decl, false), bytes)?;
+    let bytes = skip_block_values(&values.config, bytes)?;
+    strip_fitting_values_of_regions(&values.bar, bytes)
 }

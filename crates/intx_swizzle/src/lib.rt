@@ -24,7 +24,7 @@ fn sum_of_device_numbers(parts: &[Part]) -> u32
 /// Returns the device on bus 0, and its pin (1 to 4 for INTA# to INTD#), that receives interrupt
 /// `pin` of the function at a path. Every bridge rotates the pin by the device number on its
 /// secondary bus (PCI-to-PCI Bridge Architecture 1.2, section 9.1).
-pub fn at_root(path: &Path, pin: u8) -> (u8, u8)
+pub fn swizzle_to_root(path: &Path, pin: u8) -> (u8, u8)
     requires least { 1 ≤ pin }
     requires most { pin ≤ 4 }
     ensures device { result.0 ≡ root_device path.now }

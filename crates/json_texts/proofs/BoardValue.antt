@@ -8,20 +8,20 @@ use Rattle.model_set_up.{specs.{Reach.address_of, Pools.{Pool, io_pool, mem_pool
 use Rattle.model_guests.specs.World.{World}
 use Rattle.model_handoff.{specs.{FoundReport.{SetUpBoard, set_up_board, IsSetUpOf}, ReportLaws.{is_closed, is_empty, AreClosedWithoutItems}}, proofs.ReportLaws.closed_without_items}
 use Rattle.bridge_forward.specs.Lending.{as_endpoint}
-use Rattle.json_texts.specs.{ReportValue.{region_value, capability_value, interrupt_value, windows_value, items_window, pool_window, bridge_windows, bus_numbers_value, endpoint_value, bridge_value, row_value, board_value, report_value, value_line, report_json_text}, FoundValue.{pin_route_or_null, enabled_window_or_null, windows_of_bridge_or_null, capability_values_nth, decl_value, function_values, found_value}}
+use Rattle.json_texts.specs.{ReportValue.{region_value, capability_value, interrupt_value, windows_value, items_window, pool_window, bridge_windows, bus_numbers_value, endpoint_value, bridge_value, row_value, board_value, report_value, value_line, report_json_text}, FoundValue.{pin_route_or_null, open_window_or_null, windows_of_bridge_or_null, capability_values_nth, decl_value, function_values, found_value}}
 
 window_is : (unit closed first : ℕ) (is : List PlacementItem) → is_closed (window_of unit closed first is) ≡ is_empty is
-    → enabled_window_or_null (window_of unit closed first is) ≡ items_window unit first is
+    → open_window_or_null (window_of unit closed first is) ≡ items_window unit first is
 window_is unit closed first [] e = rw e refl
 window_is unit closed first (i ∷ is) e = rw e refl
 
 window_of_pool : (b : Board) (a : Apertures) (p : Path) (pool : Pool) (closed : ℕ) → is_closed (set_up_window b a pool closed p) ≡ is_empty (items_on b a pool p)
-    → enabled_window_or_null (set_up_window b a pool closed p) ≡ pool_window b a p pool
+    → open_window_or_null (set_up_window b a pool closed p) ≡ pool_window b a p pool
 window_of_pool b a p pool closed e = window_is (unit_of pool) closed (bus_first b a pool p) (items_on b a pool p) e
 
 windows_are : (b : Board) (a : Apertures) (p : Path) → AreClosedWithoutItems b a p → windows_of_bridge_or_null (to_bridge (windows_of b a p)) ≡ bridge_windows b a p
 windows_are b a p h =
-    ap (λ (io : Data). windows_value io (enabled_window_or_null (windows_of b a p).mem) (enabled_window_or_null (windows_of b a p).pref)) (window_of_pool b a p io_pool 0xf h.io)
+    ap (λ (io : Data). windows_value io (open_window_or_null (windows_of b a p).mem) (open_window_or_null (windows_of b a p).pref)) (window_of_pool b a p io_pool 0xf h.io)
     ∙ ap₂ (λ (mem pref : Data). windows_value (pool_window b a p io_pool) mem pref)
     (window_of_pool b a p mem_pool 0xfff h.mem) (window_of_pool b a p pref_pool 0xfff h.pref)
 

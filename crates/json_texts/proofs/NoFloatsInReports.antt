@@ -7,7 +7,7 @@ use Rattle.model_set_up.specs.{FunctionTable.{BusRange, TableRow}, SetUpWrites.{
 use Rattle.model_guests.specs.World.{Guest}
 use Rattle.model_handoff.specs.FoundReport.{SetUpBoard}
 use Rattle.bridge_forward.specs.Lending.{endpoint_nth}
-use Rattle.json_texts.specs.{ReportValue.{region_value, capability_value, slot_values, guest_value}, FoundValue.{pin_route_or_null, enabled_window_or_null, region_values_if_endpoint, windows_of_bridge_or_null, capability_values_nth, found_buses, decl_value, function_values, found_value}}
+use Rattle.json_texts.specs.{ReportValue.{region_value, capability_value, slot_values, guest_value}, FoundValue.{pin_route_or_null, open_window_or_null, region_values_if_endpoint, windows_of_bridge_or_null, capability_values_nth, found_buses, decl_value, function_values, found_value}}
 
 -- ---- lists of values, and null where there is none
 
@@ -33,7 +33,7 @@ either false d e h k = k
 none_in_interrupt : (p : Path) (pin : ℕ) → has_float (pin_route_or_null p pin) ≡ false
 none_in_interrupt p pin = either (pin == 0 || nat_lt 4 pin) _ _ refl refl
 
-none_in_window : (w : Window) → has_float (enabled_window_or_null w) ≡ false
+none_in_window : (w : Window) → has_float (open_window_or_null w) ≡ false
 none_in_window w = either (nat_lt w.last w.first) _ _ refl refl
 
 none_in_regions : (w : RegisterValues) → items_have_float (items_of (region_values_if_endpoint w)) ≡ false

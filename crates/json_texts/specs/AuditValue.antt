@@ -2,7 +2,7 @@
 -- of an object are in the order of their names.
 --     path_value, path_or_null      a path; that of what is reached, null where nothing is
 --     space_text      the name of a space, as in lines
---     region_value      a region, with the path of its endpoint
+--     live_bar_value      a region, with the path of its endpoint
 --     agent_value      what answers an address, with its register, null of a bridge
 --     bdf_value      a bus, device and function number
 --     bridge_finding_value q bridge n kind      a finding of this kind, which blames a bridge for an address of a region
@@ -34,8 +34,8 @@ space_text memory = codes "mem"
 abbrev pub bar_index_or_null : Option ℕ → Data
 bar_index_or_null o = option_map_or natural o null
 
-abbrev pub region_value : PlacedRegion → Data
-region_value q = object (
+abbrev pub live_bar_value : PlacedRegion → Data
+live_bar_value q = object (
     member (codes "bar") (natural q.index) (
     member (codes "base") (natural q.first) (
     member (codes "path") (path_value q.path) (
@@ -57,7 +57,7 @@ abbrev pub bridge_finding_value : PlacedRegion → Path → ℕ → Text → Dat
 bridge_finding_value q bridge n kind = object (
     member (codes "address") (natural n) (
     member (codes "bridge") (path_value bridge) (
-    member (codes "region") (region_value q) (
+    member (codes "region") (live_bar_value q) (
     member (codes "type") (string kind) no_members))))
 
 abbrev pub problem_value : Problem → Data
@@ -81,11 +81,11 @@ problems_json ps = compact_text (problems_value ps) ++ 10 ∷ []
 
 abbrev pub issue_value : ReadinessIssue → Data
 issue_value (not_open q) = object (
-    member (codes "region") (region_value q) (
+    member (codes "region") (live_bar_value q) (
     member (codes "type") (string (codes "closed")) no_members))
 issue_value (outside_apertures q n) = object (
     member (codes "address") (natural n) (
-    member (codes "region") (region_value q) (
+    member (codes "region") (live_bar_value q) (
     member (codes "type") (string (codes "outside apertures")) no_members)))
 issue_value (prefetched_by q bridge n) = bridge_finding_value q bridge n (codes "prefetched")
 issue_value (other_primary p held n) = object (

@@ -1,7 +1,7 @@
 -- The report's JSON value as the code builds it: from the table that set-up finds, from the register values that it writes,
 -- and from the declared capability lists. `report_json` says that this is the value of the board's report.
 --     pin_route_or_null      a pin from 1 to 4; null for any other
---     enabled_window_or_null      a window, null where its base is above its limit
+--     open_window_or_null      a window, null where its base is above its limit
 --     region_values_if_endpoint, written_windows      what is written into a function
 --     capability_values_nth      the capability list of the function at an index, empty for a bridge
 --     function_value, function_values      a function; those of a table, each with its list and with what is written into it
@@ -21,8 +21,8 @@ abbrev pub pin_route_or_null : Path → ℕ → Data
 pin_route_or_null p pin = if pin == 0 || nat_lt 4 pin then null else pin_route_value p pin
 
 -- a window without items has its base above its limit
-abbrev pub enabled_window_or_null : Window → Data
-enabled_window_or_null w = if nat_lt w.last w.first then null else range_value w.first w.last
+abbrev pub open_window_or_null : Window → Data
+open_window_or_null w = if nat_lt w.last w.first then null else range_value w.first w.last
 
 abbrev pub region_values_if_endpoint : RegisterValues → List Data
 region_values_if_endpoint (to_endpoint command bases) = map region_value bases
@@ -30,7 +30,7 @@ region_values_if_endpoint (to_bridge w) = []
 
 abbrev pub windows_of_bridge_or_null : RegisterValues → Data
 windows_of_bridge_or_null (to_endpoint command bases) = null
-windows_of_bridge_or_null (to_bridge w) = windows_value (enabled_window_or_null w.io) (enabled_window_or_null w.mem) (enabled_window_or_null w.pref)
+windows_of_bridge_or_null (to_bridge w) = windows_value (open_window_or_null w.io) (open_window_or_null w.mem) (open_window_or_null w.pref)
 
 abbrev pub capability_values_nth : List BoardFunction → ℕ → List Data
 capability_values_nth fs n =

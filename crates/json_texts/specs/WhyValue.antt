@@ -1,6 +1,6 @@
 -- The explanation of an address, a port or a BDF as a JSON value, in the order of its lines. The members of an object are
 -- in the order of their names.
---     window_range_or_null      the addresses of a window, null where it is shut
+--     window_or_null      the addresses of a window, null where it is shut
 --     window_value, cause_value      a window; what keeps a region from answering
 --     told_value, forwarder_value, claim_value      a region with its causes, a bridge that forwards, and what answers
 --     address_explanation_value      of an address
@@ -14,7 +14,7 @@ use Rattle.model_registers.specs.Decoding.{io, memory}
 use Rattle.model_board.specs.{Paths.Path, State.State, Windows.Window, Claims.Claim}
 use Rattle.model_guests.specs.{Text.Text, Grammar.{HostTarget, host_configuration, host_port, host_address}}
 use Rattle.model_lines.specs.{Why.{WindowName, for_io, for_memory, for_prefetchable, NamedWindow, closes, misses, Cause, closed_by, stopped_at, UnansweredRegion, Forwarder, Why, why}, Ways.{Missing, no_bridge, no_function, WhyNumber, why_number}, WhyPorts.{PortUse, holds_latch, shows_data, hides_data, like_others, port_use}}
-use Rattle.json_texts.specs.{ReportValue.{array_of, range_value, value_line}, AuditValue.{natural, path_value, path_or_null, region_value, bdf_value}}
+use Rattle.json_texts.specs.{ReportValue.{array_of, range_value, value_line}, AuditValue.{natural, path_value, path_or_null, live_bar_value, bdf_value}}
 
 -- ---- an address
 
@@ -23,12 +23,12 @@ name_text for_io = codes "io"
 name_text for_memory = codes "mem"
 name_text for_prefetchable = codes "prefetchable"
 
-abbrev pub window_range_or_null : Option Window → Data
-window_range_or_null w = option_map_or (λ (r : Window). range_value r.first r.last) w null
+abbrev pub window_or_null : Option Window → Data
+window_or_null w = option_map_or (λ (r : Window). range_value r.first r.last) w null
 
 abbrev pub window_value : NamedWindow → Data
 window_value w = object (
-    member (codes "range") (window_range_or_null w.window) (
+    member (codes "range") (window_or_null w.window) (
     member (codes "space") (string (name_text w.name)) no_members))
 
 abbrev pub cause_value : Cause → Data
@@ -47,7 +47,7 @@ cause_value (stopped_at p (misses ws)) = object (
 abbrev pub told_value : UnansweredRegion → Data
 told_value t = object (
     member (codes "causes") (array_of (map cause_value t.causes)) (
-    member (codes "region") (region_value t.region) no_members))
+    member (codes "region") (live_bar_value t.region) no_members))
 
 abbrev pub forwarder_value : Forwarder → Data
 forwarder_value g = object (

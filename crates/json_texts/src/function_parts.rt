@@ -5,14 +5,14 @@ ghost use Rattle.model_registers.specs.Capabilities.{Listed};
 ghost use Rattle.bars.specs.Slots.{placed, bases_from};
 ghost use Rattle.bridge_forward.specs.RoutingRows.{window_of};
 ghost use Rattle.window_packing.specs.Plans.{writes_of};
-ghost use Rattle.json_texts.specs.{ReportValue.{region_value, capability_value, pin_route_value, range_value, windows_value}, WhyValue.window_range_or_null, FoundValue.{pin_route_or_null, enabled_window_or_null, region_values_if_endpoint, windows_of_bridge_or_null, capability_values_nth}};
+ghost use Rattle.json_texts.specs.{ReportValue.{region_value, capability_value, pin_route_value, range_value, windows_value}, WhyValue.window_or_null, FoundValue.{pin_route_or_null, open_window_or_null, region_values_if_endpoint, windows_of_bridge_or_null, capability_values_nth}};
 
 use crate::has_value::{HasValue, values};
 use bars::BarWithBase;
 use bridge_forward::Window;
 use headers::ListedCapability;
 use host_bridge::Host;
-use intx_swizzle::at_root;
+use intx_swizzle::swizzle_to_root;
 use paths::Path;
 use report::{kind_text, pin_text};
 use serde_json::{Value, json};
@@ -90,7 +90,7 @@ fn pin_route_value(alloc: Global, path: &Path, pin: u8) -> Result<Value, AllocEr
     requires most { pin ≤ 4 }
     ensures { IfOk result (λ v. view v ≡ pin_route_value path.now pin) }
 {
-    let (device, root) = at_root(path, pin);
+    let (device, root) = swizzle_to_root(path, pin);
     let pin = pin_text(pin);
     let root = pin_text(root);
     json!(in alloc; {"pin": pin, "root_device": device, "root_pin": root})
@@ -115,11 +115,8 @@ fn range_value(alloc: Global, first: u64, last: u64) -> Result<Value, AllocError
 }
 
 /// Returns the addresses of a window as JSON, or `null` if the window is closed.
-pub(crate) fn window_range_or_null(
-    alloc: Global,
-    window: Option<Window>,
-) -> Result<Value, AllocError>
-    ensures { IfOk result (λ v. view v ≡ window_range_or_null (option_map window_of window)) }
+pub(crate) fn window_or_null(alloc: Global, window: Option<Window>) -> Result<Value, AllocError>
+    ensures { IfOk result (λ v. view v ≡ window_or_null (option_map window_of window)) }
 {
     match window {
         Some(Window { first, last }) => range_value(alloc, first, last),
@@ -128,8 +125,8 @@ pub(crate) fn window_range_or_null(
 }
 
 /// Returns a window as JSON, or `null` if its base is above its limit.
-fn enabled_window_or_null(alloc: Global, window: &WindowSetting) -> Result<Value, AllocError>
-    ensures { IfOk result (λ v. view v ≡ enabled_window_or_null window.now) }
+fn open_window_or_null(alloc: Global, window: &WindowSetting) -> Result<Value, AllocError>
+    ensures { IfOk result (λ v. view v ≡ open_window_or_null window.now) }
 {
     let first = window.first;
     let last = window.last;
@@ -147,12 +144,12 @@ fn windows_value(
     pref: &WindowSetting,
 ) -> Result<Value, AllocError>
     ensures { IfOk result (λ v. view v
-        ≡ windows_value (enabled_window_or_null io.now) (enabled_window_or_null mem.now)
-        (enabled_window_or_null pref.now)) }
+        ≡ windows_value (open_window_or_null io.now) (open_window_or_null mem.now)
+        (open_window_or_null pref.now)) }
 {
-    let io = enabled_window_or_null(alloc, io)?;
-    let mem = enabled_window_or_null(alloc, mem)?;
-    let pref = enabled_window_or_null(alloc, pref)?;
+    let io = open_window_or_null(alloc, io)?;
+    let mem = open_window_or_null(alloc, mem)?;
+    let pref = open_window_or_null(alloc, pref)?;
     json!(in alloc; {"io": io, "mem": mem, "pref": pref})
 }
 

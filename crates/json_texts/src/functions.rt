@@ -36,7 +36,7 @@ fn bdf_and_path_members(
 }
 
 /// Adds a function's type, Vendor ID and Device ID to other members.
-fn put_type_and_ids(
+fn put_type_vendor_and_device(
     members: &mut Map<String, Value>,
     alloc: Global,
     row: &EnumeratedFunction,
@@ -67,7 +67,7 @@ fn endpoint_value(
     let regions = region_values_if_endpoint(alloc, writes)?;
     let interrupt = pin_route_or_null(alloc, &row.path, pin)?;
     let mut members = bdf_and_path_members(alloc, row)?;
-    put_type_and_ids(&mut members, alloc, row, "endpoint")?;
+    put_type_vendor_and_device(&mut members, alloc, row, "endpoint")?;
     put(
         &mut members,
         alloc,
@@ -107,7 +107,7 @@ fn bridge_value(
     let buses = bus_numbers_value(alloc, row.bus, secondary, subordinate)?;
     let windows = windows_of_bridge_or_null(alloc, writes)?;
     let mut members = bdf_and_path_members(alloc, row)?;
-    put_type_and_ids(&mut members, alloc, row, "bridge")?;
+    put_type_vendor_and_device(&mut members, alloc, row, "bridge")?;
     put(&mut members, alloc, "buses", buses)?;
     put(&mut members, alloc, "windows", windows)?;
     Ok(Value::Object(members))

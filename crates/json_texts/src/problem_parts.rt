@@ -3,7 +3,7 @@ ghost use Rattle.std.specs.Prelude.{◌≡◌, IfOk};
 ghost use Rattle.serde_json.specs.View.{view};
 ghost use Rattle.bars.specs.Kinds.{named_space};
 ghost use Rattle.paths.specs.BusAddresses.{bus_address_of};
-ghost use Rattle.json_texts.specs.AuditValue.{path_value, space_text, bar_index_or_null, path_or_null, region_value, agent_value, bridge_finding_value, bdf_value};
+ghost use Rattle.json_texts.specs.AuditValue.{path_value, space_text, bar_index_or_null, path_or_null, live_bar_value, agent_value, bridge_finding_value, bdf_value};
 
 use bars::Space;
 use findings::{Agent, LiveBar};
@@ -51,8 +51,8 @@ fn bar_index_or_null(register: Option<u8>) -> Value
 }
 
 /// Returns a BAR as JSON, with the path of its endpoint.
-pub(crate) fn region_value(alloc: Global, region: &LiveBar) -> Result<Value, AllocError>
-    ensures { IfOk result (λ v. view v ≡ region_value region.now) }
+pub(crate) fn live_bar_value(alloc: Global, region: &LiveBar) -> Result<Value, AllocError>
+    ensures { IfOk result (λ v. view v ≡ live_bar_value region.now) }
 {
     let path = path_value(alloc, &region.path)?;
     let bar = region.region.index;
@@ -82,7 +82,7 @@ pub(crate) fn bridge_finding_value(
     ensures { IfOk result (λ v.
         view v ≡ bridge_finding_value region.now bridge.now address kind.now) }
 {
-    let region = region_value(alloc, region)?;
+    let region = live_bar_value(alloc, region)?;
     let bridge = path_value(alloc, bridge)?;
     json!(in alloc; {"address": address, "bridge": bridge, "region": region, "type": kind})
 }

@@ -7,7 +7,7 @@ ghost use Rattle.findings.specs.Findings.{issue_of};
 ghost use Rattle.json_texts.specs.AuditValue.{issue_value};
 
 use crate::has_value::HasValue;
-use crate::problem_parts::{bridge_finding_value, path_value, region_value};
+use crate::problem_parts::{bridge_finding_value, live_bar_value, path_value};
 use findings::{LiveBar, ReadinessIssue};
 use paths::Path;
 use serde_json::{Value, json};
@@ -17,7 +17,7 @@ use std::alloc::{AllocError, Global};
 fn disabled_bar_issue_value(alloc: Global, region: &LiveBar) -> Result<Value, AllocError>
     ensures { IfOk result (λ v. view v ≡ issue_value (not_open region.now)) }
 {
-    let region = region_value(alloc, region)?;
+    let region = live_bar_value(alloc, region)?;
     json!(in alloc; {"region": region, "type": "closed"})
 }
 
@@ -25,7 +25,7 @@ fn disabled_bar_issue_value(alloc: Global, region: &LiveBar) -> Result<Value, Al
 fn aperture_issue_value(alloc: Global, region: &LiveBar, address: u64) -> Result<Value, AllocError>
     ensures { IfOk result (λ v. view v ≡ issue_value (outside_apertures region.now address)) }
 {
-    let region = region_value(alloc, region)?;
+    let region = live_bar_value(alloc, region)?;
     json!(in alloc; {"address": address, "region": region, "type": "outside apertures"})
 }
 

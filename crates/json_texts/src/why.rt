@@ -10,9 +10,9 @@ ghost use Rattle.model_board.specs.Paths as board;
 ghost use Rattle.model_lines.specs.Why as model;
 ghost use Rattle.json_texts.specs.{AuditValue.path_value, WhyValue.{name_text, window_value, cause_value, told_value, forwarder_value, claim_value, address_explanation_value, bridge_path_or_null, missing_value, bdf_explanation_value, port_use_or_null, explanation_value, explanation_json, port_explanation_json, host_explanation_json}};
 
-use crate::function_parts::window_range_or_null;
+use crate::function_parts::window_or_null;
 use crate::has_value::{HasValue, values};
-use crate::problem_parts::{bdf_value, path_or_null, path_value, region_value};
+use crate::problem_parts::{bdf_value, live_bar_value, path_or_null, path_value};
 use crate::problems_object::render_json_line;
 use accesses::HostAt;
 use bars::Space;
@@ -57,7 +57,7 @@ impl HasValue for NamedWindow {
     ghost shown = { window_value };
 
     fn value(&self, alloc: Global) -> Result<Value, AllocError> {
-        let range = window_range_or_null(alloc, self.window)?;
+        let range = window_or_null(alloc, self.window)?;
         json!(in alloc; {"range": range, "space": window_name_text(self.name)})
     }
 }
@@ -121,7 +121,7 @@ impl HasValue for UnansweredRegion {
 
     fn value(&self, alloc: Global) -> Result<Value, AllocError> {
         let causes = values(alloc, &self.causes)?;
-        json!(in alloc; {"causes": causes, "region": region_value(alloc, &self.region)?})
+        json!(in alloc; {"causes": causes, "region": live_bar_value(alloc, &self.region)?})
     }
 }
 

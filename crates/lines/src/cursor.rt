@@ -4,7 +4,7 @@ ghost use Rattle.model_guests.specs.{Text.words, Numbers.{below, digits_from, di
 ghost use Rattle.lines.specs.Cursors.{before_blank, after_blank, IsRead, IsAtWord, numbered};
 
 use crate::numbers::append_digit;
-use crate::words::{is_blank, split_at_blank};
+use crate::words::{is_blank, split_at_blank_or_end};
 
 /// Returns the text without its leading blanks.
 #[inline]
@@ -38,7 +38,7 @@ pub(crate) fn split_first_word(text: &[u8]) -> Option<(&[u8], &[u8])>
         words text.now ≡ p.0.now ∷ words p.1.now) }
 {
     let mut rest = text;
-    while let Some((piece, after)) = split_at_blank(rest) {
+    while let Some((piece, after)) = split_at_blank_or_end(rest) {
         if !piece.is_empty() {
             return Some((piece, after));
         }
@@ -80,7 +80,7 @@ pub(crate) fn split_op_word(text: &[u8]) -> Option<(&[u8], &[u8])>
 /// Appends the digits before the first blank to the number `start`. Returns the result, if it is
 /// below 2^64, and the text after the blank. Inlined, so that each base gets its own code.
 #[inline(always)]
-fn parse_more_digits(base: u8, start: u64, text: &[u8]) -> Option<(u64, &[u8])>
+fn parse_more_through_blank(base: u8, start: u64, text: &[u8]) -> Option<(u64, &[u8])>
     requires { 1 ≤ base }
     ensures { MatchOption result (below (2 ^ 64) (digits_from base start (before_blank text.now))
         ≡ None)
@@ -132,7 +132,7 @@ fn parse_digits_through_blank(base: u8, text: &[u8]) -> Option<(u64, &[u8])>
     if base == 16
         && let Some((number, rest)) = parse_eight_hex_digits(text)
     {
-        return parse_more_digits(base, number, rest);
+        return parse_more_through_blank(base, number, rest);
     }
     let [first, ..] = text else {
         return None;
@@ -140,7 +140,7 @@ fn parse_digits_through_blank(base: u8, text: &[u8]) -> Option<(u64, &[u8])>
     if is_blank(*first) {
         return None;
     }
-    parse_more_digits(base, 0, text)
+    parse_more_through_blank(base, 0, text)
 }
 
 /// Returns whether the text begins with `0x` or `0X`.
@@ -178,7 +178,7 @@ pub(crate) fn parse_first_number_outlined(text: &[u8]) -> Option<(u64, &[u8])>
 /// Parses a number of one decimal digit at the start of the text. Returns the number and the text
 /// after it.
 #[inline(always)]
-fn parse_one_digit(text: &[u8]) -> Option<(u64, &[u8])>
+fn parse_one_digit_word(text: &[u8]) -> Option<(u64, &[u8])>
     ensures { IfSome result (λ p.
         numbered (words text.now) ≡ Some (record { number = p.0; rest = words p.1.now })) }
 {
@@ -196,7 +196,7 @@ pub(crate) fn parse_likely_short_number(text: &[u8]) -> Option<(u64, &[u8])>
     ensures { MatchOption result (numbered (words text.now) ≡ None)
         (λ p. numbered (words text.now) ≡ Some (record { number = p.0; rest = words p.1.now })) }
 {
-    if let Some(read) = parse_one_digit(text) {
+    if let Some(read) = parse_one_digit_word(text) {
         return Some(read);
     }
     parse_first_number_outlined(text)

@@ -164,7 +164,7 @@ fn parse_host_command(words: &[&[u8]]) -> FirmwareCommand
 }
 
 /// Parses the text after `host`.
-fn parse_host_line(text: &[u8]) -> FirmwareCommand
+fn parse_after_host(text: &[u8]) -> FirmwareCommand
     ensures means { firmware_meaning_of result
         ≡ access_or_bad (access_of_words (words text.now)) }
     ensures asks { requested result ≡ request_of (words text.now) }
@@ -181,7 +181,7 @@ fn parse_line_by_first_word(first: &[u8], text: &[u8]) -> FirmwareCommand
         return FirmwareCommand::Nothing;
     }
     if first == b"host".as_slice() {
-        return parse_host_line(text);
+        return parse_after_host(text);
     }
     FirmwareCommand::NotOfHost(Refusal::UnknownGuest)
 }

@@ -57,7 +57,7 @@ fn parse_raise_arguments(slot: &[u8], part: &[u8], off: &[u8], bits: &[u8]) -> O
 
 /// Parses the words after `raise`, which are `SLOT P OFF MASK`.
 #[tactic(auto, using(crate::proofs::Counts::raise_of_few, crate::proofs::Counts::raise_of_many))]
-fn parse_raise(words: &[&[u8]]) -> Option<GuestRequest>
+fn parse_after_raise(words: &[&[u8]]) -> Option<GuestRequest>
     ensures { option_map event_asked result
         ≡ event_of (codes "raise" ∷ map (λ w. w.now) words.now) }
 {
@@ -130,7 +130,7 @@ fn parse_if_raise(op: &[u8], words: &[&[u8]]) -> Option<GuestRequest>
     ensures { option_map event_asked result ≡ event_of (op.now ∷ map (λ w. w.now) words.now) }
 {
     if op == b"raise".as_slice() {
-        return parse_raise(words);
+        return parse_after_raise(words);
     }
     None
 }

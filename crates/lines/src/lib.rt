@@ -24,8 +24,10 @@ mod words;
 pub use answers::{Answer, Answers};
 pub use firmware_line::{FirmwareCommand, parse_firmware_line};
 pub use line::{LONGEST_LINE, Line, What, Who, parse_line, parse_line_meaning};
-pub use reasons::{Reason, find_line_error};
-pub use replies::{LONGEST_REPLY, LineText, push_reply, push_reply_of_name, reply_line_text};
+pub use reasons::{Reason, line_error_or_empty};
+pub use replies::{
+    LONGEST_REPLY, LineText, reply_line_text, write_named_reply_line, write_reply_line,
+};
 pub use requests::{HostRequest, Report};
 pub use runs::{RunFault, run};
 pub use watching::{BadLine, RunStats, run_watched};

@@ -72,7 +72,7 @@ pub(crate) fn is_guest_name(word: &[u8], names: &Names) -> bool
 }
 
 /// Parses a guest's line, given the text after the name.
-fn parse_guest_line(guest: usize, text: &[u8]) -> What
+fn parse_after_guest(guest: usize, text: &[u8]) -> What
     ensures meaning { (names : List Text) →
         meaning_of names result ≡ event_or_bad (name_of names guest) (event_of (words text.now)) }
     ensures guest { GuestsAre (λ g. g ≡ guest) result }
@@ -87,13 +87,7 @@ fn parse_guest_line(guest: usize, text: &[u8]) -> What
 }
 
 /// Looks up the two guests of a move by their names. Returns `None` if either is unknown.
-fn resolve_move_guests(
-    from: &[u8],
-    slot: u64,
-    to: &[u8],
-    target: u64,
-    names: &Names,
-) -> Option<What>
+fn find_move_guests(from: &[u8], slot: u64, to: &[u8], target: u64, names: &Names) -> Option<What>
     ensures meaning { option_map (meaning_of (texts names.now)) result ≡ option_map host_move
         (between_guests (texts names.now) (record { from = from.now; slot = slot; to = to.now; target = target })) }
     ensures first { IfSome result (GuestsAre (IsFirst (texts names.now))) }
@@ -117,7 +111,7 @@ fn parse_move_words(
     ensures first { IfSome result (GuestsAre (IsFirst (texts names.now))) }
 {
     match op {
-        b"move" => resolve_move_guests(from, parse_number(slot)?, to, parse_number(target)?, names),
+        b"move" => find_move_guests(from, parse_number(slot)?, to, parse_number(target)?, names),
         _ => None,
     }
 }
@@ -152,7 +146,7 @@ fn parse_host_words(words: &[&[u8]], names: &Names) -> What
 }
 
 /// Parses a line of the host, given the text after `host`.
-fn parse_host_line(text: &[u8], names: &Names) -> What
+fn parse_after_host(text: &[u8], names: &Names) -> What
     ensures meaning { let ws = words text.now in
         meaning_of (texts names.now) result
         ≡ read_or_move (host_read_of ws) (move_of (texts names.now) ws) }
@@ -172,10 +166,10 @@ fn parse_line_by_first_word(first: &[u8], text: &[u8], names: &Names) -> What
         return What::Nothing;
     }
     if first == b"host".as_slice() {
-        return parse_host_line(text, names);
+        return parse_after_host(text, names);
     }
     match find_guest_index(first, names) {
-        Some(guest) => parse_guest_line(guest, text),
+        Some(guest) => parse_after_guest(guest, text),
         None => What::Bad(Who::Unknown, Refusal::UnknownGuest),
     }
 }

@@ -32,7 +32,7 @@ impl Model for Pending {
 }
 
 /// Reads some bytes into `buffer` from the index `start` on, and returns their number.
-fn read_at_offset<R: Reader>(
+fn read_into_buffer_at<R: Reader>(
     reader: &mut R,
     buffer: &mut [u8],
     start: usize,
@@ -94,13 +94,13 @@ impl Pending {
         ensures falls { IfOk result (λ more.
             IsTrue more → R.reads_left reader.new < R.reads_left reader.old) }
     {
-        let n = read_at_offset(reader, &mut self.bytes, self.length)?;
+        let n = read_into_buffer_at(reader, &mut self.bytes, self.length)?;
         self.length += n;
         Ok(n > 0)
     }
 
     /// Skips all pending bytes.
-    fn skip_all(&mut self)
+    fn skip_line_head(&mut self)
         ensures { self.new ≡ record { text = []; long = true } }
     {
         self.length = 0;
@@ -128,9 +128,9 @@ impl Pending {
         ensures few { length self.new.text ≤ 200 }
     {
         if long {
-            self.skip_all();
+            self.skip_line_head();
         } else if count > LONGEST_LINE {
-            self.skip_all();
+            self.skip_line_head();
         } else {
             self.keep_last(count);
         }

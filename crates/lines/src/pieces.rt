@@ -60,7 +60,7 @@ fn write_answer<W: Writer>(writer: &mut W, text: &[u8], more: &Option<String>) -
 
 /// Executes a line, writes its output, and returns whether there was any.
 #[inline(always)]
-fn run_line_if_output<L, S: Answers<L>, W: Writer>(
+fn run_line_and_write<L, S: Answers<L>, W: Writer>(
     server: &mut S,
     line: &[u8],
     long: bool,
@@ -113,7 +113,7 @@ fn flush_if<W: Writer>(writer: &mut W, wrote: bool) -> Result<(), Failed>
 
 /// Flushes earlier output after memory was exhausted. Returns the reason for stopping: `Memory`, or
 /// `Failed` if the flush failed.
-fn stop_after_flush<W: Writer>(writer: &mut W, wrote: bool) -> Stop
+fn flush_on_memory_stop<W: Writer>(writer: &mut W, wrote: bool) -> Stop
     requires { W.failures writer.old < 2 ^ 64 - 1 }
     ensures bytes { Keeps (W.written writer.old) (W.written writer.new) }
     ensures wrote { result ≡ Stop.Failed → IsTrue wrote }
@@ -164,10 +164,10 @@ fn run_complete_lines<L, S: Answers<L>, W: Writer>(
     let mut long = long;
     let mut wrote = false;
     while let Some((line, after)) = split_complete_line(rest) {
-        let answered = match run_line_if_output(server, line, long, writer) {
+        let answered = match run_line_and_write(server, line, long, writer) {
             Ok(answered) => answered,
             Err(Stop::Failed) => return Err(Stop::Failed),
-            Err(Stop::Memory) => return Err(stop_after_flush(writer, wrote)),
+            Err(Stop::Memory) => return Err(flush_on_memory_stop(writer, wrote)),
         };
         wrote = wrote || answered;
         long = false;
@@ -182,7 +182,7 @@ fn run_complete_lines<L, S: Answers<L>, W: Writer>(
 
 /// Executes the pending lines that end with a line feed, and keeps the rest. Flushes the output, so
 /// that it can be read before more of the script is requested.
-pub(crate) fn run_pending_lines<L, S: Answers<L>, W: Writer>(
+pub(crate) fn run_complete_and_flush<L, S: Answers<L>, W: Writer>(
     server: &mut S,
     pending: &mut Pending,
     writer: &mut W,
@@ -231,7 +231,7 @@ fn has_unfinished_line(text: &[u8], long: bool) -> bool
 }
 
 /// Executes the text left at the end of a script as its last line, if there is any.
-fn answer_last<L, S: Answers<L>, W: Writer>(
+fn answer_last_if_any<L, S: Answers<L>, W: Writer>(
     server: &mut S,
     text: &[u8],
     long: bool,
@@ -259,13 +259,13 @@ fn answer_last<L, S: Answers<L>, W: Writer>(
     if !has_unfinished_line(text, long) {
         return Ok(());
     }
-    run_line_if_output(server, text, long, writer)?;
+    run_line_and_write(server, text, long, writer)?;
     Ok(())
 }
 
 /// Executes the text left at the end of a script as its last line, if there is any, and flushes the
 /// output.
-pub(crate) fn run_last<L, S: Answers<L>, W: Writer>(
+pub(crate) fn run_last_and_flush<L, S: Answers<L>, W: Writer>(
     server: &mut S,
     pending: &Pending,
     writer: &mut W,
@@ -292,7 +292,7 @@ pub(crate) fn run_last<L, S: Answers<L>, W: Writer>(
     ensures memory { IsErrOf result Stop.Memory → S.TakesMemory }
     ensures failures { W.failures writer.new ≡ W.failures writer.old + stop_failures_of result }
 {
-    answer_last(server, pending.text(), pending.is_long(), writer)?;
+    answer_last_if_any(server, pending.text(), pending.is_long(), writer)?;
     if writer.flush().is_err() {
         return Err(Stop::Failed);
     }

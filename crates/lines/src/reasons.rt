@@ -264,7 +264,7 @@ fn push_line_error(
 /// Returns why a line is malformed, too long, or not from a guest. The valid forms are those of
 /// guests with these names and of their host, or those of firmware if `guests` is `None`. No form
 /// has more than five words after the name, so the first seven are enough.
-pub fn find_line_error(guests: Option<&Names>, line: &[u8]) -> Reason {
+pub fn line_error_or_empty(guests: Option<&Names>, line: &[u8]) -> Reason {
     let mut text = ArrayString::new();
     let at = push_line_error(&mut text, guests, line).unwrap_or(0);
     Reason { at, text }

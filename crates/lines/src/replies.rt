@@ -70,7 +70,7 @@ fn push_hex_byte(text: &mut LineText, byte: u8)
 
 /// Appends the low `width` bytes of a value as hexadecimal digits. There are at most four bytes,
 /// and a loop would be slower.
-fn push_hex(text: &mut LineText, value: u32, width: u64)
+fn push_hex_bytes(text: &mut LineText, value: u32, width: u64)
     requires few { width ≤ 4 }
     requires room { length text.old.items + 2 * width ≤ 48 }
     ensures items { text.new.items ≡ text.old.items ++ hex_digits (2 * width) value }
@@ -106,7 +106,7 @@ fn answer_name<'a>(who: Who, names: &'a Names) -> &'a [u8]
 /// Writes a reply to `text` as an output line that begins with `name`, with its line feed. `text`
 /// must be empty.
 #[inline(always)]
-pub fn push_reply_of_name(text: &mut LineText, name: &[u8], reply: Reply)
+pub fn write_named_reply_line(text: &mut LineText, name: &[u8], reply: Reply)
     requires empty { text.old.items ≡ [] }
     requires short { length name.now ≤ 16 }
     requires reply { IsShown reply }
@@ -120,7 +120,7 @@ pub fn push_reply_of_name(text: &mut LineText, name: &[u8], reply: Reply)
         Reply::Value(value, width) => {
             text.push(b'0');
             text.push(b'x');
-            push_hex(text, value, width);
+            push_hex_bytes(text, value, width);
         }
         Reply::Done => push_all(text, b"ok"),
         Reply::Refused(why) => push_all(text, why.text()),
@@ -130,14 +130,14 @@ pub fn push_reply_of_name(text: &mut LineText, name: &[u8], reply: Reply)
 
 /// Writes a reply to `text` as an output line with its line feed. `text` must be empty.
 #[inline(always)]
-pub fn push_reply(text: &mut LineText, who: Who, names: &Names, reply: Reply)
+pub fn write_reply_line(text: &mut LineText, who: Who, names: &Names, reply: Reply)
     requires empty { text.old.items ≡ [] }
     requires who { GuestIs (λ g. g < length names.now.items) who }
     requires reply { IsShown reply }
     ensures { text.new.items
         ≡ line_text (who_of (texts names.now) who) (reply_of reply) ++ 10 ∷ [] }
 {
-    push_reply_of_name(text, answer_name(who, names), reply);
+    write_named_reply_line(text, answer_name(who, names), reply);
 }
 
 /// Returns a reply as an output line, with its line feed.
@@ -148,6 +148,6 @@ pub fn reply_line_text(who: Who, names: &Names, reply: Reply) -> LineText
         ≡ line_text (who_of (texts names.now) who) (reply_of reply) ++ 10 ∷ [] }
 {
     let mut text = LineText::new();
-    push_reply(&mut text, who, names, reply);
+    write_reply_line(&mut text, who, names, reply);
     text
 }

@@ -5,7 +5,7 @@ ghost use Rattle.lines.specs.{Faults.{read_failures_of, write_failures_of, numbe
 
 use crate::answers::Answers;
 use crate::pending::Pending;
-use crate::pieces::{Stop, run_last, run_pending_lines};
+use crate::pieces::{Stop, run_complete_and_flush, run_last_and_flush};
 use streams::{Reader, Writer};
 use thiserror::Error;
 
@@ -49,7 +49,7 @@ impl From<Stop> for RunFault {
 
 /// Executes the lines of a script that end with a line feed, as they are read. The text after the
 /// last line feed stays in `pending`.
-fn run_until_input_ends<L, S: Answers<L>, R: Reader, W: Writer>(
+fn run_complete_until_end<L, S: Answers<L>, R: Reader, W: Writer>(
     server: &mut S,
     pending: &mut Pending,
     reader: &mut R,
@@ -82,7 +82,7 @@ fn run_until_input_ends<L, S: Answers<L>, R: Reader, W: Writer>(
         if !more {
             return Ok(());
         }
-        run_pending_lines(server, pending, writer)?;
+        run_complete_and_flush(server, pending, writer)?;
     }
 }
 
@@ -113,7 +113,7 @@ pub fn run<L, S: Answers<L>, R: Reader, W: Writer>(
     ensures memory { IsErrOf result RunFault.Memory → S.TakesMemory }
 {
     let mut pending = Pending::new();
-    run_until_input_ends(server, &mut pending, reader, writer)?;
-    run_last(server, &pending, writer)?;
+    run_complete_until_end(server, &mut pending, reader, writer)?;
+    run_last_and_flush(server, &pending, writer)?;
     Ok(())
 }

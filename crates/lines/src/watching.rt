@@ -5,7 +5,7 @@ ghost use Rattle.lines.specs.{Faults.{read_failures_of, write_failures_of}, Piec
 
 use crate::answers::{Answer, Answers};
 use crate::line::LONGEST_LINE;
-use crate::reasons::{find_line_error, starts_with_bom};
+use crate::reasons::{line_error_or_empty, starts_with_bom};
 use crate::replies::LineText;
 use crate::runs::{RunFault, run};
 use accesses::Names;
@@ -75,7 +75,7 @@ impl RunStats {
         }
         self.first.push(BadLine {
             line: self.lines,
-            reason: find_line_error(guests, line).text,
+            reason: line_error_or_empty(guests, line).text,
         });
     }
 

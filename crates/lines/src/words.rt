@@ -54,7 +54,7 @@ fn find_blank(text: &[u8]) -> Option<usize>
 /// Returns the bytes before the first blank and the bytes after it. The first part is empty if the
 /// text begins with a blank.
 #[inline]
-pub(crate) fn split_at_blank(text: &[u8]) -> Option<(&[u8], &[u8])>
+pub(crate) fn split_at_blank_or_end(text: &[u8]) -> Option<(&[u8], &[u8])>
     ensures piece { MatchOption result (pieces is_blank text.now ≡ [])
         (λ p. pieces is_blank text.now ≡ p.0.now ∷ pieces is_blank p.1.now) }
     ensures shorter { IfSome result (λ p. length p.1.now < length text.now) }
@@ -75,7 +75,7 @@ pub(crate) fn split_first_words(line: &[u8]) -> ArrayVec<&[u8], 7>
 {
     let mut first = ArrayVec::new();
     let mut rest = line;
-    while let Some((piece, after)) = split_at_blank(rest) {
+    while let Some((piece, after)) = split_at_blank_or_end(rest) {
         if !piece.is_empty() {
             if first.is_full() {
                 return first;

@@ -52,8 +52,8 @@ counted_once (r ∷ b) q h = by_row (path_eq r.path q) refl (counted_once b q h.
 
 -- ---- numbers
 
-pub bus_range_covers_bridges_below : Numbering
-bus_range_covers_bridges_below b lawful r q hr hq =
+pub bus_range_equals_bridges_below : Numbering
+bus_range_equals_bridges_below b lawful r q hr hq =
     let er : 1 ≤ bridges (at r) b = counted b r hr in
     let eq : 1 ≤ bridges (at q) b = counted b q hq in
     let once : bridges (at r) b ≤ 1 = counted_once b r lawful.in_order in

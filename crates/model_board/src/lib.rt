@@ -13,7 +13,7 @@ pub fn lawful_places_form_a_board()
 {}
 
 /// Proves that the bus numbers behind a bridge are those of the bridges below it.
-pub fn bus_range_covers_bridges_below()
+pub fn bus_range_equals_bridges_below()
     ensures { Numbering }
 {}
 
@@ -33,7 +33,7 @@ pub fn routing_registers_decide_claims()
 /// and that an offset in a region selects the same byte lanes as the address that it was decoded
 /// from. While CONFIG_ADDRESS doesn't enable CONFIG_DATA, every port except CONFIG_ADDRESS itself
 /// is an ordinary port.
-pub fn port_access_selects_byte_lanes()
+pub fn bus_accesses_select_byte_lanes()
     ensures config_read { ConfigReadByLanes }
     ensures config_write { ConfigWriteByLanes }
     ensures claims { ClaimsKeepLanes }

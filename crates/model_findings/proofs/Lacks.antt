@@ -139,8 +139,8 @@ nothing_lacking a fs h =
     primary : flat_map (primary_bus_issue fs) fs ≡ []
     primary = grind (arith, each_none, each_map)
 
-pub readiness_issues_are_complete : LacksDecide
-readiness_issues_are_complete a fs = (lacking_nothing a fs, nothing_lacking a fs)
+pub issues_are_real_and_complete : LacksDecide
+issues_are_real_and_complete a fs = (lacking_nothing a fs, nothing_lacking a fs)
 
 -- ---- ready, as a test and as facts
 

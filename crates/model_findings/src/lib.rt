@@ -20,7 +20,7 @@ pub fn consistent_claims_are_unique()
 /// Proves that if the audit reports no function as not found, each function is reached by its BDF
 /// and by no other, and a scan of all BDFs finds every function. This includes every board whose
 /// bridges hold its own bus numbers.
-pub fn bus_numbers_reach_all()
+pub fn found_functions_have_one_bdf()
     ensures once { FoundOnce }
     ensures scan { ScanFindsAll }
     ensures board { NumbersOfBoard }
@@ -51,7 +51,7 @@ pub fn set_up_passes_the_audit()
 /// readiness issues if and only if every BAR is enabled and within the apertures, no bridge
 /// prefetches a BAR that isn't prefetchable, and every bridge has the right Primary Bus Number. The
 /// state is ready if it also has no problems.
-pub fn readiness_issues_are_complete()
+pub fn issues_are_real_and_complete()
     ensures real { LacksAreReal }
     ensures decide { LacksDecide }
     ensures ready { ReadyDecides }

@@ -1,5 +1,5 @@
 -- The worked example, by computation.
 use Rattle.model_guests.specs.DeviceExamples.{CountingDevice}
 
-pub worked_counting_device_example : CountingDevice
-worked_counting_device_example = assumption
+pub device_can_count_in_read_only_register : CountingDevice
+device_can_count_in_read_only_register = assumption

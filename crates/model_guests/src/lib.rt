@@ -21,7 +21,7 @@ pub fn two_worlds()
 
 /// Proves isolation for scripts without moves, over any handoff: a guest's inputs are then exactly
 /// its own lines.
-pub fn own_lines_alone_decide_replies()
+pub fn own_lines_decide_without_moves()
     ensures inputs { OwnLinesAlone }
     ensures isolated { IsolatedByOwnLines }
     ensures two_worlds { TwoWorldsByOwnLines }
@@ -115,7 +115,7 @@ pub fn device_write_changes_one_byte()
 
 /// Proves the behavior of an example device, which counts in a register that is read-only to its
 /// driver.
-pub fn worked_counting_device_example()
+pub fn device_can_count_in_read_only_register()
     ensures { CountingDevice }
 {}
 

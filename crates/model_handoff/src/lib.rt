@@ -68,7 +68,7 @@ pub fn reset_board_is_a_handoff()
 
 /// Proves that the board with every assigned function at reset identifies the handoff, whatever the
 /// guests did.
-pub fn reset_functions_show_handoff()
+pub fn resetting_assigned_gives_handoff()
     ensures over { OverReset }
     ensures shown { ResetShown }
     ensures first { ResetAtFirst }
@@ -138,7 +138,7 @@ pub fn accesses_act_as_reported()
 /// Proves that each hit lies in an enabled region at its reported address, and that each address of
 /// an enabled region hits something. Accessing a byte by its slot and register has the same effect
 /// as accessing the byte by its address.
-pub fn hits_are_in_enabled_regions()
+pub fn hits_are_the_enabled_bytes()
     ensures inside { HitIsInside }
     ensures hit { InsideIsHit }
     ensures bytes { BytesByAddress }
@@ -198,7 +198,7 @@ pub fn guests_isolated_across_actions()
 /// Proves that a guest's change counter increases by one with each action that may move a region of
 /// the guest. While the counter is unchanged, every answer about the addresses of the guest's
 /// regions stays valid.
-pub fn change_count_tracks_regions()
+pub fn unchanged_count_keeps_addresses()
     ensures along { RegionsStayAlong }
     ensures touched { ChangesTouchSlots }
     ensures counts { CountsGrow }

@@ -55,7 +55,7 @@ pub fn saved_state_fits_equal_guests()
 /// Proves that requests whose images fit keep the configuration lawful. A guest's change counter
 /// increases by one with each request that changes the guest. While the counter is unchanged, every
 /// answer about the addresses of the guest's regions stays valid.
-pub fn change_count_tracks_requests()
+pub fn unchanged_count_keeps_answers()
     ensures lawful { LawfulAlongRequests }
     ensures along { AnswersStayAlong }
     ensures counts { RequestCountsGrow }

@@ -132,7 +132,7 @@ pub fn session_in_pieces_runs_alike()
 {}
 
 /// Proves that firmware accesses turn a handoff into another handoff of the same board.
-pub fn firmware_keeps_handoffs()
+pub fn firmware_states_are_handoffs()
     ensures access { AccessLeaves }
     ensures lines { LinesLeave }
 {}

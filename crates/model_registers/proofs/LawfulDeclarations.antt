@@ -1,11 +1,11 @@
 -- A declaration that breaks no rule is lawful, and a lawful one breaks none.
 use Rattle.std.{proofs.{Common.{◌≡◌, ℕ, ◌+◌, ◌<◌, ◌≤◌, ◌^◌, ◌⊎◌, inl, inr, Bool, true, ◌&&◌, ◌||◌, List, [], ◌∷◌, length, eqb, leb, ltb, None, ap, arith}, lemmas.Bool.{leb-true, ltb-true, eqb-true, le-leb, lt-ltb, eq-eqb, and_from, or_cases, or_right}}, specs.{Prelude.IsTrue, List.{list_all, Sorted.{IsPermutation, IsNonDecreasingBy}}}}
 use Rattle.lists.{specs.Elements.{Each, all_pairs}, proofs.{Tests.{left_true, right_true}, EachLemmas.{each_map, each_both, each_test, each_permutation, pairs_test, test_each, test_pairs}}}
-use Rattle.model_registers.{specs.{Declarations.{Region, registers_of, IsLawfulSize, IsLawfulRegion, ConfigBlock, Endpoint}, DeclarationRules.{first_broken, is_read_only, is_capabilities_pointer, is_config_block, status_with, has_own_registers, has_lawful_numbers, blocks_apart, endpoint_rules, IsInPlace, IsConfigBlock, FitsRegisters, IsLawfulEndpoint}}, proofs.RegisterOrder.{in_header, sorted_are_lawful, lawful_have_own_registers}}
+use Rattle.model_registers.{specs.{Declarations.{Region, registers_of, IsLawfulSize, IsLawfulRegion, ConfigBlock, Endpoint}, DeclarationRules.{first_broken, is_read_only, is_capabilities_pointer, is_config_block, status_with, has_own_registers, has_values_in_range, blocks_apart, endpoint_rules, IsInPlace, IsConfigBlock, FitsRegisters, IsLawfulEndpoint}}, proofs.RegisterOrder.{in_header, sorted_are_lawful, lawful_have_own_registers}}
 
 -- the four tests of an endpoint
 record Passes (d : Endpoint) : Type 0 where
-  numbers : has_lawful_numbers d ≡ true
+  numbers : has_values_in_range d ≡ true
   registers : has_own_registers d.regions ≡ true
   sizes : list_all (λ r. leb (length r.cells) r.size) d.regions ≡ true
   blocks : all_pairs blocks_apart d.blocks ≡ true
@@ -15,7 +15,7 @@ four_hold a b c e h = grind arith
 
 passes : (d : Endpoint) → first_broken (endpoint_rules d) ≡ None → Passes d
 passes d h =
-    let p = four_hold (has_lawful_numbers d) (has_own_registers d.regions) (list_all (λ r. leb (length r.cells) r.size) d.regions) (all_pairs blocks_apart d.blocks) h in
+    let p = four_hold (has_values_in_range d) (has_own_registers d.regions) (list_all (λ r. leb (length r.cells) r.size) d.regions) (all_pairs blocks_apart d.blocks) h in
     record { numbers = p.0; registers = p.1.0; sizes = p.1.1.0; blocks = p.1.1.1 }
 
 pub own_registers : (d : Endpoint) → first_broken (endpoint_rules d) ≡ None → has_own_registers d.regions ≡ true
@@ -58,7 +58,7 @@ config_block b h =
       ends = leb-true _ _ (right_true (placed && some) (leb (b.offset + length b.cells) 0x100) h);
     }
 
-numbers : (d : Endpoint) → has_lawful_numbers d ≡ true → Numbers d
+numbers : (d : Endpoint) → has_values_in_range d ≡ true → Numbers d
 numbers d h =
     let a = ltb d.vendor 0xffff in
     let b = ltb d.class (2 ^ 24) in
@@ -119,7 +119,7 @@ placed_test b (inr is) kept = or_right (leb 0x40 b.offset) (is_capabilities_poin
 block_test : (b : ConfigBlock) → IsConfigBlock b → is_config_block b ≡ true
 block_test b h = and_from _ _ (and_from _ _ (placed_test b h.in_place h.read_only) (lt-ltb 0 (length b.cells) h.not_empty)) (le-leb (b.offset + length b.cells) 0x100 h.ends)
 
-numbers_test : (d : Endpoint) → IsLawfulEndpoint d → has_lawful_numbers d ≡ true
+numbers_test : (d : Endpoint) → IsLawfulEndpoint d → has_values_in_range d ≡ true
 numbers_test d h = grind (arith, and_from, lt-ltb, le-leb, eq-eqb, block_test, test_each, each_map)
 
 sizes_test : (rs : List Region) → Each IsLawfulRegion rs → list_all (λ r. leb (length r.cells) r.size) rs ≡ true

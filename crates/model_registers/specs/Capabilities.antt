@@ -106,18 +106,18 @@ abbrev pub as_listed_capability : ConfigBlock → Listed
 as_listed_capability b = record { id = value_at_or_zero 0 b; offset = b.offset; size = length b.cells }
 
 -- the structures among these blocks that a pointer with the value `at` leads to
-abbrev pub capabilities_from_pointer : ℕ → List ConfigBlock → List Listed
-capabilities_from_pointer at [] = []
-capabilities_from_pointer at (b ∷ bs) =
-    if is_pointed_to at b then as_listed_capability b ∷ capabilities_from_pointer (value_at_or_zero 1 b) bs else capabilities_from_pointer at bs
+abbrev pub capabilities_linked_forward : ℕ → List ConfigBlock → List Listed
+capabilities_linked_forward at [] = []
+capabilities_linked_forward at (b ∷ bs) =
+    if is_pointed_to at b then as_listed_capability b ∷ capabilities_linked_forward (value_at_or_zero 1 b) bs else capabilities_linked_forward at bs
 
 -- the first block is the Capabilities Pointer
-abbrev pub capabilities_in_blocks : List ConfigBlock → List Listed
-capabilities_in_blocks [] = []
-capabilities_in_blocks (b ∷ bs) = if b.offset == 0x34 then capabilities_from_pointer (value_at_or_zero 0 b) bs else []
+abbrev pub capabilities_if_pointer_first : List ConfigBlock → List Listed
+capabilities_if_pointer_first [] = []
+capabilities_if_pointer_first (b ∷ bs) = if b.offset == 0x34 then capabilities_linked_forward (value_at_or_zero 0 b) bs else []
 
 abbrev pub listed : Endpoint → List Listed
-listed d = if bit_and d.status 0x10 == 0 then [] else capabilities_in_blocks d.blocks
+listed d = if bit_and d.status 0x10 == 0 then [] else capabilities_if_pointer_first d.blocks
 
 abbrev pub as_listed : Capability → Listed
 as_listed c = record { id = c.id; offset = c.offset; size = 2 + length c.cells }

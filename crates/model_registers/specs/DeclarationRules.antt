@@ -35,8 +35,8 @@ abbrev pub status_with : List ConfigBlock → ℕ → ℕ
 status_with bs s = bit_or (bit_and s 0xf900) (capabilities_list_bit bs)
 
 -- Vendor ID FFFFh means that no function is present
-abbrev pub has_lawful_numbers : Endpoint → Bool
-has_lawful_numbers d =
+abbrev pub has_values_in_range : Endpoint → Bool
+has_values_in_range d =
     nat_lt d.vendor 0xffff && nat_lt d.class (2 ^ 24) && nat_le d.pin 4 && (status_with d.blocks d.status == d.status)
     && list_all (λ r. nat_le (length r.cells) 4096) d.regions && list_all is_config_block d.blocks
 
@@ -55,7 +55,7 @@ blocks_apart b c = nat_le (b.offset + length b.cells) c.offset || nat_le (c.offs
 
 abbrev pub endpoint_rules : Endpoint → List (ℕ × Bool)
 endpoint_rules d =
-    (104, has_lawful_numbers d) ∷ (106, has_own_registers d.regions)
+    (104, has_values_in_range d) ∷ (106, has_own_registers d.regions)
     ∷ (107, list_all (λ r. nat_le (length r.cells) r.size) d.regions) ∷ (112, all_pairs blocks_apart d.blocks) ∷ []
 
 abbrev pub bridge_rules : Bridge → List (ℕ × Bool)

@@ -3,7 +3,7 @@
 --     reached_by_names      where all bridges do so for the number of a bus, a cycle reaches the function that stands there, or none
 use Rattle.std.{proofs.{Common.{◌≡◌, ℕ, ◌≤◌, ◌<◌, ◌⊎◌, inl, inr, Bool, true, false, not, ◌&&◌, cond, List, [], ◌∷◌, ◌++◌, length, Option, Some, None, refl, sym, ap, ap₂, ◌∙◌, subst, arith, eqb, leb, append_assoc, rules, find}, lemmas.Bool.{Decides.nat_tests, leb-true, and_from, le-leb, eqb-true}}, specs.{Prelude.{find, map, IsTrue}, List.list_any, Option.option_map_or}}
 use Rattle.lists.{specs.Elements.{Each, IsIn}, proofs.{Tests.{left_true, right_true, same_test}, EachLemmas.each_map, FirstFound.{found_passes, each_found, found}, Members.{each_in, in_map, from_map, any_in, from_any}}}
-use Rattle.model_board.{specs.{Board.{Board, Row, is_bridge, is_bridge_at, IsBoard}, Paths.{Part, Path, part_eq, path_eq, is_ancestor_of, parent, last_part, IsPath}, BusNumbers.{secondary, subordinate, bus_behind, bus_of}, State.{BoardFunction, row_at}, Cycles.{is_route, takes, taker, covers, ends_in, secondary_register, subordinate_register, reached, reached_type0}}, proofs.{PathOrder.{part_same, path_same, part_self}, PathEnds.{path_self, snoc, parent_snoc, snoc_some}, PlacesLaw.path_total, BusNumbers.bus_range_covers_bridges_below}}
+use Rattle.model_board.{specs.{Board.{Board, Row, is_bridge, is_bridge_at, IsBoard}, Paths.{Part, Path, part_eq, path_eq, is_ancestor_of, parent, last_part, IsPath}, BusNumbers.{secondary, subordinate, bus_behind, bus_of}, State.{BoardFunction, row_at}, Cycles.{is_route, takes, taker, covers, ends_in, secondary_register, subordinate_register, reached, reached_type0}}, proofs.{PathOrder.{part_same, path_same, part_self}, PathEnds.{path_self, snoc, parent_snoc, snoc_some}, PlacesLaw.path_total, BusNumbers.bus_range_equals_bridges_below}}
 use Rattle.model_set_up.{specs.Reach.{HasNumbers, ReachedByNumbers, address_of, OnlyNamed}, proofs.Partings.{BridgeAt, bridge_at, bridge_above, leads_down}}
 use Rattle.model_registers.proofs.RegisterFiles.{self, below}
 
@@ -87,7 +87,7 @@ module _ (b : Board) (lawful : IsBoard b) (fs : List BoardFunction) (rows : map 
 
     -- a bridge whose numbers cover the target's is the target or leads to it
     over : (p : Path) → is_bridge_at b p ≡ true → secondary b p ≤ goal → goal ≤ subordinate b p → (path_eq p target ≡ true) ⊎ (is_ancestor_of p target ≡ true)
-    over p h low high = grind (arith, bus_range_covers_bridges_below b lawful p target h is_target, path_total p target)
+    over p h low high = grind (arith, bus_range_equals_bridges_below b lawful p target h is_target, path_total p target)
 
     -- each beginning of the target is a bridge's path
     bridge_on_way : (above : Path) (p : Part) (rest : Path) → target ≡ above ++ p ∷ rest → BridgeAt b lawful (above ++ p ∷ [])
@@ -101,7 +101,7 @@ module _ (b : Board) (lawful : IsBoard b) (fs : List BoardFunction) (rows : map 
     covering : (above : Path) (p : Part) (rest : Path) → target ≡ above ++ p ∷ rest → is_bridge_at b (above ++ p ∷ []) ≡ true
         → (secondary b (above ++ p ∷ []) ≤ goal) × (goal ≤ subordinate b (above ++ p ∷ []))
     covering above p [] e h = subst (λ (x : Path). (secondary b x ≤ goal) × (goal ≤ subordinate b x)) e (omega arith, omega arith)
-    covering above p (q ∷ rest) e h = grind (arith, leads_down above p q rest, bus_range_covers_bridges_below b lawful (above ++ p ∷ []) target h is_target)
+    covering above p (q ∷ rest) e h = grind (arith, leads_down above p q rest, bus_range_equals_bridges_below b lawful (above ++ p ∷ []) target h is_target)
 
     abbrev test_on : Path → BoardFunction → Bool
     test_on above f = path_eq (parent f.path) above && covers goal f
@@ -141,7 +141,7 @@ module _ (b : Board) (lawful : IsBoard b) (fs : List BoardFunction) (rows : map 
 
     takes_next : (above : Path) (p q : Part) (rest : Path) → target ≡ above ++ p ∷ q ∷ rest → takes fs above goal p false ≡ true
     takes_next above p q rest e =
-        grind (arith, stands_on_way above p (q ∷ rest) e, bridge_of, leads_down above p q rest, below goal (secondary b (above ++ p ∷ [])), bus_range_covers_bridges_below b lawful (above ++ p ∷ []) target, takes_by above p false (taken above p (q ∷ rest) e), taken above p (q ∷ rest) e)
+        grind (arith, stands_on_way above p (q ∷ rest) e, bridge_of, leads_down above p q rest, below goal (secondary b (above ++ p ∷ [])), bus_range_equals_bridges_below b lawful (above ++ p ∷ []) target, takes_by above p false (taken above p (q ∷ rest) e), taken above p (q ∷ rest) e)
 
     route : (rs : Path) (p t : Part) (above : Path) → target ≡ above ++ p ∷ rs → is_route fs goal above (p ∷ rs ++ t ∷ []) ≡ true
     route [] p t above e = grind (arith, self, takes_by, taken)

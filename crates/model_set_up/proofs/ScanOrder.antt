@@ -2,7 +2,7 @@
 use Rattle.std.{proofs.{lemmas.{Grind.common_steps, Bool.{Decides.nat_tests, false_from_ne_true, or_right}, List.Sums.sum_by-cons}, Common.{◌≡◌, ℕ, ◌+◌, ◌<◌, inl, inr, Bool, true, false, ◌&&◌, ◌||◌, cond, List, [], ◌∷◌, ◌++◌, append_assoc, length, zero-add, refl, sym, ap, ap₂, ◌∙◌, subst, arith, rules}}, specs.Prelude.{filter, count_by, IsTrue}}
 use Rattle.lists.{specs.Elements.{Each, EachPair, IsIn}, proofs.{Members.{each_in, any_in, none_pass, filter_same}, Tests.{same_test, and_true}}}
 use Rattle.model_board.{specs.{Paths.{Path, path_eq, path_before, is_ancestor_of, IsPath}, Board.{Board, Row, is_bridge, is_bridge_at, stands_at, IsBoard}}, proofs.{PathOrder.{one, exclusive, part_same, path_same, part_self}, PathEnds.{path_self, length_snoc, not_before_itself, leads_longer, snoc_some}, BusNumbers.{bridges, bridges-cons, at, counted, counted_once}}}
-use Rattle.model_set_up.{specs.{Scanning.{no_numbers, board_numbers, open_numbers}, ScanOrder.{nth_part, on, next_position_to_probe, met, MeetsInPathOrder, GivesNumbersInPathOrder, ScanMeetsInPathOrder, ScanGivesNumbersInPathOrder}}, proofs.{Partings.{one_row, bridge_at, bridge_above}, Scanning.goes_before, ScanParts.{before_first, before_last, before_later, leads_place, is_between, none_passed, row_path}}}
+use Rattle.model_set_up.{specs.{Scanning.{no_numbers, board_numbers, open_numbers}, ScanOrder.{nth_part, on, next_devfn_to_probe, met, MeetsInPathOrder, GivesNumbersInPathOrder, ScanMeetsInPathOrder, ScanGivesNumbersInPathOrder}}, proofs.{Partings.{one_row, bridge_at, bridge_above}, Scanning.goes_before, ScanParts.{before_first, before_last, before_later, leads_place, is_between, none_passed, row_path}}}
 
 -- ---- filters
 
@@ -52,11 +52,11 @@ module _ (b : Board) (lawful : IsBoard b) where
 
   -- ---- parts of a bus
 
-  next_later : (bus : Path) (n : ℕ) → n < next_position_to_probe b bus n
+  next_later : (bus : Path) (n : ℕ) → n < next_devfn_to_probe b bus n
   next_later bus n = search rules
 
-  before_next : (bus : Path) (n : ℕ) (y : Row) → IsIn y b → path_before y.path (on bus (next_position_to_probe b bus n)) ≡ (path_before y.path (on bus n) || is_between bus n (next_position_to_probe b bus n) y.path)
-  before_next bus n y m = before_later y.path bus n (next_position_to_probe b bus n) (omega (arith, next_later bus n)) (row_path b lawful y m).parts
+  before_next : (bus : Path) (n : ℕ) (y : Row) → IsIn y b → path_before y.path (on bus (next_devfn_to_probe b bus n)) ≡ (path_before y.path (on bus n) || is_between bus n (next_devfn_to_probe b bus n) y.path)
+  before_next bus n y m = before_later y.path bus n (next_devfn_to_probe b bus n) (omega (arith, next_later bus n)) (row_path b lawful y m).parts
 
   -- what stands at a part or behind it is within that part and the next
   self_within : (bus : Path) (n m : ℕ) → n < m → (rest : Path) → is_between bus n m (bus ++ nth_part n ∷ rest) ≡ true
@@ -70,7 +70,7 @@ module _ (b : Board) (lawful : IsBoard b) where
   goes_on (a ∷ p) (u ∷ x) h = search (rules, nat_tests, part_same, goes_on p x)
 
   -- the functions that are met from a part to the next are those at it and behind it
-  passed : (bus : Path) (n : ℕ) (y : Row) → IsIn y b → is_between bus n (next_position_to_probe b bus n) y.path ≡ (path_eq y.path (on bus n) || is_ancestor_of (on bus n) y.path)
+  passed : (bus : Path) (n : ℕ) (y : Row) → IsIn y b → is_between bus n (next_devfn_to_probe b bus n) y.path ≡ (path_eq y.path (on bus n) || is_ancestor_of (on bus n) y.path)
   passed bus n y m = search (rules, same_test, none_passed, or_right, goes_on, append_assoc, self_within, next_later)
 
   -- nothing stands behind what is no bridge
@@ -78,7 +78,7 @@ module _ (b : Board) (lawful : IsBoard b) where
   none_behind p some h y m = search (rules, false_from_ne_true, bridge_above, any_in, path_self)
 
   -- a row at a path where no bridge stands is no bridge
-  met_next : (bus : Path) (n : ℕ) → is_bridge_at b (on bus n) ≡ false → (y : Row) → IsIn y b → path_before y.path (on bus (next_position_to_probe b bus n)) ≡ (path_before y.path (on bus n) || path_eq y.path (on bus n))
+  met_next : (bus : Path) (n : ℕ) → is_bridge_at b (on bus n) ≡ false → (y : Row) → IsIn y b → path_before y.path (on bus (next_devfn_to_probe b bus n)) ≡ (path_before y.path (on bus n) || path_eq y.path (on bus n))
   met_next bus n h y m = grind (arith, before_next, passed, none_behind, snoc_some, or_false)
 
   pub no_bridge_here : (r : Row) → IsIn r b → is_bridge r.decl ≡ false → is_bridge_at b r.path ≡ false
@@ -98,13 +98,13 @@ module _ (b : Board) (lawful : IsBoard b) where
     last = filter_all (λ y. path_before y.path (on [] 128)) b (λ y m. before_last y.path [] (row_path b lawful y m).parts ∙ some_before_end y.path);
     behind = λ r m. met_adds r m (on r.path 0) (λ y k. before_first y.path r.path);
     endpoint = λ bus n r m e h.
-        subst (λ (x : Path). met b (on bus (next_position_to_probe b bus n)) ≡ met b x ++ r ∷ []) e
-        (met_adds r m (on bus (next_position_to_probe b bus n))
-        (λ y k. subst (λ (x : Path). path_before y.path (on bus (next_position_to_probe b bus n)) ≡ (path_before y.path x || path_eq y.path x)) (sym e)
+        subst (λ (x : Path). met b (on bus (next_devfn_to_probe b bus n)) ≡ met b x ++ r ∷ []) e
+        (met_adds r m (on bus (next_devfn_to_probe b bus n))
+        (λ y k. subst (λ (x : Path). path_before y.path (on bus (next_devfn_to_probe b bus n)) ≡ (path_before y.path x || path_eq y.path x)) (sym e)
         (met_next bus n (subst (λ (x : Path). is_bridge_at b x ≡ false) e (no_bridge_here r m h)) y k)));
-    none = λ bus n h. met_same (on bus n) (on bus (next_position_to_probe b bus n))
+    none = λ bus n h. met_same (on bus n) (on bus (next_devfn_to_probe b bus n))
         (λ y m. met_next bus n (no_bridge_none (on bus n) h) y m ∙ or_false (path_before y.path (on bus n)) (path_eq y.path (on bus n)) (none_there (on bus n) h y m));
-    back = λ bus n h. met_same (on (on bus n) 128) (on bus (next_position_to_probe b bus n))
+    back = λ bus n h. met_same (on (on bus n) 128) (on bus (next_devfn_to_probe b bus n))
         (λ y m. before_next bus n y m ∙ ap (λ t. path_before y.path (on bus n) || t) (passed bus n y m)
         ∙ sym (or_assoc (path_before y.path (on bus n)) (path_eq y.path (on bus n)) (is_ancestor_of (on bus n) y.path)) ∙ sym (before_last y.path (on bus n) (row_path b lawful y m).parts));
   }
@@ -157,10 +157,10 @@ module _ (b : Board) (lawful : IsBoard b) where
         ap₂ (λ s t. cond s (open_numbers b q) (cond t (board_numbers b q) no_numbers)) (leads_place q p (nth_part 0)) (before_first q p)
         ∙ behind_cases (open_numbers b q) (board_numbers b q) no_numbers (is_ancestor_of q p) (path_eq q p) (path_before q p);
     no_bridge = λ bus n h q there.
-        ap₂ (λ s t. cond s (open_numbers b q) (cond t (board_numbers b q) no_numbers)) (leads_place q bus (nth_part (next_position_to_probe b bus n)) ∙ sym (leads_place q bus (nth_part n))) (same_before bus n h q there);
+        ap₂ (λ s t. cond s (open_numbers b q) (cond t (board_numbers b q) no_numbers)) (leads_place q bus (nth_part (next_devfn_to_probe b bus n)) ∙ sym (leads_place q bus (nth_part n))) (same_before bus n h q there);
     back = λ bus n h q there.
-        ap₂ (λ s t. cond s (open_numbers b q) (cond t (board_numbers b q) no_numbers)) (leads_place q bus (nth_part (next_position_to_probe b bus n)))
-        (at_bridge (λ x. path_before x (on bus (next_position_to_probe b bus n)) ≡ (path_before x (on bus n) || (path_eq x (on bus n) || is_ancestor_of (on bus n) x))) (λ y m. before_next bus n y m ∙ ap (λ t. path_before y.path (on bus n) || t) (passed bus n y m)) q there)
+        ap₂ (λ s t. cond s (open_numbers b q) (cond t (board_numbers b q) no_numbers)) (leads_place q bus (nth_part (next_devfn_to_probe b bus n)))
+        (at_bridge (λ x. path_before x (on bus (next_devfn_to_probe b bus n)) ≡ (path_before x (on bus n) || (path_eq x (on bus n) || is_ancestor_of (on bus n) x))) (λ y m. before_next bus n y m ∙ ap (λ t. path_before y.path (on bus n) || t) (passed bus n y m)) q there)
         ∙ back_cases (open_numbers b q) (board_numbers b q) no_numbers (is_ancestor_of q bus || path_eq q bus) (path_eq q (on bus n)) (is_ancestor_of (on bus n) q) (path_before q (on bus n)) (not_above bus n q)
         ∙ ap (λ v. cond (path_eq q (on bus n)) (board_numbers b q) v) (sym (ap₂ (λ s t. cond s (open_numbers b q) (cond t (board_numbers b q) no_numbers))
         (leads_place q (on bus n) (nth_part 128) ∙ ap (λ t. t || path_eq q (on bus n)) (leads_place q bus (nth_part n)))
@@ -170,9 +170,9 @@ module _ (b : Board) (lawful : IsBoard b) where
       not_itself : (bus : Path) (n : ℕ) → is_bridge_at b (on bus n) ≡ false → (q : Path) → is_bridge_at b q ≡ true → path_eq q (on bus n) ≡ false
       not_itself bus n h q there = false_from_ne_true (path_eq q (on bus n)) (λ e. let bad : true ≡ false = sym there ∙ ap (is_bridge_at b) (path_same q (on bus n) e) ∙ h in cc)
 
-      same_before : (bus : Path) (n : ℕ) → is_bridge_at b (on bus n) ≡ false → (q : Path) → is_bridge_at b q ≡ true → path_before q (on bus (next_position_to_probe b bus n)) ≡ path_before q (on bus n)
+      same_before : (bus : Path) (n : ℕ) → is_bridge_at b (on bus n) ≡ false → (q : Path) → is_bridge_at b q ≡ true → path_before q (on bus (next_devfn_to_probe b bus n)) ≡ path_before q (on bus n)
       same_before bus n h q there =
-          at_bridge (λ x. path_before x (on bus (next_position_to_probe b bus n)) ≡ (path_before x (on bus n) || path_eq x (on bus n))) (met_next bus n h) q there
+          at_bridge (λ x. path_before x (on bus (next_devfn_to_probe b bus n)) ≡ (path_before x (on bus n) || path_eq x (on bus n))) (met_next bus n h) q there
           ∙ or_false (path_before q (on bus n)) (path_eq q (on bus n)) (not_itself bus n h q there)
 
 pub scan_meets : ScanMeetsInPathOrder

@@ -2,7 +2,7 @@
 use Rattle.std.{proofs.{Common.{◌≡◌, ℕ, ◌+◌, ◌*◌, ◌/◌, ◌%◌, ◌≤◌, ◌<◌, ◌⊎◌, inl, inr, Bool, true, false, not, ◌&&◌, ◌||◌, cond, [], ◌∷◌, ◌++◌, refl, sym, ap, ◌∙◌, subst, arith, eqb, rules}, lemmas.Bool.{Decides.nat_tests, ltb-true}}, specs.Prelude.{nat_lt, nat_le}}
 use Rattle.lists.{specs.Elements.{Each, IsIn}, proofs.{Tests.{left_true, right_true}, Members.{each_in, any_in}}}
 use Rattle.model_board.{specs.{Paths.{Part, Path, part_eq, part_before, path_eq, path_before, is_ancestor_of, last_part, function_zero, IsPart, IsPath}, Board.{Board, Row, stands_at, is_multifunction, IsBoard}}, proofs.{PathOrder.{part_same, part_eq-sym}, PathEnds.{path_self, parent_snoc, last_snoc, path_eq-snoc, snoc_some}}}
-use Rattle.model_set_up.{specs.ScanOrder.{nth_part, on, next_position_to_probe}, proofs.Partings.{bridge_above, leads_down}}
+use Rattle.model_set_up.{specs.ScanOrder.{nth_part, on, next_devfn_to_probe}, proofs.Partings.{bridge_above, leads_down}}
 
 -- ---- the first part behind a function
 
@@ -120,7 +120,7 @@ module _ (b : Board) (lawful : IsBoard b) where
   is_multifunction_here p n first u dev fn s m e = search (rules, zero_snoc, same_part, each_in, parent_snoc, path_self, nat_tests, last_snoc, path_eq-snoc, any_in)
 
   -- no function is passed over on the way to the next part
-  pub none_passed : (p : Path) (n : ℕ) (r : Row) → IsIn r b → is_between p n (next_position_to_probe b p n) r.path ≡ true → AtOrBehind r (on p n)
+  pub none_passed : (p : Path) (n : ℕ) (r : Row) → IsIn r b → is_between p n (next_devfn_to_probe b p n) r.path ≡ true → AtOrBehind r (on p n)
   none_passed p n r m h = by_test (eqb (n % 8) 0 && not (stands_at b (on p n) && is_multifunction b (on p n))) refl h
     where
       at_place : (u : Part) (rest : Path) → r.path ≡ p ++ u ∷ rest → u.device ≡ n / 8 → u.function ≡ n % 8 → AtOrBehind r (on p n)

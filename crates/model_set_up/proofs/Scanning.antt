@@ -2,7 +2,7 @@
 use Rattle.std.{proofs.Common.{◌≡◌, ◌+◌, ◌≤◌, ◌<◌, inl, inr, Bool, true, false, cond, List, [], ◌∷◌, ◌++◌, refl, sym, ap, ◌∙◌, subst, arith, lit<, rules}, specs.Prelude.{map, IsTrue}}
 use Rattle.lists.{specs.Elements.{Each, IsIn}, proofs.Members.{each_in, each_from, any_in}}
 use Rattle.model_registers.specs.{Declarations.Bridge, BridgeTable.bridge_file}
-use Rattle.model_board.{specs.{Paths.{Path, path_eq, path_before, is_ancestor_of, parent, last_part}, Board.{Board, Row, is_bridge, is_bridge_at, IsBoard}, BusNumbers.{secondary, subordinate, bus_behind, bus_of}, State.BoardFunction, Numbering.NumbersLead}, proofs.{PathOrder.{one, before_trans, behind_trans, leads_before, path_same}, PathEnds.{path_self, snoc, leads_self, not_before_itself}, BusNumbers.{bus_range_covers_bridges_below, bridges, at, count_two, count_three, counted}, PlacesLaw.path_total, StateRows.rows_of}}
+use Rattle.model_board.{specs.{Paths.{Path, path_eq, path_before, is_ancestor_of, parent, last_part}, Board.{Board, Row, is_bridge, is_bridge_at, IsBoard}, BusNumbers.{secondary, subordinate, bus_behind, bus_of}, State.BoardFunction, Numbering.NumbersLead}, proofs.{PathOrder.{one, before_trans, behind_trans, leads_before, path_same}, PathEnds.{path_self, snoc, leads_self, not_before_itself}, BusNumbers.{bus_range_equals_bridges_below, bridges, at, count_two, count_three, counted}, PlacesLaw.path_total, StateRows.rows_of}}
 use Rattle.model_set_up.{specs.Scanning.{BusNumbers, board_numbers, open_numbers, no_numbers, numbers_in, scan_numbers, with_numbers, numbered_file, ReachedWhileScanning, NumbersOfScanState}, proofs.Routes.{Names, names_of, covers_between, between_covers, bridge_of, reached_by_names}}
 
 -- ---- path order
@@ -38,7 +38,7 @@ met_before b p here h k = omega (arith, count_two (λ x. path_before x p) (at p)
 
 module _ (b : Board) (lawful : IsBoard b) (here : Path) (few : secondary b here ≤ 256) (bus : Path) (there : is_bridge_at b bus ≡ true) (met : path_before bus here ≡ true) where
   numbers : (p : Path) → is_bridge_at b p ≡ true → NumbersLead b p bus
-  numbers p h = bus_range_covers_bridges_below b lawful p bus h there
+  numbers p h = bus_range_equals_bridges_below b lawful p bus h there
 
   -- a bridge above the part has all numbers that were given since its own
   open_covers : (p : Path) → is_bridge_at b p ≡ true → is_ancestor_of p here ≡ true → secondary b p ≤ secondary b bus → secondary b bus ≤ subordinate b p

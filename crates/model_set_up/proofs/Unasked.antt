@@ -3,7 +3,7 @@
 use Rattle.std.{proofs.Common.{◌≡◌, ℕ, Bool, List, [], ◌∷◌, ◌++◌, true, false, Option, Some, None, refl}, specs.{Prelude.map, Option.option_map}}
 use Rattle.model_registers.specs.{ByteEnables.lanes, Declarations.{io32, pref32, Bridge}, EndpointTable.endpoint_file, BridgeTable.{Window, bridge_file}, Decoding.{Space, io, memory}}
 use Rattle.model_board.specs.{Paths.Path, Board.{endpoint, bridge}, State.{State, BoardFunction}, Cycles.reached, AtReset.reset_state, Windows.{Window, io_window, mem_window, pref_window, forwards, window as window_between}, Ports.{config_reply, after_memory_write}, Examples.{part, first_endpoint, main_board, main_bridge, main_apertures, memory_bridge, many_bridges}}
-use Rattle.model_set_up.specs.{Placement.{a_region, PlacementItem, in_order}, Scanning.{no_numbers, scan_numbers, scan_state}, ScanOrder.{on, met, next_position_to_probe}, SetUp.set_up_state}
+use Rattle.model_set_up.specs.{Placement.{a_region, PlacementItem, in_order}, Scanning.{no_numbers, scan_numbers, scan_state}, ScanOrder.{on, met, next_devfn_to_probe}, SetUp.set_up_state}
 
 abbrev bridge_path : Path
 bridge_path = part 2 0 ∷ []
@@ -32,10 +32,10 @@ not_found_before = refl
 
 -- ---- parts: devices 1 and 2 of bus 0 hold one function each, and device 0 of the larger board eight
 
-pub next_device : next_position_to_probe main_board [] 8 ≡ 16
+pub next_device : next_devfn_to_probe main_board [] 8 ≡ 16
 next_device = refl
 
-pub next_function : next_position_to_probe many_bridges [] 0 ≡ 1
+pub next_function : next_devfn_to_probe many_bridges [] 0 ≡ 1
 next_function = refl
 
 pub met_behind : map (λ r. r.path) (met main_board (on bridge_path 8)) ≡ (part 1 0 ∷ []) ∷ bridge_path ∷ (part 2 0 ∷ part 0 0 ∷ []) ∷ []

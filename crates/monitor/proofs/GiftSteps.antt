@@ -7,7 +7,7 @@ use Rattle.model_findings.specs.Orderly.{IsStateOfBoard}
 use Rattle.model_guests.{specs.{Slots.reset_function, Text.Text, World.declared, Guests.{GuestsNow, file_of, function_in}, WorldNow.{WorldNow, board_state}}, proofs.CopiesNeverRise.declared_lawful}
 use Rattle.model_handoff.{specs.{ViewLaws.sits, Giving.{has_closed_region, give_fault, endpoint_fault}}, proofs.{Keeping.{keeps_board, keeps_routing}, Regions.state_stays, Standing.at_path, Alike.command_at}}
 use Rattle.bars.specs.{declared.region.BarWithBase.BarWithBase, Resets.with_no_base, Slots.bases_from}
-use Rattle.bridge_forward.specs.{BasesNow.{bases_of, bases_nth}, ByIndex.ranges_told, Lending.as_endpoint, RoutingRows.window_of, declared.by_index.LiveRanges.{LiveRanges, TheVariants.{Regions, Windows}}}
+use Rattle.bridge_forward.specs.{BasesNow.{bases_of, bases_nth}, ByIndex.ranges_told, Lending.as_endpoint, RoutingRows.window_of, declared.by_index.ProgrammedRanges.{ProgrammedRanges, TheVariants.{Regions, Windows}}}
 use Rattle.host_bridge.specs.HostState.{HostState}
 use Rattle.monitor.{specs.{declared.{guest.{AssignedFunction.AssignedFunction, Guest.Guest}, slots.assign_error.AssignError.TheVariants.{PastSlots, NoEndpoint, HasGuest, SlotTaken, ClosedRegion}}, Beginnings.IsStanding, ByIndex.name_nth, Keeping.{AreGuests, IsHeld, IsKept, IsSlot}, Moves.is_taken, Seatings.{IsEndpointAt, MakesGift, gift_nth, has_index, is_closed_base, is_closed_slot}}, proofs.{Carried.held_carried, Indexed.in_slots, FirstFunctions.{function_of, lawful_there}, MoveSteps.taken_lent, Steps.{GuestAt, kept_nth}, TakenOver.declared_there}}
 
@@ -58,11 +58,11 @@ pub bridge_at : (s : State) (p : Path) (i : ℕ) → slice_get s.functions i ≡
     → declared (board_at s.functions) p ≡ None
 bridge_at s p i at wio wmem wpref told = grind (arith, declared_by)
 
-abbrev pub AreWindows : LiveRanges → Type 0
+abbrev pub AreWindows : ProgrammedRanges → Type 0
 AreWindows (Regions slots) = ⊥
 AreWindows (Windows wio wmem wpref) = ⊤
 
-pub windows_at : (s : State) (p : Path) (i : ℕ) → slice_get s.functions i ≡ there_at s p → (r : LiveRanges) → AreWindows r → Some (ranges_told r) ≡ option_map (λ (f : BoardFunction). ranges_of f.file f.decl) (slice_get s.functions i)
+pub windows_at : (s : State) (p : Path) (i : ℕ) → slice_get s.functions i ≡ there_at s p → (r : ProgrammedRanges) → AreWindows r → Some (ranges_told r) ≡ option_map (λ (f : BoardFunction). ranges_of f.file f.decl) (slice_get s.functions i)
     → declared (board_at s.functions) p ≡ None
 windows_at s p i at (Regions slots) are told = absurd are
 windows_at s p i at (Windows wio wmem wpref) are told = bridge_at s p i at (option_map window_of wio) (option_map window_of wmem) (option_map window_of wpref) told

@@ -12,13 +12,13 @@ ghost use Rattle.model_guests.specs.Accesses as guests;
 
 use crate::access::change_count::touches_command_or_bars;
 use crate::access::config::{
-    function_in_slot, function_or_refusal, read_config_as_guest, split_config_write_of_guest,
+    function_in_slot, function_or_refusal, read_as_guest, write_guest_copies_and_count,
 };
 use crate::access::config_address::write_latch;
 use crate::access::decode::{decode_address, slot_bar_to_board};
-use crate::device::raise::{has_byte_at, raise_w1c_bits_on_board};
+use crate::device::raise::{has_byte_at, raise_if_uncopied};
 use crate::guest::Guest;
-use crate::slots::moving::{find_move_refusal, move_and_reset_function};
+use crate::slots::moving::{find_move_refusal, move_and_reset};
 use accesses::{
     Access, At, HostAccess, HostAt, Names, Op, Place, Refusal, Reply, master_abort_reply,
 };
@@ -130,10 +130,7 @@ impl<R: Route> Engine<R> {
         let Some(held) = function_in_slot(&self.guests[guest].slots, slot) else {
             return master_abort_reply(Op::Read, width);
         };
-        Reply::Value(
-            read_config_as_guest(&mut self.host, held, off, width),
-            width,
-        )
+        Reply::Value(read_as_guest(&mut self.host, held, off, width), width)
     }
 
     /// Writes the configuration space of the function in a slot. A write to an empty slot is
@@ -154,7 +151,7 @@ impl<R: Route> Engine<R> {
         let moved = to_lanes(from, value);
         let enables = enables_of(from, width);
         let tells = touches_command_or_bars(from, width);
-        let (index, others) = split_config_write_of_guest(
+        let (index, others) = write_guest_copies_and_count(
             &mut self.guests,
             guest,
             slot,
@@ -294,7 +291,7 @@ impl<R: Route> Engine<R> {
         if !has_byte_at(held, place, off) {
             return Reply::Refused(Refusal::Range);
         }
-        raise_w1c_bits_on_board(&mut self.host, held.index, place, off, mask);
+        raise_if_uncopied(&mut self.host, held.index, place, off, mask);
         Reply::Done
     }
 
@@ -339,7 +336,7 @@ impl<R: Route> Engine<R> {
         if let Some(why) = find_move_refusal(source, slot, &self.guests[to].slots, target) {
             return Reply::Refused(why);
         }
-        move_and_reset_function(
+        move_and_reset(
             &mut self.host,
             &mut self.guests,
             from,

@@ -57,7 +57,7 @@ impl Monitor {
         if let Some(fault) = find_handover_fault(alloc, &mut board, guests) {
             return Err(Refused { board, fault });
         }
-        match Monitor::hand_over_checked_board(alloc, board, guests) {
+        match Monitor::hand_over_checked(alloc, board, guests) {
             Ok(monitor) => Ok(monitor),
             Err(board) => {
                 let fault = HandoverFault::Memory;
@@ -68,11 +68,7 @@ impl Monitor {
 
     /// Hands over a consistently routed board on which no region of a function to assign is
     /// disabled.
-    fn hand_over_checked_board(
-        alloc: Global,
-        host: Host,
-        guests: &[GuestDecl],
-    ) -> Result<Monitor, Host>
+    fn hand_over_checked(alloc: Global, host: Host, guests: &[GuestDecl]) -> Result<Monitor, Host>
         requires handoff { IsHandoff host.state }
         requires lawful { HasLawfulGuests (world_on host guests.now) }
         requires given { CanBeGiven (world_on host guests.now) host.state }
@@ -81,7 +77,7 @@ impl Monitor {
         ensures savable { IfOk result (λ m. CanBeSaved m.world) }
         ensures kept { IfErr result (λ h. h ≡ host) }
     {
-        let Ok(table) = Table::of_open_regions(alloc, &host) else {
+        let Ok(table) = Table::of_enabled_regions(alloc, &host) else {
             return Err(host);
         };
         Engine::hand_over_with_route(alloc, host, table, guests)

@@ -6,7 +6,7 @@
 use command_line::{WordsFault, choose};
 use simulation::{
     Fault, InputStream, OutputStream, RunStats, bad_lines_text, fault_line, perform,
-    read_board_or_hint, suggest_check_if_refused, usage_hint,
+    printable_reason, read_board_or_hint, suggest_check_if_refused,
 };
 use std::io::IsTerminal;
 use std::process::ExitCode;
@@ -27,7 +27,7 @@ impl From<Fault> for Failure {
 }
 
 /// Returns the name and the arguments of the program. An argument that isn't text is invalid.
-fn collect_arguments(rt: &(impl Env + AllocGlobal)) -> Result<Vec<String>, Fault> {
+fn collect_argv(rt: &(impl Env + AllocGlobal)) -> Result<Vec<String>, Fault> {
     match env::args(rt) {
         Ok(words) => words.collect(rt.alloc()).map_err(|_| Fault::WordMemory),
         Err(error) if error.kind() == io::ErrorKind::OutOfMemory => Err(Fault::WordMemory),
@@ -60,7 +60,7 @@ fn run_command(
         Err(WordsFault::Usage(why)) => {
             return Err(Failure {
                 fault: Fault::Usage,
-                hint: usage_hint(alloc, why.as_str()).ok(),
+                hint: printable_reason(alloc, why.as_str()).ok(),
             });
         }
         Err(WordsFault::Memory) => return Err(Failure::from(Fault::WordMemory)),
@@ -87,7 +87,7 @@ fn run_program(
     is_terminal: bool,
     seen: &mut RunStats,
 ) -> Result<(), Failure> {
-    let words = collect_arguments(rt)?;
+    let words = collect_argv(rt)?;
     let mut texts = Vec::new(rt.alloc());
     for word in &words {
         if texts.push(word.as_str()).is_err() {

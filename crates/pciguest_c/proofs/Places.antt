@@ -2,11 +2,11 @@
 --     put_next      one more row is told
 use Rattle.std.{proofs.Common.{◌≡◌, ℕ, zero, suc, ◌+◌, ◌<◌, List, [], ◌∷◌, ◌++◌, length, take, drop, get_or, refl, sym, ap, ◌∙◌, arith, add-one}, specs.Prelude.slice_set}
 use Rattle.model_guests.specs.WorldNow.{WorldNow}
-use Rattle.pciguest_c.specs.{declared.{machine.regions.RegionTold.RegionTold, machine.moved_regions.PlaceRow.PlaceRow}, MovesTold.{nth_region_or_zeros, region_change_row, places_from}}
+use Rattle.pciguest_c.specs.{declared.{machine.regions.RegionTold.RegionTold, machine.moved_regions.PlaceRow.PlaceRow}, MovesTold.{region_of_row_or_zeros, region_change_row, places_from}}
 
 module _ (w : WorldNow) (guest : ℕ) where
   abbrev told : ℕ → PlaceRow → PlaceRow
-  told n p = region_change_row (nth_region_or_zeros w guest n) p.now
+  told n p = region_change_row (region_of_row_or_zeros w guest n) p.now
 
   abbrev so_far : ℕ → ℕ → List PlaceRow → List PlaceRow
   so_far j k ps = places_from w guest j (take k ps) ++ drop k ps
@@ -21,7 +21,7 @@ module _ (w : WorldNow) (guest : ℕ) where
   put_one (q ∷ qs) j zero n d is inside = let same : n ≡ j = omega arith in ap (λ m. told m q ∷ qs) same
   put_one (q ∷ qs) j (suc k) n d is inside = ap (λ zs. told j q ∷ zs) (put_one qs (j + 1) k n d (omega arith) (omega arith))
 
-  pub put_next : (ps now : List PlaceRow) (k : ℕ) (here : RegionTold) (d row : PlaceRow) → k < length ps → now ≡ so_far 0 k ps → here ≡ nth_region_or_zeros w guest k
+  pub put_next : (ps now : List PlaceRow) (k : ℕ) (here : RegionTold) (d row : PlaceRow) → k < length ps → now ≡ so_far 0 k ps → here ≡ region_of_row_or_zeros w guest k
       → row ≡ region_change_row here (get_or now k d).now → slice_set now k row ≡ so_far 0 (k + 1) ps
   put_next ps now k here d row inside before is put =
       let there : get_or now k d ≡ get_or ps k d = ap (λ zs. get_or zs k d) before ∙ stands ps 0 k d inside in

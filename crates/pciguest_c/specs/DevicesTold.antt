@@ -4,7 +4,7 @@
 --     byte_of b      a byte of a function in a slot, from the code's types
 --     bytes_from d n      n bytes of a function in a slot, from one on
 --     read_reply side, after_byte side      a read of a byte: the reply; and a write: the machine after it
---     read_little_endian side w guest ds      the number that is read of bytes, the lowest first, or why the first is refused
+--     read_le_bytes side w guest ds      the number that is read of bytes, the lowest first, or why the first is refused
 --     after_bytes side m guest ds v      the machine after a number was written into bytes, the lowest first
 --     find_access_error off n      302 for an invalid width, or 303 if offset plus width doesn't fit in 64 bits
 --     wide_read side w guest d n      what is read of n bytes, or the number of the first of these refusals
@@ -57,9 +57,9 @@ put_below (Ok byte) (Ok n) = Ok (byte + 256 * n)
 put_below (Ok byte) (Err n) = Err n
 put_below (Err n) above = Err n
 
-abbrev pub read_little_endian : Side → WorldNow → ℕ → List DeviceByte → Result ℕ ℕ
-read_little_endian side w guest [] = Ok 0
-read_little_endian side w guest (d ∷ ds) = put_below (read_byte side w guest d) (read_little_endian side w guest ds)
+abbrev pub read_le_bytes : Side → WorldNow → ℕ → List DeviceByte → Result ℕ ℕ
+read_le_bytes side w guest [] = Ok 0
+read_le_bytes side w guest (d ∷ ds) = put_below (read_byte side w guest d) (read_le_bytes side w guest ds)
 
 abbrev pub after_bytes : Side → MachineNow → ℕ → List DeviceByte → ℕ → MachineNow
 after_bytes side m guest [] v = m
@@ -73,7 +73,7 @@ find_access_error off n =
     else (if nat_le (2 ^ 64) (off + n) then Some 303 else None)
 
 abbrev pub wide_read : Side → WorldNow → ℕ → DeviceByte → ℕ → Result ℕ ℕ
-wide_read side w guest d n = option_map_or Err (find_access_error d.offset n) (read_little_endian side w guest (bytes_from d n))
+wide_read side w guest d n = option_map_or Err (find_access_error d.offset n) (read_le_bytes side w guest (bytes_from d n))
 
 -- refused as a read of the same bytes is: then none is written
 abbrev pub after_wide : Side → MachineNow → ℕ → DeviceByte → ℕ → ℕ → MachineNow

@@ -1,6 +1,6 @@
 -- The regions of a guest that have moved since C last received them.
 --     no_region_told      the description of a missing region
---     nth_region_or_zeros w guest n      the region of a guest by its index; n counts six for each slot
+--     region_of_row_or_zeros w guest n      the region of a guest by its index; n counts six for each slot
 --     is_same_region a b      two descriptions of regions are equal
 --     region_change_row now before      the row of a region, and whether it moved
 --     places_from w guest n ps      updated rows, of which the first is for region n
@@ -17,8 +17,8 @@ abbrev pub region_or_none : Result LiveBar ℕ → RegionTold
 region_or_none (Ok r) = region_told r
 region_or_none (Err n) = no_region_told
 
-abbrev pub nth_region_or_zeros : WorldNow → ℕ → ℕ → RegionTold
-nth_region_or_zeros w guest n = region_or_none (region_asked w guest (n / 6) (n % 6))
+abbrev pub region_of_row_or_zeros : WorldNow → ℕ → ℕ → RegionTold
+region_of_row_or_zeros w guest n = region_or_none (region_asked w guest (n / 6) (n % 6))
 
 abbrev pub is_same_region : RegionTold → RegionTold → Bool
 is_same_region a b =
@@ -30,7 +30,7 @@ region_change_row now before = record { now = now; before = before; has_moved = 
 
 abbrev pub places_from : WorldNow → ℕ → ℕ → List PlaceRow → List PlaceRow
 places_from w guest n [] = []
-places_from w guest n (p ∷ ps) = region_change_row (nth_region_or_zeros w guest n) p.now ∷ places_from w guest (n + 1) ps
+places_from w guest n (p ∷ ps) = region_change_row (region_of_row_or_zeros w guest n) p.now ∷ places_from w guest (n + 1) ps
 
 abbrev pub moved_count : List PlaceRow → ℕ
 moved_count ps = count_by (λ (p : PlaceRow). p.has_moved == 1) ps

@@ -10,7 +10,7 @@ use crate::fields::{FourHexDigits, Numbers, ShownPath, TwoHexDigits, kind_text};
 use accesses::GuestDecl;
 use bars::BarWithBase;
 use bus_scan::{Enumerated, EnumeratedFunction};
-use intx_swizzle::at_root;
+use intx_swizzle::swizzle_to_root;
 use paths::Path;
 use std::alloc::AllocError;
 use window_packing::{RegisterValues, WindowSetting};
@@ -58,7 +58,7 @@ fn push_pin_route(text: &mut String, path: &Path, pin: u8) -> Result<(), AllocEr
     requires most { pin ≤ 4 }
     ensures { OnOk result (Adds text.old text.new (ended (pin_line path.now pin))) }
 {
-    let (device, root) = at_root(path, pin);
+    let (device, root) = swizzle_to_root(path, pin);
     let pin = pin_text(pin);
     let root = pin_text(root);
     writeln!(text, "  irq {pin} at {device} {root}")
@@ -155,7 +155,7 @@ fn push_bdf_path_and_ids(
 }
 
 /// Ends the first line of an endpoint, and appends the lines of its regions and its interrupt pin.
-fn push_endpoint_details(
+fn push_rest_of_endpoint(
     text: &mut String,
     path: &Path,
     pin: u8,
@@ -170,7 +170,7 @@ fn push_endpoint_details(
 }
 
 /// Ends the first line of a bridge with its bus numbers, and appends the lines of its windows.
-fn push_bridge_details(
+fn push_rest_of_bridge(
     text: &mut String,
     bus: u8,
     secondary: u8,
@@ -196,7 +196,7 @@ pub(crate) fn push_function(
     match &row.found {
         Enumerated::Endpoint { pin, .. } => {
             push_bdf_path_and_ids(text, row, " endpoint ")?;
-            push_endpoint_details(text, &row.path, *pin, writes)
+            push_rest_of_endpoint(text, &row.path, *pin, writes)
         }
         Enumerated::Bridge {
             secondary,
@@ -204,7 +204,7 @@ pub(crate) fn push_function(
             ..
         } => {
             push_bdf_path_and_ids(text, row, " bridge ")?;
-            push_bridge_details(text, row.bus, *secondary, *subordinate, writes)
+            push_rest_of_bridge(text, row.bus, *secondary, *subordinate, writes)
         }
     }
 }

@@ -6,7 +6,7 @@ ghost use Rattle.accesses.specs.{Accesses.reply_of, Replies.IsShown};
 ghost use Rattle.lines.specs.{Pieces.IsBefore, Lines.{who_of, meaning_of, GuestIs, GuestsAre}};
 ghost use Rattle.script.specs.Refusals.{refusal_of, reply_to, refusal_in, refusal_on_machine};
 
-use lines::{Answer, Answers, LineText, What, Who, parse_line_meaning, push_reply};
+use lines::{Answer, Answers, LineText, What, Who, parse_line_meaning, write_reply_line};
 use monitor::{Monitor, Names, Refusal, Reply};
 use std::alloc::AllocError;
 
@@ -73,7 +73,7 @@ fn run_line_into_text(monitor: &mut Monitor, line: &[u8], text: &mut LineText) -
     let what = parse_line_meaning(line, monitor.names());
     let (who, reply) = execute_line_meaning(monitor, what)?;
     let refused = refusal_number(reply);
-    push_reply(text, who, monitor.names(), reply);
+    write_reply_line(text, who, monitor.names(), reply);
     refused
 }
 
@@ -109,7 +109,7 @@ pub fn answer_line(
 {
     // A long line has no effect, and the reply is the same for all of them.
     if long {
-        push_reply(
+        write_reply_line(
             text,
             Who::Unknown,
             monitor.names(),

@@ -18,7 +18,7 @@ use accesses::{GuestDecl, HostAccess, Refusal, Reply};
 use board_file::{BoardFault, read_board};
 use headers::Apertures;
 use host_bridge::Host;
-use lines::{FirmwareCommand, LineText, push_reply_of_name};
+use lines::{FirmwareCommand, LineText, write_named_reply_line};
 use monitor::{Monitor, Refused};
 use script::refusal_number;
 use std::alloc::{AllocError, Global};
@@ -121,7 +121,7 @@ impl Board {
 
     /// Executes a line. Returns the name to print in front of the reply, and the reply, or None if
     /// the line has no output.
-    fn execute_with_label(&mut self, what: FirmwareCommand) -> Option<(&'static [u8], Reply)>
+    fn run_with_label_if_output(&mut self, what: FirmwareCommand) -> Option<(&'static [u8], Reply)>
         ensures text { let text = text_by self.old.state (firmware_meaning_of what) in
             MatchOption result (text ≡ []) (λ a.
             text ≡ a.0.now ++ codes ": " ++ reply_text (reply_of a.1) ++ 10 ∷ []) }
@@ -161,8 +161,8 @@ impl Board {
         ensures refused { result ≡ refusal_by self.old.state (firmware_meaning_of what) }
         ensures after { self.new ≡ after_meant self.old (firmware_meaning_of what) }
     {
-        let (name, reply) = self.execute_with_label(what)?;
-        push_reply_of_name(text, name, reply);
+        let (name, reply) = self.run_with_label_if_output(what)?;
+        write_named_reply_line(text, name, reply);
         refusal_number(reply)
     }
 

@@ -54,7 +54,7 @@ fn driven_function_nth(host: &mut Host, index: usize) -> Option<DrivenFunction>
 {
     let path = host.path_nth(index)?;
     let identity = identity_nth(host, index)?;
-    let ranges = host.live_ranges_nth(index)?;
+    let ranges = host.programmed_ranges_nth(index)?;
     let command = host.peek_config_nth(index, 4, 2)?;
     let at = address_of(host, &path);
     let is_found = bdf_reaches_path(host, at, &path);

@@ -52,7 +52,7 @@ pub use headers::Apertures;
 pub use host_bridge::Host;
 pub use lines::{LineText, Report, RunFault};
 pub use monitor::{HandoverFault, Monitor, Problem, Refused};
-pub use opening::{OpenFault, open_and_set_up};
+pub use opening::{OpenFault, set_up_file_and_assign};
 pub use questions::{Question, ReportForm};
 pub use running::run;
 pub use session::{Session, SessionLines};

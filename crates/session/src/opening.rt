@@ -77,7 +77,7 @@ pub(crate) fn set_up_and_assign(
 ///
 /// Fails if the file is refused (1xx), the board can't be set up (2xx), or memory is
 /// exhausted (199 or 299).
-pub fn open_and_set_up(alloc: Global, file: &[u8]) -> Result<Monitor, OpenFault>
+pub fn set_up_file_and_assign(alloc: Global, file: &[u8]) -> Result<Monitor, OpenFault>
     ensures opened { IfOk result (BeginsIn (IsOpened file.now)) }
     ensures file { IfErr result (OnFile (Refuses file.now)) }
     ensures placement { IfErr result (OnSetUp (Breaks file.now)) }

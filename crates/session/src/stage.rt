@@ -8,7 +8,7 @@ ghost use Rattle.session.specs.{Boards.{IsHandedOverAs, IsRefusalOf}, Refusals.r
 use crate::board::Board;
 use crate::telling::handover_refusal_text;
 use accesses::Reply;
-use lines::{Answer, LineText, push_reply_of_name};
+use lines::{Answer, LineText, write_named_reply_line};
 use monitor::{HandoverFault, Monitor, Refused};
 use std::alloc::{AllocError, Global};
 use std::mem;
@@ -77,7 +77,7 @@ pub(crate) fn answer_handover(
 {
     match hand_over(alloc, stage) {
         Ok(()) => {
-            push_reply_of_name(text, b"host", Reply::Done);
+            write_named_reply_line(text, b"host", Reply::Done);
             Ok(Answer::one_line_at_most(None))
         }
         Err(fault) => {

@@ -7,7 +7,7 @@ ghost use Rattle.monitor.specs.Handovers.{number_of, words_of, handoff_fault};
 ghost use Rattle.session.specs.Tellings.{cause_text};
 
 use findings::LiveBar;
-use findings_render::push_problem;
+use findings_render::push_problem_line;
 use monitor::HandoverFault;
 use report::ShownPath;
 use std::alloc::{AllocError, Global};
@@ -29,7 +29,7 @@ fn push_refusal_cause(text: &mut String, fault: &HandoverFault) -> Result<(), Al
     ensures told { OnOk result (IsSome (handoff_fault fault.now)) }
 {
     match fault {
-        HandoverFault::NotInOrder(problem) => push_problem(text, problem),
+        HandoverFault::NotInOrder(problem) => push_problem_line(text, problem),
         HandoverFault::Closed(closed) => push_disabled_region(text, closed),
         HandoverFault::Memory => Err(AllocError),
     }

@@ -7,7 +7,7 @@ use std::alloc::{AllocError, Global};
 use std::io::ErrorKind;
 
 /// Returns the hint about invalid arguments: the reason, in printable ASCII.
-pub fn usage_hint(alloc: Global, why: &str) -> Result<String, AllocError> {
+pub fn printable_reason(alloc: Global, why: &str) -> Result<String, AllocError> {
     let mut hint = String::new(alloc);
     for line in why.lines() {
         write!(hint, "{}\n", Shown(line.as_bytes()))?;

@@ -29,7 +29,7 @@ pub use demonstration::demo;
 pub use diagnostics::MessageLayout;
 pub use fault_lines::fault_line;
 pub use files::{board_bytes, read_board_or_hint};
-pub use hints::{suggest_check_if_refused, usage_hint};
+pub use hints::{printable_reason, suggest_check_if_refused};
 pub use lines::RunStats;
 pub use listing::list;
 pub use model_guests::two_worlds;

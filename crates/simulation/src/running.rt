@@ -8,12 +8,12 @@ use board_told::Fault;
 use lines::{RunStats, run_watched};
 use monitor::Monitor;
 use script::Script;
-use session::open_and_set_up;
+use session::set_up_file_and_assign;
 use std::alloc::Global;
 use streams::{Reader, Writer};
 
 /// Returns whether a run ends with a fault because a line was refused.
-fn is_refusal_a_fault(strict: bool, seen: &RunStats) -> bool
+fn has_refusal_fault(strict: bool, seen: &RunStats) -> bool
     ensures { result ≡ (strict && seen.now.refused) }
 {
     strict && seen.refused
@@ -50,9 +50,9 @@ pub(crate) fn run_script_with_stats<R: Reader, W: Writer>(
     ensures reads { R.failures reader.new ≡ R.failures reader.old + read_faults result }
     ensures writes { W.failures writer.new ≡ W.failures writer.old + write_faults result }
 {
-    let monitor = open_and_set_up(alloc, board)?;
+    let monitor = set_up_file_and_assign(alloc, board)?;
     let (_, lines_seen) = run_watched::<Script, Monitor, R, W>(monitor, reader, writer)?;
-    let refused = is_refusal_a_fault(strict, &lines_seen);
+    let refused = has_refusal_fault(strict, &lines_seen);
     *seen = lines_seen;
     if refused {
         return Err(Fault::RefusedLine);

@@ -46,7 +46,7 @@ impl<W: Writer + Drop> BufferedWriter<W> {
     }
 
     /// Fails without calling the inner writer, and counts the failure.
-    fn fail_and_count(&mut self) -> Failed
+    fn stop_and_count_refusal(&mut self) -> Failed
         requires { self.old.refusals < 2 ^ 64 - 1 }
         ensures { self.new
             ≡ record self.old { stopped = true; refusals = self.old.refusals + 1 } }
@@ -115,12 +115,12 @@ impl<W: Writer + Drop> BufferedWriter<W> {
             ≡ W.failures self.old.inner + self.old.refusals + failures_of result }
     {
         if self.stopped || bytes.is_empty() {
-            return Err(self.fail_and_count());
+            return Err(self.stop_and_count_refusal());
         }
         self.flush_buf()?;
         let n = bytes.len().min(self.kept.capacity());
         if n == 0 {
-            return Err(self.fail_and_count());
+            return Err(self.stop_and_count_refusal());
         }
         self.kept.append(&bytes[..n]);
         Ok(n)
@@ -173,7 +173,7 @@ impl<W: Writer + Drop> Writer for BufferedWriter<W> {
             IsErr result × (writer_behind self.new ≡ writer_behind self.old) }
     {
         if self.stopped {
-            return Err(self.fail_and_count());
+            return Err(self.stop_and_count_refusal());
         }
         self.flush_buf()?;
         self.stopped = true;

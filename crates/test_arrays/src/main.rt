@@ -12,7 +12,7 @@ use std::process::ExitCode;
 use std::rt::{Env, Files};
 
 /// Runs the script on the board that the arguments name. Returns None if the run ends in a fault.
-fn run_from_args(rt: &(impl AllocGlobal + Env + Files + Print)) -> Option<()> {
+fn run_from_args_if_any(rt: &(impl AllocGlobal + Env + Files + Print)) -> Option<()> {
     let words: Vec<String> = env::args(rt).ok()?.collect(rt.alloc()).ok()?;
     if words.len() < 3 {
         return Some(());
@@ -21,7 +21,7 @@ fn run_from_args(rt: &(impl AllocGlobal + Env + Files + Print)) -> Option<()> {
 }
 
 fn main(rt: HostRuntime) -> ExitCode {
-    match run_from_args(&rt) {
+    match run_from_args_if_any(&rt) {
         Some(()) => ExitCode::SUCCESS,
         None => ExitCode::FAILURE,
     }

@@ -16,7 +16,7 @@ struct Faults {
 
 impl Faults {
     /// Counts a call. Returns `Err` for the call that is to fail; later calls succeed again.
-    fn count_call_or_fail(&mut self) -> Result<(), Failed>
+    fn count_call_or_fail_once(&mut self) -> Result<(), Failed>
         requires { self.old.failures < 2 ^ 64 - 1 }
         ensures { self.new.failures ≡ self.old.failures + failures_of result }
     {
@@ -72,7 +72,7 @@ impl Reader for FakeReader<'_> {
     ghost reads_left = { λ r. length r.script.now };
 
     fn read(&mut self, buf: &mut [u8]) -> Result<usize, Failed> {
-        self.faults.count_call_or_fail()?;
+        self.faults.count_call_or_fail_once()?;
         let n = self.per_call.min(buf.len()).min(self.script.len());
         let (front, rest) = self.script.split_at(n);
         buf[..n].copy_from_slice(front);
@@ -136,7 +136,7 @@ impl<const N: usize> Writer for FakeWriter<N> {
     ghost failures = { λ w. w.faults.failures };
 
     fn write(&mut self, bytes: &[u8]) -> Result<usize, Failed> {
-        self.faults.count_call_or_fail()?;
+        self.faults.count_call_or_fail_once()?;
         let room = self.bytes.remaining_capacity();
         let n = self.per_call.min(bytes.len()).min(room);
         if n == 0 {
@@ -147,7 +147,7 @@ impl<const N: usize> Writer for FakeWriter<N> {
     }
 
     fn flush(&mut self) -> Result<(), Failed> {
-        self.faults.count_call_or_fail()?;
+        self.faults.count_call_or_fail_once()?;
         self.flushed = self.bytes.len();
         Ok(())
     }

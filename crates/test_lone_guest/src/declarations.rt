@@ -31,11 +31,11 @@ fn kind_from_number(number: u64) -> Kind {
     }
 }
 
-fn byte(number: u64) -> u8 {
+fn byte_or_zero(number: u64) -> u8 {
     u8::try_from(number).unwrap_or(0)
 }
 
-fn parse_number(text: &str) -> u64 {
+fn parse_number_or_zero(text: &str) -> u64 {
     text.parse::<u64>().unwrap_or(0)
 }
 
@@ -43,7 +43,7 @@ fn parse_number(text: &str) -> u64 {
 fn parse_operands(words: &[&str]) -> [u64; 4] {
     let mut numbers = [0u64; 4];
     for (slot, text) in numbers.iter_mut().zip(words.iter()) {
-        *slot = parse_number(text);
+        *slot = parse_number_or_zero(text);
     }
     numbers
 }
@@ -64,7 +64,7 @@ impl Declared {
             "register" => last.header.push(numbers).ok(),
             "bar" => {
                 let block = Vec::new(alloc);
-                let (index, kind, size) = (byte(first), kind_from_number(second), third);
+                let (index, kind, size) = (byte_or_zero(first), kind_from_number(second), third);
                 last.bar
                     .push(LoneRegion {
                         index,
@@ -75,18 +75,26 @@ impl Declared {
                     .ok()
             }
             "config" => {
-                let register = Register::new(byte(second), byte(third), byte(fourth));
+                let register = Register::new(
+                    byte_or_zero(second),
+                    byte_or_zero(third),
+                    byte_or_zero(fourth),
+                );
                 let mut block = Vec::new(alloc);
                 block.push(register).ok()?;
                 last.config
                     .push(LoneBlock {
-                        off: byte(first),
+                        off: byte_or_zero(first),
                         block,
                     })
                     .ok()
             }
             _ => {
-                let register = Register::new(byte(second), byte(third), byte(fourth));
+                let register = Register::new(
+                    byte_or_zero(second),
+                    byte_or_zero(third),
+                    byte_or_zero(fourth),
+                );
                 let block = &mut last.bar.last_mut()?.block;
                 for _ in 0..first {
                     block.push(register).ok()?;

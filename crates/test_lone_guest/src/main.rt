@@ -54,7 +54,7 @@ fn print_replies(
 
 /// Answers the script on standard input. Returns None if the file of guests can't be read or
 /// parsed.
-fn run_stdin_script(rt: &(impl AllocGlobal + Env + Files + Input + Print)) -> Option<()> {
+fn run_stdin_script_if_args(rt: &(impl AllocGlobal + Env + Files + Input + Print)) -> Option<()> {
     let alloc = rt.alloc();
     let words: Vec<String> = env::args(rt).ok()?.collect(alloc).ok()?;
     if words.len() < 2 {
@@ -70,7 +70,7 @@ fn run_stdin_script(rt: &(impl AllocGlobal + Env + Files + Input + Print)) -> Op
 }
 
 fn main(rt: HostRuntime) -> ExitCode {
-    match run_stdin_script(&rt) {
+    match run_stdin_script_if_args(&rt) {
         Some(()) => ExitCode::SUCCESS,
         None => ExitCode::FAILURE,
     }

@@ -57,7 +57,7 @@ impl Write for KeepsBack<'_> {
 /// A flush of standard output also flushes the writer below it, so that an answer is visible before
 /// more is read.
 #[test]
-fn a_flush_goes_to_the_system(rt: HostRuntime) -> Result<(), Fail> {
+fn a_flush_reaches_the_inner_writer(rt: HostRuntime) -> Result<(), Fail> {
     let flushed = Cell::new(0);
     let behind = KeepsBack {
         kept: 0,

@@ -4,7 +4,7 @@ ghost use Rattle.std.specs.Prelude.{◌<◌, length};
 use crate::board::MAIN;
 use bars::{BarDecl, Kind};
 use board_file::read_board;
-use bridge_forward::{Bus, Decl, Declared, Part, Path, lawful_places};
+use bridge_forward::{Bus, Decl, Declared, Part, Path, is_lawful_board};
 use config_bytes::Cell;
 use headers::{BridgeDecl, EndpointDecl, EndpointValues, IoDecode, Place, PrefDecode, Region};
 use host_bridge::{Bdf, Host, Space, TreeWalk};
@@ -20,7 +20,7 @@ pub(crate) fn path_on_root(device: u8) -> Path
 }
 
 /// Returns the path of a device behind the bridge at device 2.
-pub(crate) fn path_behind_bridge(device: u8) -> Path
+pub(crate) fn path_behind_bridge_2(device: u8) -> Path
     requires { device < 16 }
 {
     let mut path = path_on_root(2);
@@ -55,11 +55,11 @@ fn build_bus(rt: &impl Abort, alloc: Global) -> Result<Bus, Fail> {
             function: Declared::Bridge(bridge)
         },
         Decl {
-            path: path_behind_bridge(0),
+            path: path_behind_bridge_2(0),
             function: declare_endpoint(alloc)?
         },
     ]?;
-    assert!(rt; lawful_places(&decls));
+    assert!(rt; is_lawful_board(&decls));
     Ok(Bus::build(alloc, decls)?)
 }
 
@@ -75,19 +75,19 @@ fn swap_first_word_with_ones(bus: &mut Bus, path: &Path) -> Option<u32> {
 /// A bridge can't be borrowed, nor can a missing function. A reset of one endpoint doesn't change
 /// the others.
 #[test]
-fn lent_and_reset_in_a_tree(rt: HostRuntime) -> Result<(), Fail> {
+fn only_endpoints_are_lent_or_reset(rt: HostRuntime) -> Result<(), Fail> {
     let mut bus = build_bus(&rt, rt.alloc())?;
-    let (card, behind) = (path_on_root(1), path_behind_bridge(0));
+    let (card, behind) = (path_on_root(1), path_behind_bridge_2(0));
     assert_eq!(rt; swap_first_word_with_ones(&mut bus, &card), Some(0));
     assert_eq!(rt; swap_first_word_with_ones(&mut bus, &card), Some(u32::MAX));
     assert_eq!(rt; swap_first_word_with_ones(&mut bus, &behind), Some(0));
     assert_eq!(rt; swap_first_word_with_ones(&mut bus, &path_on_root(2)), None);
     assert_eq!(rt; swap_first_word_with_ones(&mut bus, &path_on_root(3)), None);
-    bus.reset_endpoint(&behind);
-    bus.reset_endpoint(&path_on_root(2));
-    bus.reset_endpoint(&path_on_root(3));
+    bus.reset_except_routing(&behind);
+    bus.reset_except_routing(&path_on_root(2));
+    bus.reset_except_routing(&path_on_root(3));
     assert_eq!(rt; swap_first_word_with_ones(&mut bus, &card), Some(u32::MAX));
-    bus.reset_endpoint(&card);
+    bus.reset_except_routing(&card);
     assert_eq!(rt; swap_first_word_with_ones(&mut bus, &card), Some(0));
     assert_eq!(rt; swap_first_word_with_ones(&mut bus, &behind), Some(0));
     Ok(())
@@ -112,7 +112,7 @@ fn raise_status_if_claimed(
 
 /// A device can set only W1C bits. A reset doesn't change Command or the base addresses.
 #[test]
-fn raised_and_reset_behind_a_host(rt: HostRuntime) -> Result<(), Fail> {
+fn raise_sets_w1c_bits_reset_keeps_bases(rt: HostRuntime) -> Result<(), Fail> {
     let alloc = rt.alloc();
     let (mut host, _) = read_board(alloc, MAIN.as_bytes())?;
     let card = Bdf {
@@ -127,11 +127,11 @@ fn raised_and_reset_behind_a_host(rt: HostRuntime) -> Result<(), Fail> {
     assert_eq!(rt; host.config_read(card, 0x04, 0b1111), 0x0000_0002);
     assert!(rt; raise_status_if_claimed(&mut host, alloc, 0xc010_0010, 0x8f)?);
     assert!(rt; !raise_status_if_claimed(&mut host, alloc, 0, 0xff)?);
-    host.reset_endpoint(&path_behind_bridge(0));
-    host.reset_endpoint(&path_on_root(2));
+    host.reset_except_routing(&path_behind_bridge_2(0));
+    host.reset_except_routing(&path_on_root(2));
     assert_eq!(rt; host.config_read(card, 0x04, 0b1111), 0x8900_0002);
     assert_eq!(rt; host.config_read(card, 0x3c, 0b1111), 0x0000_015a);
-    host.reset_endpoint(&path_on_root(1));
+    host.reset_except_routing(&path_on_root(1));
     assert_eq!(rt; host.config_read(card, 0x04, 0b1111), 0x8000_0002);
     assert_eq!(rt; host.config_read(card, 0x14, 0b1111), 0xc010_0000);
     assert_eq!(rt; host.config_read(card, 0x3c, 0b1111), 0x0000_0100);

@@ -1,6 +1,6 @@
 //! The regions that claim addresses after set-up.
 use crate::board::MAIN;
-use crate::by_path::{path_behind_bridge, path_on_root};
+use crate::by_path::{path_behind_bridge_2, path_on_root};
 use bars::Space;
 use board_file::read_board;
 use bridge_forward::{Claim, Path};
@@ -18,7 +18,7 @@ fn assert_claim(rt: &impl Abort, found: Option<Claim>, want: Option<(&Path, u8, 
 
 /// The walk over the tree and the flat table return the same claims.
 #[test]
-fn claims_by_the_tree_and_by_the_table(rt: HostRuntime) -> Result<(), Fail> {
+fn tree_and_table_return_same_claims(rt: HostRuntime) -> Result<(), Fail> {
     let alloc = rt.alloc();
     let (host, _) = read_board(alloc, MAIN.as_bytes())?;
     let ready = set_up(alloc, host)?;
@@ -26,8 +26,8 @@ fn claims_by_the_tree_and_by_the_table(rt: HostRuntime) -> Result<(), Fail> {
     let (host, _, _) = ready.into_parts();
     let (beside, first, second) = (
         path_on_root(1),
-        path_behind_bridge(0),
-        path_behind_bridge(1),
+        path_behind_bridge_2(0),
+        path_behind_bridge_2(1),
     );
     let rows = [
         (Space::Mem, 0xc000_0000, Some((&first, 0, 0))),

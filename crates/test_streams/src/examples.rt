@@ -19,7 +19,7 @@ fn count_guests(monitor: &Monitor) -> usize
 }
 
 /// Returns the number of guests of an engine that routes by a walk over the board.
-fn count_guests_by_walk(engine: &Engine<TreeWalk>) -> usize
+fn count_engine_guests(engine: &Engine<TreeWalk>) -> usize
     ensures { result ≡ length engine.now.world.guests }
 {
     engine.names().len()
@@ -97,7 +97,7 @@ fn a_board_is_set_up(rt: HostRuntime) -> Result<(), Fail> {
 }
 
 #[test]
-fn a_guest_and_the_host(rt: HostRuntime) -> Result<(), Fail> {
+fn a_guest_and_the_host_read(rt: HostRuntime) -> Result<(), Fail> {
     let alloc = rt.alloc();
     let (host, guests) = read_board(alloc, MAIN.as_bytes())?;
     let ready = set_up(alloc, host)?;
@@ -118,12 +118,12 @@ fn a_guest_and_the_host(rt: HostRuntime) -> Result<(), Fail> {
 
 /// An engine that routes by a walk over the board answers like the monitor.
 #[test]
-fn a_guest_and_the_host_by_a_walk(rt: HostRuntime) -> Result<(), Fail> {
+fn a_guest_and_the_host_read_by_a_walk(rt: HostRuntime) -> Result<(), Fail> {
     let alloc = rt.alloc();
     let (host, guests) = read_board(alloc, MAIN.as_bytes())?;
     let ready = set_up(alloc, host)?;
     let mut engine = Engine::new_with_route(alloc, ready, TreeWalk, &guests)?;
-    assert!(rt; 0 < count_guests_by_walk(&engine));
+    assert!(rt; 0 < count_engine_guests(&engine));
     let identity = Access {
         at: At::Config { slot: 0, off: 0 },
         width: 4,

@@ -59,7 +59,7 @@ fn streams_fail_in_turn(rt: HostRuntime) {
 
 /// A line that is cut off by a failing read isn't executed.
 #[test]
-fn a_read_fails_within_a_line(rt: HostRuntime) {
+fn a_cut_line_is_not_executed(rt: HostRuntime) {
     let cut = Example {
         board: Board::Main,
         script: b"a cr 0 0 4\na cr 0 0",
@@ -77,7 +77,7 @@ fn a_read_fails_within_a_line(rt: HostRuntime) {
 /// A write that accepts no bytes fails, and so does a failing write after one that accepted five
 /// bytes.
 #[test]
-fn writers_that_take_little(rt: HostRuntime) {
+fn a_failing_write_leaves_a_prefix(rt: HostRuntime) {
     let line = Example {
         board: Board::Main,
         script: b"a cr 0 0 4",

@@ -4,7 +4,7 @@ use std::test::Fail;
 
 /// All bytes of a file are read unchanged and in order.
 #[test]
-fn bytes_of_a_file(rt: HostRuntime) -> Result<(), Fail> {
+fn file_is_read_unchanged(rt: HostRuntime) -> Result<(), Fail> {
     let mut bytes = Vec::new(rt.alloc());
     for round in 0..40u8 {
         for byte in 0..=255u8 {

@@ -2,7 +2,7 @@
 ghost use Rattle.std.specs.Prelude.{◌<◌};
 
 use crate::board::MAIN;
-use crate::by_path::path_behind_bridge;
+use crate::by_path::path_behind_bridge_2;
 use board_file::read_board;
 use config_bytes::Cells;
 use headers::{Bridge, BridgeDecl, IoDecode, PrefDecode, io_window, mem_window, pref_window};
@@ -38,7 +38,7 @@ fn bdf_at(bus: u8, device: u8) -> Bdf
 }
 
 /// Returns the windows in the registers of the bridge at 2.0: I/O, memory and prefetchable memory.
-fn read_bridge_windows(alloc: Global, host: &mut Host) -> Result<[Window; 3], Fail> {
+fn read_windows_of_bridge_2(alloc: Global, host: &mut Host) -> Result<[Window; 3], Fail> {
     let decl = BridgeDecl::new(0x1234, 2, 0, IoDecode::Bits16, PrefDecode::Bits64)?;
     let mut cells = Bridge::cells(alloc, &decl, false)?;
     for n in 7..13u8 {
@@ -53,7 +53,12 @@ fn read_bridge_windows(alloc: Global, host: &mut Host) -> Result<[Window; 3], Fa
     ])
 }
 
-fn assert_step(rt: &impl Abort, alloc: Global, host: &mut Host, step: Step) -> Result<(), Fail> {
+fn run_and_assert_step(
+    rt: &impl Abort,
+    alloc: Global,
+    host: &mut Host,
+    step: Step,
+) -> Result<(), Fail> {
     match step {
         Step::Read(at, off, want) => {
             assert!(rt; off % 4 == 0);
@@ -64,13 +69,13 @@ fn assert_step(rt: &impl Abort, alloc: Global, host: &mut Host, step: Step) -> R
             host.config_write(at, off, enables, data);
         }
         Step::Windows(io, mem, pref) => {
-            assert!(rt; read_bridge_windows(alloc, host)? == [io, mem, pref]);
+            assert!(rt; read_windows_of_bridge_2(alloc, host)? == [io, mem, pref]);
         }
         Step::Claim(space, addr, want) => {
             let claim = host.claimant(space, addr);
             let at_path = claim
                 .as_ref()
-                .is_none_or(|it| it.path == path_behind_bridge(0));
+                .is_none_or(|it| it.path == path_behind_bridge_2(0));
             assert!(rt; at_path);
             assert_eq!(rt; claim.map(|it| (it.region, it.offset)), want);
         }
@@ -127,7 +132,7 @@ fn calls_of_a_host_from_reset_on(rt: HostRuntime) -> Result<(), Fail> {
         Step::In2(0xcf8, 0xffff),
     ];
     for step in steps {
-        assert_step(&rt, alloc, &mut host, step)?;
+        run_and_assert_step(&rt, alloc, &mut host, step)?;
     }
     Ok(())
 }

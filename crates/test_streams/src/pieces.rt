@@ -103,15 +103,15 @@ fn assert_answered(rt: &(impl AllocGlobal + Abort), example: Example<'_>, per_re
     assert_eq!(rt; writer.flushed(), example.output, "{per_read} bytes a read");
 }
 
-fn assert_in_pieces(rt: &(impl AllocGlobal + Abort), example: Example<'_>) {
+fn assert_output_in_pieces(rt: &(impl AllocGlobal + Abort), example: Example<'_>) {
     assert_answered(rt, example, 1);
     assert_answered(rt, example, 7);
     assert_answered(rt, example, 4096);
 }
 
-fn assert_on_main_board(rt: &(impl AllocGlobal + Abort), script: &[u8], output: &[u8]) {
+fn assert_output_on_main_board(rt: &(impl AllocGlobal + Abort), script: &[u8], output: &[u8]) {
     let board = Board::Main;
-    assert_in_pieces(
+    assert_output_in_pieces(
         rt,
         Example {
             board,
@@ -123,9 +123,9 @@ fn assert_on_main_board(rt: &(impl AllocGlobal + Abort), script: &[u8], output: 
 
 #[test]
 fn scripts_in_pieces(rt: HostRuntime) -> Result<(), Fail> {
-    assert_in_pieces(&rt, LONG);
+    assert_output_in_pieces(&rt, LONG);
     for (script, output) in SCRIPTS {
-        assert_on_main_board(&rt, script, output);
+        assert_output_on_main_board(&rt, script, output);
     }
     Ok(())
 }
@@ -133,9 +133,9 @@ fn scripts_in_pieces(rt: HostRuntime) -> Result<(), Fail> {
 /// A comment of 200 bytes, one of 201 bytes, and an empty script.
 #[test]
 fn comments_in_pieces(rt: HostRuntime) -> Result<(), Fail> {
-    assert_on_main_board(&rt, &[b'#'; 200], b"");
-    assert_on_main_board(&rt, &[b'#'; 201], b"?: refused 403 long line\n");
-    assert_on_main_board(&rt, b"", b"");
+    assert_output_on_main_board(&rt, &[b'#'; 200], b"");
+    assert_output_on_main_board(&rt, &[b'#'; 201], b"?: refused 403 long line\n");
+    assert_output_on_main_board(&rt, b"", b"");
     Ok(())
 }
 
@@ -149,6 +149,6 @@ fn a_long_line_in_pieces(rt: HostRuntime) -> Result<(), Fail> {
         script: script.as_slice(),
         output: b"?: refused 403 long line\na: 0x00011234\n",
     };
-    assert_in_pieces(&rt, example);
+    assert_output_in_pieces(&rt, example);
     Ok(())
 }

@@ -15,19 +15,19 @@ fn find_place_and_first_within(
     let places = Places::new(alloc, bytes, &document).ok()?;
     Some((
         places.scalar_place(way),
-        places.place_within(alloc, way).ok()?,
+        places.first_scalar_place(alloc, way).ok()?,
     ))
 }
 
 /// Returns the line of the value that a path of keys leads to, or 0.
-fn line_or_0(rt: &HostRuntime, text: &str, way: &[Step<'_>]) -> usize {
+fn line_or_zero(rt: &HostRuntime, text: &str, way: &[Step<'_>]) -> usize {
     let (place, _) = find_place_and_first_within(rt, text, way).unwrap_or((None, None));
     place.map_or(0, |it| it.line)
 }
 
 /// Returns the line of the value that a path of keys leads to, or of the first value inside it, or
 /// 0.
-fn first_line_within_or_0(rt: &HostRuntime, text: &str, way: &[Step<'_>]) -> usize {
+fn first_line_within_or_zero(rt: &HostRuntime, text: &str, way: &[Step<'_>]) -> usize {
     let (_, within) = find_place_and_first_within(rt, text, way).unwrap_or((None, None));
     within.map_or(0, |it| it.line)
 }
@@ -54,7 +54,7 @@ v = 1\r
 
 #[test]
 fn quotes_of_every_kind(rt: HostRuntime) {
-    let at = |way: &[Step<'_>]| line_or_0(&rt, QUOTES, way);
+    let at = |way: &[Step<'_>]| line_or_zero(&rt, QUOTES, way);
     assert_eq!(rt; at(&[Key("a=b"), Key("x"), Index(0), Index(1)]), 2);
     assert_eq!(rt; at(&[Key("a=b"), Key("x"), Index(2), Index(1)]), 2);
     assert_eq!(rt; at(&[Key("a=b"), Key("q\"q"), Key("r")]), 2);
@@ -82,7 +82,7 @@ lines"""
 "#;
 
 #[test]
-fn places_of_every_writing(rt: HostRuntime) {
+fn places_span_values_as_written(rt: HostRuntime) {
     let vendor = [Key("endpoint"), Index(0), Key("vendor")];
     assert!(rt; is_written_as(&rt, BOARD, &vendor, "0x1ffff"));
     let at = [Key("endpoint"), Index(1), Key("at")];
@@ -96,16 +96,19 @@ fn places_of_every_writing(rt: HostRuntime) {
 /// place.
 #[test]
 fn scalars_of_every_kind(rt: HostRuntime) {
-    assert_eq!(rt; line_or_0(&rt, "\na = 0\nb = 1.5e3", &[Key("a")]), 2);
-    assert_eq!(rt; line_or_0(&rt, "\na = 0\nb = 1.5e3", &[Key("b")]), 3);
+    assert_eq!(rt; line_or_zero(&rt, "\na = 0\nb = 1.5e3", &[Key("a")]), 2);
+    assert_eq!(rt; line_or_zero(&rt, "\na = 0\nb = 1.5e3", &[Key("b")]), 3);
     let dates = "a = 1979-05-27 07:32:00\nb = 07:32:00 # none\nc = inf";
-    assert_eq!(rt; line_or_0(&rt, dates, &[Key("a")]), 1);
-    assert_eq!(rt; line_or_0(&rt, dates, &[Key("b")]), 2);
-    assert_eq!(rt; line_or_0(&rt, dates, &[Key("c")]), 3);
-    assert_eq!(rt; line_or_0(&rt, "a = \"@4\"\nb = \"@4\"", &[Key("a")]), 0);
-    assert_eq!(rt; line_or_0(&rt, "a = \"@4\"\nb = \"@4\"", &[Key("b")]), 2);
-    assert_eq!(rt; line_or_0(&rt, "[t]\n\"@\" = 0", &[Key("t")]), 0);
-    assert_eq!(rt; line_or_0(&rt, "[t]\n\"@\" = 0", &[Key("t"), Key("@")]), 2);
+    assert_eq!(rt; line_or_zero(&rt, dates, &[Key("a")]), 1);
+    assert_eq!(rt; line_or_zero(&rt, dates, &[Key("b")]), 2);
+    assert_eq!(rt; line_or_zero(&rt, dates, &[Key("c")]), 3);
+    assert_eq!(rt; line_or_zero(&rt, "a = \"@4\"\nb = \"@4\"", &[Key("a")]), 0);
+    assert_eq!(rt; line_or_zero(&rt, "a = \"@4\"\nb = \"@4\"", &[Key("b")]), 2);
+    assert_eq!(rt; line_or_zero(&rt, "[t]\n\"@\" = 0", &[Key("t")]), 0);
+    assert_eq!(rt;
+        line_or_zero(&rt, "[t]\n\"@\" = 0", &[Key("t"), Key("@")]),
+        2
+    );
 }
 
 /// A document with all kinds of tables and arrays, whose first keys aren't first in the alphabet.
@@ -144,8 +147,8 @@ name = "none"
 "#;
 
 #[test]
-fn first_in_tables(rt: HostRuntime) {
-    let within = |way: &[Step<'_>]| first_line_within_or_0(&rt, PARTS, way);
+fn first_line_in_tables(rt: HostRuntime) {
+    let within = |way: &[Step<'_>]| first_line_within_or_zero(&rt, PARTS, way);
     assert_eq!(rt; within(&[Key("endpoint"), Index(0)]), 6);
     assert_eq!(rt;
         within(&[Key("endpoint"), Index(0), Key("bar"), Index(0)]),
@@ -159,8 +162,8 @@ fn first_in_tables(rt: HostRuntime) {
 }
 
 #[test]
-fn first_in_arrays(rt: HostRuntime) {
-    let within = |way: &[Step<'_>]| first_line_within_or_0(&rt, PARTS, way);
+fn first_line_in_arrays(rt: HostRuntime) {
+    let within = |way: &[Step<'_>]| first_line_within_or_zero(&rt, PARTS, way);
     assert_eq!(rt; within(&[Key("host"), Key("mem")]), 3);
     assert_eq!(rt; within(&[Key("endpoint")]), 6);
     assert_eq!(rt; within(&[Key("endpoint"), Index(0), Key("bar")]), 9);

@@ -3,7 +3,7 @@ ghost use Rattle.std.specs.Prelude.{◌<◌, IfOk};
 ghost use Rattle.model_board.specs.AtReset.{IsAtReset};
 
 use bars::{BarDecl, Kind};
-use bridge_forward::{Bus, Decl, Declared, Part, Path, lawful_places};
+use bridge_forward::{Bus, Decl, Declared, Part, Path, is_lawful_board};
 use bus_scan::{Fault, scan};
 use config_bytes::Cell;
 use headers::{
@@ -65,7 +65,7 @@ fn build_host_with_256_bridges(rt: &impl Abort, alloc: Global) -> Result<Host, F
     for device in 0..16u8 {
         push_branch_per_function(alloc, &mut decls, device)?;
     }
-    assert!(rt; lawful_places(&decls));
+    assert!(rt; is_lawful_board(&decls));
     let io = Aperture {
         first: 0x1000,
         last: 0xffff,
@@ -133,7 +133,7 @@ fn bdf_on_bus(bus: u8, device: u8, function: u8) -> Bdf
 }
 
 /// Clears the bus numbers of all bridges at a device of bus 0.
-fn clear_bus_numbers(pair: &mut Pair, device: u8)
+fn clear_bus_numbers_of_all_functions(pair: &mut Pair, device: u8)
     requires { device < 16 }
 {
     for function in 0..8u8 {
@@ -152,7 +152,7 @@ fn assert_device_alike(rt: &impl Abort, pair: &mut Pair, device: u8)
 /// The 256th bridge can't get a bus number. The scan is refused, and has written nothing but bus
 /// numbers.
 #[test]
-fn a_refused_scan_leaves_bus_numbers_alone(rt: HostRuntime) -> Result<(), Fail> {
+fn a_refused_scan_writes_only_bus_numbers(rt: HostRuntime) -> Result<(), Fail> {
     let alloc = rt.alloc();
     let mut scanned = build_host_with_256_bridges(&rt, alloc)?;
     assert!(rt; scan(alloc, &mut scanned).err() == Some(Fault::Buses));
@@ -163,7 +163,7 @@ fn a_refused_scan_leaves_bus_numbers_alone(rt: HostRuntime) -> Result<(), Fail> 
     let at_reset = build_host_with_256_bridges(&rt, alloc)?;
     let mut pair = Pair { scanned, at_reset };
     for device in 0..16u8 {
-        clear_bus_numbers(&mut pair, device);
+        clear_bus_numbers_of_all_functions(&mut pair, device);
     }
     for device in 0..16u8 {
         assert_device_alike(&rt, &mut pair, device);

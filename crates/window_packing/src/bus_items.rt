@@ -16,7 +16,7 @@ use headers::Apertures;
 use std::alloc::AllocError;
 
 /// Appends the region that starts at a BAR register, if there is one and it belongs to the pool.
-fn push_region_if_in_pool(
+fn push_bar_if_in_pool(
     into: &mut Vec<PlacementItem>,
     part: Part,
     index: u8,
@@ -58,7 +58,7 @@ fn push_regions_in_pool(
         ++ pool_items apertures.now ds (named_pool pool) part (regions_from 0 bars.now)) }
 {
     'registers: for index in 0..6u8 {
-        push_region_if_in_pool(
+        push_bar_if_in_pool(
             into,
             part,
             index,

@@ -16,7 +16,7 @@ use headers::Apertures;
 use std::alloc::{AllocError, Global};
 
 /// Creates empty item lists for bus 0 and `count` more buses.
-fn empty_item_lists(alloc: Global, count: usize) -> Result<Vec<Vec<PlacementItem>>, AllocError>
+fn empty_lists_per_bus(alloc: Global, count: usize) -> Result<Vec<Vec<PlacementItem>>, AllocError>
     ensures buses { IfOk result (λ v. length v.items ≡ count + 1) }
     ensures none { IfOk result (λ v. All (λ own. own.items ≡ []) v.items) }
 {
@@ -53,7 +53,7 @@ pub(crate) fn pack_pool(
     ensures bounded { IfOk result (λ r. IfSome r (λ packs. Each IsBounded packs.items)) }
 {
     let unit = pool.unit();
-    let mut items = empty_item_lists(alloc, rows.len())?;
+    let mut items = empty_lists_per_bus(alloc, rows.len())?;
     let mut packs = Vec::new(alloc);
     'rows: for i in (0..rows.len()).rev() {
         let behind = items.pop().unwrap();

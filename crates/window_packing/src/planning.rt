@@ -9,7 +9,7 @@ ghost use Rattle.window_packing.specs.{Buses.AreAbove, Placed.{IsPlacement, is_p
 use crate::board_plan::Plan;
 use crate::pool::Pool;
 use crate::pool_placement::{Placement, place_pool};
-use crate::rows::copy_paths;
+use crate::rows::row_paths;
 use crate::settings::all_function_programs;
 use crate::upstream_windows::{UpstreamSupport, all_support};
 use bars::{BarDecl, Kind};
@@ -117,7 +117,7 @@ pub fn plan(alloc: Global, table: &FunctionTable, apertures: &Apertures) -> Resu
     let rows = table.rows();
     let above = all_support(alloc, rows)?;
     let placement = place_board(alloc, rows, &above, apertures)?;
-    let paths = copy_paths(alloc, rows)?;
+    let paths = row_paths(alloc, rows)?;
     let settings = all_function_programs(alloc, rows, &above, apertures, &placement)?;
     Ok(Plan::new(paths, placement, settings))
 }

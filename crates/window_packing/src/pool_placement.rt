@@ -80,7 +80,7 @@ fn aperture_of(apertures: &Apertures, pool: Pool) -> Option<Aperture>
 
 /// Returns the first address of bus 0 in the pool: the start of the aperture, rounded up to the
 /// alignment of the bus.
-pub(crate) fn root_bus_start(apertures: &Apertures, pool: Pool, root: &PackedBus) -> u64
+pub(crate) fn root_bus_start_or_zero(apertures: &Apertures, pool: Pool, root: &PackedBus) -> u64
     requires some { 0 < root.now.align }
     requires align { root.now.align ≤ 2 ^ 40 }
     ensures { result
@@ -113,7 +113,7 @@ fn root_bus_fits(apertures: &Apertures, pool: Pool, end: u64, root: &PackedBus) 
         → result ≡ fits b apertures.now (named_pool pool) }
 {
     root.spots.is_empty()
-        || (root.end <= end && root_bus_start(apertures, pool, root) <= end - root.end)
+        || (root.end <= end && root_bus_start_or_zero(apertures, pool, root) <= end - root.end)
 }
 
 /// Returns the offset of a bridge's window on its bus, or 0 if the bridge has no window in the
@@ -155,7 +155,7 @@ fn bus_start_addresses(
         (bus_paths (board_in rows.now))) }
 {
     let mut firsts = Vec::with_capacity(alloc, packs.len())?;
-    firsts.push(root_bus_start(apertures, pool, &packs[0]))?;
+    firsts.push(root_bus_start_or_zero(apertures, pool, &packs[0]))?;
     for i in 0..rows.len() {
         let row = &rows[i];
         let bus = above[i].bus;

@@ -8,7 +8,7 @@ ghost use Rattle.window_packing.specs.{Buses.AreAbove, Packs.{pack_of, IsBounded
 use crate::bus_packs::pack_pool;
 use crate::pack::PackedBus;
 use crate::pool::Pool;
-use crate::pool_placement::{aperture_end_or_zero, root_bus_start};
+use crate::pool_placement::{aperture_end_or_zero, root_bus_start_or_zero};
 use crate::upstream_windows::{UpstreamSupport, all_support};
 use bus_scan::{EnumeratedFunction, FunctionTable};
 use headers::Apertures;
@@ -33,7 +33,7 @@ fn pool_use_of_root_bus(apertures: &Apertures, pool: Pool, end: u64, root: &Pack
     ensures { (b : Board) → root.now ≡ pack_of b apertures.now (named_pool pool) []
         → result ≡ pool_use b apertures.now (named_pool pool) }
 {
-    let first = root_bus_start(apertures, pool, root);
+    let first = root_bus_start_or_zero(apertures, pool, root);
     PoolUse {
         first,
         extent: root.end,

@@ -61,7 +61,7 @@ fn program_function(host: &mut Host, setting: &FunctionProgram)
         RegisterValues::Endpoint { command, bases } => write_bars_and_command(
             host, setting.at, command, &bases,
         ),
-        RegisterValues::Bridge { io, mem, pref } => write_windows_and_command(
+        RegisterValues::Bridge { io, mem, pref } => write_windows_and_enable_spaces(
             host, setting.at, io, mem, pref,
         ),
     }
@@ -100,7 +100,7 @@ fn write_bar(host: &mut Host, at: Bdf, index: u8, region: BarWithBase)
 
 /// Writes the windows, and then Command. The words are the same for every bridge: a bridge ignores
 /// writes to window registers that it doesn't implement, and its decode type bits are read-only.
-fn write_windows_and_command(
+fn write_windows_and_enable_spaces(
     host: &mut Host,
     at: Bdf,
     io: WindowSetting,

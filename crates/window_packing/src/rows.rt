@@ -14,10 +14,7 @@ use host_bridge::Path;
 use std::alloc::{AllocError, Global};
 
 /// Copies the paths of all functions.
-pub(crate) fn copy_paths(
-    alloc: Global,
-    rows: &[EnumeratedFunction],
-) -> Result<Vec<Path>, AllocError>
+pub(crate) fn row_paths(alloc: Global, rows: &[EnumeratedFunction]) -> Result<Vec<Path>, AllocError>
     ensures { IfOk result (λ v. v.items ≡ map (λ (r : TableRow). r.path) rows.now) }
 {
     let mut paths = Vec::with_capacity(alloc, rows.len())?;

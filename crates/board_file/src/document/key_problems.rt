@@ -68,7 +68,7 @@ fn list_table_entries(alloc: Global, file: &FileEntries<'_>) -> Result<Vec<Entry
 }
 
 /// Appends a problem at a key, unless the rule is kept.
-fn push_problem_unless_kept<'a>(
+fn push_unless_kept<'a>(
     problems: &mut Vec<Violation<'a>>,
     entry: Entry,
     key: &'a str,
@@ -108,8 +108,8 @@ fn push_field_problems(
 {
     let value = value_at(table, field.key);
     let is_there = !field.needed || value.is_some();
-    push_problem_unless_kept(problems, entry, field.key, Rule::Needed, is_there)?;
-    push_problem_unless_kept(
+    push_unless_kept(problems, entry, field.key, Rule::Needed, is_there)?;
+    push_unless_kept(
         problems,
         entry,
         field.key,
@@ -147,7 +147,7 @@ fn push_unknown_key_problems<'a>(
     'members: for (key, _) in table.iter() {
         let key = key.as_str();
         let is_known = form_at(level, key).is_some();
-        push_problem_unless_kept(problems, entry, key, Rule::Known, is_known)?;
+        push_unless_kept(problems, entry, key, Rule::Known, is_known)?;
     }
     Ok(())
 }

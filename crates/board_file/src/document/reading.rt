@@ -100,7 +100,7 @@ fn paths_skipping_non_strings(alloc: Global, items: &Array) -> Result<Vec<PathTe
     Ok(texts)
 }
 
-pub(crate) fn read_patterns(table: &Table) -> PatternTexts<'_>
+pub(crate) fn read_register_patterns(table: &Table) -> PatternTexts<'_>
     ensures { result ≡ patterns (table_view table.now) }
 {
     PatternTexts {
@@ -111,10 +111,7 @@ pub(crate) fn read_patterns(table: &Table) -> PatternTexts<'_>
 }
 
 /// Parses the slots of a `guest` table.
-pub(crate) fn read_slots_or_empty(
-    alloc: Global,
-    table: &Table,
-) -> Result<Vec<PathText<'_>>, AllocError>
+pub(crate) fn slots_or_empty(alloc: Global, table: &Table) -> Result<Vec<PathText<'_>>, AllocError>
     ensures { IfOk result (λ v.
         v.items ≡ filter_map as_str (values (codes "slots") (table_view table.now))) }
 {
@@ -168,7 +165,7 @@ fn host_bounds_or_zeros(table: &Table, key: &str) -> Bounds
     }
 }
 
-fn find_host_pref_bounds(table: &Table) -> Option<Bounds>
+fn find_host_pref_or_zeros(table: &Table) -> Option<Bounds>
     ensures { let host = table_at (codes "host") (table_view table.now) in result
         ≡ option_map (λ _. range (codes "pref") host) (get_member (codes "pref") host) }
 {
@@ -189,7 +186,7 @@ pub fn read_entries(alloc: Global, table: &Table) -> Result<FileEntries<'_>, All
     Ok(FileEntries {
         io: host_bounds_or_zeros(table, "io"),
         mem: host_bounds_or_zeros(table, "mem"),
-        pref: find_host_pref_bounds(table),
+        pref: find_host_pref_or_zeros(table),
         endpoints: entries_at_or_empty(alloc, table, "endpoint")?,
         bridges: entries_at_or_empty(alloc, table, "bridge")?,
         guests: entries_at_or_empty(alloc, table, "guest")?,

@@ -1,7 +1,7 @@
 //! Lookup of entries in a document.
 ghost use Rattle.std.specs.Prelude.{◌≡◌, codes, option_map, option_and_then};
 ghost use Rattle.toml.specs.{Data.{get_member, at, as_table, as_str}, View.{view, table_view}};
-ghost use Rattle.board_file.specs.Tables.{nth_table_at, table_at, value_at, owner_entry_or_self, name_key, table_kind_of_entry};
+ghost use Rattle.board_file.specs.Tables.{nth_table_at, table_at, value_at, owner_entry_or_self, owner_name_key, table_kind_of_entry};
 
 use crate::document::reading::value_at as member;
 use crate::document::schema::TableKind;
@@ -93,8 +93,8 @@ pub fn owner_entry_or_self(entry: Entry) -> Entry
 }
 
 /// Returns the key that identifies the owner of an entry: `at` for a function, `name` for a guest.
-fn name_key(entry: Entry) -> Option<&'static str>
-    ensures { option_map (λ k. k.now) result ≡ name_key entry }
+fn owner_name_key(entry: Entry) -> Option<&'static str>
+    ensures { option_map (λ k. k.now) result ≡ owner_name_key entry }
 {
     match entry {
         Entry::File | Entry::Host => None,
@@ -105,12 +105,13 @@ fn name_key(entry: Entry) -> Option<&'static str>
 
 /// Returns the path of the function or the name of the guest that an entry belongs to, as written
 /// in the file.
-pub fn owner_name(document: &Table, entry: Entry) -> Option<&str>
+pub fn owner_path_or_name(document: &Table, entry: Entry) -> Option<&str>
     ensures { option_map (λ s. s.now) result
         ≡ option_and_then as_str
-        (option_and_then (value_at (table_view document.now) (owner_entry_or_self entry)) (name_key entry)) }
+        (option_and_then (value_at (table_view document.now) (owner_entry_or_self entry))
+        (owner_name_key entry)) }
 {
-    let key = name_key(entry)?;
+    let key = owner_name_key(entry)?;
     let value = value_at(document, owner_entry_or_self(entry), key)?;
     value.as_str()
 }

@@ -5,7 +5,7 @@ ghost use Rattle.board_file.specs.{Bars.{bar, bar_rules, bar_holds, is_region, r
 ghost use Rattle.board_file.specs.Bars as said;
 
 use crate::document::keywords::parse_region_kind;
-use crate::document::reading::{FromTable, integer_or_zero, read_patterns, text_or_empty};
+use crate::document::reading::{FromTable, integer_or_zero, read_register_patterns, text_or_empty};
 use crate::entries::EndpointEntry;
 use crate::entry::Entry;
 use crate::fault::BoardFault;
@@ -51,7 +51,7 @@ impl<'a> FromTable<'a> for BarEntry<'a> {
             kind: parse_region_kind(text_or_empty(table, "kind")).unwrap_or(Kind::Io),
             size: integer_or_zero(table, "size"),
             block: integer_or_zero(table, "block"),
-            patterns: read_patterns(table),
+            patterns: read_register_patterns(table),
         })
     }
 }
@@ -137,7 +137,7 @@ impl<'a> PartEntry for BarEntry<'a> {
         }
     }
 
-    fn declare_if_valid(&self, alloc: Global) -> Result<Option<Region>, AllocError> {
+    fn declare_if_masks_hold(&self, alloc: Global) -> Result<Option<Region>, AllocError> {
         match build_block_if_valid(alloc, magnitude_as_u64(self.block) as usize, &self.patterns)? {
             Some(block) => Ok(Some(Region {
                 index: magnitude_as_u8(self.index),

@@ -13,7 +13,7 @@ use crate::entry::Entry;
 use crate::fault::BoardFault;
 use crate::finding::{Violation, push_broken_rules};
 use crate::functions::numbers::{
-    fits_byte, fits_half_word, has_at_most_15_slashes, is_between, magnitude_as_u8,
+    fits_byte_rule, fits_half_word_rule, has_at_most_15_slashes, is_between, magnitude_as_u8,
     magnitude_as_u16,
 };
 use crate::path::text::PathText;
@@ -101,8 +101,8 @@ fn push_bridge_problems(
             entry,
             &[
                 (Rule::Vendor, is_between(0, 0xfffe, bridge.vendor)),
-                fits_half_word(RegisterKey::Device, bridge.device),
-                fits_byte(RegisterKey::Revision, bridge.revision),
+                fits_half_word_rule(RegisterKey::Device, bridge.device),
+                fits_byte_rule(RegisterKey::Revision, bridge.revision),
             ],
         ),
         BoardFault::TooMany => {

@@ -114,13 +114,13 @@ impl<'a> PartEntry for CapabilityEntry<'a> {
         }
     }
 
-    fn declare_if_valid(&self, alloc: Global) -> Result<Option<Capability>, AllocError> {
-        declare_capability_if_valid(alloc, self)
+    fn declare_if_masks_hold(&self, alloc: Global) -> Result<Option<Capability>, AllocError> {
+        declare_capability_if_masks_hold(alloc, self)
     }
 }
 
 /// Builds the structure of a table. Returns `None` if a pattern isn't valid.
-fn declare_capability_if_valid(
+fn declare_capability_if_masks_hold(
     alloc: Global,
     table: &CapabilityEntry<'_>,
 ) -> Result<Option<Capability>, AllocError>

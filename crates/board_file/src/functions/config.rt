@@ -2,7 +2,7 @@
 ghost use Rattle.board_file.specs.Configs.{config, config_extent, config_rules, config_holds, config_block, is_config_block};
 ghost use Rattle.board_file.specs.Configs as said;
 
-use crate::document::reading::{FromTable, integer_or_zero, read_patterns};
+use crate::document::reading::{FromTable, integer_or_zero, read_register_patterns};
 use crate::entries::EndpointEntry;
 use crate::entry::Entry;
 use crate::fault::BoardFault;
@@ -42,7 +42,7 @@ impl<'a> FromTable<'a> for ConfigEntry<'a> {
         Ok(ConfigEntry {
             off: integer_or_zero(table, "off"),
             block: integer_or_zero(table, "block"),
-            patterns: read_patterns(table),
+            patterns: read_register_patterns(table),
         })
     }
 }
@@ -104,7 +104,7 @@ impl<'a> PartEntry for ConfigEntry<'a> {
         }
     }
 
-    fn declare_if_valid(&self, alloc: Global) -> Result<Option<ConfigBlock>, AllocError> {
+    fn declare_if_masks_hold(&self, alloc: Global) -> Result<Option<ConfigBlock>, AllocError> {
         match build_block_if_valid(alloc, magnitude_as_u64(self.block) as usize, &self.patterns)? {
             Some(block) => Ok(Some(ConfigBlock {
                 off: magnitude_as_u16(self.off),

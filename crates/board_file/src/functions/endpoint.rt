@@ -12,13 +12,13 @@ use crate::fault::BoardFault;
 use crate::finding::{Violation, push_broken_rules};
 use crate::functions::bar::has_valid_index;
 use crate::functions::numbers::{
-    fits_byte, fits_half_word, has_at_most_15_slashes, has_only_bits, is_between, magnitude_as_u8,
-    magnitude_as_u16, magnitude_as_u64,
+    fits_byte_rule, fits_half_word_rule, has_at_most_15_slashes, has_only_bits, is_between,
+    magnitude_as_u8, magnitude_as_u16, magnitude_as_u64,
 };
-use crate::functions::part::{declare_all_if_valid, push_part_problems};
+use crate::functions::part::{declare_all_if_masks_hold, push_part_problems};
 use crate::path::text::PathText;
 use crate::rule::Rule;
-use headers::{ConfigBlock, EndpointDecl, EndpointValues, Region, have_distinct_bar_registers};
+use headers::{ConfigBlock, EndpointDecl, EndpointValues, Region, have_valid_bar_registers};
 use std::alloc::{AllocError, Global};
 use std::marker::Model;
 use toml::Table;
@@ -100,22 +100,25 @@ impl<'a> EndpointEntry<'a> {
 
     /// Builds the declaration. Returns `None` if a pattern isn't valid, or if configuration blocks
     /// or structures overlap.
-    pub(crate) fn declare_if_valid(&self, alloc: Global) -> Result<Option<EndpointDecl>, AllocError>
+    pub(crate) fn declare_if_masks_hold(
+        &self,
+        alloc: Global,
+    ) -> Result<Option<EndpointDecl>, AllocError>
         requires { IsTrue (is_declarable self.now) }
         ensures { IfOk result (λ found.
             Gives (masks_hold self.now) found (λ d. (d ≡ declared_endpoint self.now)
             × IsLawfulEndpoint d)) }
     {
-        let Some(regions) = declare_all_if_valid(alloc, &self.bars)? else {
+        let Some(regions) = declare_all_if_masks_hold(alloc, &self.bars)? else {
             return Ok(None);
         };
-        let Some(blocks) = declare_all_if_valid(alloc, &self.configs)? else {
+        let Some(blocks) = declare_all_if_masks_hold(alloc, &self.configs)? else {
             return Ok(None);
         };
-        let Some(capabilities) = declare_all_if_valid(alloc, &self.capabilities)? else {
+        let Some(capabilities) = declare_all_if_masks_hold(alloc, &self.capabilities)? else {
             return Ok(None);
         };
-        let values = build_endpoint_values(self, regions, blocks).with_capabilities(
+        let values = values_without_capabilities(self, regions, blocks).with_capabilities(
             alloc,
             &capabilities,
         )?;
@@ -132,12 +135,12 @@ fn has_valid_bar_indices(endpoint: &EndpointEntry<'_>) -> bool
 
 /// Returns whether no BARs share a register and none needs more than the six registers. Also
 /// returns true if an index isn't valid, which another rule reports.
-fn has_disjoint_bar_registers(endpoint: &EndpointEntry<'_>) -> bool
+fn has_disjoint_bars_if_indices_valid(endpoint: &EndpointEntry<'_>) -> bool
     ensures { result
         ≡ (not (has_valid_bar_indices endpoint.now)
         || has_own_registers (map region endpoint.now.bars)) }
 {
-    !has_valid_bar_indices(endpoint) || have_distinct_bar_registers(&endpoint.bars)
+    !has_valid_bar_indices(endpoint) || have_valid_bar_registers(&endpoint.bars)
 }
 
 /// Appends the problems of an endpoint's numbers.
@@ -154,14 +157,14 @@ fn push_number_problems(
         entry,
         &[
             (Rule::Vendor, is_between(0, 0xfffe, endpoint.vendor)),
-            fits_half_word(RegisterKey::Device, endpoint.device),
-            fits_byte(RegisterKey::Revision, endpoint.revision),
+            fits_half_word_rule(RegisterKey::Device, endpoint.device),
+            fits_byte_rule(RegisterKey::Revision, endpoint.revision),
             (Rule::Class, is_between(0, 0xff_ffff, endpoint.class)),
-            fits_half_word(RegisterKey::Subvendor, endpoint.subvendor),
-            fits_half_word(RegisterKey::Subsystem, endpoint.subsystem),
+            fits_half_word_rule(RegisterKey::Subvendor, endpoint.subvendor),
+            fits_half_word_rule(RegisterKey::Subsystem, endpoint.subsystem),
             (Rule::Pin, is_between(0, 4, endpoint.pin)),
-            fits_byte(RegisterKey::MinGnt, endpoint.min_gnt),
-            fits_byte(RegisterKey::MaxLat, endpoint.max_lat),
+            fits_byte_rule(RegisterKey::MinGnt, endpoint.min_gnt),
+            fits_byte_rule(RegisterKey::MaxLat, endpoint.max_lat),
             (Rule::Status, has_only_bits(0xf900, endpoint.status)),
         ],
     )
@@ -185,7 +188,7 @@ fn push_own_endpoint_problems(
             push_broken_rules(problems, entry, &[(Rule::Slashes, slashes)])
         }
         BoardFault::Register => {
-            let own = has_disjoint_bar_registers(endpoint);
+            let own = has_disjoint_bars_if_indices_valid(endpoint);
             push_broken_rules(problems, entry, &[(Rule::OwnRegisters, own)])
         }
         _ => Ok(()),
@@ -273,7 +276,7 @@ pub(crate) fn push_all_endpoint_problems(
 
 /// Returns the values of an endpoint, with the given BARs and configuration blocks, and without a
 /// capability list.
-fn build_endpoint_values(
+fn values_without_capabilities(
     entry: &EndpointEntry<'_>,
     bar: Vec<Region>,
     config: Vec<ConfigBlock>,

@@ -1,6 +1,6 @@
 //! Ranges and conversions of integers, and limits on the number of entries.
 ghost use Rattle.std.specs.Prelude.{◌≡◌, ◌<◌, ◌+◌, ◌^◌, ◌+ℤ◌, int_le, nat_abs, nat_le, pos, length};
-ghost use Rattle.board_file.specs.Rules.{is_between, fits_byte, fits_half_word, has_only_bits, has_at_most_15_slashes};
+ghost use Rattle.board_file.specs.Rules.{is_between, fits_byte_rule, fits_half_word_rule, has_only_bits, has_at_most_15_slashes};
 
 use crate::document::keys::RegisterKey;
 use crate::entries::FileEntries;
@@ -25,15 +25,15 @@ pub(crate) fn has_only_bits(mask: u16, number: i64) -> bool
 }
 
 /// Returns the rule that a number fits in its register of one byte, and whether it is kept.
-pub(crate) fn fits_byte(key: RegisterKey, number: i64) -> (Rule, bool)
-    ensures { result ≡ fits_byte key number }
+pub(crate) fn fits_byte_rule(key: RegisterKey, number: i64) -> (Rule, bool)
+    ensures { result ≡ fits_byte_rule key number }
 {
     (Rule::Byte(key), is_between(0, 0xff, number))
 }
 
 /// Returns the rule that a number fits in its register of two bytes, and whether it is kept.
-pub(crate) fn fits_half_word(key: RegisterKey, number: i64) -> (Rule, bool)
-    ensures { result ≡ fits_half_word key number }
+pub(crate) fn fits_half_word_rule(key: RegisterKey, number: i64) -> (Rule, bool)
+    ensures { result ≡ fits_half_word_rule key number }
 {
     (Rule::HalfWord(key), is_between(0, 0xffff, number))
 }

@@ -40,7 +40,7 @@ pub(crate) trait PartEntry {
             problems.old.items problems.new.items) };
 
     /// Builds the declaration. Returns `None` if a pattern isn't valid.
-    fn declare_if_valid(&self, alloc: Global) -> Result<Option<Self::Declared>, AllocError>
+    fn declare_if_masks_hold(&self, alloc: Global) -> Result<Option<Self::Declared>, AllocError>
         requires { IsTrue (is_declarable self.now) }
         ensures { IfOk result (λ found.
             Gives (holds self.now) found (λ d. d ≡ declaration self.now)) };
@@ -68,7 +68,7 @@ pub(crate) fn push_part_problems<P: PartEntry>(
 }
 
 /// Builds the declarations of all tables of one kind. Returns `None` if a pattern isn't valid.
-pub(crate) fn declare_all_if_valid<P: PartEntry>(
+pub(crate) fn declare_all_if_masks_hold<P: PartEntry>(
     alloc: Global,
     entries: &[P],
 ) -> Result<Option<Vec<P::Declared>>, AllocError>
@@ -78,7 +78,7 @@ pub(crate) fn declare_all_if_valid<P: PartEntry>(
 {
     let mut declared = Vec::with_capacity(alloc, entries.len())?;
     'entries: for entry in entries {
-        match entry.declare_if_valid(alloc)? {
+        match entry.declare_if_masks_hold(alloc)? {
             Some(declaration) => declared.push(declaration)?,
             None => return Ok(None),
         }

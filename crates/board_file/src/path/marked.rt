@@ -94,10 +94,7 @@ fn path_texts_for_check<'f, 'a>(
 
 /// Adds a text's path to the set. Returns false if the set already contains the path. For an
 /// invalid text, returns true and adds nothing.
-fn insert_unless_duplicate(
-    taken: &mut BTreeSet<Path>,
-    text: &PathText<'_>,
-) -> Result<bool, AllocError>
+fn insert_if_new(taken: &mut BTreeSet<Path>, text: &PathText<'_>) -> Result<bool, AllocError>
     ensures own { IfOk result (λ own.
         own ≡ (not (is_path_text text.now)
         || not (contains path_cmp taken.old (path_at text.now)))) }
@@ -125,7 +122,7 @@ fn mark_duplicates<'f, 'a>(
         entries.push(MarkedPath {
             entry: *entry,
             text: *text,
-            is_first: insert_unless_duplicate(&mut taken, text)?,
+            is_first: insert_if_new(&mut taken, text)?,
         })?;
     }
     Ok(entries)

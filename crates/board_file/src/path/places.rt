@@ -25,7 +25,7 @@ impl Model for FunctionPath {
 
 /// Returns the paths of all functions, endpoints first. Replaces an invalid path by `0.0`. Fails
 /// only if memory is exhausted.
-pub fn function_paths(
+pub fn function_paths_or_zero(
     alloc: Global,
     file: &FileEntries<'_>,
 ) -> Result<Vec<FunctionPath>, AllocError>

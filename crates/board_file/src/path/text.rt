@@ -50,7 +50,7 @@ fn parse_leading_part(text: &[u8]) -> Option<(Part, &[u8])>
 
 /// Parses the parts of a text, each after a slash, and appends them to the path. Returns false if
 /// the text isn't valid or has more than `room` parts.
-fn parse_parts_into(path: &mut Path, text: &[u8], room: usize) -> bool
+fn parse_slash_parts_into(path: &mut Path, text: &[u8], room: usize) -> bool
     requires { length path.old + room ≤ 16 }
     ensures all { result ≡ is_some (parts_after room text.now) }
     ensures pushed { IfSome (parts_after room text.now) (λ ps. path.new ≡ path.old ++ ps) }
@@ -64,7 +64,7 @@ fn parse_parts_into(path: &mut Path, text: &[u8], room: usize) -> bool
             match parse_leading_part(rest) {
                 Some(found) => {
                     path.push(found.0);
-                    parse_parts_into(path, found.1, room - 1)
+                    parse_slash_parts_into(path, found.1, room - 1)
                 }
                 None => false,
             }
@@ -80,7 +80,7 @@ pub fn parse_path(text: &[u8]) -> Option<Path>
     match parse_leading_part(text) {
         Some((part, after)) => {
             let mut path = Path::on_root(part);
-            if parse_parts_into(&mut path, after, 15) {
+            if parse_slash_parts_into(&mut path, after, 15) {
                 Some(path)
             } else {
                 None

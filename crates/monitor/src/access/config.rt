@@ -13,12 +13,7 @@ use host_bridge::Host;
 /// Reads 1, 2 or 4 bytes at a configuration offset of a function as its guest sees it: Command,
 /// Header Type and the base address registers from the guest's copies, and all other bytes from the
 /// board.
-pub(crate) fn read_config_as_guest(
-    host: &mut Host,
-    held: &AssignedFunction,
-    off: u8,
-    width: u64,
-) -> u32
+pub(crate) fn read_as_guest(host: &mut Host, held: &AssignedFunction, off: u8, width: u64) -> u32
     requires seen { IsSeen host.old held.now }
     requires width { IsWidth width }
     requires aligned { off % width ≡ 0 }
@@ -69,7 +64,7 @@ pub(crate) fn function_or_refusal(
 
 /// Writes those enabled bytes of a configuration word that the guest has copies of. Returns the
 /// function's index on the host, and the byte enables of the bytes to write on the board.
-pub(crate) fn split_config_write(
+pub(crate) fn write_guest_copies(
     slots: &mut [Option<AssignedFunction>],
     slot: usize,
     word: u8,
@@ -90,9 +85,9 @@ pub(crate) fn split_config_write(
     }
 }
 
-/// Calls `split_config_write` for a guest's slot, and increments the guest's change count if `changes` is
+/// Calls `write_guest_copies` for a guest's slot, and increments the guest's change count if `changes` is
 /// set.
-pub(crate) fn split_config_write_of_guest(
+pub(crate) fn write_guest_copies_and_count(
     guests: &mut [Guest],
     guest: usize,
     slot: usize,
@@ -109,5 +104,5 @@ pub(crate) fn split_config_write_of_guest(
 {
     let guest = &mut guests[guest];
     guest.changed = increment_if(guest.changed, changes);
-    split_config_write(&mut guest.slots, slot, word, enables, value)
+    write_guest_copies(&mut guest.slots, slot, word, enables, value)
 }

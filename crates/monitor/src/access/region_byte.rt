@@ -10,7 +10,7 @@ ghost use Rattle.monitor.specs.{Keeping.IsHeld, ByIndex.lone_nth, Counts.after_b
 use crate::access::config::function_or_refusal;
 use crate::engine::Engine;
 use crate::guest::AssignedFunction;
-use crate::queries::regions::command_enables_space;
+use crate::queries::regions::guest_enables_space;
 use accesses::{Op, Place, Refusal, Reply, master_abort_reply};
 use host_bridge::{BarOffset, Route};
 
@@ -27,7 +27,7 @@ fn command_enables_region_byte(held: &AssignedFunction, place: Place, off: u64) 
         Some(Some(region)) => {
             let size = region.decl.size();
             if off < size {
-                Some(command_enables_space(held, region.decl.kind().space()))
+                Some(guest_enables_space(held, region.decl.kind().space()))
             } else {
                 None
             }

@@ -42,13 +42,7 @@ fn has_guest_copy(place: Place, off: u64) -> bool
 
 /// Sets W1C bits of one register byte of a function on the board. Bytes that guests have a copy of
 /// aren't changed.
-pub(crate) fn raise_w1c_bits_on_board(
-    host: &mut Host,
-    index: usize,
-    place: Place,
-    off: u64,
-    mask: u8,
-)
+pub(crate) fn raise_if_uncopied(host: &mut Host, index: usize, place: Place, off: u64, mask: u8)
     requires { IsSome (endpoint_nth host.old.state.functions index) }
     ensures { let fs = host.old.state.functions in
         host.new ≡ with_functions

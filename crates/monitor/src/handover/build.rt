@@ -7,7 +7,7 @@ ghost use Rattle.monitor.specs.Beginnings.{world_on, world_of};
 
 use crate::engine::Engine;
 use crate::handover::guest_records::{build_guests, guest_names};
-use crate::handover::takeover::reset_board_for_handover;
+use crate::handover::takeover::reset_assigned_for_handover;
 use accesses::GuestDecl;
 use host_bridge::{Host, Route};
 use images::prove_board_can_be_saved;
@@ -40,7 +40,7 @@ impl<R: Route + Drop> Engine<R> {
             return Err(host);
         };
         let mut host = host;
-        reset_board_for_handover(&mut host, guests);
+        reset_assigned_for_handover(&mut host, guests);
         Ok(Engine::from_parts(host, route, guest_names(guests), kept))
     }
 

@@ -72,7 +72,7 @@ fn first_disabled_if_assigned(decls: &[GuestDecl], row: &RoutingRow) -> Option<L
 }
 
 /// Returns the first disabled region among all functions that are to be assigned to guests.
-fn first_disabled_of_rows(rows: &[RoutingRow], decls: &[GuestDecl]) -> Option<LiveBar>
+fn first_disabled_bar_to_assign(rows: &[RoutingRow], decls: &[GuestDecl]) -> Option<LiveBar>
     ensures { let ps = flat_map (λ (g : GuestValue). g.slots) decls.now in
         result ≡ first_closed_at ps rows.now }
 {
@@ -94,5 +94,5 @@ pub(crate) fn first_disabled_on_board(
         IfOk result (λ r. r ≡ first_closed_at ps (routing host.now.state.functions)) }
 {
     let rows = host.routing(alloc)?;
-    Ok(first_disabled_of_rows(&rows, decls))
+    Ok(first_disabled_bar_to_assign(&rows, decls))
 }

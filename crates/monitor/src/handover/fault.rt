@@ -21,7 +21,7 @@ pub enum HandoverFault {
 }
 
 /// Returns the message for a handover fault's number, or an empty string for any other number.
-fn handover_message(number: u32) -> &'static str
+fn message_or_empty(number: u32) -> &'static str
     ensures { result.now ≡ handover_words number }
 {
     match number {
@@ -48,7 +48,7 @@ impl HandoverFault {
     pub fn words(&self) -> &'static str
         ensures { result.now ≡ words_of self.now }
     {
-        handover_message(u32::from(self.number()))
+        message_or_empty(u32::from(self.number()))
     }
 }
 

@@ -13,35 +13,35 @@ use paths::Path;
 
 /// Resets the endpoint at a path, except for the registers that guests have copies of. Does nothing
 /// if there is no endpoint.
-fn reset_endpoint_at_path(host: &mut Host, path: &Path)
+fn reset_uncopied_at_path(host: &mut Host, path: &Path)
     ensures { host.new
         ≡ with_functions (with_endpoint_reset path.now host.old.state.functions) host.old }
 {
     let Some(index) = host.index_of(path) else {
         return;
     };
-    host.reset_endpoint_nth(index);
+    host.reset_except_routing_nth(index);
 }
 
 /// Resets the endpoints at these paths, except for the registers that guests have copies of.
-fn reset_endpoints_at_paths(host: &mut Host, paths: &[Path])
+fn reset_uncopied_at_paths(host: &mut Host, paths: &[Path])
     ensures { let files = files_given (board_below host.old) paths.now in
         host.new ≡ with_functions
         (map (agreed_function files) host.old.state.functions) host.old }
 {
     for path in paths {
-        reset_endpoint_at_path(host, path);
+        reset_uncopied_at_path(host, path);
     }
 }
 
 /// Resets each function that is about to be assigned to a guest, but keeps the registers that
 /// guests have copies of as firmware set them. Clears CONFIG_ADDRESS.
-pub(crate) fn reset_board_for_handover(host: &mut Host, decls: &[GuestDecl])
+pub(crate) fn reset_assigned_for_handover(host: &mut Host, decls: &[GuestDecl])
     ensures { let w = world_on host.old decls.now in
         host.new ≡ record host.old { state = taken_over w host.old.state } }
 {
     for decl in decls {
-        reset_endpoints_at_paths(host, decl.slots.as_slice());
+        reset_uncopied_at_paths(host, decl.slots.as_slice());
     }
     host.clear_latch();
 }

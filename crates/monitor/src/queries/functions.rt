@@ -10,9 +10,9 @@ ghost use Rattle.model_board.specs.Paths as board;
 use crate::access::config::function_or_refusal;
 use crate::engine::Engine;
 use crate::guest::Guest;
-use crate::slots::assignment::{Assignment, seat_from};
+use crate::slots::assignment::{Assignment, find_assignment};
 use findings::{Identity, address_of, identity_nth};
-use host_bridge::{Bdf, Host, LiveRanges, Route};
+use host_bridge::{Bdf, Host, ProgrammedRanges, Route};
 use paths::Path;
 
 /// A function of the board: its path, its BDF, its identity, its regions or windows as the board's
@@ -22,7 +22,7 @@ pub struct LiveFunction {
     pub path: Path,
     pub at: Bdf,
     pub identity: Identity,
-    pub ranges: LiveRanges,
+    pub ranges: ProgrammedRanges,
     pub seat: Option<Assignment>,
 }
 
@@ -39,12 +39,12 @@ fn describe_function_nth(host: &Host, guests: &[Guest], index: usize) -> Option<
 {
     let path = host.path_nth(index)?;
     let identity = identity_nth(host, index)?;
-    let ranges = host.live_ranges_nth(index)?;
+    let ranges = host.programmed_ranges_nth(index)?;
     Some(LiveFunction {
         at: address_of(host, &path),
         identity,
         ranges,
-        seat: seat_from(guests, index, 0),
+        seat: find_assignment(guests, index, 0),
         path,
     })
 }

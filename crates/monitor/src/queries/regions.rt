@@ -57,7 +57,7 @@ pub(crate) fn guest_bar_base(held: &AssignedFunction, bar: u16, kind: Kind) -> u
 }
 
 /// Returns whether the guest's Command enables decoding in a space.
-pub(crate) fn command_enables_space(held: &AssignedFunction, space: Space) -> bool
+pub(crate) fn guest_enables_space(held: &AssignedFunction, space: Space) -> bool
     ensures { (file : File) → HoldsOwn file held.now.own →
         result ≡ is_open file (named_space space) }
 {
@@ -80,7 +80,7 @@ fn guest_region_at_bar(held: &AssignedFunction, bar: usize) -> Option<GuestRegio
                 first: guest_bar_base(held, bar as u16, kind),
                 size: region.decl.size(),
                 prefetchable: is_prefetchable(kind),
-                is_open: command_enables_space(held, space),
+                is_open: guest_enables_space(held, space),
             })
         }
         Some(None) => None,

@@ -10,8 +10,8 @@ use crate::access::config_address::write_latch;
 use crate::engine::Engine;
 use crate::guest::{AssignedFunction, Guest};
 use crate::saved::load_function::load_function;
-use crate::saved::save::{check_image_matches, endpoint_and_guest_copies};
-use crate::slots::reset_guest::reset_slots_and_latch;
+use crate::saved::save::{check_image_fits, endpoint_and_guest_copies};
+use crate::slots::reset_guest::reset_guest_and_count;
 use host_bridge::{Host, Route};
 use images::{ImageFault, count_endpoint_cells, encoded_declaration_size, split_off_latch};
 use model_images::saved_bytes_are_accepted;
@@ -123,13 +123,13 @@ fn reset_and_load_image(host: &mut Host, guests: &mut [Guest], guest: usize, byt
         IsKept (with_lone_nth guest loaded k.world) host.new k.names guests.new }
     ensures counts { counts_of guests.new ≡ counted_nth guest true (counts_of guests.old) }
 {
-    reset_slots_and_latch(host, guests, guest);
+    reset_guest_and_count(host, guests, guest);
     load_slots(host, guests, guest, skip_up_to(bytes, 12));
     write_latch(guests, guest, latch_or_zero(skip_up_to(bytes, 8)));
 }
 
 impl<R: Route> Engine<R> {
-    /// Loads bytes that `check_image_matches` accepts for the guest.
+    /// Loads bytes that `check_image_fits` accepts for the guest.
     fn load_accepted_image(&mut self, guest: usize, bytes: &[u8])
         requires there { guest < length self.old.world.guests }
         requires accepted { let g = lone_of self.old.world.guests (name_nth self.old.world guest) in
@@ -158,7 +158,7 @@ impl<R: Route> Engine<R> {
     {
         saved_bytes_are_accepted();
         let _ = &self.names;
-        if let Err(why) = check_image_matches(&self.host, &self.guests[guest], bytes) {
+        if let Err(why) = check_image_fits(&self.host, &self.guests[guest], bytes) {
             return Some(why);
         }
         self.load_accepted_image(guest, bytes);

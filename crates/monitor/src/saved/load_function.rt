@@ -9,7 +9,7 @@ ghost use Rattle.bridge_forward.specs.Lending.{endpoint_nth};
 ghost use Rattle.host_bridge.specs.{ByIndex.with_file_nth, HostState.with_functions};
 ghost use Rattle.monitor.specs.{Configs.HoldsAt, Counts.counts_of, Loadings.{KeepsFunction, Becomes, IsLoadable, filled_with, regions_size}};
 
-use crate::access::config::{function_in_slot, split_config_write_of_guest};
+use crate::access::config::{function_in_slot, write_guest_copies_and_count};
 use crate::guest::Guest;
 use accesses::Place;
 use config_bytes::{enables_of, to_lanes};
@@ -28,7 +28,7 @@ fn host_index_of_slot(guests: &[Guest], guest: usize, slot: usize) -> usize
 }
 
 /// Sets consecutive bytes of an endpoint as its device does, starting at offset `first`.
-fn device_write_bytes(host: &mut Host, index: usize, place: Place, first: u64, bytes: &[u8])
+fn set_device_bytes_nth(host: &mut Host, index: usize, place: Place, first: u64, bytes: &[u8])
     requires there { IsSome (endpoint_nth host.old.state.functions index) }
     requires own { (n : ℕ) → n < length bytes.now
         → IsTrue (is_device_byte (place_of place (first + n))) }
@@ -48,7 +48,7 @@ fn device_write_bytes(host: &mut Host, index: usize, place: Place, first: u64, b
 
 /// Writes a configuration byte of the function in a slot as its guest does, but doesn't touch the
 /// change count.
-fn guest_write_byte(
+fn guest_config_write_byte(
     host: &mut Host,
     guests: &mut [Guest],
     guest: usize,
@@ -65,14 +65,14 @@ fn guest_write_byte(
     let word = off / 4 * 4;
     let moved = to_lanes(from, u32::from(value));
     let enables = enables_of(from, 1);
-    let (index, others) = split_config_write_of_guest(
+    let (index, others) = write_guest_copies_and_count(
         guests, guest, slot, word, enables, moved, false,
     );
     host.config_write_nth(index, word, others, moved);
 }
 
 /// Writes consecutive configuration bytes as the guest does, starting at an offset.
-fn guest_write_bytes(
+fn guest_config_write_bytes(
     host: &mut Host,
     guests: &mut [Guest],
     guest: usize,
@@ -89,7 +89,7 @@ fn guest_write_bytes(
     let mut left = bytes;
     let mut off = first;
     while let Some((byte, rest)) = left.split_first() {
-        guest_write_byte(host, guests, guest, slot, off, *byte);
+        guest_config_write_byte(host, guests, guest, slot, off, *byte);
         off += 1;
         left = rest;
     }
@@ -104,11 +104,11 @@ fn load_header(host: &mut Host, guests: &mut [Guest], guest: usize, slot: usize,
         → Becomes k (header_steps values.now k.f.file) host.new guests.new }
     ensures counts { counts_of guests.new ≡ counts_of guests.old }
 {
-    guest_write_bytes(host, guests, guest, slot, 0x04, &values[4..6]);
+    guest_config_write_bytes(host, guests, guest, slot, 0x04, &values[4..6]);
     let index = host_index_of_slot(guests, guest, slot);
-    device_write_bytes(host, index, Place::Cfg, 0x06, &values[6..8]);
-    guest_write_bytes(host, guests, guest, slot, 0x0c, &values[12..14]);
-    guest_write_bytes(host, guests, guest, slot, 0x3c, &values[19..20]);
+    set_device_bytes_nth(host, index, Place::Cfg, 0x06, &values[6..8]);
+    guest_config_write_bytes(host, guests, guest, slot, 0x0c, &values[12..14]);
+    guest_config_write_bytes(host, guests, guest, slot, 0x3c, &values[19..20]);
 }
 
 /// Returns how many configuration blocks an endpoint has.
@@ -164,7 +164,7 @@ fn load_blocks_and_advance<'a>(
     for block in 0..count {
         let (off, size) = block_offset_and_length(host, index, block);
         let (now, rest) = left.split_at(size);
-        device_write_bytes(host, index, Place::Cfg, u64::from(off), now);
+        set_device_bytes_nth(host, index, Place::Cfg, u64::from(off), now);
         left = rest;
     }
     left
@@ -183,7 +183,7 @@ fn region_count(host: &Host, index: usize) -> usize
 
 /// Returns a region's base address register, the register's width in bytes, and how many bytes of
 /// the region are declared.
-fn region_bar_width_and_count(host: &Host, index: usize, region: usize) -> (u8, usize, usize)
+fn region_bar_width_and_cell_count(host: &Host, index: usize, region: usize) -> (u8, usize, usize)
     requires { (e : Function) × (r : Region)
         × (endpoint_nth host.now.state.functions index ≡ Some e)
         × (slice_get e.decl.regions region ≡ Some r) }
@@ -225,12 +225,12 @@ fn load_region_and_advance<'a>(
     ensures counts { counts_of guests.new ≡ counts_of guests.old }
 {
     let index = host_index_of_slot(guests, guest, slot);
-    let (reg, width, count) = region_bar_width_and_count(host, index, region);
+    let (reg, width, count) = region_bar_width_and_cell_count(host, index, region);
     let (base, rest) = values.split_at(width);
-    guest_write_bytes(host, guests, guest, slot, 0x10 + 4 * reg, base);
+    guest_config_write_bytes(host, guests, guest, slot, 0x10 + 4 * reg, base);
     let (cells, rest) = rest.split_at(count);
     let index = host_index_of_slot(guests, guest, slot);
-    device_write_bytes(host, index, Place::Bar(reg), 0, cells);
+    set_device_bytes_nth(host, index, Place::Bar(reg), 0, cells);
     rest
 }
 

@@ -7,7 +7,7 @@ ghost use Rattle.monitor.specs.{ByIndex.name_nth, ShownImages.lone_shown, Views.
 
 use crate::engine::Engine;
 use crate::guest::{AssignedFunction, Guest};
-use crate::saved::save::{check_image_matches, strip_slot};
+use crate::saved::save::{check_image_fits, strip_slot};
 use host_bridge::{Host, Route};
 use images::{split_off_latch, strip_image_header};
 
@@ -20,7 +20,7 @@ pub struct ImageStop {
 }
 
 /// Returns how many slots fit before the first one that doesn't.
-fn count_matching_slots(host: &Host, slots: &[Option<AssignedFunction>], bytes: &[u8]) -> usize
+fn slots_before_mismatch(host: &Host, slots: &[Option<AssignedFunction>], bytes: &[u8]) -> usize
     requires { length slots.now ≤ 32 }
     ensures { let fs = map (slot_shown host.now.state.functions) slots.now in
         result ≡ slots_read fs bytes.now }
@@ -40,7 +40,7 @@ fn count_matching_slots(host: &Host, slots: &[Option<AssignedFunction>], bytes: 
 }
 
 /// Returns the slot that contains the first mismatch, or 32 if it is in front of the first slot.
-fn first_mismatch_slot(host: &Host, guest: &Guest, bytes: &[u8]) -> usize
+fn mismatch_slot_or_32(host: &Host, guest: &Guest, bytes: &[u8]) -> usize
     requires { length guest.now.slots.items ≤ 32 }
     ensures { result ≡ stop_slot (lone_shown host.now.state.functions guest.now) bytes.now }
 {
@@ -50,7 +50,7 @@ fn first_mismatch_slot(host: &Host, guest: &Guest, bytes: &[u8]) -> usize
     let Ok((_, bytes)) = split_off_latch(bytes) else {
         return 32;
     };
-    count_matching_slots(host, &guest.slots, bytes)
+    slots_before_mismatch(host, &guest.slots, bytes)
 }
 
 /// Returns whether the guest refuses the bytes with this fault number.
@@ -58,7 +58,7 @@ fn is_refused_with(host: &Host, guest: &Guest, bytes: &[u8], number: u16) -> boo
     ensures { let g = lone_shown host.now.state.functions guest.now in
         result ≡ option_map_or (λ n. n == number) (load_fault g bytes.now) false }
 {
-    match check_image_matches(host, guest, bytes) {
+    match check_image_fits(host, guest, bytes) {
         Ok(()) => false,
         Err(why) => why.number() == number,
     }
@@ -97,14 +97,14 @@ fn find_first_mismatch(host: &Host, guest: &Guest, bytes: &[u8]) -> Option<Image
     ensures told { let g = lone_shown host.now.state.functions guest.now in
         is_some result ≡ is_told (load_fault g bytes.now) }
 {
-    let Err(why) = check_image_matches(host, guest, bytes) else {
+    let Err(why) = check_image_fits(host, guest, bytes) else {
         return None;
     };
     let number = why.number();
     if number == 905 {
         return None;
     }
-    let slot = first_mismatch_slot(host, guest, bytes);
+    let slot = mismatch_slot_or_32(host, guest, bytes);
     let offset = first_mismatch_offset(host, guest, bytes, number);
     Some(ImageStop { slot, offset })
 }

@@ -11,9 +11,9 @@ use bridge_forward::EndpointFn;
 use guest_functions::VirtualFunction;
 use host_bridge::{Host, Route};
 use images::{
-    ImageFault, image_header_bytes, latch_to_le_bytes, put_bytes_and_advance,
-    put_function_and_advance, refuse_trailing_bytes, saved_function_size, split_off_latch,
-    strip_function, strip_image_header, strip_slot_tag,
+    ImageFault, image_header_bytes, put_bytes_and_advance, put_function_and_advance,
+    refuse_trailing_bytes, saved_function_size, split_off_latch, strip_fitting_slot,
+    strip_image_header, strip_slot_tag, u32_to_le_bytes,
 };
 
 /// Returns the function in a slot as its guest sees it: the endpoint on the board, and the guest's
@@ -112,7 +112,7 @@ fn put_image(host: &Host, guest: &Guest, out: &mut [u8])
         out.new ≡ put 0 (image_bytes (image_of_lone g)) out.old }
 {
     let next = put_bytes_and_advance(out, 0, &image_header_bytes());
-    let next = put_bytes_and_advance(out, next, &latch_to_le_bytes(guest.latch.value()));
+    let next = put_bytes_and_advance(out, next, &u32_to_le_bytes(guest.latch.value()));
     put_slots_and_advance(host, &guest.slots, out, next);
 }
 
@@ -130,14 +130,14 @@ pub(crate) fn strip_slot<'a>(
         IfErr result (λ why. after_slot f bytes.now ≡ Err (number_of why)) }
 {
     match endpoint_and_guest_copies(host, slot) {
-        Some((endpoint, _)) => strip_function(endpoint, bytes),
+        Some((endpoint, _)) => strip_fitting_slot(endpoint, bytes),
         None => strip_slot_tag(false, bytes),
     }
 }
 
 /// Refuses bytes that aren't saved slots of these functions, with 905 or 906. Accepts all values
 /// that the registers can hold.
-fn check_slots_match(
+fn check_bytes_are_slots(
     host: &Host,
     slots: &[Option<AssignedFunction>],
     bytes: &[u8],
@@ -158,11 +158,7 @@ fn check_slots_match(
 
 /// Refuses bytes that aren't a saved state for this guest, with 905, 906 or 908. Accepts all values
 /// that CONFIG_ADDRESS and the other registers can hold.
-pub(crate) fn check_image_matches(
-    host: &Host,
-    guest: &Guest,
-    bytes: &[u8],
-) -> Result<(), ImageFault>
+pub(crate) fn check_image_fits(host: &Host, guest: &Guest, bytes: &[u8]) -> Result<(), ImageFault>
     ensures all { let g = lone_shown host.now.state.functions guest.now in
         IfOk result (λ _. after_image g bytes.now ≡ Ok []) }
     ensures refused { let g = lone_shown host.now.state.functions guest.now in
@@ -170,7 +166,7 @@ pub(crate) fn check_image_matches(
 {
     let bytes = strip_image_header(bytes)?;
     let (_, bytes) = split_off_latch(bytes)?;
-    check_slots_match(host, &guest.slots, bytes)
+    check_bytes_are_slots(host, &guest.slots, bytes)
 }
 
 impl<R: Route> Engine<R> {

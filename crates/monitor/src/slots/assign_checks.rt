@@ -14,7 +14,7 @@ use crate::slots::assign_error::AssignError;
 use crate::slots::assignment::slot_has_function;
 use crate::slots::moving::is_slot_occupied;
 use bars::{BarWithBase, Space};
-use bridge_forward::LiveRanges;
+use bridge_forward::ProgrammedRanges;
 use host_bridge::Host;
 use paths::Path;
 
@@ -26,10 +26,10 @@ fn find_endpoint_index(host: &Host, path: &Path) -> Option<usize>
     let Some(index) = host.index_of(path) else {
         return None;
     };
-    match host.live_ranges_nth(index) {
-        Some(LiveRanges::Regions(_)) => Some(index),
+    match host.programmed_ranges_nth(index) {
+        Some(ProgrammedRanges::Regions(_)) => Some(index),
         Some(
-            LiveRanges::Windows {
+            ProgrammedRanges::Windows {
                 io: _,
                 mem: _,
                 pref: _,
@@ -96,7 +96,7 @@ fn has_disabled_region(host: &Host, index: usize) -> bool
 
 /// Returns the slot record for the function at a path, or the first reason why the function can't
 /// be assigned to the slot.
-pub(crate) fn assigned_function_or_error(
+pub(crate) fn try_new_assigned_function(
     host: &Host,
     guests: &[Guest],
     path: &Path,

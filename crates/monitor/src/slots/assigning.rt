@@ -6,9 +6,9 @@ ghost use Rattle.monitor.specs.{ByIndex.name_nth, Seatings.{fault_told, gift_nth
 
 use crate::access::config::function_or_refusal;
 use crate::engine::Engine;
-use crate::slots::assign_checks::assigned_function_or_error;
+use crate::slots::assign_checks::try_new_assigned_function;
 use crate::slots::assign_error::AssignError;
-use crate::slots::moving::replace_slot_of_guest;
+use crate::slots::moving::replace_guest_slot;
 use accesses::Reply;
 use host_bridge::Route;
 use paths::Path;
@@ -28,18 +28,12 @@ impl<R: Route> Engine<R> {
         ensures refused { IfErr result (λ _. self.new ≡ self.old) }
     {
         let _ = &self.names;
-        let held = match assigned_function_or_error(&self.host, &self.guests, path, guest, slot) {
+        let held = match try_new_assigned_function(&self.host, &self.guests, path, guest, slot) {
             Ok(held) => held,
             Err(why) => return Err(why),
         };
-        self.host.reset_endpoint_nth(held.index);
-        let _empty = replace_slot_of_guest(
-            &mut self.guests,
-            guest,
-            slot as usize,
-            Some(held),
-            true,
-        );
+        self.host.reset_except_routing_nth(held.index);
+        let _empty = replace_guest_slot(&mut self.guests, guest, slot as usize, Some(held), true);
         Ok(())
     }
 
@@ -60,8 +54,8 @@ impl<R: Route> Engine<R> {
             Ok(held) => held.index,
             Err(why) => return Reply::Refused(why),
         };
-        self.host.reset_endpoint_nth(index);
-        let _taken = replace_slot_of_guest(&mut self.guests, guest, slot as usize, None, true);
+        self.host.reset_except_routing_nth(index);
+        let _taken = replace_guest_slot(&mut self.guests, guest, slot as usize, None, true);
         Reply::Done
     }
 }

@@ -30,7 +30,7 @@ fn find_slot_of_function(slots: &[Option<AssignedFunction>], index: usize) -> Op
 
 /// Returns the guest and the slot to which the function at an index is assigned. `first` is the
 /// index of the first guest in the slice.
-pub(crate) fn seat_from(guests: &[Guest], index: usize, first: usize) -> Option<Assignment>
+pub(crate) fn find_assignment(guests: &[Guest], index: usize, first: usize) -> Option<Assignment>
     requires { first + length guests.now < 2 ^ 63 }
     ensures { option_map seat_named result ≡ seat_kept index first guests.now }
 {
@@ -38,7 +38,7 @@ pub(crate) fn seat_from(guests: &[Guest], index: usize, first: usize) -> Option<
         [] => None,
         [guest, rest @ ..] => match find_slot_of_function(&guest.slots, index) {
             Some(slot) => Some(Assignment { guest: first, slot }),
-            None => seat_from(rest, index, first + 1),
+            None => find_assignment(rest, index, first + 1),
         },
     }
 }

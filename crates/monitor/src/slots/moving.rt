@@ -53,7 +53,7 @@ fn replace_slot(
 
 /// Replaces the contents of a guest's slot, and returns the previous contents. Increments the
 /// guest's change count if `changes` is set.
-pub(crate) fn replace_slot_of_guest(
+pub(crate) fn replace_guest_slot(
     guests: &mut [Guest],
     guest: usize,
     slot: usize,
@@ -72,7 +72,7 @@ pub(crate) fn replace_slot_of_guest(
 /// Moves a function to another slot and resets it: the guest's copies in the slot record, and all
 /// other registers on the board. Increments the change counts of the source guest and the target
 /// guest, only once if they are the same guest.
-pub(crate) fn move_and_reset_function(
+pub(crate) fn move_and_reset(
     host: &mut Host,
     guests: &mut [Guest],
     from: usize,
@@ -85,10 +85,10 @@ pub(crate) fn move_and_reset_function(
     ensures over { HandsOver host.old guests.old from slot to target host.new guests.new }
     ensures counts { counts_of guests.new ≡ counted_both from to (counts_of guests.old) }
 {
-    let Some(mut held) = replace_slot_of_guest(guests, from, slot, None, true) else {
+    let Some(mut held) = replace_guest_slot(guests, from, slot, None, true) else {
         unreachable!()
     };
     held.own.reset();
-    host.reset_endpoint_nth(held.index);
-    let _empty = replace_slot_of_guest(guests, to, target, Some(held), to != from);
+    host.reset_except_routing_nth(held.index);
+    let _empty = replace_guest_slot(guests, to, target, Some(held), to != from);
 }

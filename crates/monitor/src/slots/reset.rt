@@ -7,7 +7,7 @@ ghost use Rattle.monitor.specs.ByIndex.{name_nth};
 
 use crate::access::config::function_or_refusal;
 use crate::engine::Engine;
-use crate::slots::moving::move_and_reset_function;
+use crate::slots::moving::move_and_reset;
 use accesses::Reply;
 use host_bridge::Route;
 
@@ -29,7 +29,7 @@ impl<R: Route> Engine<R> {
         match function_or_refusal(&self.guests[guest].slots, slot) {
             Ok(_) => {
                 let slot = slot as usize;
-                move_and_reset_function(&mut self.host, &mut self.guests, guest, slot, guest, slot);
+                move_and_reset(&mut self.host, &mut self.guests, guest, slot, guest, slot);
                 Reply::Done
             }
             Err(why) => Reply::Refused(why),

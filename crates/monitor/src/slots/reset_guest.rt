@@ -8,7 +8,7 @@ ghost use Rattle.monitor.specs.{declared.guest.Guest.Guest, ByIndex.{lone_nth, n
 use crate::access::change_count::increment_if;
 use crate::engine::Engine;
 use crate::guest::Guest;
-use crate::slots::moving::replace_slot_of_guest;
+use crate::slots::moving::replace_guest_slot;
 use guest_functions::Latch;
 use host_bridge::{Host, Route};
 
@@ -22,12 +22,12 @@ fn reset_slot(host: &mut Host, guests: &mut [Guest], guest: usize, slot: usize)
     ensures still { (i n : ℕ) → HasSlot guests.old i n → HasSlot guests.new i n }
     ensures counts { counts_of guests.new ≡ counts_of guests.old }
 {
-    let Some(mut held) = replace_slot_of_guest(guests, guest, slot, None, false) else {
+    let Some(mut held) = replace_guest_slot(guests, guest, slot, None, false) else {
         return;
     };
     held.own.reset();
-    host.reset_endpoint_nth(held.index);
-    let _empty = replace_slot_of_guest(guests, guest, slot, Some(held), false);
+    host.reset_except_routing_nth(held.index);
+    let _empty = replace_guest_slot(guests, guest, slot, Some(held), false);
 }
 
 /// Resets the functions in all slots of a guest.
@@ -43,7 +43,7 @@ fn reset_slots(host: &mut Host, guests: &mut [Guest], guest: usize)
 }
 
 /// Clears a guest's CONFIG_ADDRESS, and adds one to its change count.
-fn clear_latch_and_count(guests: &mut [Guest], guest: usize)
+fn clear_latch_and_count_change(guests: &mut [Guest], guest: usize)
     requires { guest < length guests.old }
     ensures { (g : Guest) → slice_get guests.old guest ≡ Some g
         → guests.new
@@ -56,13 +56,13 @@ fn clear_latch_and_count(guests: &mut [Guest], guest: usize)
 }
 
 /// Resets all functions of a guest, clears its CONFIG_ADDRESS, and adds one to its change count.
-pub(crate) fn reset_slots_and_latch(host: &mut Host, guests: &mut [Guest], guest: usize)
+pub(crate) fn reset_guest_and_count(host: &mut Host, guests: &mut [Guest], guest: usize)
     requires { HasSlot guests.old guest 31 }
     ensures kept { (w : WorldNow) (names : List Text) → IsKept w host.old names guests.old
         → IsKept (with_lone_nth guest (at_reset (lone_nth w guest)) w) host.new names guests.new }
     ensures counts { counts_of guests.new ≡ counted_nth guest true (counts_of guests.old) }
 {
-    clear_latch_and_count(guests, guest);
+    clear_latch_and_count_change(guests, guest);
     reset_slots(host, guests, guest);
 }
 
@@ -75,6 +75,6 @@ impl<R: Route> Engine<R> {
             ≡ after_request_on_machine self.old (restarts (name_nth self.old.world guest)) }
     {
         let _ = &self.names;
-        reset_slots_and_latch(&mut self.host, &mut self.guests, guest);
+        reset_guest_and_count(&mut self.host, &mut self.guests, guest);
     }
 }

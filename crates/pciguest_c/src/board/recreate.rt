@@ -12,7 +12,7 @@ use std::alloc::Global;
 
 /// Recreates the machine's board at reset in an empty handle. Returns 903 if the handle isn't
 /// empty, or 299 if memory is exhausted.
-fn recreate_board_into(alloc: Global, machine: &Monitor, board: &mut Handle) -> u32
+fn recreate_at_reset_into(alloc: Global, machine: &Monitor, board: &mut Handle) -> u32
     ensures { let before = session_of board.old in
         IsMadeAnew (Some machine.now) before (session_of board.new) result }
 {
@@ -33,13 +33,13 @@ fn recreate_board_into(alloc: Global, machine: &Monitor, board: &mut Handle) -> 
 
 /// Recreates the board of the session's machine at reset, or returns 901 if the session has no
 /// machine.
-fn recreate_board_of_session(alloc: Global, session: &mut Session, board: &mut Handle) -> u32
+fn recreate_at_reset_in_session(alloc: Global, session: &mut Session, board: &mut Handle) -> u32
     ensures made { let before = session_of board.old in
         IsMadeAnew (machine_in session.old) before (session_of board.new) result }
     ensures kept { session.new ≡ session.old }
 {
     match session.monitor() {
-        Some(machine) => recreate_board_into(alloc, machine, board),
+        Some(machine) => recreate_at_reset_into(alloc, machine, board),
         None => NO_MACHINE,
     }
 }
@@ -60,7 +60,7 @@ pub extern "C" fn pciguest_raw_board_anew(
     let Some(mut session) = handle.take(alloc) else {
         return NO_MACHINE;
     };
-    let number = recreate_board_of_session(alloc, &mut session, board);
+    let number = recreate_at_reset_in_session(alloc, &mut session, board);
     *handle = Handle::of(session);
     number
 }

@@ -6,7 +6,7 @@ ghost use Rattle.accesses.specs.Accesses.{reply_of, target_of};
 ghost use Rattle.pciguest_c.specs.{Told.reply_asked, Calls.{Answers, read, write, raise, guest_named, nothing, number}};
 
 use crate::handle::Handle;
-use crate::values::arguments::{find_guest, parse_guest_target, parse_part};
+use crate::values::arguments::{find_guest, parse_guest_part, parse_guest_target};
 use crate::values::numbers::{ARGUMENT, status_of_reply, store_result_if_ok, store_value_if_ok};
 use accesses::{Access, At, Op, Reply};
 use monitor::Monitor;
@@ -84,7 +84,7 @@ pub extern "C" fn pciguest_raw_raise(
         nothing nothing }
 {
     status_of_reply(handle.with_machine(alloc, |machine| {
-        let place = parse_part(machine, guest, part)?;
+        let place = parse_guest_part(machine, guest, part)?;
         Ok(machine.raise(guest, slot, place, offset, mask))
     }))
 }

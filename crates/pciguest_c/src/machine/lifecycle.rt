@@ -6,7 +6,7 @@ ghost use Rattle.pciguest_c.specs.Handles.{session_of, machine_of};
 
 use crate::handle::Handle;
 use crate::values::numbers::{IN_USE, MEMORY};
-use session::{Session, open_and_set_up};
+use session::{Session, set_up_file_and_assign};
 use std::alloc::Global;
 
 /// Sets up the board of a board file, and assigns its functions to the guests of the file. Returns
@@ -26,7 +26,7 @@ pub extern "C" fn pciguest_raw_new(alloc: Global, handle: &mut Handle, board: &[
     if handle.has_session() {
         return IN_USE;
     }
-    match open_and_set_up(alloc, board) {
+    match set_up_file_and_assign(alloc, board) {
         Ok(monitor) => match Box::new(alloc, Session::from_monitor(alloc, monitor)) {
             Ok(session) => {
                 *handle = Handle::of(session);

@@ -16,7 +16,13 @@ const NO_SLOT: u64 = 32;
 
 /// Stores the slot and the byte offset at which an image stops fitting the guest, if the image is
 /// refused with 906 or 908. For any other image, stores slot 32 and the length of the image.
-fn find_mismatch(machine: &Monitor, guest: usize, image: &[u8], slot: &mut u64, offset: &mut usize)
+fn store_mismatch_or_end(
+    machine: &Monitor,
+    guest: usize,
+    image: &[u8],
+    slot: &mut u64,
+    offset: &mut usize,
+)
     requires { guest < length machine.now.world.guests }
     ensures { IsStop (lone_asked machine.now.world guest) image.now slot.new offset.new }
 {
@@ -34,7 +40,7 @@ fn find_mismatch(machine: &Monitor, guest: usize, image: &[u8], slot: &mut u64, 
 
 /// Locates the mismatch for a guest of the session's machine. Returns 901 if the session has no
 /// machine, or 902 if there is no such guest.
-fn find_mismatch_in_session(
+fn store_mismatch_in_session(
     session: &mut Session,
     guest: usize,
     image: &[u8],
@@ -50,7 +56,7 @@ fn find_mismatch_in_session(
     };
     match check_guest(machine, guest) {
         Ok(()) => {
-            find_mismatch(machine, guest, image, slot, offset);
+            store_mismatch_or_end(machine, guest, image, slot, offset);
             0
         }
         Err(number) => number,
@@ -76,7 +82,7 @@ pub extern "C" fn pciguest_raw_image_fault(
     let Some(mut session) = handle.take(alloc) else {
         return NO_MACHINE;
     };
-    let number = find_mismatch_in_session(&mut session, guest, image, slot, offset);
+    let number = store_mismatch_in_session(&mut session, guest, image, slot, offset);
     *handle = Handle::of(session);
     number
 }

@@ -1,6 +1,6 @@
 //! The call that finds the regions of a guest that have moved since the last call.
 ghost use Rattle.std.specs.Prelude.{◌≡◌, ◌<◌, ◌==◌, Some, count_by, length};
-ghost use Rattle.pciguest_c.specs.{Calls.{Answers, IsAnswer, answer, moved, place_buffer}, MovesTold.{is_same_region, nth_region_or_zeros, region_change_row, places_from}};
+ghost use Rattle.pciguest_c.specs.{Calls.{Answers, IsAnswer, answer, moved, place_buffer}, MovesTold.{is_same_region, region_of_row_or_zeros, region_change_row, places_from}};
 
 use crate::handle::Handle;
 use crate::machine::regions::{NO_REGION, RegionTold, region_to_c};
@@ -48,9 +48,9 @@ fn region_change_row(now: RegionTold, before: RegionTold) -> PlaceRow
 
 /// Returns the current description of a guest's region by its number, which is 6 times the slot
 /// plus the register.
-fn nth_region_or_zeros(machine: &Monitor, guest: usize, number: usize) -> RegionTold
+fn region_of_row_or_zeros(machine: &Monitor, guest: usize, number: usize) -> RegionTold
     requires { guest < length machine.now.world.guests }
-    ensures { result ≡ nth_region_or_zeros machine.now.world guest number }
+    ensures { result ≡ region_of_row_or_zeros machine.now.world guest number }
 {
     match machine.region(guest, (number / 6) as u64, (number % 6) as u64) {
         Ok(region) => region_to_c(region),
@@ -64,7 +64,7 @@ fn update_rows(machine: &Monitor, guest: usize, places: &mut [PlaceRow])
     ensures { places.new ≡ places_from machine.now.world guest 0 places.old }
 {
     for number in 0..places.len() {
-        let now = nth_region_or_zeros(machine, guest, number);
+        let now = region_of_row_or_zeros(machine, guest, number);
         places[number] = region_change_row(now, places[number].now);
     }
 }

@@ -4,7 +4,7 @@
 ghost use Rattle.pciguest_c.specs.{Calls.{Answers, read_wide, write_wide, nothing, number}, declared.values.arguments.Side.TheVariants.{Device, Guest}};
 
 use crate::handle::Handle;
-use crate::values::arguments::{Side, byte_at, parse_part};
+use crate::values::arguments::{Side, byte_at, parse_guest_part};
 use crate::values::bytes::{replace_bytes, wide_read};
 use crate::values::numbers::{status_of_result, store_result_if_ok};
 use std::alloc::Global;
@@ -26,7 +26,7 @@ pub extern "C" fn pciguest_raw_device_read_wide(
         (number value.old) (number value.new) }
 {
     let answer = handle.with_machine(alloc, |machine| {
-        let place = parse_part(machine, guest, part)?;
+        let place = parse_guest_part(machine, guest, part)?;
         let byte = byte_at(Side::Device, slot, place, offset);
         wide_read(machine, guest, byte, width)
     });
@@ -50,7 +50,7 @@ pub extern "C" fn pciguest_raw_device_write_wide(
         handle.old handle.new result nothing nothing }
 {
     status_of_result(handle.with_machine(alloc, |machine| {
-        let place = parse_part(machine, guest, part)?;
+        let place = parse_guest_part(machine, guest, part)?;
         let byte = byte_at(Side::Device, slot, place, offset);
         replace_bytes(machine, guest, byte, width, value)
     }))
@@ -73,7 +73,7 @@ pub extern "C" fn pciguest_raw_region_read(
         (number value.old) (number value.new) }
 {
     let answer = handle.with_machine(alloc, |machine| {
-        let place = parse_part(machine, guest, part)?;
+        let place = parse_guest_part(machine, guest, part)?;
         let byte = byte_at(Side::Guest, slot, place, offset);
         wide_read(machine, guest, byte, width)
     });
@@ -97,7 +97,7 @@ pub extern "C" fn pciguest_raw_region_write(
         handle.old handle.new result nothing nothing }
 {
     status_of_result(handle.with_machine(alloc, |machine| {
-        let place = parse_part(machine, guest, part)?;
+        let place = parse_guest_part(machine, guest, part)?;
         let byte = byte_at(Side::Guest, slot, place, offset);
         replace_bytes(machine, guest, byte, width, value)
     }))

@@ -6,18 +6,14 @@ ghost use Rattle.pciguest_c.specs.{Calls.{AnswersBoardOrRunsOut, board_survey, s
 
 use crate::handle::Handle;
 use crate::texts::forms::question_of;
-use crate::texts::reports::store_text_and_count;
+use crate::texts::reports::store_text_and_count_if_fits;
 use crate::values::numbers::MEMORY;
 use session::{Board, CountedText, Question};
 use std::alloc::Global;
 
 /// Answers a question about the board's registers, or returns 299 if memory is exhausted.
 #[tactic(auto, unfolding(crate::specs::Calls::surveying))]
-fn ask_or_error_number(
-    alloc: Global,
-    board: &mut Board,
-    question: Question,
-) -> Result<CountedText, u32>
+fn ask_or_error(alloc: Global, board: &mut Board, question: Question) -> Result<CountedText, u32>
     ensures told { IfOk result (λ t. surveying question board.old
         ≡ tells (counted (string_bytes t.text) t.count) (driven board.old)) }
     ensures memory { IfErr result (λ n.
@@ -47,9 +43,9 @@ pub extern "C" fn pciguest_raw_board_survey(
         (counter out.old needed.old count.old) (counter out.new needed.new count.new) }
 {
     let question = question_of(is_ready, is_json);
-    match handle.with_board(alloc, |board| ask_or_error_number(alloc, board, question)) {
+    match handle.with_board(alloc, |board| ask_or_error(alloc, board, question)) {
         Ok(CountedText { text, count: found }) => {
-            store_text_and_count(text.as_bytes(), found, out, needed, count)
+            store_text_and_count_if_fits(text.as_bytes(), found, out, needed, count)
         }
         Err(number) => number,
     }

@@ -35,7 +35,7 @@ pub fn question_of(is_ready: bool, is_json: bool) -> Question
 }
 
 /// Returns the report of a board file in a form, or the error number.
-pub fn list_report(alloc: Global, board: &[u8], form: ReportForm) -> Result<String, u32>
+pub fn report_or_error(alloc: Global, board: &[u8], form: ReportForm) -> Result<String, u32>
     ensures report { IfOk result (λ t.
         (w : World) × IsSetUp board.now w × (string_bytes t ≡ report_in form w)) }
     ensures file { IfErr result (λ n. n < 199 → Refuses board.now n) }

@@ -4,12 +4,12 @@ ghost use Rattle.std.specs.Prelude.{◌≡◌, ◌≢◌, ◌<◌, ◌≤◌, �
 ghost use Rattle.model_guests.specs.Text.{Text};
 ghost use Rattle.pciguest_c.specs.{Checks.{IsCheckOf, IsReportIn}, TextsTold.{IsTold, at_front, form_of}};
 
-use crate::texts::forms::{check_text_and_fault_number, form_of, list_report};
+use crate::texts::forms::{check_text_and_fault_number, form_of, report_or_error};
 use crate::values::numbers::ARGUMENT;
 use std::alloc::Global;
 
 /// Copies a text, or rows, to the front of a large enough buffer.
-pub fn copy_to_front<T: Copy>(out: &mut [T], text: &[T])
+pub fn copy_whole_to_front<T: Copy>(out: &mut [T], text: &[T])
     requires { length text.now ≤ length out.old }
     ensures { out.new ≡ at_front text.now out.old }
 {
@@ -26,12 +26,12 @@ pub fn store_text_if_fits<T: Copy>(text: &[T], out: &mut [T], needed: &mut usize
     if out.len() < text.len() {
         return ARGUMENT;
     }
-    copy_to_front(out, text);
+    copy_whole_to_front(out, text);
     0
 }
 
 /// Calls `store_text_if_fits` for a text, and also stores a count if the text fits.
-pub fn store_text_and_count(
+pub fn store_text_and_count_if_fits(
     text: &[u8],
     counted: usize,
     out: &mut [u8],
@@ -63,7 +63,7 @@ pub extern "C" fn pciguest_raw_report_in(
     ensures { let form = form_of is_json in
         IsReportIn form board.now out.old out.new needed.old needed.new result }
 {
-    match list_report(alloc, board, form_of(is_json)) {
+    match report_or_error(alloc, board, form_of(is_json)) {
         Ok(text) => store_text_if_fits(text.as_bytes(), out, needed),
         Err(number) => number,
     }

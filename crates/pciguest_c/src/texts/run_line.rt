@@ -4,22 +4,24 @@ ghost use Rattle.model_guests.specs.Text.{Text};
 ghost use Rattle.pciguest_c.specs.{Calls.{Answers, AnswersLine, run_line, buffer}, Handles.session_of, TextsTold.{IsTold, at_front}};
 
 use crate::handle::Handle;
-use crate::texts::reports::{copy_to_front, store_text_and_count, store_text_if_fits};
+use crate::texts::reports::{
+    copy_whole_to_front, store_text_and_count_if_fits, store_text_if_fits,
+};
 use crate::values::numbers::{ARGUMENT, MEMORY, NO_MACHINE};
-use lines::{Answers, LONGEST_REPLY, LineText, find_line_error};
+use lines::{Answers, LONGEST_REPLY, LineText, line_error_or_empty};
 use script::run_line;
 use session::Session;
 use std::alloc::Global;
 
 /// Copies a line's reply to the front of a large enough buffer, and stores the length of the reply.
-fn copy_reply_to_front(text: &LineText, out: &mut [u8], written: &mut usize) -> u32
+fn store_fitting_reply(text: &LineText, out: &mut [u8], written: &mut usize) -> u32
     requires { 48 ≤ length out.old }
     ensures done { result ≡ 0 }
     ensures text { out.new ≡ at_front text.now.items out.old }
     ensures length { written.new ≡ length text.now.items }
     ensures within { length text.now.items ≤ length out.old }
 {
-    copy_to_front(out, text.as_slice());
+    copy_whole_to_front(out, text.as_slice());
     *written = text.len();
     0
 }
@@ -47,19 +49,14 @@ pub extern "C" fn pciguest_raw_run_line(
         }
     });
     match answer {
-        Ok(text) => copy_reply_to_front(&text, out, written),
+        Ok(text) => store_fitting_reply(&text, out, written),
         Err(number) => number,
     }
 }
 
 /// Runs a line of a session and writes its reply to a buffer. Returns 902 if the buffer is too
 /// small, or 299 if memory is exhausted.
-fn run_line_on_session(
-    session: &mut Session,
-    line: &[u8],
-    out: &mut [u8],
-    written: &mut usize,
-) -> u32
+fn run_session_line(session: &mut Session, line: &[u8], out: &mut [u8], written: &mut usize) -> u32
     ensures { AnswersLine line.now (length out.old) (Some session.old) (Some session.new) result
         (buffer out.old written.old) (buffer out.new written.new) }
 {
@@ -68,7 +65,7 @@ fn run_line_on_session(
     }
     let mut text = LineText::new();
     match session.run_line(line, &mut text) {
-        Ok(None) => copy_reply_to_front(&text, out, written),
+        Ok(None) => store_fitting_reply(&text, out, written),
         Ok(Some(longer)) => store_text_if_fits(longer.as_bytes(), out, written),
         Err(_) => MEMORY,
     }
@@ -95,7 +92,7 @@ pub extern "C" fn pciguest_raw_board_run_line(
     let Some(mut session) = handle.take(alloc) else {
         return NO_MACHINE;
     };
-    let number = run_line_on_session(&mut session, line, out, written);
+    let number = run_session_line(&mut session, line, out, written);
     *handle = Handle::of(session);
     number
 }
@@ -123,7 +120,7 @@ pub extern "C" fn pciguest_raw_explain_line(
     let Some(held) = handle.take(alloc) else {
         return NO_MACHINE;
     };
-    let reason = find_line_error(held.guests(), line);
+    let reason = line_error_or_empty(held.guests(), line);
     *handle = Handle::of(held);
-    store_text_and_count(reason.text.as_bytes(), reason.at, out, needed, word)
+    store_text_and_count_if_fits(reason.text.as_bytes(), reason.at, out, needed, word)
 }

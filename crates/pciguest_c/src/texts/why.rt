@@ -17,7 +17,7 @@ use std::alloc::Global;
 
 /// Explains the outcome of a guest's access, or returns the error number.
 #[tactic(auto, unfolding(crate::specs::Calls::telling_why))]
-fn explain_raw_access(
+fn explain_guest_target(
     alloc: Global,
     form: ReportForm,
     machine: &Monitor,
@@ -58,7 +58,7 @@ pub extern "C" fn pciguest_raw_why_in(
 {
     let form = form_of(is_json);
     let answer = handle.with_machine(alloc, |machine| {
-        explain_raw_access(alloc, form, machine, guest, space, slot, place)
+        explain_guest_target(alloc, form, machine, guest, space, slot, place)
     });
     match answer {
         Ok(text) => store_text_if_fits(text.as_bytes(), out, needed),

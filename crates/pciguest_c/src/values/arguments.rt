@@ -81,7 +81,7 @@ pub fn parse_guest_target(
 
 /// Returns the part of a function that a raise or a device's access addresses: a BAR for 0 to 5,
 /// configuration space for 6. Returns 902 if there is no such guest or part.
-pub fn parse_part(machine: &Monitor, guest: usize, part: u32) -> Result<Place, u32>
+pub fn parse_guest_part(machine: &Monitor, guest: usize, part: u32) -> Result<Place, u32>
     ensures there { IfOk result (λ _. guest < length machine.now.world.guests) }
     ensures told { IfOk result (λ p.
         where_guest machine.now guest (part_told part) ≡ Some (part_of p)) }

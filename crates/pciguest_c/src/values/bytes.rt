@@ -2,7 +2,7 @@
 //! by byte, from the lowest offset up.
 ghost use Rattle.std.specs.Prelude.{◌≡◌, ◌+◌, ◌^◌, ◌<◌, ◌≤◌, IfNone, IfOk, length};
 ghost use Rattle.accesses.specs.Accesses.{reply_of};
-ghost use Rattle.pciguest_c.specs.DevicesTold.{byte_of, read_byte, bytes_from, read_little_endian, after_bytes, read_reply, after_byte, find_access_error, wide_read, after_wide};
+ghost use Rattle.pciguest_c.specs.DevicesTold.{byte_of, read_byte, bytes_from, read_le_bytes, after_bytes, read_reply, after_byte, find_access_error, wide_read, after_wide};
 
 use crate::values::arguments::{Byte, Side};
 use accesses::{Op, Refusal, Reply};
@@ -38,7 +38,7 @@ fn read_byte_reply(machine: &mut Monitor, guest: usize, byte: Byte) -> Reply
 }
 
 /// Writes one byte. A refused write has no effect.
-fn write_byte(machine: &mut Monitor, guest: usize, byte: Byte, value: u8)
+fn write_byte_or_skip(machine: &mut Monitor, guest: usize, byte: Byte, value: u8)
     requires { guest < length machine.old.world.guests }
     ensures { machine.new ≡ after_byte byte.side machine.old guest (byte_of byte) value }
 {
@@ -79,17 +79,12 @@ fn next_byte(byte: Byte) -> Byte
 
 /// Reads up to 8 bytes as a little-endian number, or returns the error number of the first byte
 /// that is refused. Nothing changes.
-fn read_little_endian(
-    machine: &mut Monitor,
-    guest: usize,
-    byte: Byte,
-    count: u32,
-) -> Result<u64, u32>
+fn read_le_bytes(machine: &mut Monitor, guest: usize, byte: Byte, count: u32) -> Result<u64, u32>
     requires there { guest < length machine.old.world.guests }
     requires few { count ≤ 8 }
     requires end { byte.offset + count < 2 ^ 64 }
     ensures read { result
-        ≡ read_little_endian byte.side machine.old.world guest (bytes_from (byte_of byte) count) }
+        ≡ read_le_bytes byte.side machine.old.world guest (bytes_from (byte_of byte) count) }
     ensures small { IfOk result (λ n. n < 256 ^ count) }
     ensures kept { machine.new ≡ machine.old }
 {
@@ -97,12 +92,12 @@ fn read_little_endian(
         return Ok(0);
     }
     let lowest = read_byte(machine, guest, byte)?;
-    let above = read_little_endian(machine, guest, next_byte(byte), count - 1)?;
+    let above = read_le_bytes(machine, guest, next_byte(byte), count - 1)?;
     Ok(u64::from(lowest) + 256 * above)
 }
 
 /// Writes the low `count` bytes of a number, lowest first. A refused byte is skipped.
-fn write_little_endian(machine: &mut Monitor, guest: usize, byte: Byte, count: u32, value: u64)
+fn write_le_bytes_or_skip(machine: &mut Monitor, guest: usize, byte: Byte, count: u32, value: u64)
     requires there { guest < length machine.old.world.guests }
     requires end { byte.offset + count < 2 ^ 64 }
     ensures { machine.new
@@ -111,8 +106,8 @@ fn write_little_endian(machine: &mut Monitor, guest: usize, byte: Byte, count: u
     if count == 0 {
         return;
     }
-    write_byte(machine, guest, byte, (value % 256) as u8);
-    write_little_endian(machine, guest, next_byte(byte), count - 1, value / 256);
+    write_byte_or_skip(machine, guest, byte, (value % 256) as u8);
+    write_le_bytes_or_skip(machine, guest, next_byte(byte), count - 1, value / 256);
 }
 
 /// Reads 1 to 8 bytes as a little-endian number, or returns the error number. Nothing changes.
@@ -124,7 +119,7 @@ pub fn wide_read(machine: &mut Monitor, guest: usize, byte: Byte, width: u32) ->
 {
     match find_access_error(byte.offset, width) {
         Some(number) => Err(number),
-        None => read_little_endian(machine, guest, byte, width),
+        None => read_le_bytes(machine, guest, byte, width),
     }
 }
 
@@ -146,7 +141,7 @@ pub fn replace_bytes(
     if let Some(number) = find_access_error(byte.offset, width) {
         return Err(number);
     }
-    let before = read_little_endian(machine, guest, byte, width)?;
-    write_little_endian(machine, guest, byte, width, value);
+    let before = read_le_bytes(machine, guest, byte, width)?;
+    write_le_bytes_or_skip(machine, guest, byte, width, value);
     Ok(before)
 }

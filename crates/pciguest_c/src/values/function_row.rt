@@ -8,12 +8,12 @@ ghost use Rattle.bridge_forward.specs.{RoutingRows.window_of, ByIndex.ranges_tol
 ghost use Rattle.monitor.specs.FunctionsTold.{function_named};
 ghost use Rattle.pciguest_c.specs.{QueriesTold.one_if, FunctionsTold.{no_region, region_row, region_rows, window_row, window_rows, bridge_flag, zero_padded_text, function_row}};
 
-use crate::texts::reports::copy_to_front;
+use crate::texts::reports::copy_whole_to_front;
 use crate::values::interrupts::Interrupt;
 use bars::{BarWithBase, Kind, Space};
 use bridge_forward::Window;
 use findings::path_text;
-use host_bridge::LiveRanges;
+use host_bridge::ProgrammedRanges;
 use monitor::{Assignment, LiveFunction};
 
 /// The region of a BAR, in the layout of the C struct. `space` is 1 for I/O and 2 for memory. All
@@ -136,34 +136,34 @@ fn window_row(window: Option<Window>) -> WindowRow
 }
 
 /// Returns an endpoint's regions by register, or six empty entries for a bridge.
-fn region_rows(ranges: LiveRanges) -> [RegionRow; 6]
+fn region_rows(ranges: ProgrammedRanges) -> [RegionRow; 6]
     ensures { result ≡ region_rows (ranges_told ranges) }
 {
     match ranges {
-        LiveRanges::Regions(slots) => region_rows_of_bars(&slots),
-        LiveRanges::Windows { .. } => [NO_REGION; 6],
+        ProgrammedRanges::Regions(slots) => region_rows_of_bars(&slots),
+        ProgrammedRanges::Windows { .. } => [NO_REGION; 6],
     }
 }
 
 /// Returns a bridge's I/O, memory and prefetchable windows, or three empty entries for an endpoint.
-fn window_rows(ranges: LiveRanges) -> [WindowRow; 3]
+fn window_rows(ranges: ProgrammedRanges) -> [WindowRow; 3]
     ensures { result ≡ window_rows (ranges_told ranges) }
 {
     match ranges {
-        LiveRanges::Regions(_) => [window_row(None); 3],
-        LiveRanges::Windows { io, mem, pref } => {
+        ProgrammedRanges::Regions(_) => [window_row(None); 3],
+        ProgrammedRanges::Windows { io, mem, pref } => {
             [window_row(io), window_row(mem), window_row(pref)]
         }
     }
 }
 
 /// Returns 1 for a bridge, 0 for an endpoint.
-fn bridge_flag(ranges: LiveRanges) -> u32
+fn bridge_flag(ranges: ProgrammedRanges) -> u32
     ensures { result ≡ bridge_flag (ranges_told ranges) }
 {
     match ranges {
-        LiveRanges::Regions(_) => 0,
-        LiveRanges::Windows { .. } => 1,
+        ProgrammedRanges::Regions(_) => 0,
+        ProgrammedRanges::Windows { .. } => 1,
     }
 }
 
@@ -173,7 +173,7 @@ pub fn zero_padded_text(text: &[u8]) -> [u8; 80]
     ensures { result ≡ zero_padded_text text.now }
 {
     let mut bytes = [0; 80];
-    copy_to_front(&mut bytes, text);
+    copy_whole_to_front(&mut bytes, text);
     bytes
 }
 

@@ -7,7 +7,7 @@ ghost use Rattle.monitor.specs.FunctionsTold.{function_named, seat_named};
 ghost use Rattle.pciguest_c.specs.InterruptsTold.{guest_command_or_zero, current_command, pin_and_route_or_zeros, interrupt_of};
 
 use crate::values::arguments::guest_count;
-use intx_swizzle::at_root;
+use intx_swizzle::swizzle_to_root;
 use monitor::{Assignment, LiveFunction, Monitor};
 use paths::Path;
 
@@ -33,7 +33,7 @@ pub const NO_INTERRUPT: Interrupt = Interrupt {
 
 /// Reads a register on the board of the function at a path, or returns 0 if there is no such
 /// function.
-fn read_register_or_zero(machine: &Monitor, path: &Path, offset: u8, width: u64) -> u32
+fn board_register_or_zero(machine: &Monitor, path: &Path, offset: u8, width: u64) -> u32
     requires { LiesInWord offset width }
     ensures { let fs = (board_state machine.now.world).functions in
         result ≡ number (file_at fs path.now) (config offset) width }
@@ -66,7 +66,7 @@ fn current_command(machine: &Monitor, function: &LiveFunction) -> u32
 {
     match function.seat {
         Some(seat) => guest_command_or_zero(machine, seat),
-        None => read_register_or_zero(machine, &function.path, 4, 2),
+        None => board_register_or_zero(machine, &function.path, 4, 2),
     }
 }
 
@@ -78,7 +78,7 @@ fn pin_and_route_or_zeros(path: &Path, pin: u32) -> (u32, u32, u32)
     if pin < 1 || pin > 4 {
         return (0, 0, 0);
     }
-    let (device, root) = at_root(path, pin as u8);
+    let (device, root) = swizzle_to_root(path, pin as u8);
     (pin, u32::from(device), u32::from(root))
 }
 
@@ -87,7 +87,7 @@ fn pin_and_route_or_zeros(path: &Path, pin: u32) -> (u32, u32, u32)
 pub fn interrupt_of(machine: &Monitor, function: &LiveFunction) -> Interrupt
     ensures { result ≡ interrupt_of machine.now.world (function_named function.now) }
 {
-    let pin = read_register_or_zero(machine, &function.path, 0x3d, 1);
+    let pin = board_register_or_zero(machine, &function.path, 0x3d, 1);
     let (pin, root_device, root_pin) = pin_and_route_or_zeros(&function.path, pin);
     Interrupt {
         pin,

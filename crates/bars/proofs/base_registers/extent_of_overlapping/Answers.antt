@@ -8,9 +8,9 @@ loop-reg-preserved c = λ a from to out.
     let n = c.loop-reg.reg in
     elim c.match-regions-reg.branch [
       | in-Some w ↦
-          let still : IsOutside w.widened_by_overlapping-extent.result a = subst (λ (e : Extent). IsOutside e a) w.extent-is out in
-          c.loop-reg.invariant a from to (w.widened_by_overlapping-extent.ensures.wider a still)
-          ∙ passed_region space a n c.args.regions.now _ (omega arith) w.in-Some.region w.in-Some.is (w.widened_by_overlapping-extent.ensures.holds a from to still)
+          let still : IsOutside w.widened_if_overlapping-extent.result a = subst (λ (e : Extent). IsOutside e a) w.extent-is out in
+          c.loop-reg.invariant a from to (w.widened_if_overlapping-extent.ensures.wider a still)
+          ∙ passed_region space a n c.args.regions.now _ (omega arith) w.in-Some.region w.in-Some.is (w.widened_if_overlapping-extent.ensures.holds a from to still)
       | in_default w ↦
           c.loop-reg.invariant a from to (subst (λ (e : Extent). IsOutside e a) w.extent-is out)
           ∙ passed_unused space a n c.args.regions.now _ (omega arith) w.in_default.not-Some

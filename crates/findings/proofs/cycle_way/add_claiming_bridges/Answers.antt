@@ -5,9 +5,9 @@ use Rattle.findings.proofs.cycle_way.add_claiming_bridges.Goals as goal
 
 pub loop-index-preserved : goal.loop-index-preserved
 loop-index-preserved c =
-    let told : c.match-path_if_claiming_nth.told.items ≡ c.loop-index.told.items ++ option_to_list c.path_if_claiming_nth.result =
-    elim c.match-path_if_claiming_nth.branch [ in-Some+in_ok-push w ↦ grind arith | in_default w ↦ grind (arith, append-nil) ] in
-    next_one (λ (f : BoardFunction). cond (is_taker (unwrap_or c.args.bus.now []) c.args.number f) (f.path ∷ []) []) c.args.host.now.state.functions c.loop-index.index _ _ _ _ c.loop-index.invariant c.path_if_claiming_nth.ensures told
+    let told : c.match-path_if_claims_bus.told.items ≡ c.loop-index.told.items ++ option_to_list c.path_if_claims_bus.result =
+    elim c.match-path_if_claims_bus.branch [ in-Some+in_ok-push w ↦ grind arith | in_default w ↦ grind (arith, append-nil) ] in
+    next_one (λ (f : BoardFunction). cond (is_taker (unwrap_or c.args.bus.now []) c.args.number f) (f.path ∷ []) []) c.args.host.now.state.functions c.loop-index.index _ _ _ _ c.loop-index.invariant c.path_if_claims_bus.ensures told
 
 pub returns : goal.returns
 returns c =

@@ -2,8 +2,8 @@ use Rattle.std.proofs.Common.{arith}
 use Rattle.images.proofs.Runs.{at_end, goes_on}
 use Rattle.images.proofs.function_values.put_shown_and_advance.Goals as goal
 
-pub read_register_byte-requires : goal.read_register_byte-requires
-read_register_byte-requires c = λ config. omega (arith, c.loop-left.invariant.config config)
+pub read_shown_byte-requires : goal.read_shown_byte-requires
+read_shown_byte-requires c = λ config. omega (arith, c.loop-left.invariant.config config)
 
 pub loop-left-preserved : goal.loop-left-preserved
 loop-left-preserved c = grind (arith, goes_on)

@@ -26,15 +26,15 @@ returns-in-Err-Memory-clause-stops g c = λ is before clean passed.
     let same : c.in-Err-Memory.field-0 ≡ Memory = cc in
     let lacking = c.in-Err-Memory.ensures.lacking (ap Err same) in
     let run = c.loop-line.invariant.runs before clean passed in
-    let wrote : c.stop_after_flush.result ≡ Failed = cc in
-    rw lacking.0 (stops_kept (stops_flush run.0 (run.1 (c.stop_after_flush.ensures.wrote wrote))) (rw lacking.1 at c.stop_after_flush.ensures.bytes))
+    let wrote : c.flush_on_memory_stop.result ≡ Failed = cc in
+    rw lacking.0 (stops_kept (stops_flush run.0 (run.1 (c.flush_on_memory_stop.ensures.wrote wrote))) (rw lacking.1 at c.flush_on_memory_stop.ensures.bytes))
 
 pub returns-in-Err-Memory-clause-lacks : goal.returns-in-Err-Memory-clause-lacks
 returns-in-Err-Memory-clause-lacks g c = λ is before clean passed.
     let same : c.in-Err-Memory.field-0 ≡ Memory = cc in
     let lacking = c.in-Err-Memory.ensures.lacking (ap Err same) in
     let run = (c.loop-line.invariant.runs before clean passed).0 in
-    rw lacking.0 (lacks_at c.in-Some.line.now c.in-Some.after.now c.in-Some.ensures.line.1 run c.in-Some.ensures.line.0 (rw lacking.1 at c.stop_after_flush.ensures.bytes))
+    rw lacking.0 (lacks_at c.in-Some.line.now c.in-Some.after.now c.in-Some.ensures.line.1 run c.in-Some.ensures.line.0 (rw lacking.1 at c.flush_on_memory_stop.ensures.bytes))
 
 pub returns-in-Err-Memory-clause-flushed : goal.returns-in-Err-Memory-clause-flushed
 returns-in-Err-Memory-clause-flushed g c = grind (arith, by_flag)

@@ -4,7 +4,7 @@ use Rattle.session.proofs.stage.answer_handover.Goals as goal
 
 pub returns-in-Ok-clause-text : goal.returns-in-Ok-clause-text
 returns-in-Ok-clause-text c = λ line asks.
-    rw c.one_line_at_most.ensures (c.push_reply_of_name.ensures
+    rw c.one_line_at_most.ensures (c.write_named_reply_line.ensures
     ∙ (answered (session_now c.args.stage.now) (session_now c.hand_over.new.stage) c.requires.driven c.in-Ok.ensures.given line asks).writes)
 
 pub returns-in-Ok-clause-after : goal.returns-in-Ok-clause-after

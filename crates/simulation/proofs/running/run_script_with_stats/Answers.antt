@@ -24,8 +24,8 @@ returns-in_err-lines_seen-clause-runs g c =
 
 pub returns-then-refused-clause-runs : goal.returns-then-refused-clause-runs
 returns-then-refused-clause-runs g c =
-    has_run c.args.strict _ c.args.board.now _ _ _ c.in_ok-monitor.ensures.opened c.in_ok-lines_seen.ensures.runs (sym c.is_refusal_a_fault-refused.ensures ∙ c.if-refused.true)
+    has_run c.args.strict _ c.args.board.now _ _ _ c.in_ok-monitor.ensures.opened c.in_ok-lines_seen.ensures.runs (sym c.has_refusal_fault-refused.ensures ∙ c.if-refused.true)
 
 pub returns-clause-runs : goal.returns-clause-runs
 returns-clause-runs g c =
-    has_run c.args.strict _ c.args.board.now _ _ _ c.in_ok-monitor.ensures.opened c.in_ok-lines_seen.ensures.runs (sym c.is_refusal_a_fault-refused.ensures ∙ c.if-refused.false)
+    has_run c.args.strict _ c.args.board.now _ _ _ c.in_ok-monitor.ensures.opened c.in_ok-lines_seen.ensures.runs (sym c.has_refusal_fault-refused.ensures ∙ c.if-refused.false)

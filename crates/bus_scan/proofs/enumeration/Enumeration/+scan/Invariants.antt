@@ -10,8 +10,8 @@ decreases-scan_bridge l = 3 * (17 - length l.path)
 abbrev pub decreases-scan_bus : goal.decreases-scan_bus
 decreases-scan_bus l = 3 * (16 - length l.bus.now) + 2
 
-abbrev pub decreases-scan_and_next_position : goal.decreases-scan_and_next_position
-decreases-scan_and_next_position l = 3 * (16 - length l.bus.now) + 1
+abbrev pub decreases-scan_and_next_devfn : goal.decreases-scan_and_next_devfn
+decreases-scan_and_next_devfn l = 3 * (16 - length l.bus.now) + 1
 
 abbrev pub invariant-scan_bus-loop-n : goal.invariant-scan_bus-loop-n
 invariant-scan_bus-loop-n l = record {

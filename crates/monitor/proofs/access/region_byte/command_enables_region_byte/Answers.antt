@@ -18,7 +18,7 @@ returns-then-off-size c = λ s p f held lawful.
     let at = slot_read c.args.held.now.placed c.from.result c.in-Some-Some.ensures.lookup.0 c.in-Some-Some.ensures.lookup.1 here in
     let its = a_region s p f c.args.held.now c.from.result c.in-Some-Some.region held lawful at in
     let inside : nat_lt c.args.off c.size-size.result ≡ true = let h = c.if-off-size.true in grind (arith, nat_tests) in
-    ap (λ t. Some t) (c.command_enables_space.ensures f.file held.own ∙ ap (is_open f.file) c.space.ensures)
+    ap (λ t. Some t) (c.guest_enables_space.ensures f.file held.own ∙ ap (is_open f.file) c.space.ensures)
     ∙ sym (ap (λ t. cond {A = Option Bool} t (Some (is_open f.file (space_of (kind_of c.kind.result)))) None) inside)
     ∙ opening_kept f c.from.result c.args.off c.in-Some-Some.region its (kind_of c.kind.result) c.kind.ensures c.size-size.ensures.value
     ∙ named f c.args.off c.args.place c.from.ensures (ap part_of c.in-Bar.is)

@@ -10,8 +10,8 @@ returns-in_default-clause-reply g c =
     let at = guest_in c.self.invariant.1 c.self.view_is c.args.guest c.requires.there c.index.ensures in
     c.master_abort_reply.ensures.reply ∙ config_reads_ones at c.args.slot (empty_lent at c.args.slot c.deref.ensures.value c.in_default.ensures.empty) c.args.off c.args.width
 
-pub read_config_as_guest-requires-clause-seen : goal.read_config_as_guest-requires-clause-seen
-read_config_as_guest-requires-clause-seen g c =
+pub read_as_guest-requires-clause-seen : goal.read_as_guest-requires-clause-seen
+read_as_guest-requires-clause-seen g c =
     let at = guest_in c.self.invariant.1 c.self.view_is c.args.guest c.requires.there c.index.ensures in
     seen at (slot_lent at c.deref.ensures.value c.in-Some.ensures.there)
 
@@ -19,4 +19,4 @@ pub returns-clause-reply : goal.returns-clause-reply
 returns-clause-reply g c =
     let at = guest_in c.self.invariant.1 c.self.view_is c.args.guest c.requires.there c.index.ensures in
     let slot = slot_lent at c.deref.ensures.value c.in-Some.ensures.there in
-    config_reads at slot c.args.off c.args.width (c.read_config_as_guest.ensures.value (seen at slot))
+    config_reads at slot c.args.off c.args.width (c.read_as_guest.ensures.value (seen at slot))

@@ -16,8 +16,8 @@ returns-in_default g c =
     let empty = empty_lent at c.args.slot c.deref.ensures.value c.in_default.ensures.empty in
     untouched c.args.self.now c.args.guest _ _ (config_drops at c.args.slot empty c.args.off c.args.width c.args.value) (config_quiet at c.args.slot empty c.args.off c.args.width c.args.value)
 
-pub split_config_write_of_guest-index-requires-clause-holds : goal.split_config_write_of_guest-index-requires-clause-holds
-split_config_write_of_guest-index-requires-clause-holds g c =
+pub write_guest_copies_and_count-index-requires-clause-holds : goal.write_guest_copies_and_count-index-requires-clause-holds
+write_guest_copies_and_count-index-requires-clause-holds g c =
     let at = guest_in c.self.invariant.1 c.self.view_is c.args.guest c.requires.there c.index.ensures in
     subst (λ (gs : List Guest). HoldsAt gs c.args.guest c.args.slot) (sym c.deref_mut.ensures.value) (holds_nth at (slot_lent at c.deref.ensures.value c.in-Some.ensures.there))
 
@@ -25,14 +25,14 @@ pub config_write_nth-requires-clause-there : goal.config_write_nth-requires-clau
 config_write_nth-requires-clause-there g c =
     let at = guest_in c.self.invariant.1 c.self.view_is c.args.guest c.requires.there c.index.ensures in
     let slot = slot_lent at c.deref.ensures.value c.in-Some.ensures.there in
-    let written = written_lent c.deref_mut.ensures.value (holds_nth at slot) c.split_config_write_of_guest-index.ensures.written in
+    let written = written_lent c.deref_mut.ensures.value (holds_nth at slot) c.write_guest_copies_and_count-index.ensures.written in
     subst (λ (k : ℕ). IsSome (endpoint_nth c.self.inside.host.state.functions k)) (sym written.slots.index) (endpoint_held at slot)
 
 pub config_write_nth-requires-clause-reached : goal.config_write_nth-requires-clause-reached
 config_write_nth-requires-clause-reached g c =
     let at = guest_in c.self.invariant.1 c.self.view_is c.args.guest c.requires.there c.index.ensures in
     let slot = slot_lent at c.deref.ensures.value c.in-Some.ensures.there in
-    let written = written_lent c.deref_mut.ensures.value (holds_nth at slot) c.split_config_write_of_guest-index.ensures.written in
+    let written = written_lent c.deref_mut.ensures.value (holds_nth at slot) c.write_guest_copies_and_count-index.ensures.written in
     subst (λ (k : ℕ). IsReached c.self.inside.host.state.functions k) (sym written.slots.index) (reached_held at slot)
 
 pub invariant_of-self : goal.invariant_of-self
@@ -40,8 +40,8 @@ invariant_of-self g c =
     let e = c.self.inside in
     let at = guest_in c.self.invariant.1 c.self.view_is c.args.guest c.requires.there c.index.ensures in
     let slot = slot_lent at c.deref.ensures.value c.in-Some.ensures.there in
-    let written = written_lent c.deref_mut.ensures.value (holds_nth at slot) c.split_config_write_of_guest-index.ensures.written in
-    let left = back_in e.guests.items e.guests.len (c.split_config_write_of_guest-index.auto.guests ∙ c.deref_mut.ensures.len)
+    let written = written_lent c.deref_mut.ensures.value (holds_nth at slot) c.write_guest_copies_and_count-index.ensures.written in
+    let left = back_in e.guests.items e.guests.len (c.write_guest_copies_and_count-index.auto.guests ∙ c.deref_mut.ensures.len)
     (config_written at slot c.args.off c.args.width c.args.value c.requires.width c.requires.aligned
     (c.enables_of-enables.ensures ∙ ap (λ x. enables_of x c.args.width) c.from-from.ensures) (c.to_lanes-moved.ensures ∙ ap (λ x. to_lanes x c.args.value) c.from-from.ensures)
     written c.config_write_nth.ensures) in
@@ -52,12 +52,12 @@ returns g c =
     let e = c.self.inside in
     let at = guest_in c.self.invariant.1 c.self.view_is c.args.guest c.requires.there c.index.ensures in
     let slot = slot_lent at c.deref.ensures.value c.in-Some.ensures.there in
-    let written = written_lent c.deref_mut.ensures.value (holds_nth at slot) c.split_config_write_of_guest-index.ensures.written in
-    let count = c.split_config_write_of_guest-index.auto.guests ∙ c.deref_mut.ensures.len in
+    let written = written_lent c.deref_mut.ensures.value (holds_nth at slot) c.write_guest_copies_and_count-index.ensures.written in
+    let count = c.write_guest_copies_and_count-index.auto.guests ∙ c.deref_mut.ensures.len in
     accessed c.self.invariant.1 c.self.view_is c.args.guest
     (back_in e.guests.items e.guests.len count
     (config_written at slot c.args.off c.args.width c.args.value c.requires.width c.requires.aligned
     (c.enables_of-enables.ensures ∙ ap (λ x. enables_of x c.args.width) c.from-from.ensures) (c.to_lanes-moved.ensures ∙ ap (λ x. to_lanes x c.args.value) c.from-from.ensures)
     written c.config_write_nth.ensures))
-    (counts_lent _ (counted_nth c.args.guest c.touches_command_or_bars-tells.result) c.deref_mut.ensures.value c.split_config_write_of_guest-index.ensures.counts e.guests.len count)
+    (counts_lent _ (counted_nth c.args.guest c.touches_command_or_bars-tells.result) c.deref_mut.ensures.value c.write_guest_copies_and_count-index.ensures.counts e.guests.len count)
     (c.touches_command_or_bars-tells.ensures ∙ ap (λ x. any_tells c.args.width (config x)) c.from-from.ensures ∙ sym (config_changes at slot c.args.off c.args.width c.args.value))

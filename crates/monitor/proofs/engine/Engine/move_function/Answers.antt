@@ -26,14 +26,14 @@ returns-in-Some-clause-after g c =
     (λ x. ap (λ (o : Option ℕ). not (is_some o) && (bytes_eq (name_nth now.world c.args.from) x || bytes_eq (name_nth now.world c.args.to) x))
     (sym (c.in-Some.ensures ∙ fault_is from to c.args.slot c.args.target c.deref.ensures.value c.deref-2.ensures.value)))
 
-pub move_and_reset_function-requires-clause-holds : goal.move_and_reset_function-requires-clause-holds
-move_and_reset_function-requires-clause-holds g c =
+pub move_and_reset-requires-clause-holds : goal.move_and_reset-requires-clause-holds
+move_and_reset-requires-clause-holds g c =
     let from = guest_in c.self.invariant.1 c.self.view_is c.args.from c.requires.from c.index.ensures in
     let to = guest_in c.self.invariant.1 c.self.view_is c.args.to c.requires.to c.index-2.ensures in
     subst (λ (gs : List Guest). HoldsAt gs c.args.from c.args.slot) (sym c.deref_mut.ensures.value) (holds_moved from to c.args.slot c.args.target c.deref.ensures.value c.deref-2.ensures.value c.in_default.ensures)
 
-pub move_and_reset_function-requires-clause-has : goal.move_and_reset_function-requires-clause-has
-move_and_reset_function-requires-clause-has g c =
+pub move_and_reset-requires-clause-has : goal.move_and_reset-requires-clause-has
+move_and_reset-requires-clause-has g c =
     let from = guest_in c.self.invariant.1 c.self.view_is c.args.from c.requires.from c.index.ensures in
     let to = guest_in c.self.invariant.1 c.self.view_is c.args.to c.requires.to c.index-2.ensures in
     subst (λ (gs : List Guest). HasSlot gs c.args.to c.args.target) (sym c.deref_mut.ensures.value) (has_moved from to c.args.slot c.args.target c.deref.ensures.value c.deref-2.ensures.value c.in_default.ensures)
@@ -49,9 +49,9 @@ invariant_of-self g c =
     let e = c.self.inside in
     let from = guest_in c.self.invariant.1 c.self.view_is c.args.from c.requires.from c.index.ensures in
     let to = guest_in c.self.invariant.1 c.self.view_is c.args.to c.requires.to c.index-2.ensures in
-    let left = back_in e.guests.items e.guests.len (c.move_and_reset_function.auto.guests ∙ c.deref_mut.ensures.len)
-    (move_left from to c.args.slot c.args.target c.deref.ensures.value c.deref-2.ensures.value c.in_default.ensures (over_lent c.deref_mut.ensures.value c.move_and_reset_function.ensures.over)) in
-    (g.met.R.Route.by_routing e.route e.host c.move_and_reset_function.new.host left.routes c.self.invariant.0, after_action_sound c.self.invariant.1 c.self.view_is (calls (asks (host_move (move_nth c.args.self.now.world c.args.from c.args.slot c.args.to c.args.target)))) left)
+    let left = back_in e.guests.items e.guests.len (c.move_and_reset.auto.guests ∙ c.deref_mut.ensures.len)
+    (move_left from to c.args.slot c.args.target c.deref.ensures.value c.deref-2.ensures.value c.in_default.ensures (over_lent c.deref_mut.ensures.value c.move_and_reset.ensures.over)) in
+    (g.met.R.Route.by_routing e.route e.host c.move_and_reset.new.host left.routes c.self.invariant.0, after_action_sound c.self.invariant.1 c.self.view_is (calls (asks (host_move (move_nth c.args.self.now.world c.args.from c.args.slot c.args.to c.args.target)))) left)
 
 pub returns-clause-after : goal.returns-clause-after
 returns-clause-after g c =
@@ -59,11 +59,11 @@ returns-clause-after g c =
     let now = c.args.self.now in
     let from = guest_in c.self.invariant.1 c.self.view_is c.args.from c.requires.from c.index.ensures in
     let to = guest_in c.self.invariant.1 c.self.view_is c.args.to c.requires.to c.index-2.ensures in
-    let count = c.move_and_reset_function.auto.guests ∙ c.deref_mut.ensures.len in
+    let count = c.move_and_reset.auto.guests ∙ c.deref_mut.ensures.len in
     both_grew c.self.invariant.1 c.self.view_is (calls (asks (host_move (move_nth now.world c.args.from c.args.slot c.args.to c.args.target))))
     c.args.from c.args.to c.requires.from c.requires.to
     (back_in e.guests.items e.guests.len count
-    (move_left from to c.args.slot c.args.target c.deref.ensures.value c.deref-2.ensures.value c.in_default.ensures (over_lent c.deref_mut.ensures.value c.move_and_reset_function.ensures.over)))
-    (counts_lent _ (counted_both c.args.from c.args.to) c.deref_mut.ensures.value c.move_and_reset_function.ensures.counts e.guests.len count)
+    (move_left from to c.args.slot c.args.target c.deref.ensures.value c.deref-2.ensures.value c.in_default.ensures (over_lent c.deref_mut.ensures.value c.move_and_reset.ensures.over)))
+    (counts_lent _ (counted_both c.args.from c.args.to) c.deref_mut.ensures.value c.move_and_reset.ensures.counts e.guests.len count)
     (λ x. ap (λ (o : Option ℕ). not (is_some o) && (bytes_eq (name_nth now.world c.args.from) x || bytes_eq (name_nth now.world c.args.to) x))
     (sym (c.in_default.ensures ∙ fault_is from to c.args.slot c.args.target c.deref.ensures.value c.deref-2.ensures.value)))

@@ -32,8 +32,8 @@ returns-then-not-has_byte_at-clause-after g c =
     untouched c.args.self.now c.args.guest _ _ (nothing_raised at (raise_of c.args.slot c.args.place c.args.off c.args.mask)
     (no_place at slot c.in-Ok.ensures.there.low c.args.place c.args.off c.args.mask (λ s p f held. sym c.if-not-has_byte_at.true ∙ c.has_byte_at.ensures s p f held))) refl
 
-pub raise_w1c_bits_on_board-requires : goal.raise_w1c_bits_on_board-requires
-raise_w1c_bits_on_board-requires g c =
+pub raise_if_uncopied-requires : goal.raise_if_uncopied-requires
+raise_if_uncopied-requires g c =
     let at = guest_in c.self.invariant.1 c.self.view_is c.args.guest c.requires c.index.ensures in
     endpoint_held at (slot_lent at c.deref.ensures.value c.in-Ok.ensures.there.there)
 
@@ -41,8 +41,8 @@ pub invariant_of-self : goal.invariant_of-self
 invariant_of-self g c =
     let at = guest_in c.self.invariant.1 c.self.view_is c.args.guest c.requires c.index.ensures in
     let slot = slot_lent at c.deref.ensures.value c.in-Ok.ensures.there.there in
-    let left = raise_written at slot c.in-Ok.ensures.there.low c.args.place c.args.off c.args.mask (λ s p f held. sym c.if-not-has_byte_at.false ∙ c.has_byte_at.ensures s p f held) c.raise_w1c_bits_on_board.ensures in
-    (g.met.R.Route.by_routing c.self.inside.route c.self.inside.host c.raise_w1c_bits_on_board.new.host left.routes c.self.invariant.0, after_event_sound c.self.invariant.1 c.self.view_is c.args.guest c.requires (raises (raise_of c.args.slot c.args.place c.args.off c.args.mask)) left)
+    let left = raise_written at slot c.in-Ok.ensures.there.low c.args.place c.args.off c.args.mask (λ s p f held. sym c.if-not-has_byte_at.false ∙ c.has_byte_at.ensures s p f held) c.raise_if_uncopied.ensures in
+    (g.met.R.Route.by_routing c.self.inside.route c.self.inside.host c.raise_if_uncopied.new.host left.routes c.self.invariant.0, after_event_sound c.self.invariant.1 c.self.view_is c.args.guest c.requires (raises (raise_of c.args.slot c.args.place c.args.off c.args.mask)) left)
 
 pub returns-clause-reply : goal.returns-clause-reply
 returns-clause-reply g c =
@@ -55,4 +55,4 @@ returns-clause-after g c =
     let at = guest_in c.self.invariant.1 c.self.view_is c.args.guest c.requires c.index.ensures in
     let slot = slot_lent at c.deref.ensures.value c.in-Ok.ensures.there.there in
     accessed c.self.invariant.1 c.self.view_is c.args.guest {t = false} {u = false}
-    (raise_written at slot c.in-Ok.ensures.there.low c.args.place c.args.off c.args.mask (λ s p f held. sym c.if-not-has_byte_at.false ∙ c.has_byte_at.ensures s p f held) c.raise_w1c_bits_on_board.ensures) refl refl
+    (raise_written at slot c.in-Ok.ensures.there.low c.args.place c.args.off c.args.mask (λ s p f held. sym c.if-not-has_byte_at.false ∙ c.has_byte_at.ensures s p f held) c.raise_if_uncopied.ensures) refl refl

@@ -21,13 +21,13 @@ returns-in-Err-clause-after g c =
     refused_all c.args.self.now (happens now c.args.guest (resets c.args.slot))
     (nothing_changed at (resets c.args.slot) fault) (not_counted (name_nth now.world c.args.guest) (fault_named at c.args.slot fault))
 
-pub move_and_reset_function-requires-clause-holds : goal.move_and_reset_function-requires-clause-holds
-move_and_reset_function-requires-clause-holds g c =
+pub move_and_reset-requires-clause-holds : goal.move_and_reset-requires-clause-holds
+move_and_reset-requires-clause-holds g c =
     let at = guest_in c.self.invariant.1 c.self.view_is c.args.guest c.requires c.index.ensures in
     subst (λ (gs : List Guest). HoldsAt gs c.args.guest c.args.slot) (sym c.deref_mut.ensures.value) (holds_nth at (slot_lent at c.deref.ensures.value c.in-Ok.ensures.there.there))
 
-pub move_and_reset_function-requires-clause-has : goal.move_and_reset_function-requires-clause-has
-move_and_reset_function-requires-clause-has g c =
+pub move_and_reset-requires-clause-has : goal.move_and_reset-requires-clause-has
+move_and_reset-requires-clause-has g c =
     let at = guest_in c.self.invariant.1 c.self.view_is c.args.guest c.requires c.index.ensures in
     subst (λ (gs : List Guest). HasSlot gs c.args.guest c.args.slot) (sym c.deref_mut.ensures.value) (has_nth at c.in-Ok.ensures.there.low)
 
@@ -37,21 +37,21 @@ returns-in-Ok-clause-reply g c =
     reset_done at (slot_lent at c.deref.ensures.value c.in-Ok.ensures.there.there) c.in-Ok.ensures.there.low
 
 reset : (g : _) (c : goal.After-self-in-Ok-1 g)
-    → Ends c.self.inside c.move_and_reset_function.new.host c.move_and_reset_function.new.guests
+    → Ends c.self.inside c.move_and_reset.new.host c.move_and_reset.new.guests
     (λ m. m ≡ after_on_machine c.args.self.now (happens c.args.self.now c.args.guest (resets c.args.slot)))
 reset g c =
     let at = guest_in c.self.invariant.1 c.self.view_is c.args.guest c.requires c.index.ensures in
     let slot = slot_lent at c.deref.ensures.value c.in-Ok.ensures.there.there in
     let event = happens c.args.self.now c.args.guest (resets c.args.slot) in
-    ends c.self.inside c.deref_mut.ensures.value (c.move_and_reset_function.auto.guests ∙ c.deref_mut.ensures.len)
-    (reset_left at slot c.in-Ok.ensures.there.low (over_lent c.deref_mut.ensures.value c.move_and_reset_function.ensures.over))
-    (after_action_sound c.self.invariant.1 c.self.view_is event) (counted_both c.args.guest c.args.guest) c.move_and_reset_function.ensures.counts
+    ends c.self.inside c.deref_mut.ensures.value (c.move_and_reset.auto.guests ∙ c.deref_mut.ensures.len)
+    (reset_left at slot c.in-Ok.ensures.there.low (over_lent c.deref_mut.ensures.value c.move_and_reset.ensures.over))
+    (after_action_sound c.self.invariant.1 c.self.view_is event) (counted_both c.args.guest c.args.guest) c.move_and_reset.ensures.counts
     (λ left counts. grew c.self.invariant.1 c.self.view_is event c.args.guest c.requires left (counts ∙ both_one c.args.guest (counts_of c.self.inside.guests.items))
     (is_counted (name_nth c.args.self.now.world c.args.guest) (may_take at c.args.slot slot c.in-Ok.ensures.there.low)))
 
 pub invariant_of-self : goal.invariant_of-self
 invariant_of-self g c =
-    (g.met.R.Route.by_routing c.self.inside.route c.self.inside.host c.move_and_reset_function.new.host (reset g c).routes c.self.invariant.0, (reset g c).sound)
+    (g.met.R.Route.by_routing c.self.inside.route c.self.inside.host c.move_and_reset.new.host (reset g c).routes c.self.invariant.0, (reset g c).sound)
 
 pub returns-in-Ok-clause-after : goal.returns-in-Ok-clause-after
 returns-in-Ok-clause-after g c = (reset g c).shown

@@ -10,9 +10,9 @@ returns-in-Some-Some c = λ s p f held lawful.
     let here : c.in-Some-Some.field-0.now ≡ Some c.in-Some-Some.region = let i = c.in-Some-Some.is in let j = c.in-Some-Some.field-0-is in cc in
     let at = slot_read c.args.held.now.placed c.args.bar c.in-Some-Some.ensures.lookup.0 c.in-Some-Some.ensures.lookup.1 here in
     let its = a_region s p f c.args.held.now c.args.bar c.in-Some-Some.region held lawful at in
-    let v : LiveBar = region_named (record { space = c.space-space.result; first = c.guest_bar_base.result; size = c.size.result; prefetchable = c.is_prefetchable.result; is_open = c.command_enables_space.result }) in
+    let v : LiveBar = region_named (record { space = c.space-space.result; first = c.guest_bar_base.result; size = c.size.result; prefetchable = c.is_prefetchable.result; is_open = c.guest_enables_space.result }) in
     region_told f c.args.bar c.in-Some-Some.region its (kind_of c.kind-kind.result) c.kind-kind.ensures v c.space-space.ensures (c.guest_bar_base.ensures f.file held.own)
-    c.size.ensures.value c.is_prefetchable.ensures (c.command_enables_space.ensures f.file held.own ∙ ap (is_open f.file) c.space-space.ensures)
+    c.size.ensures.value c.is_prefetchable.ensures (c.guest_enables_space.ensures f.file held.own ∙ ap (is_open f.file) c.space-space.ensures)
 
 pub returns-in-Some-None : goal.returns-in-Some-None
 returns-in-Some-None c = λ s p f held lawful.

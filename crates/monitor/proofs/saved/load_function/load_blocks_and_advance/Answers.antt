@@ -26,14 +26,14 @@ split_at-requires c =
     let block = block_told k (c.host_index_of_slot-index.ensures k.holds) c.loop-block.block (omega arith) c.block_offset_and_length-off.ensures in
     block_fits c.requires.0 at block
 
-pub device_write_bytes-requires-clause-there : goal.device_write_bytes-requires-clause-there
-device_write_bytes-requires-clause-there c =
+pub set_device_bytes_nth-requires-clause-there : goal.set_device_bytes_nth-requires-clause-there
+set_device_bytes_nth-requires-clause-there c =
     let at = c.loop-block.invariant.at c.requires.0 c.requires.1 in
     let k = go_on c.requires.0 at.passed.becomes in
     subst (λ (x : ℕ). IsSome (endpoint_nth c.loop-block.host.state.functions x)) (sym (c.host_index_of_slot-index.ensures k.holds)) (its_endpoint k)
 
-pub device_write_bytes-requires-clause-own : goal.device_write_bytes-requires-clause-own
-device_write_bytes-requires-clause-own c = λ j low.
+pub set_device_bytes_nth-requires-clause-own : goal.set_device_bytes_nth-requires-clause-own
+set_device_bytes_nth-requires-clause-own c = λ j low.
     let at = c.loop-block.invariant.at c.requires.0 c.requires.1 in
     let k = go_on c.requires.0 at.passed.becomes in
     let many = at.many in
@@ -41,8 +41,8 @@ device_write_bytes-requires-clause-own c = λ j low.
     let within = subst (λ (vs : List ℕ). j < length vs) c.split_at.ensures.front low in
     subst (λ (x : ℕ). is_device_byte (config (x + j)) ≡ true) (sym c.from.ensures) (block_own c.requires.0 at block j within)
 
-pub device_write_bytes-requires-clause-low : goal.device_write_bytes-requires-clause-low
-device_write_bytes-requires-clause-low c =
+pub set_device_bytes_nth-requires-clause-low : goal.set_device_bytes_nth-requires-clause-low
+set_device_bytes_nth-requires-clause-low c =
     let at = c.loop-block.invariant.at c.requires.0 c.requires.1 in
     let k = go_on c.requires.0 at.passed.becomes in
     let many = at.many in
@@ -59,9 +59,9 @@ loop-block-preserved c = record {
       let many = at.many in
       let is = c.host_index_of_slot-index.ensures now.holds in
       let block = block_told now is c.loop-block.block (omega arith) c.block_offset_and_length-off.ensures in
-      let put = subst (λ (x : ℕ). IsPut c.loop-block.host c.host_index_of_slot-index.result (put_run c.split_at.result.0.now (config x)) c.device_write_bytes.new.host) c.from.ensures c.device_write_bytes.ensures in
-      let put_front = subst (λ (vs : List ℕ). IsPut c.loop-block.host c.host_index_of_slot-index.result (put_run vs (config c.block_offset_and_length-off.result.0)) c.device_write_bytes.new.host) c.split_at.ensures.front put in
-      subst (λ (vs : List ℕ). AtBlock k c.args.values.now (c.loop-block.block + 1) c.block_count-count.result vs c.device_write_bytes.new.host c.args.guests.now) (sym c.split_at.ensures.back)
+      let put = subst (λ (x : ℕ). IsPut c.loop-block.host c.host_index_of_slot-index.result (put_run c.split_at.result.0.now (config x)) c.set_device_bytes_nth.new.host) c.from.ensures c.set_device_bytes_nth.ensures in
+      let put_front = subst (λ (vs : List ℕ). IsPut c.loop-block.host c.host_index_of_slot-index.result (put_run vs (config c.block_offset_and_length-off.result.0)) c.set_device_bytes_nth.new.host) c.split_at.ensures.front put in
+      subst (λ (vs : List ℕ). AtBlock k c.args.values.now (c.loop-block.block + 1) c.block_count-count.result vs c.set_device_bytes_nth.new.host c.args.guests.now) (sym c.split_at.ensures.back)
       (next_block k at block is put_front);
   low = omega arith;
 }

@@ -6,31 +6,31 @@ use Rattle.monitor.proofs.{LoadSteps.{chained, go_on, its_endpoint}, LoadedParts
 use Rattle.monitor.proofs.saved.load_function.load_header.Goals as goal
 
 pub host_index_of_slot-index-requires : goal.host_index_of_slot-index-requires
-host_index_of_slot-index-requires c = (c.guest_write_bytes.ensures.becomes c.requires.keeps).holds
+host_index_of_slot-index-requires c = (c.guest_config_write_bytes.ensures.becomes c.requires.keeps).holds
 
-pub device_write_bytes-requires-clause-there : goal.device_write_bytes-requires-clause-there
-device_write_bytes-requires-clause-there c =
-    let command = go_on c.requires.keeps (c.guest_write_bytes.ensures.becomes c.requires.keeps) in
-    subst (λ (x : ℕ). IsSome (endpoint_nth c.guest_write_bytes.new.host.state.functions x)) (sym (c.host_index_of_slot-index.ensures command.holds)) (its_endpoint command)
+pub set_device_bytes_nth-requires-clause-there : goal.set_device_bytes_nth-requires-clause-there
+set_device_bytes_nth-requires-clause-there c =
+    let command = go_on c.requires.keeps (c.guest_config_write_bytes.ensures.becomes c.requires.keeps) in
+    subst (λ (x : ℕ). IsSome (endpoint_nth c.guest_config_write_bytes.new.host.state.functions x)) (sym (c.host_index_of_slot-index.ensures command.holds)) (its_endpoint command)
 
-pub guest_write_bytes-requires-2-clause-keeps : goal.guest_write_bytes-requires-2-clause-keeps
-guest_write_bytes-requires-2-clause-keeps c =
-    let command = go_on c.requires.keeps (c.guest_write_bytes.ensures.becomes c.requires.keeps) in
-    go_on command (status_put command (c.host_index_of_slot-index.ensures command.holds) (drop 6 c.args.values.now) c.device_write_bytes.ensures)
+pub guest_config_write_bytes-requires-2-clause-keeps : goal.guest_config_write_bytes-requires-2-clause-keeps
+guest_config_write_bytes-requires-2-clause-keeps c =
+    let command = go_on c.requires.keeps (c.guest_config_write_bytes.ensures.becomes c.requires.keeps) in
+    go_on command (status_put command (c.host_index_of_slot-index.ensures command.holds) (drop 6 c.args.values.now) c.set_device_bytes_nth.ensures)
 
-pub guest_write_bytes-requires-3-clause-keeps : goal.guest_write_bytes-requires-3-clause-keeps
-guest_write_bytes-requires-3-clause-keeps c =
-    let command = go_on c.requires.keeps (c.guest_write_bytes.ensures.becomes c.requires.keeps) in
-    let status = go_on command (status_put command (c.host_index_of_slot-index.ensures command.holds) (drop 6 c.args.values.now) c.device_write_bytes.ensures) in
-    go_on status (c.guest_write_bytes-2.ensures.becomes status)
+pub guest_config_write_bytes-requires-3-clause-keeps : goal.guest_config_write_bytes-requires-3-clause-keeps
+guest_config_write_bytes-requires-3-clause-keeps c =
+    let command = go_on c.requires.keeps (c.guest_config_write_bytes.ensures.becomes c.requires.keeps) in
+    let status = go_on command (status_put command (c.host_index_of_slot-index.ensures command.holds) (drop 6 c.args.values.now) c.set_device_bytes_nth.ensures) in
+    go_on status (c.guest_config_write_bytes-2.ensures.becomes status)
 
 pub returns-clause-becomes : goal.returns-clause-becomes
 returns-clause-becomes c = λ k.
-    let one = c.guest_write_bytes.ensures.becomes k in
+    let one = c.guest_config_write_bytes.ensures.becomes k in
     let command = go_on k one in
-    let two = status_put command (c.host_index_of_slot-index.ensures command.holds) (drop 6 c.args.values.now) c.device_write_bytes.ensures in
+    let two = status_put command (c.host_index_of_slot-index.ensures command.holds) (drop 6 c.args.values.now) c.set_device_bytes_nth.ensures in
     let status = go_on command two in
-    let three = c.guest_write_bytes-2.ensures.becomes status in
+    let three = c.guest_config_write_bytes-2.ensures.becomes status in
     let timer = go_on status three in
     let file : File = header_steps c.args.values.now k.f.file in
-    chained k one {next = file} (chained command two {next = file} (chained status three {next = file} (c.guest_write_bytes-3.ensures.becomes timer)))
+    chained k one {next = file} (chained command two {next = file} (chained status three {next = file} (c.guest_config_write_bytes-3.ensures.becomes timer)))

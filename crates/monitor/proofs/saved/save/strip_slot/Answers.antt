@@ -6,11 +6,11 @@ use Rattle.monitor.proofs.saved.save.strip_slot.Goals as goal
 
 pub returns-in-Some-clause-left : goal.returns-in-Some-clause-left
 returns-in-Some-clause-left c =
-    subst (λ (x : Left). IfOk c.strip_function.result (λ rest. x ≡ Ok rest.now)) (filled_after (slot_shown c.args.host.now.state.functions c.args.slot.now) _ c.args.bytes.now c.in-Some.ensures) c.strip_function.ensures.left
+    subst (λ (x : Left). IfOk c.strip_fitting_slot.result (λ rest. x ≡ Ok rest.now)) (filled_after (slot_shown c.args.host.now.state.functions c.args.slot.now) _ c.args.bytes.now c.in-Some.ensures) c.strip_fitting_slot.ensures.left
 
 pub returns-in-Some-clause-refused : goal.returns-in-Some-clause-refused
 returns-in-Some-clause-refused c =
-    subst (λ (x : Left). IfErr c.strip_function.result (λ why. x ≡ Err (number_of why))) (filled_after (slot_shown c.args.host.now.state.functions c.args.slot.now) _ c.args.bytes.now c.in-Some.ensures) c.strip_function.ensures.refused
+    subst (λ (x : Left). IfErr c.strip_fitting_slot.result (λ why. x ≡ Err (number_of why))) (filled_after (slot_shown c.args.host.now.state.functions c.args.slot.now) _ c.args.bytes.now c.in-Some.ensures) c.strip_fitting_slot.ensures.refused
 
 pub returns-in-None-clause-left : goal.returns-in-None-clause-left
 returns-in-None-clause-left c =

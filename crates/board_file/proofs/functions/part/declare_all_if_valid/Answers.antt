@@ -1,5 +1,0 @@
-use Rattle.board_file.proofs.NextEntry.{next_passes}
-use Rattle.board_file.proofs.functions.part.declare_all_if_valid.Goals as goal
-
-pub declare_if_valid-requires : goal.declare_if_valid-requires
-declare_if_valid-requires g c = next_passes c.args.entries.now c.entries.entry-index c.entry-item.result c.entries-test.true c.entry-item.is g.P.PartEntry.is_declarable c.entries.invariant.0

@@ -1,4 +1,0 @@
-use Rattle.board_file.proofs.path.text.+parse_parts_into.Given as goal
-
-abbrev pub decreases-parse_parts_into : goal.decreases-parse_parts_into
-decreases-parse_parts_into l = l.room

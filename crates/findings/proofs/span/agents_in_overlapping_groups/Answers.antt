@@ -1,6 +1,0 @@
-use Rattle.std.proofs.Common.{arith}
-use Rattle.findings.proofs.Walk.{few_contended}
-use Rattle.findings.proofs.span.agents_in_overlapping_groups.Goals as goal
-
-pub returns : goal.returns
-returns c = grind (arith, few_contended)

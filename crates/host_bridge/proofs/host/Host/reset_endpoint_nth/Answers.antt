@@ -1,9 +1,0 @@
-use Rattle.std.proofs.Common.{rules}
-use Rattle.host_bridge.proofs.{Lent.distinct_paths, ByIndex.{none_reset, reset_endpoint_nth}}
-use Rattle.host_bridge.proofs.host.Host.reset_endpoint_nth.Goals as goal
-
-pub returns-in_default : goal.returns-in_default
-returns-in_default c = search (rules, none_reset)
-
-pub returns : goal.returns
-returns c = search (rules, distinct_paths, reset_endpoint_nth)

@@ -1,6 +1,0 @@
-use Rattle.std.proofs.Common.{arith}
-use Rattle.lines.proofs.Counts.{host_of_seven}
-use Rattle.lines.proofs.line.parse_host_line.Goals as goal
-
-pub returns-clause-meaning : goal.returns-clause-meaning
-returns-clause-meaning c = grind (arith, host_of_seven)

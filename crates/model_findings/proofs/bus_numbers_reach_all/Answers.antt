@@ -1,5 +1,0 @@
-use Rattle.model_findings.proofs.{Found.{found_once, numbers_of_board}, Scan.scan_finds_all}
-use Rattle.model_findings.proofs.bus_numbers_reach_all.Goals as goal
-
-pub returns : goal.returns
-returns c = record { once = found_once; scan = scan_finds_all; board = numbers_of_board }

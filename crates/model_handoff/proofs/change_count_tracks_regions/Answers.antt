@@ -1,5 +1,0 @@
-use Rattle.model_handoff.proofs.Counting.{regions_stay_along, changes_touch_slots, counts_grow, answers_stay}
-use Rattle.model_handoff.proofs.change_count_tracks_regions.Goals as goal
-
-pub returns : goal.returns
-returns c = record { along = regions_stay_along; touched = changes_touch_slots; counts = counts_grow; stay = answers_stay }

@@ -1,6 +1,0 @@
-use Rattle.std.proofs.Common.{rules}
-use Rattle.monitor.proofs.FunctionsTold.{seat_next}
-use Rattle.monitor.proofs.slots.assignment.+seat_from.Goals as goal
-
-pub returns-in-None : goal.returns-in-None
-returns-in-None t c = search (rules, seat_next)

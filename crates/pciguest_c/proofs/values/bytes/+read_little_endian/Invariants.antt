@@ -1,4 +1,0 @@
-use Rattle.pciguest_c.proofs.values.bytes.+read_little_endian.Given as goal
-
-abbrev pub decreases-read_little_endian : goal.decreases-read_little_endian
-decreases-read_little_endian l = l.count
