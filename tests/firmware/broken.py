@@ -4,10 +4,10 @@ changed, or what it reads there.
 
     broken.py PROGRAM
 
-Each row of BREAKS says what is changed, and what the program's `ready` then has to tell, among others: a problem that its
-audit tells too, or a lack. What is told is held against the registers (shown.py), and what the library tells is what the
-program does. A board with a problem is refused to its guests by 207, and one whose guests get a closed region by
-206. Status 1 says that a break was not told, or that something was told that isn't so."""
+Each row of BREAKS says what is changed, and what the program's `ready` must then report: a problem, which its audit
+reports too, or something that is left to do. Each report is compared with the registers (shown.py), and the library's
+reports with the program's. The handover of a board with a problem is refused with 207, and one that gives a guest a
+disabled region with 206. Status 1 means that a break wasn't reported, or that something was reported that isn't so."""
 import sys
 import tempfile
 import tomllib

@@ -18,7 +18,7 @@ class Shown:
         return self.board.io if name == "I/O" else self.board.memory
 
     def answering(self):
-        """Writes a mark of its own into each open region whose first 4 bytes can be written, and then reads them: how many
+        """Writes a different mark into each enabled region whose first 4 bytes can be written, and then reads them: how many
         answer, and those that don't. A base of 0, or all ones as sizing leaves them, is no address."""
         regions = [(path, bar, base) for path, bar, base in self.state.open_regions() if bar.block >= 4
                    and bar.patterns.get("rw") == b"\xff" and 0 < base < (1 << 8 * bar.width) - bar.size]

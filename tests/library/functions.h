@@ -1,4 +1,4 @@
-/* What is told of a function of boards/main.toml, compared with its registers, for the programs that include this. */
+/* Compares what the library reports about functions of boards/main.toml with their registers. Programs include this file. */
 #ifndef FUNCTIONS_H
 #define FUNCTIONS_H
 
@@ -8,10 +8,10 @@ enum { FUNCTIONS = 4 };
 
 static const char *const paths[FUNCTIONS] = {"1.0", "2.0", "2.0/0.0", "2.0/1.0"};
 
-/* What is read of a function's registers, by the number that is told. Each program has its own. */
+/* Reads a function's registers at the BDF that was reported. Each program defines this itself. */
 static uint64_t header(const struct pciguest_function *row, uint64_t offset, uint32_t width);
 
-/* Regions by the base address registers, but for their sizes. One that is placed has a base that isn't 0; a bridge has none. */
+/* Compares regions, except their sizes, with base address registers. A placed region's base isn't 0; a bridge has none. */
 static void compare_bars(const struct pciguest_function *row, bool are_placed)
 {
     for (uint32_t n = 0; n < PCIGUEST_BARS; n++) {
