@@ -6,8 +6,7 @@
 The board has the identity of each function, its BARs with the sizes that lspci shows, the decodes of bridge windows, and the
 bytes from 40h on, with the capability list. A dump doesn't say which of these bytes are writable. Here, the control bits, the
 address and the data of MSI are, and the control bits of MSI-X and Power Management; all other bytes are read-only. Status has
-its value at reset. Boards have only devices 0 to 15: a device above 15 gets a free number on its bus, and if none is left, the
-device is left out. So is a device without function 0."""
+its value at reset. A device without function 0 is left out."""
 import re
 import runpy
 import sys
@@ -128,13 +127,10 @@ def region_lines(cells, sizes):
 
 def function_texts(functions, bus, above):
     """The functions on a bus and behind it."""
-    devices = sorted(at[1] for at in functions if at[0] == bus and at[2] == 0)
-    free = [number for number in range(16) if number not in devices]
-    for device in devices:
-        place = device if device < 16 else free.pop(0) if free else None
-        for function in range(8) if place is not None else ():
+    for device in sorted(at[1] for at in functions if at[0] == bus and at[2] == 0):
+        for function in range(8):
             if (bus, device, function) in functions:
-                yield from function_text(functions, (bus, device, function), f"{above}{place}.{function}")
+                yield from function_text(functions, (bus, device, function), f"{above}{device}.{function}")
 
 
 def function_text(functions, at, path):

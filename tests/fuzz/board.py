@@ -187,7 +187,7 @@ def random_endpoint(rng, path):
 def random_bus(rng, above, depth, functions, windows):
     """Functions of one bus and of all behind it; `windows` tells whether I/O can reach it."""
     count = rng.choice([1, 1, 2, 3, 5]) if above else rng.choice([2, 3, 4, 6, 8])
-    for device in sorted(rng.sample(range(16), count)):
+    for device in sorted(rng.sample(range(32), count)):
         more = sorted(rng.sample(range(1, 8), rng.choice([1, 2]))) if rng.random() < 0.3 else []
         for function in [0] + more:
             path = above + ((device, function),)

@@ -202,7 +202,7 @@ def count_problems(every):
 
 def is_path(text):
     parts = text.split("/")
-    return len(parts) <= 16 and all(re.fullmatch(r"(\d|1[0-5])\.[0-7]", part) for part in parts)
+    return len(parts) <= 16 and all(re.fullmatch(r"(\d|[12]\d|3[01])\.[0-7]", part) for part in parts)
 
 
 def standing(every):
@@ -222,7 +222,7 @@ def meant_path(text):
     if padded:
         return (f'did you mean "{int(padded[1], 16)}.{padded[2]}"? '
                 "numbers in a path are decimal, without leading zeros")
-    return ('write DEVICE.FUNCTION for each bus, for example "2.0/1.0": devices are 0 to 15, functions 0 to 7, '
+    return ('write DEVICE.FUNCTION for each bus, for example "2.0/1.0": devices are 0 to 31, functions 0 to 7, '
             "without leading zeros")
 
 

@@ -106,9 +106,9 @@ class Dumps(unittest.TestCase):
         self.assertEqual(self.endpoints(self.LINES)["1.0/1.0"]["capability"][0]["rw"][:8], "00c00000")
 
     def test_places(self):
-        """A device above 15 moves, and other domains aren't of the board."""
+        """Each device keeps its number, and other domains aren't of the board."""
         lines = [line.replace("02:02.0", "02:1f.0") for line in self.LINES]
-        self.assertIn("2.0/0.0", self.endpoints([*lines, "10000:00:00.0 Another domain", *self.LINES[1:18]]))
+        self.assertIn("2.0/31.0", self.endpoints([*lines, "10000:00:00.0 Another domain", *self.LINES[1:18]]))
 
 
 class Drawing(unittest.TestCase):

@@ -1,5 +1,5 @@
 -- What a text is read as is a path.
-use Rattle.std.{proofs.Common.{◌≡◌, ℕ, zero, suc, ◌+◌, ◌-◌, ◌≤◌, ◌==◌, Bool, true, false, ◌&&◌, cond, List, [], ◌∷◌, length, Option, Some, None, option_map, unwrap_or, arith, leb-true}, specs.Prelude.option_and_then}
+use Rattle.std.{proofs.Common.{◌≡◌, ℕ, zero, suc, ◌+◌, ◌-◌, ◌*◌, ◌≤◌, ◌==◌, Bool, true, false, ◌&&◌, cond, List, [], ◌∷◌, length, Option, Some, None, option_map, unwrap_or, arith, leb-true}, specs.Prelude.{option_and_then, nat_le}}
 use Rattle.lists.{specs.Elements.Each, proofs.Tests.{left_true, right_true}}
 use Rattle.model_board.specs.Paths.{Part, Path, IsPart, IsPath}
 use Rattle.board_file.specs.PathTexts.{is_byte_between, parse_one_digit_part, parse_leading_part, parts_after, path_at}
@@ -22,9 +22,9 @@ short_front : (text : List ℕ) → Front (parse_one_digit_part text)
 short_front (d ∷ dot ∷ f ∷ rest) = grind (arith, front_of, byte_tests)
 short_front _ = tt
 
-long_fits : (one d dot f : ℕ) → ((one == 49) && is_byte_between 48 53 d && (dot == 46) && is_byte_between 48 55 f) ≡ true
-    → IsPart (record { device = 10 + (d - 48); function = f - 48 })
-long_fits one d dot f h = record { device_fits = search (byte_tests, arith) depth 6; function_fits = search (byte_tests, arith) depth 6 }
+long_fits : (t d dot f : ℕ) → (is_byte_between 49 51 t && is_byte_between 48 57 d && (dot == 46) && is_byte_between 48 55 f && nat_le (10 * (t - 48) + (d - 48)) 31) ≡ true
+    → IsPart (record { device = 10 * (t - 48) + (d - 48); function = f - 48 })
+long_fits t d dot f h = record { device_fits = search (byte_tests, arith) depth 6; function_fits = search (byte_tests, arith) depth 6 }
 
 front : (text : List ℕ) → Front (parse_leading_part text)
 front text = grind (arith, short_front, front_of, long_fits)

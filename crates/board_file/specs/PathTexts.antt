@@ -1,9 +1,9 @@
--- Paths as texts: parts with slashes between them, each a device from 0 to 15, a dot and a function from 0 to 7,
+-- Paths as texts: parts with slashes between them, each a device from 0 to 31, a dot and a function from 0 to 7,
 -- without leading zeros.
 --     parse_leading_part      the part with which a text begins, and what comes after it
 --     parse_path, is_path_text      the path of 1 to 16 parts that a text is
 --     path_at      that path, or 0.0 for any other text
-use Rattle.std.specs.Prelude.{ℕ, zero, suc, ◌+◌, ◌-◌, Bool, ◌&&◌, List, [], ◌∷◌, ◌==◌, nat_le, Option, Some, None, is_some, unwrap_or, option_map, option_and_then, if◌then◌else◌}
+use Rattle.std.specs.Prelude.{ℕ, zero, suc, ◌+◌, ◌-◌, ◌*◌, Bool, ◌&&◌, List, [], ◌∷◌, ◌==◌, nat_le, Option, Some, None, is_some, unwrap_or, option_map, option_and_then, if◌then◌else◌}
 use Rattle.lists.specs.Elements.{first_of_two}
 use Rattle.model_board.specs.Paths.{Part, Path}
 
@@ -18,11 +18,12 @@ parse_one_digit_part (d ∷ dot ∷ f ∷ rest) =
     else None
 parse_one_digit_part _ = None
 
--- a device from 10 to 15: 49 is '1'
+-- a device from 10 to 31: 49 is '1'
 abbrev pub parse_two_digit_part : List ℕ → Option (Part × List ℕ)
-parse_two_digit_part (one ∷ d ∷ dot ∷ f ∷ rest) =
-    if (one == 49) && is_byte_between 48 53 d && (dot == 46) && is_byte_between 48 55 f
-    then Some (record { device = 10 + (d - 48); function = f - 48 }, rest)
+parse_two_digit_part (t ∷ d ∷ dot ∷ f ∷ rest) =
+    if is_byte_between 49 51 t && is_byte_between 48 57 d && (dot == 46) && is_byte_between 48 55 f
+    && nat_le (10 * (t - 48) + (d - 48)) 31
+    then Some (record { device = 10 * (t - 48) + (d - 48); function = f - 48 }, rest)
     else None
 parse_two_digit_part _ = None
 

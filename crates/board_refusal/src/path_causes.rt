@@ -36,7 +36,7 @@ pub(crate) fn push_path_help(text: &mut String, at: &[u8]) -> Result<(), AllocEr
             )
         }
         _ => text.push_str(
-            "write DEVICE.FUNCTION for each bus, for example \"2.0/1.0\": devices are 0 to 15, functions 0 to 7, without leading zeros",
+            "write DEVICE.FUNCTION for each bus, for example \"2.0/1.0\": devices are 0 to 31, functions 0 to 7, without leading zeros",
         ),
     }
 }

@@ -1,7 +1,7 @@
 -- Which devices have more functions than function 0, told by the paths of their functions 0.
 use Rattle.std.{proofs.{Common.{◌≡◌, ◌<◌, inl, inr, Bool, true, false, not, ◌&&◌, ◌||◌, List, [], ◌∷◌, length, map, refl, sym, ap, ap₂, ◌∙◌, arith}, lemmas.Bool.Decides.nat_tests}, specs.{Prelude.filter, List.list_any, Ordering.eq_by_cmp, BTreeSet.{BTreeSet, IsFromIterResult, contains}}}
 use Rattle.lists.{specs.Elements.IsIn, proofs.{Members.{each_in, in_filter, from_filter, any_in, from_any}, Tests.same_test}}
-use Rattle.model_board.{specs.{Paths.{Part, Path, path_eq, parent, same_device, function_zero, IsPath}, Board.{Row, Board, IsBoard, is_multifunction, stands_at}}, proofs.{PathOrder.path_same, PathEnds.{path_self, path_eq-sym}}}
+use Rattle.model_board.{specs.{Paths.{Part, Path, path_eq, parent, same_device, function_zero, IsPath}, Board.{Row, Board, IsBoard, is_multifunction, declares_multifunction, has_multifunction_bit, stands_at}}, proofs.{PathOrder.path_same, PathEnds.{path_self, path_eq-sym}, Rows.bit_of_row}}
 use Rattle.paths.specs.{PathOrders.path_cmp, PathLaws.paths_tied}
 use Rattle.bridge_forward.specs.Devices.{is_nonzero_function, multifunction_device_paths}
 
@@ -101,6 +101,14 @@ map_same : {A B : Type 0} (f g : A → B) (xs : List A) → ((x : A) → IsIn x 
 map_same f g [] h = refl
 map_same f g (x ∷ xs) h = ap₂ (λ y ys. y ∷ ys) (h x (inl refl)) (map_same f g xs (λ y m. h y (inr m)))
 
-pub shared_are : (b : Board) (set : BTreeSet Path) → IsBoard b → IsFromIterResult path_cmp (multifunction_device_paths b) set
-    → map (λ (r : Row). contains path_cmp set (function_zero r.path)) b ≡ map (λ (r : Row). is_multifunction b r.path) b
-shared_are b set board h = grind (arith, map_same, equal_is, told_by_set)
+-- bit 7 of the header type, by the set
+bit_by_set : (b : Board) → IsBoard b → (set : BTreeSet Path) → IsFromIterResult path_cmp (multifunction_device_paths b) set → (r : Row) → IsIn r b
+    → (contains path_cmp set (function_zero r.path) && (not (is_nonzero_function r.path) || declares_multifunction r.decl)) ≡ has_multifunction_bit b r.path
+bit_by_set b board set h r m = grind (arith, equal_is, told_by_set b board r m, bit_of_row b board r m)
+
+pub bits_are : (b : Board) (set : BTreeSet Path) → IsBoard b → IsFromIterResult path_cmp (multifunction_device_paths b) set
+    → map (λ (r : Row). contains path_cmp set (function_zero r.path) && (not (is_nonzero_function r.path) || declares_multifunction r.decl)) b
+    ≡ map (λ (r : Row). has_multifunction_bit b r.path) b
+bits_are b set board h =
+    map_same (λ (r : Row). contains path_cmp set (function_zero r.path) && (not (is_nonzero_function r.path) || declares_multifunction r.decl)) (λ (r : Row). has_multifunction_bit b r.path) b
+    (bit_by_set b board set h)

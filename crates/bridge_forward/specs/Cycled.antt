@@ -12,7 +12,7 @@ abbrev pub reached_part : List BoardFunction → CycleType → Part → Option B
 reached_part fs Type0 t = reached_type0 fs t
 reached_part fs (Type1 bus) t = reached_type1 fs bus t
 
--- no function is at device 16 or above
+-- a cycle can name every device, 0 to 31
 abbrev pub reached_by : List BoardFunction → Cycle → Option BoardFunction
 reached_by fs c = reached_part fs c.kind (record { device = c.device; function = c.function })
 

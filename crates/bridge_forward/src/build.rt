@@ -1,6 +1,6 @@
 //! Builds the tree of a board from the declarations of its functions.
 ghost use Rattle.std.specs.{Prelude.{◌≡◌, ◌<◌, IfOk, length, map}, BTreeSet.IsFromIterResult};
-ghost use Rattle.model_board.specs.{Board.{IsBoard, is_multifunction}, Lawful.{IsLawfulDecl, HasLawfulDecls}, Places.board_of};
+ghost use Rattle.model_board.specs.{Board.{IsBoard, has_multifunction_bit}, Lawful.{IsLawfulDecl, HasLawfulDecls}, Places.board_of};
 ghost use Rattle.paths.specs.PathOrders.{path_cmp};
 ghost use Rattle.bridge_forward.specs.{Devices.multifunction_device_paths, Layout.{function_of, functions_of, paths_of, AreInOrder, EndsAt, IsLaidOut}, Skips.IsTree, Functions.reset_cells, Resets.reset_functions};
 
@@ -30,17 +30,17 @@ fn multifunction_device_paths(alloc: Global, decls: &[Decl]) -> Result<BTreeSet<
         .collect(alloc)
 }
 
-/// Returns, for each function, whether its device is a multifunction device. Every device has a
-/// function 0, so one set lookup per function replaces a comparison with all other functions.
-fn multifunction_flags(alloc: Global, decls: &[Decl]) -> Result<Vec<bool>, AllocError>
+/// Returns, for each function, bit 7 of its header type. Every device has a function 0, so one set
+/// lookup per function replaces a comparison with all other functions.
+fn multifunction_bits(alloc: Global, decls: &[Decl]) -> Result<Vec<bool>, AllocError>
     requires { IsBoard decls.now }
     ensures { IfOk result (λ v.
-        v.items ≡ map (λ r. is_multifunction decls.now r.path) decls.now) }
+        v.items ≡ map (λ r. has_multifunction_bit decls.now r.path) decls.now) }
 {
     let shared = multifunction_device_paths(alloc, decls)?;
     decls
         .iter()
-        .map(|decl| decl.is_device_in_set(&shared))
+        .map(|decl| decl.has_multifunction_bit(&shared))
         .collect(alloc)
 }
 
@@ -73,11 +73,11 @@ pub(crate) fn nodes_at_reset(alloc: Global, decls: Vec<Decl>) -> Result<Vec<Node
 {
     let mut decls = decls;
     sort_by_path(&mut decls);
-    let multifunction = multifunction_flags(alloc, &decls)?;
+    let multifunction = multifunction_bits(alloc, &decls)?;
     let mut nodes = Vec::with_capacity(alloc, decls.len())?;
     for decl in decls {
-        let is_multifunction = multifunction[nodes.len()];
-        nodes.push(node_at_reset(alloc, decl, is_multifunction)?)?;
+        let has_multifunction_bit = multifunction[nodes.len()];
+        nodes.push(node_at_reset(alloc, decl, has_multifunction_bit)?)?;
     }
     Ok(nodes)
 }

@@ -12,8 +12,7 @@ pub enum CycleType {
 }
 
 /// A configuration cycle: the device (0 to 31), the function (0 to 7), and the offset of the word,
-/// a multiple of 4. Bits 0 to 3 of `enables` enable the bytes of the word, lowest byte first. No
-/// board has functions at device 16 or above.
+/// a multiple of 4. Bits 0 to 3 of `enables` enable the bytes of the word, lowest byte first.
 #[derive(Clone, Copy, Debug, PartialEq, Eq)]
 pub struct Cycle {
     pub kind: CycleType,

@@ -1,6 +1,6 @@
 //! The declarations of the functions of a board.
-ghost use Rattle.std.specs.{Prelude.{◌≡◌, ◌↔◌, IsTrue}, BTreeSet.contains, Ordering.is_lt};
-ghost use Rattle.model_board.specs.{Paths.{path_before, function_zero}, Board.IsBoard, Places.{board_of, standing}};
+ghost use Rattle.std.specs.{Prelude.{◌≡◌, ◌↔◌, ◌&&◌, ◌||◌, not, IsTrue}, BTreeSet.contains, Ordering.is_lt};
+ghost use Rattle.model_board.specs.{Paths.{path_before, function_zero}, Board.{IsBoard, declares_multifunction}, Places.{board_of, standing}};
 ghost use Rattle.paths.specs.PathOrders.{path_cmp};
 ghost use Rattle.bridge_forward.specs.Devices.{is_nonzero_function};
 
@@ -53,10 +53,32 @@ impl Decl {
 
     /// Returns whether the function's device is in the set. The set identifies each device by the
     /// path of its function 0.
-    pub(crate) fn is_device_in_set(&self, devices: &BTreeSet<Path>) -> bool
+    fn is_device_in_set(&self, devices: &BTreeSet<Path>) -> bool
         ensures { result ≡ contains path_cmp devices.now (function_zero self.now.path) }
     {
         devices.contains(&self.path.function_zero())
+    }
+
+    /// Returns whether the declaration sets bit 7 of the header type in functions 1 to 7.
+    fn declares_multifunction(&self) -> bool
+        ensures { result ≡ declares_multifunction self.now.decl }
+    {
+        match &self.function {
+            Declared::Endpoint(endpoint) => endpoint.values().multifunction,
+            Declared::Bridge(bridge) => bridge.multifunction(),
+        }
+    }
+
+    /// Returns bit 7 of the header type of the function. `devices` contains the function 0 of each
+    /// device with several functions.
+    pub(crate) fn has_multifunction_bit(&self, devices: &BTreeSet<Path>) -> bool
+        ensures { result
+            ≡ (contains path_cmp devices.now (function_zero self.now.path)
+            && (not (is_nonzero_function self.now.path)
+            || declares_multifunction self.now.decl)) }
+    {
+        self.is_device_in_set(devices)
+            && (!self.is_nonzero_function() || self.declares_multifunction())
     }
 }
 

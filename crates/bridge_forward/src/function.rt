@@ -27,8 +27,7 @@ impl Function {
     ghost use Rattle.config_bytes.specs.Ops.{is_write};
     ghost use Rattle.bridge_forward.specs.{Cycled.{reply_to, after_access}, Decls.declared, ResetAlone.after_leaf_reset, Functions.{decl_of, file_of, with_cells, reset_cells, endpoint_in, LendsLeaf}};
 
-    /// Creates the function at reset. `multifunction` sets bit 7 of the header type, for a device
-    /// with further functions.
+    /// Creates the function at reset. `multifunction` is bit 7 of the header type.
     pub(crate) fn new(
         alloc: Global,
         decl: Declared,

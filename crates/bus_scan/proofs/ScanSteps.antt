@@ -1,7 +1,7 @@
 -- A scan from one part to the next.
-use Rattle.model_board.{proofs.{PlacesLaw.before_apart, PathOrder.{one, path_same, leads_before, part_self}, PathEnds.{path_self, leads_self, parent_snoc, leads_longer}}, specs.{Paths.{Part, Path, path_eq, path_before, IsPath}, Board.{Decl, endpoint, bridge, Board, Row, is_bridge, is_bridge_at, stands_at, is_multifunction, IsBoard}, BusNumbers.{secondary, subordinate, bus_behind, bus_of, Enumerates}, State.{BoardFunction, State, state_of}, Cycles.{BusAddress, reached}, AtReset.{reset_file, reset_state}}}
+use Rattle.model_board.{proofs.{PlacesLaw.before_apart, PathOrder.{one, path_same, leads_before, part_self}, PathEnds.{path_self, last_snoc, leads_self, parent_snoc, leads_longer}}, specs.{Paths.{Part, Path, path_eq, path_before, devfn_count, IsPath}, Board.{Decl, endpoint, bridge, Board, Row, is_bridge, is_bridge_at, stands_at, is_multifunction, has_multifunction_bit, IsBoard}, BusNumbers.{secondary, subordinate, bus_behind, bus_of, Enumerates}, State.{BoardFunction, State, state_of}, Cycles.{BusAddress, reached}, AtReset.{reset_file, reset_state}}}
 use Rattle.std.{proofs.{Common.{◌≡◌, ℕ, ◌+◌, ◌%◌, ◌≤◌, ◌<◌, Bool, true, false, not, cond, ◌&&◌, List, [], ◌∷◌, ◌++◌, length, append_assoc, map, Some, refl, sym, ap, ap₂, ◌∙◌, subst, arith, eqb, get_or}, Math.{ListN.set, Seq.get_or-append_seam}, lemmas.List.{map-append, length-map}}, specs.Prelude.{find, count_by}}
-use Rattle.model_registers.specs.Declarations.{no_io, no_pref}
+use Rattle.model_registers.specs.Declarations.{no_io, no_pref, plain_bridge}
 use Rattle.model_set_up.{specs.{FunctionTable.{TableRow, met_decl, scanned_table, table_row}, Scanning.{BusNumbers, no_numbers, board_numbers, open_numbers, scan_numbers, scan_state, numbered_file, numbered_state}, ScanOrder.{nth_part, on, next_devfn_to_probe, met, GivesNumbersInPathOrder}}, proofs.{Partings.bridge_at, Scanning.{goes_before, met_before, scan_reaches_buses_found_so_far, numbers_of_scan_state}, ScanParts.{before_first, before_last, leads_place, row_path}, ScanOrder.{scan_meets, scan_gives_numbers, no_bridge_here, no_bridge_none}}}
 use Rattle.lists.proofs.Members.{any_in, from_filter, filter_same}
 use Rattle.bus_scan.{specs.{declared.probed_header.ProbedHeader.ProbedHeader, Rows.ended as ended_range, Scans.{met_row, given, IsAt, OnBus, StandsAt, IsFound}}, proofs.{States.{Numbers, numbered, map_same, same_state, bridge_there}, MetRows.{count_more, row_same, rows_same, rows_more, met_grows, row_filled}}}
@@ -25,6 +25,14 @@ reaches b bus number on_bus here s rows last at before n =
 -- the next part, as the program finds it
 pub next_is : (b : Board) (bus : Path) (n m : ℕ) (t multifunction : Bool) → stands_at b (on bus n) ≡ t → (t && is_multifunction b (on bus n)) ≡ multifunction → m ≡ cond (eqb (n % 8) 0 && not multifunction) (n + 8) (n + 1) → m ≡ next_devfn_to_probe b bus n
 next_is b bus n m t multifunction e f h = h ∙ ap (λ x. cond (eqb (n % 8) 0 && not x) (n + 8) (n + 1)) (sym f ∙ ap (λ x. x && is_multifunction b (on bus n)) (sym e))
+
+-- only the header type of function 0 matters
+pub next_by_bit : (b : Board) (bus : Path) (n : ℕ) → (eqb (n % 8) 0 && not (has_multifunction_bit b (on bus n))) ≡ (eqb (n % 8) 0 && not (is_multifunction b (on bus n)))
+next_by_bit b bus n = by_first (eqb (n % 8) 0) refl
+  where
+    by_first : (t : Bool) → eqb (n % 8) 0 ≡ t → (t && not (has_multifunction_bit b (on bus n))) ≡ (t && not (is_multifunction b (on bus n)))
+    by_first false e = refl
+    by_first true e = grind (arith, last_snoc bus (nth_part n))
 
 -- where no function is met in between, and no number changes
 pub goes_on : (b : Board) → IsBoard b → (p q : Path) → met b q ≡ met b p → ((x : Path) → is_bridge_at b x ≡ true → scan_numbers b q x ≡ scan_numbers b p x) → (s : State) (rows : List TableRow) (last : ℕ) → IsAt b p s rows last → IsAt b q s rows last
@@ -89,38 +97,38 @@ opened b lawful p r is bridge_is s rows last room at new written row shown = rec
     laws = scan_gives_numbers b lawful
 
 -- nothing stands behind the longest paths
-pub deepest : (b : Board) → IsBoard b → (p : Path) → 16 ≤ length p → (s : State) (rows : List TableRow) (last : ℕ) → IsAt b (on p 0) s rows last → IsAt b (on p 128) s rows last
+pub deepest : (b : Board) → IsBoard b → (p : Path) → 16 ≤ length p → (s : State) (rows : List TableRow) (last : ℕ) → IsAt b (on p 0) s rows last → IsAt b (on p devfn_count) s rows last
 deepest b lawful p long s rows last at =
-    goes_on b lawful (on p 0) (on p 128) (filter_same (λ y. path_before y.path (on p 128)) (λ y. path_before y.path (on p 0)) b (λ y m. same_before y.path (row_path b lawful y m)))
+    goes_on b lawful (on p 0) (on p devfn_count) (filter_same (λ y. path_before y.path (on p devfn_count)) (λ y. path_before y.path (on p 0)) b (λ y m. same_before y.path (row_path b lawful y m)))
     (λ x there. let r = bridge_at b lawful x there in
-    ap₂ (λ t u. cond t (open_numbers b x) (cond u (board_numbers b x) no_numbers)) (leads_place x p (nth_part 128) ∙ sym (leads_place x p (nth_part 0))) (same_before x (subst IsPath r.3 (row_path b lawful r.0 r.1)))) s rows last at
+    ap₂ (λ t u. cond t (open_numbers b x) (cond u (board_numbers b x) no_numbers)) (leads_place x p (nth_part devfn_count) ∙ sym (leads_place x p (nth_part 0))) (same_before x (subst IsPath r.3 (row_path b lawful r.0 r.1)))) s rows last at
   where
-    same_before : (x : Path) → IsPath x → path_before x (on p 128) ≡ path_before x (on p 0)
+    same_before : (x : Path) → IsPath x → path_before x (on p devfn_count) ≡ path_before x (on p 0)
     same_before x path = grind (arith, before_last x p path.parts, before_first x p, leads_longer p x, path.few)
 
-first_before_last : (p : Path) → path_before (on p 0) (on p 128) ≡ true
+first_before_last : (p : Path) → path_before (on p 0) (on p devfn_count) ≡ true
 first_before_last [] = refl
 first_before_last (a ∷ p) = grind (arith, part_self, first_before_last p)
 
 -- the side of a bridge comes right after it
-grown_from : (b : Board) → IsBoard b → (p : Path) (r : Row) → StandsAt b p r → (rest : Board) × (met b (on p 128) ≡ met b p ++ r ∷ rest)
+grown_from : (b : Board) → IsBoard b → (p : Path) (r : Row) → StandsAt b p r → (rest : Board) × (met b (on p devfn_count) ≡ met b p ++ r ∷ rest)
 grown_from b lawful p r is =
-    let grown = met_grows b lawful (on p 0) (on p 128) (first_before_last p) in
+    let grown = met_grows b lawful (on p 0) (on p devfn_count) (first_before_last p) in
     (grown.0, grown.1 ∙ ap (λ (xs : Board). xs ++ grown.0) (more_behind b lawful p r is) ∙ append_assoc (met b p) (r ∷ []) grown.0)
 
 -- out of the side of a bridge
-closed_at : (b : Board) → IsBoard b → (p to : Path) (r : Row) → StandsAt b p r → is_bridge r.decl ≡ true → met b to ≡ met b (on p 128)
-    → ((q : Path) → is_bridge_at b q ≡ true → scan_numbers b to q ≡ cond (path_eq q p) (board_numbers b q) (scan_numbers b (on p 128) q)) → (s : State) (rows : List TableRow) (last : ℕ)
-    → IsAt b (on p 128) s rows last → (new : State) → new ≡ state_of b (numbered_file b (given p (board_numbers b p) (scan_numbers b (on p 128))))
+closed_at : (b : Board) → IsBoard b → (p to : Path) (r : Row) → StandsAt b p r → is_bridge r.decl ≡ true → met b to ≡ met b (on p devfn_count)
+    → ((q : Path) → is_bridge_at b q ≡ true → scan_numbers b to q ≡ cond (path_eq q p) (board_numbers b q) (scan_numbers b (on p devfn_count) q)) → (s : State) (rows : List TableRow) (last : ℕ)
+    → IsAt b (on p devfn_count) s rows last → (new : State) → new ≡ state_of b (numbered_file b (given p (board_numbers b p) (scan_numbers b (on p devfn_count))))
     → (i : ℕ) → i ≡ length (met b p) → (row : TableRow) → row ≡ met_row b (board_numbers b) r → IsAt b to new (set rows i row) last
 closed_at b lawful p to r is bridge_is same back s rows last at new written i index row shown = record {
-  state = written ∙ same_state b (given p (board_numbers b p) (scan_numbers b (on p 128))) (scan_numbers b to)
-      (λ x k. given_by (board_numbers b) (scan_numbers b (on p 128)) p x ∙ sym (back x k));
+  state = written ∙ same_state b (given p (board_numbers b p) (scan_numbers b (on p devfn_count))) (scan_numbers b to)
+      (λ x k. given_by (board_numbers b) (scan_numbers b (on p devfn_count)) p x ∙ sym (back x k));
   rows_met = ap₂ (λ (xs : List TableRow) (k : ℕ). set xs k row) at.rows_met index
-      ∙ ap (λ (x : TableRow). set (map (met_row b (scan_numbers b (on p 128))) (met b (on p 128))) (length (met b p)) x) (shown ∙ row_same b (board_numbers b) (scan_numbers b to) r own)
-      ∙ row_filled b lawful p (on p 128) r is grown.0 grown.1 (scan_numbers b (on p 128)) (scan_numbers b to) (λ q e k. sym (back q k ∙ ap (λ t. cond t (board_numbers b q) (scan_numbers b (on p 128) q)) e))
+      ∙ ap (λ (x : TableRow). set (map (met_row b (scan_numbers b (on p devfn_count))) (met b (on p devfn_count))) (length (met b p)) x) (shown ∙ row_same b (board_numbers b) (scan_numbers b to) r own)
+      ∙ row_filled b lawful p (on p devfn_count) r is grown.0 grown.1 (scan_numbers b (on p devfn_count)) (scan_numbers b to) (λ q e k. sym (back q k ∙ ap (λ t. cond t (board_numbers b q) (scan_numbers b (on p devfn_count) q)) e))
       ∙ ap (map (met_row b (scan_numbers b to))) (sym same);
-  last_given = laws.next_number to ∙ ap (λ (rs : Board). 1 + count_by (λ r. is_bridge r.decl) rs) same ∙ sym (laws.next_number (on p 128)) ∙ at.last_given;
+  last_given = laws.next_number to ∙ ap (λ (rs : Board). 1 + count_by (λ r. is_bridge r.decl) rs) same ∙ sym (laws.next_number (on p devfn_count)) ∙ at.last_given;
   last_fits = at.last_fits;
 }
   where
@@ -128,13 +136,13 @@ closed_at b lawful p to r is bridge_is same back s rows last at new written i in
     laws = scan_gives_numbers b lawful
 
     own : is_bridge r.decl ≡ true → board_numbers b r.path ≡ scan_numbers b to r.path
-    own k = sym (back r.path (bridge_there b r is.member k) ∙ ap (λ t. cond t (board_numbers b r.path) (scan_numbers b (on p 128) r.path)) (ap (λ (x : Path). path_eq x p) is.path ∙ path_self p))
+    own k = sym (back r.path (bridge_there b r is.member k) ∙ ap (λ t. cond t (board_numbers b r.path) (scan_numbers b (on p devfn_count) r.path)) (ap (λ (x : Path). path_eq x p) is.path ∙ path_self p))
 
-    grown : (rest : Board) × (met b (on p 128) ≡ met b p ++ r ∷ rest)
+    grown : (rest : Board) × (met b (on p devfn_count) ≡ met b p ++ r ∷ rest)
     grown = grown_from b lawful p r is
 
 pub closed : (b : Board) → IsBoard b → (bus : Path) (n : ℕ) (r : Row) → StandsAt b (on bus n) r → is_bridge r.decl ≡ true → (s : State) (rows : List TableRow) (last : ℕ)
-    → IsAt b (on (on bus n) 128) s rows last → (new : State) → new ≡ state_of b (numbered_file b (given (on bus n) (board_numbers b (on bus n)) (scan_numbers b (on (on bus n) 128))))
+    → IsAt b (on (on bus n) devfn_count) s rows last → (new : State) → new ≡ state_of b (numbered_file b (given (on bus n) (board_numbers b (on bus n)) (scan_numbers b (on (on bus n) devfn_count))))
     → (i : ℕ) → i ≡ length (met b (on bus n)) → (row : TableRow) → row ≡ met_row b (board_numbers b) r → IsAt b (on bus (next_devfn_to_probe b bus n)) new (set rows i row) last
 closed b lawful bus n r is bridge_is s rows last at new written i index row shown =
     let there : is_bridge_at b (on bus n) ≡ true = bridge_true b (on bus n) r is bridge_is in
@@ -172,20 +180,20 @@ pub record IsScanned (b : Board) (s : State) (rows : List TableRow) : Type 0 whe
   pub table : rows ≡ scanned_table b
   pub few : Enumerates b
 
-pub ended : (b : Board) → IsBoard b → (s : State) (rows : List TableRow) (last : ℕ) → IsAt b (on [] 128) s rows last → IsScanned b s rows
+pub ended : (b : Board) → IsBoard b → (s : State) (rows : List TableRow) (last : ℕ) → IsAt b (on [] devfn_count) s rows last → IsScanned b s rows
 ended b lawful s rows last at = record {
-  state = at.state ∙ same_state b (scan_numbers b (on [] 128)) (board_numbers b) laws.last;
+  state = at.state ∙ same_state b (scan_numbers b (on [] devfn_count)) (board_numbers b) laws.last;
   table = at.rows_met
-      ∙ rows_same b (on [] 128) (scan_numbers b (on [] 128)) (board_numbers b) (λ r m before is. laws.last r.path (bridge_there b r m is))
+      ∙ rows_same b (on [] devfn_count) (scan_numbers b (on [] devfn_count)) (board_numbers b) (λ r m before is. laws.last r.path (bridge_there b r m is))
       ∙ ap (map (met_row b (board_numbers b))) whole
       ∙ map_same (met_row b (board_numbers b)) (table_row b met_decl) b (λ r m. scanned r r.decl);
-  few = omega (arith, laws.next_number (on [] 128), ap (λ (rs : Board). count_by (λ x. is_bridge x.decl) rs) whole, at.last_given, at.last_fits);
+  few = omega (arith, laws.next_number (on [] devfn_count), ap (λ (rs : Board). count_by (λ x. is_bridge x.decl) rs) whole, at.last_given, at.last_fits);
 }
   where
     laws : GivesNumbersInPathOrder b
     laws = scan_gives_numbers b lawful
 
-    whole : met b (on [] 128) ≡ b
+    whole : met b (on [] devfn_count) ≡ b
     whole = (scan_meets b lawful).last
 
     scanned : (r : Row) (d : Decl) → met_row b (board_numbers b) (record r { decl = d }) ≡ table_row b met_decl (record r { decl = d })
@@ -204,7 +212,7 @@ bridge_row path number k last seen = record {
   path = path;
   bus = number;
   behind = Some (record { first = k; last = last });
-  decl = bridge (record { vendor = seen.vendor; device = seen.device; revision = 0; io = no_io; pref = no_pref });
+  decl = bridge (plain_bridge seen.vendor seen.device 0 no_io no_pref);
 }
 
 bridge_row_is : (b : Board) (bus : Path) (number n : ℕ) (r : Row) (seen : ProbedHeader) → IsFound b bus number n r seen → is_bridge r.decl ≡ true → (path : Path) → path ≡ on bus n → (k last : ℕ) (numbers : Numbers)
@@ -241,27 +249,27 @@ bridge_opened b bus number n r seen found bridge_is path path_is s rows last her
 pub rows_length : (b : Board) (here : Path) (s : State) (rows : List TableRow) (last : ℕ) → IsAt b here s rows last → length rows ≡ length (met b here)
 rows_length b here s rows last at = ap length at.rows_met ∙ length-map (met b here) (met_row b (scan_numbers b here))
 
-item_there : (b : Board) (p : Path) (r : Row) → IsBoard b → StandsAt b p r → (s : State) (rows : List TableRow) (last : ℕ) → IsAt b (on p 128) s rows last → (i : ℕ) → i ≡ length (met b p) → (d : TableRow) → get_or rows i d ≡ met_row b (scan_numbers b (on p 128)) r
+item_there : (b : Board) (p : Path) (r : Row) → IsBoard b → StandsAt b p r → (s : State) (rows : List TableRow) (last : ℕ) → IsAt b (on p devfn_count) s rows last → (i : ℕ) → i ≡ length (met b p) → (d : TableRow) → get_or rows i d ≡ met_row b (scan_numbers b (on p devfn_count)) r
 item_there b p r lawful is s rows last at i index d = grind (arith, grown_from b lawful p r is, map-append, length-map, get_or-append_seam)
 
 ended_row : (b : Board) (bus : Path) (n : ℕ) (r : Row) → IsBoard b → StandsAt b (on bus n) r → is_bridge r.decl ≡ true → (last : ℕ) → last ≡ subordinate b (on bus n)
-    → record (met_row b (scan_numbers b (on (on bus n) 128)) r) { behind = ended_range last (met_row b (scan_numbers b (on (on bus n) 128)) r).behind } ≡ met_row b (board_numbers b) r
+    → record (met_row b (scan_numbers b (on (on bus n) devfn_count)) r) { behind = ended_range last (met_row b (scan_numbers b (on (on bus n) devfn_count)) r).behind } ≡ met_row b (board_numbers b) r
 ended_row b bus n r lawful is bridge_is last last_is = grind (arith, leads_self)
 
 pub bridge_closed : (b : Board) (bus : Path) (number n : ℕ) (r : Row) → OnBus b bus number → StandsAt b (on bus n) r → is_bridge r.decl ≡ true → (k : ℕ) → k ≡ secondary b (on bus n) → (s : State) (rows : List TableRow) (last : ℕ)
-    → IsAt b (on (on bus n) 128) s rows last → (at : BusAddress) → at ≡ record { bus = number; part = nth_part n } → (new : State) → WritesNumbers s new at (record { primary = number; secondary = k; subordinate = last })
+    → IsAt b (on (on bus n) devfn_count) s rows last → (at : BusAddress) → at ≡ record { bus = number; part = nth_part n } → (new : State) → WritesNumbers s new at (record { primary = number; secondary = k; subordinate = last })
     → (i : ℕ) → i ≡ length (met b (on bus n)) → (item row : TableRow) → item ≡ get_or rows i item → row ≡ record item { behind = ended_range last item.behind }
     → IsAt b (on bus (next_devfn_to_probe b bus n)) new (set rows i row) last
 bridge_closed b bus number n r on_bus is bridge_is k k_is s rows last here at at_is new written i index item row item_is row_is =
     let lawful = on_bus.board in
     let there : is_bridge_at b (on bus n) ≡ true = bridge_true b (on bus n) r is bridge_is in
-    let numbers = scan_numbers b (on (on bus n) 128) in
+    let numbers = scan_numbers b (on (on bus n) devfn_count) in
     let last_is : last ≡ subordinate b (on bus n) = omega (arith, here.last_given, (scan_gives_numbers b lawful).last_number (on bus n) there) in
-    let behind : path_before bus (on (on bus n) 128) ≡ true = goes_before bus (on bus n) (on (on bus n) 128) (before_on bus (nth_part n)) (before_on (on bus n) (nth_part 128)) in
-    let state : new ≡ state_of b (numbered_file b (given (on bus n) (board_numbers b (on bus n)) (scan_numbers b (on (on bus n) 128)))) =
+    let behind : path_before bus (on (on bus n) devfn_count) ≡ true = goes_before bus (on bus n) (on (on bus n) devfn_count) (before_on bus (nth_part n)) (before_on (on bus n) (nth_part devfn_count)) in
+    let state : new ≡ state_of b (numbered_file b (given (on bus n) (board_numbers b (on bus n)) (scan_numbers b (on (on bus n) devfn_count)))) =
     written b numbers (on bus n) lawful there here.state
-    (ap (λ (a : BusAddress). reached s.functions a) at_is ∙ reaches b bus number on_bus (on (on bus n) 128) s rows last here behind n)
-    ∙ ap (λ (m : BusNumbers). state_of b (numbered_file b (given (on bus n) m (scan_numbers b (on (on bus n) 128)))))
+    (ap (λ (a : BusAddress). reached s.functions a) at_is ∙ reaches b bus number on_bus (on (on bus n) devfn_count) s rows last here behind n)
+    ∙ ap (λ (m : BusNumbers). state_of b (numbered_file b (given (on bus n) m (scan_numbers b (on (on bus n) devfn_count)))))
     (numbers_on b bus number n k last on_bus k_is ∙ ap (λ (j : ℕ). let m : BusNumbers = record { primary = bus_of b (on bus n); secondary = secondary b (on bus n); subordinate = j } in m) last_is) in
     let shown : row ≡ met_row b (board_numbers b) r =
     row_is ∙ ap (λ (x : TableRow). let y : TableRow = record x { behind = ended_range last x.behind } in y) (item_is ∙ item_there b (on bus n) r lawful is s rows last here i index item)

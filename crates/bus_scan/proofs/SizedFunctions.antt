@@ -1,7 +1,7 @@
 -- What sizing finds of the function that a number of a numbered board reaches.
 use Rattle.std.{proofs.Common.{◌≡◌, ℕ, ◌+◌, ◌*◌, ◌<◌, List, [], Option, Some, sym, ap, ◌∙◌, subst, arith, true, map}, specs.{Prelude.{bit_and, IsTrue}, Option.option_map_or}}
 use Rattle.model_registers.specs.{Registers.config, ByteEnables.lanes, Declarations.{Bridge, HasLawfulRegions, IoDecode, no_io, io16, io32, PrefDecode, no_pref, pref32, pref64, Bar, Endpoint}, DeclarationRules.IsLawfulEndpoint, EndpointTable.endpoint_reset, BridgeTable.bridge_file, OwnCopies.bare}
-use Rattle.model_board.{specs.{Board.{Decl, endpoint, bridge, is_bridge, is_multifunction, Board, Row, stands_at}, State.{BoardFunction, State, row_at}, Cycles.{BusAddress, reached}, Lawful.IsLawfulDecl, AtReset.board_at, Paths.{Path, path_eq, last_part}}, proofs.PathEnds.path_self}
+use Rattle.model_board.{specs.{Board.{Decl, endpoint, bridge, is_bridge, has_multifunction_bit, Board, Row, stands_at}, State.{BoardFunction, State, row_at}, Cycles.{BusAddress, reached}, Lawful.IsLawfulDecl, AtReset.board_at, Paths.{Path, path_eq, last_part}}, proofs.PathEnds.path_self}
 use Rattle.model_set_up.{specs.{Scanning.{board_numbers, with_numbers, IsNumbered}, Reach.address_of, FunctionTable.{TableRow, table_row, met_decl, found_decl}}, proofs.Routes.bdf_reaches_its_function_only}
 use Rattle.bus_scan.{specs.{Probes.{mask_shown, TakesBack, decl_reached, IsEndpointReached, IsBridgeReached, regions_in, io_in, pref_in, regions_reached, io_reached, pref_reached}, declared.table.Enumerated.{Enumerated, TheVariants.{Endpoint as FoundEndpoint, Bridge as FoundBridge}}, Rows.{regions_of, decl_of, range_of}, SizedRows.{IsScannedRow, bars_of}}, proofs.{ProbedFiles.{Probed, io_mask, pref_mask, probed_io, probed_pref}, ProbedEndpoints.{mask_at, probed_endpoint}, NumberedStates.{holds, each_reached, each_unmapped, has_numbers, in_itself, only_there}, ReachedFiles.{shows, takes_back}, SizedBars.regions_of_bars}}
 use Rattle.lists.{specs.Elements.IsIn, proofs.Members.{each_in, from_map, any_in}}
@@ -20,14 +20,14 @@ module _ (s : State) (h : IsNumbered s) (at : BusAddress) where
     there : (f : BoardFunction) × (reached s.functions at ≡ Some f) × (f.decl ≡ bridge is.0)
     there = reached_decl s.functions at (bridge is.0) is.1
 
-    file : there.0.file ≡ bridge_file is.0 (is_multifunction (board_at s.functions) there.0.path) (with_numbers (board_numbers (board_at s.functions) there.0.path))
+    file : there.0.file ≡ bridge_file is.0 (has_multifunction_bit (board_at s.functions) there.0.path) (with_numbers (board_numbers (board_at s.functions) there.0.path))
     file = grind (arith, each_reached, there, holds)
 
     io_probed : Probed (lanes 0b0011) (config 0x1c) there.0.file (io_mask is.0.io)
-    io_probed = subst (λ x. Probed (lanes 0b0011) (config 0x1c) x (io_mask is.0.io)) (sym file) (probed_io is.0 (is_multifunction (board_at s.functions) there.0.path) (board_numbers (board_at s.functions) there.0.path))
+    io_probed = subst (λ x. Probed (lanes 0b0011) (config 0x1c) x (io_mask is.0.io)) (sym file) (probed_io is.0 (has_multifunction_bit (board_at s.functions) there.0.path) (board_numbers (board_at s.functions) there.0.path))
 
     pref_probed : Probed (lanes 0b1111) (config 0x24) there.0.file (pref_mask is.0.pref)
-    pref_probed = subst (λ x. Probed (lanes 0b1111) (config 0x24) x (pref_mask is.0.pref)) (sym file) (probed_pref is.0 (is_multifunction (board_at s.functions) there.0.path) (board_numbers (board_at s.functions) there.0.path))
+    pref_probed = subst (λ x. Probed (lanes 0b1111) (config 0x24) x (pref_mask is.0.pref)) (sym file) (probed_pref is.0 (has_multifunction_bit (board_at s.functions) there.0.path) (board_numbers (board_at s.functions) there.0.path))
 
     pub io_taken : TakesBack s at 0x1c (lanes 0b0011)
     io_taken = takes_back s h at there.0 there.1 (lanes 0b0011) 0x1c (λ _. omega arith) (io_mask is.0.io) io_probed
@@ -47,7 +47,7 @@ module _ (s : State) (h : IsNumbered s) (at : BusAddress) where
     stands : (f : BoardFunction) × (reached s.functions at ≡ Some f) × (f.decl ≡ endpoint is.0)
     stands = reached_decl s.functions at (endpoint is.0) is.1
 
-    cells : stands.0.file ≡ endpoint_reset is.0 (is_multifunction (board_at s.functions) stands.0.path)
+    cells : stands.0.file ≡ endpoint_reset is.0 (has_multifunction_bit (board_at s.functions) stands.0.path)
     cells = grind (arith, each_reached, holds)
 
     lawful : IsLawfulEndpoint is.0
@@ -61,7 +61,7 @@ module _ (s : State) (h : IsNumbered s) (at : BusAddress) where
 
     module _ (n : ℕ) (below : n < 6) where
       probed : Probed (lanes 0b1111) (config (0x10 + 4 * n)) stands.0.file (mask_at n is.0.regions)
-      probed = subst (λ x. Probed (lanes 0b1111) (config (0x10 + 4 * n)) x (mask_at n is.0.regions)) (sym cells) (probed_endpoint n is.0 (is_multifunction (board_at s.functions) stands.0.path) below lawful)
+      probed = subst (λ x. Probed (lanes 0b1111) (config (0x10 + 4 * n)) x (mask_at n is.0.regions)) (sym cells) (probed_endpoint n is.0 (has_multifunction_bit (board_at s.functions) stands.0.path) below lawful)
 
       pub bar_taken : TakesBack s at (0x10 + 4 * n) (lanes 0b1111)
       bar_taken = takes_back s h at stands.0 stands.1 (lanes 0b1111) (0x10 + 4 * n) (λ k. absurd (no_bridge k)) (mask_at n is.0.regions) probed

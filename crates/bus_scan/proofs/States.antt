@@ -2,7 +2,7 @@
 use Rattle.std.{proofs.Common.{◌≡◌, inl, inr, Bool, true, false, cond, ◌&&◌, List, [], ◌∷◌, map, Option, Some, None, refl, sym, ap, ap₂, ◌∙◌, arith}, specs.{Prelude.find, List.list_any, Option.option_map_or}}
 use Rattle.model_registers.specs.{Registers.{config, File, write}, ByteEnables.lanes}
 use Rattle.lists.{specs.Elements.IsIn, proofs.{Members.{any_in, from_any}, FirstFound.found}}
-use Rattle.model_board.{specs.{Paths.{Path, path_eq}, Board.{Decl, endpoint, bridge, Board, Row, is_bridge, is_bridge_at, stands_at, is_multifunction, IsBoard}, State.{BoardFunction, State, with_file, state_of}, Cycles.{BusAddress, reached}, Ports.after_config_write}, proofs.{PathOrder.path_same, PathEnds.path_self}}
+use Rattle.model_board.{specs.{Paths.{Path, path_eq}, Board.{Decl, endpoint, bridge, Board, Row, is_bridge, is_bridge_at, stands_at, has_multifunction_bit, IsBoard}, State.{BoardFunction, State, with_file, state_of}, Cycles.{BusAddress, reached}, Ports.after_config_write}, proofs.{PathOrder.path_same, PathEnds.path_self}}
 use Rattle.model_set_up.{specs.Scanning.{BusNumbers, numbered_file}, proofs.Partings.{one_row, bridge_at}}
 use Rattle.bus_scan.{specs.Scans.{given, StandsAt}, proofs.BridgeNumbers.{numbers_word, FitBytes, bridge_written}}
 
@@ -53,25 +53,25 @@ stands b p h = let f = from_any (λ (s : Row). path_eq s.path p) b h in (f.0, re
 
 module _ (b : Board) (lawful : IsBoard b) (numbers : Numbers) (p : Path) (there : is_bridge_at b p ≡ true) (n : BusNumbers) (fits : FitBytes n) where
   abbrev put : BoardFunction → BoardFunction
-  put f = record f { file = write (lanes 7) (numbers_word n) (config 0x18) f.file }
+  put f = record f { file = write (lanes 15) (numbers_word n) (config 0x18) f.file }
 
   here_changes : (r : Row) → IsIn r b → path_eq r.path p ≡ true → put (numbered b numbers r) ≡ numbered b (given p n numbers) r
   here_changes r m e = by_decl r.decl refl
     where
       by_decl : (d : Decl) → r.decl ≡ d → put (numbered b numbers (record r { decl = d })) ≡ numbered b (given p n numbers) (record r { decl = d })
       by_decl (endpoint d) k = grind (arith, bridge_at, one_row, path_same)
-      by_decl (bridge d) k = rw e (ap (λ (file : File). let f : BoardFunction = record { path = r.path; decl = bridge d; file = file } in f) (bridge_written d (is_multifunction b r.path) (numbers r.path) n fits))
+      by_decl (bridge d) k = rw e (ap (λ (file : File). let f : BoardFunction = record { path = r.path; decl = bridge d; file = file } in f) (bridge_written d (has_multifunction_bit b r.path) (numbers r.path) n fits))
 
   each_written : (r : Row) → IsIn r b → cond (path_eq r.path p) (put (numbered b numbers r)) (numbered b numbers r) ≡ numbered b (given p n numbers) r
   each_written r m = grind (arith, here_changes r m)
 
-  rows_written : (rs : Board) → ((r : Row) → IsIn r rs → IsIn r b) → with_file (write (lanes 7) (numbers_word n) (config 0x18)) p (map (numbered b numbers) rs) ≡ map (numbered b (given p n numbers)) rs
+  rows_written : (rs : Board) → ((r : Row) → IsIn r rs → IsIn r b) → with_file (write (lanes 15) (numbers_word n) (config 0x18)) p (map (numbered b numbers) rs) ≡ map (numbered b (given p n numbers)) rs
   rows_written [] h = refl
   rows_written (r ∷ rs) h = ap₂ ◌∷◌ (each_written r (h r (inl refl))) (rows_written rs (λ s k. h s (inr k)))
 
   -- the state after the write to what a cycle reaches
   pub numbers_written : (s : State) → s ≡ state_of b (numbered_file b numbers) → (at : BusAddress) → reached s.functions at ≡ find (λ f. path_eq f.path p) s.functions
-      → (new : State) → new ≡ record { functions = after_config_write s.functions at 0x18 (lanes 7) (numbers_word n); latch = 0 } → new ≡ state_of b (numbered_file b (given p n numbers))
+      → (new : State) → new ≡ record { functions = after_config_write s.functions at 0x18 (lanes 15) (numbers_word n); latch = 0 } → new ≡ state_of b (numbered_file b (given p n numbers))
   numbers_written s is at reaches new written =
       let fs = (state_of b (numbered_file b numbers)).functions in
       let r = bridge_at b lawful p there in
@@ -79,6 +79,6 @@ module _ (b : Board) (lawful : IsBoard b) (numbers : Numbers) (p : Path) (there 
       let reaches_row : reached s.functions at ≡ Some (numbered b numbers r.0) = reaches ∙ ap (λ (s : State). find (λ f. path_eq f.path p) s.functions) is ∙ one_stands b lawful numbers p r.0 here in
       written
       ∙ ap (λ (fs : List BoardFunction). let s : State = record { functions = fs; latch = 0 } in s)
-      (ap (λ (o : Option BoardFunction). option_map_or (λ (f : BoardFunction). with_file (write (lanes 7) (numbers_word n) (config 0x18)) f.path s.functions) o s.functions) reaches_row
-      ∙ ap₂ (λ (q : Path) (fs : List BoardFunction). with_file (write (lanes 7) (numbers_word n) (config 0x18)) q fs) r.3 (ap (λ (s : State). s.functions) is)
+      (ap (λ (o : Option BoardFunction). option_map_or (λ (f : BoardFunction). with_file (write (lanes 15) (numbers_word n) (config 0x18)) f.path s.functions) o s.functions) reaches_row
+      ∙ ap₂ (λ (q : Path) (fs : List BoardFunction). with_file (write (lanes 15) (numbers_word n) (config 0x18)) q fs) r.3 (ap (λ (s : State). s.functions) is)
       ∙ rows_written b (λ r k. k))

@@ -3,7 +3,7 @@
 --     decl_of      the parts of a declaration that were found
 --     range_of, ended      the buses behind a bridge; the same with another last number
 use Rattle.std.specs.Prelude.{List, ℕ, Option, Some, None, map}
-use Rattle.model_registers.specs.{Declarations.{Bar, Region, Endpoint, plain_endpoint}, EndpointTable.opened}
+use Rattle.model_registers.specs.{Declarations.{Bar, Region, Endpoint, plain_endpoint, plain_bridge}, EndpointTable.opened}
 use Rattle.model_board.specs.Board.{Decl, endpoint, bridge}
 use Rattle.model_set_up.specs.FunctionTable.{BusRange}
 use Rattle.bars.specs.Resets.{at_reset}
@@ -18,13 +18,8 @@ with_identity vendor device pin regions = record (plain_endpoint vendor device 0
 
 abbrev pub decl_of : ℕ → ℕ → Enumerated → Decl
 decl_of vendor device (FoundEndpoint pin bars) = endpoint (with_identity vendor device pin (regions_of bars))
-decl_of vendor device (FoundBridge secondary subordinate io pref) = bridge (record {
-  vendor = vendor;
-  device = device;
-  revision = 0;
-  io = io_decode_of io;
-  pref = pref_decode_of pref;
-})
+decl_of vendor device (FoundBridge secondary subordinate io pref) =
+    bridge (plain_bridge vendor device 0 (io_decode_of io) (pref_decode_of pref))
 
 abbrev pub range_of : Enumerated → Option BusRange
 range_of (FoundEndpoint pin bars) = None

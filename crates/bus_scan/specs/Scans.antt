@@ -7,7 +7,7 @@
 --     IsRefused b f s      the reason why the scan stops early, and the state that it leaves
 use Rattle.std.specs.Prelude.{List, ◌≡◌, ℕ, ◌+◌, ◌<◌, ◌⊎◌, Option, Some, None, map, if◌then◌else◌, IsTrue}
 use Rattle.lists.specs.Elements.{IsIn}
-use Rattle.model_board.specs.{Paths.{Path, path_eq}, Board.{Decl, endpoint, bridge, is_bridge, Row, Board, is_multifunction, IsBoard}, BusNumbers.{secondary, bus_behind, bus_of, Enumerates}, State.State, Cycles.BusAddress, Lawful.HasLawfulDecls}
+use Rattle.model_board.specs.{Paths.{Path, path_eq}, Board.{Decl, endpoint, bridge, is_bridge, Row, Board, has_multifunction_bit, IsBoard}, BusNumbers.{secondary, bus_behind, bus_of, Enumerates}, State.State, Cycles.BusAddress, Lawful.HasLawfulDecls}
 use Rattle.model_set_up.specs.{FunctionTable.{BusRange, TableRow, met_decl}, Scanning.{BusNumbers, scan_numbers, scan_state, IsBus, HasOwnNumbers}, ScanOrder.{nth_part, on, met}}
 use Rattle.host_bridge.specs.HostState.{HostState}
 use Rattle.bus_scan.specs.{declared.{enumeration.Enumeration.Enumeration, fault.Fault.{Fault, TheVariants.{Buses, Memory}}, probed_header.ProbedHeader.ProbedHeader}, Sights.seen_of}
@@ -47,7 +47,7 @@ pub record StandsAt (b : Board) (p : Path) (r : Row) : Type 0 where
 pub record IsFound (b : Board) (bus : Path) (number n : ℕ) (r : Row) (seen : ProbedHeader) : Type 0 where
   pub on_bus : OnBus b bus number
   pub stands : StandsAt b (on bus n) r
-  pub shows : seen ≡ seen_of (is_multifunction b (on bus n)) r.decl
+  pub shows : seen ≡ seen_of (has_multifunction_bit b (on bus n)) r.decl
 
 pub record IsBridgeThere (b : Board) (bus : Path) (number n : ℕ) (r : Row) (at : BusAddress) : Type 0 where
   pub on_bus : OnBus b bus number

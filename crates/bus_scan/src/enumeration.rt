@@ -1,7 +1,7 @@
 //! Enumeration of a board by configuration cycles (PCI-to-PCI Bridge Architecture 1.2, section
 //! 3.2.5).
 ghost use Rattle.std.specs.Prelude.{◌≡◌, ◌⊎◌, ◌<◌, ◌+◌, [], ◌∷◌, ◌++◌, length, IfOk, IfErr, MatchResult, IsTrue, Some, find, ℕ, ◌≤◌};
-ghost use Rattle.model_board.specs.{Paths.{Path as PathValue, path_eq}, Board.{Board, Row, is_bridge_at, is_multifunction, IsBoard}, BusNumbers.{Enumerates, secondary}, State.state_of, Cycles.reached, AtReset.{board_at, IsAtReset}};
+ghost use Rattle.model_board.specs.{Paths.{Path as PathValue, path_eq, devfn_count}, Board.{Board, Row, is_bridge_at, has_multifunction_bit, IsBoard}, BusNumbers.{Enumerates, secondary}, State.state_of, Cycles.reached, AtReset.{board_at, IsAtReset}};
 ghost use Rattle.model_set_up.specs.{Scanning.{BusNumbers, numbered_file, numbered_state, IsNumbered, HasOwnNumbers}, ScanOrder.{on, next_devfn_to_probe, met}, FunctionTable.{TableRow, scanned_table}};
 ghost use Rattle.paths.specs.BusAddresses.{bus_address_of};
 ghost use Rattle.bus_scan.specs.{declared.fault.Fault.TheVariants.{Buses, Memory}, Scans.{given, ComesTo, OnBus, IsBridgeThere, IsRefused}, Sights.seen_of, Rows.{decl_of, range_of}};
@@ -24,7 +24,8 @@ struct Enumeration {
     last: u8,
 }
 
-/// Writes the Primary, Secondary and Subordinate Bus Number of the bridge at a BDF.
+/// Writes the Primary, Secondary and Subordinate Bus Number of the bridge at a BDF, in one dword
+/// with the Secondary Latency Timer, which stays 0: no processor writes three bytes at once.
 fn write_bus_numbers(host: &mut Host, at: Bdf, primary: u8, secondary: u8, subordinate: u8)
     ensures written { (b : Board) (numbers : PathValue → BusNumbers) (p : PathValue)
         → IsBoard b → IsTrue (is_bridge_at b p)
@@ -36,7 +37,7 @@ fn write_bus_numbers(host: &mut Host, at: Bdf, primary: u8, secondary: u8, subor
     ensures kept { host.new.apertures ≡ host.old.apertures }
 {
     let numbers = u32::from_le_bytes([primary, secondary, subordinate, 0]);
-    host.config_write(at, 0x18, 0b0111, numbers);
+    host.config_write(at, 0x18, 0b1111, numbers);
 }
 
 impl Enumeration {
@@ -80,7 +81,7 @@ impl Enumeration {
     ) -> Result<u8, Fault>
         ensures opened { (b : Board) (on_path : PathValue) (n : ℕ) (r : Row) →
             IsBridgeThere b on_path bus n r (bus_address_of at)
-            → path ≡ on on_path n → seen ≡ seen_of (is_multifunction b path) r.decl
+            → path ≡ on on_path n → seen ≡ seen_of (has_multifunction_bit b path) r.decl
             → ComesTo b (on on_path n) host.old self.old
             → MatchResult result
             (λ number. (number ≡ secondary b (on on_path n))
@@ -112,7 +113,7 @@ impl Enumeration {
         ensures closed { (b : Board) (on_path : PathValue) (n : ℕ) (r : Row) →
             IsBridgeThere b on_path bus n r (bus_address_of at)
             → number ≡ secondary b (on on_path n) → index ≡ length (met b (on on_path n))
-            → ComesTo b (on (on on_path n) 128) host.old self.old
+            → ComesTo b (on (on on_path n) devfn_count) host.old self.old
             → ComesTo b (on on_path (next_devfn_to_probe b on_path n)) host.new self.new }
         ensures rows { length self.new.rows.items ≡ length self.old.rows.items }
         ensures kept { host.new.apertures ≡ host.old.apertures }
@@ -135,7 +136,7 @@ impl Enumeration {
     ) -> Result<(), Fault>
         ensures scanned { (b : Board) (on_path : PathValue) (n : ℕ) (r : Row) →
             IsBridgeThere b on_path bus n r (bus_address_of at)
-            → path ≡ on on_path n → seen ≡ seen_of (is_multifunction b path) r.decl
+            → path ≡ on on_path n → seen ≡ seen_of (has_multifunction_bit b path) r.decl
             → ComesTo b (on on_path n) host.old self.old
             → MatchResult result
             (λ _. ComesTo b (on on_path (next_devfn_to_probe b on_path n)) host.new self.new)
@@ -162,8 +163,8 @@ impl Enumeration {
         host: &mut Host,
         bus: &[Part],
         number: u8,
-        n: u8,
-    ) -> Result<u8, Fault>
+        n: u16,
+    ) -> Result<u16, Fault>
         requires short { length bus.now < 16 }
         requires part { n < PARTS }
         ensures later { IfOk result (λ m. (n < m) × (m ≤ PARTS)) }
@@ -199,7 +200,7 @@ impl Enumeration {
         ensures scanned { (b : Board) → OnBus b bus.now number
             → ComesTo b (on bus.now 0) host.old self.old
             → MatchResult result
-            (λ _. ComesTo b (on bus.now 128) host.new self.new)
+            (λ _. ComesTo b (on bus.now devfn_count) host.new self.new)
             (λ f. IsRefused b f host.new.state) }
         ensures rows { IfOk result (λ _.
             length self.old.rows.items ≤ length self.new.rows.items) }

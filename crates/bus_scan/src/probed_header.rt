@@ -1,7 +1,7 @@
 //! The registers of a function that the scan reads: identification, header type and interrupt pin
 //! (PCI Local Bus 3.0, sections 6.2.1 and 6.2.4).
 ghost use Rattle.std.specs.Prelude.{◌≡◌, ◌<◌, ◌/◌, ◌%◌, ◌^◌, Some, None};
-ghost use Rattle.model_board.specs.{Paths.Path, Board.{Board, is_multifunction}, Cycles.reached, Lawful.IsLawfulDecl, State.BoardFunction};
+ghost use Rattle.model_board.specs.{Paths.Path, Board.{Board, has_multifunction_bit}, Cycles.reached, Lawful.IsLawfulDecl, State.BoardFunction};
 ghost use Rattle.model_set_up.specs.Scanning.{BusNumbers, numbered_file};
 ghost use Rattle.paths.specs.BusAddresses.{bus_address_of};
 ghost use Rattle.host_bridge.specs.HostState.{with_latch};
@@ -43,7 +43,7 @@ pub(crate) fn probe_header(host: &mut Host, at: Bdf) -> Option<ProbedHeader>
         (b : Board) (numbers : Path → BusNumbers) (f : BoardFunction)
         → reached fs (bus_address_of at) ≡ Some f →
         f.file ≡ numbered_file b numbers f.path f.decl → IsLawfulDecl f.decl
-        → result ≡ Some (seen_of (is_multifunction b f.path) f.decl) }
+        → result ≡ Some (seen_of (has_multifunction_bit b f.path) f.decl) }
     ensures after { host.new ≡ with_latch 0 host.old }
 {
     let identity = host.config_read(at, 0x00, 0b1111);

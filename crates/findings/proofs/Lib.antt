@@ -11,3 +11,4 @@ pub mod WhyRows
 pub mod HeldRegions
 pub mod BridgesOnWay
 pub mod AddressBuses
+mod Decimals

@@ -8,33 +8,6 @@ use paths::{Part, Path};
 /// The text of a path. The longest has sixteen parts of four bytes, separated by slashes.
 pub type PathBytes = ArrayVec<u8, 79>;
 
-/// Returns the decimal digits of a device or function number.
-fn decimal_below_16(number: u8) -> &'static [u8]
-    requires { number < 16 }
-    ensures text { result.now ≡ decimal number }
-    ensures short { length result.now ≤ 2 }
-    ensures digit { number < 10 → length result.now ≤ 1 }
-{
-    match number {
-        0 => b"0",
-        1 => b"1",
-        2 => b"2",
-        3 => b"3",
-        4 => b"4",
-        5 => b"5",
-        6 => b"6",
-        7 => b"7",
-        8 => b"8",
-        9 => b"9",
-        10 => b"10",
-        11 => b"11",
-        12 => b"12",
-        13 => b"13",
-        14 => b"14",
-        _ => b"15",
-    }
-}
-
 fn push_bytes(text: &mut PathBytes, bytes: &[u8])
     requires { length text.old.items + length bytes.now ≤ 79 }
     ensures items { text.new.items ≡ text.old.items ++ bytes.now }
@@ -43,15 +16,30 @@ fn push_bytes(text: &mut PathBytes, bytes: &[u8])
     let _ = text.try_extend_from_slice(bytes);
 }
 
+/// Appends a number below 100 in decimal.
+fn push_decimal(text: &mut PathBytes, number: u8)
+    requires number { number < 100 }
+    requires room { length text.old.items + 1 ≤ 79 }
+    requires more_room { 10 ≤ number → length text.old.items + 2 ≤ 79 }
+    ensures items { text.new.items ≡ text.old.items ++ decimal number }
+    ensures len { length text.new.items ≤ length text.old.items + 2 }
+    ensures digit { number < 10 → length text.new.items ≤ length text.old.items + 1 }
+{
+    if number >= 10 {
+        push_bytes(text, &[b'0' + number / 10]);
+    }
+    push_bytes(text, &[b'0' + number % 10]);
+}
+
 /// Appends a device and a function number, separated by a dot.
 fn push_part(text: &mut PathBytes, part: Part)
     requires { length text.old.items + 4 ≤ 79 }
     ensures items { text.new.items ≡ text.old.items ++ part_text part }
     ensures len { length text.new.items ≤ length text.old.items + 4 }
 {
-    push_bytes(text, decimal_below_16(part.device()));
+    push_decimal(text, part.device());
     push_bytes(text, b".");
-    push_bytes(text, decimal_below_16(part.function()));
+    push_decimal(text, part.function());
 }
 
 /// Appends parts, separated by slashes.

@@ -1,8 +1,6 @@
 -- Converts the decode modes of a bridge's windows between the program's types and the formal model.
 --     io_decode_of, named_io_decode      for the I/O window, from the program's type and back
 --     pref_decode_of, named_pref_decode      for the prefetchable window
---     bridge_of      a bridge with these declared values
-use Rattle.std.specs.Prelude.{ℕ}
 use Rattle.model_registers.specs.Declarations.{no_io, io16, io32, no_pref, pref32, pref64}
 use Rattle.headers.specs.declared.decodes.{IoDecode.IoDecode, PrefDecode.PrefDecode}
 use Rattle.model_registers.specs.Declarations as model
@@ -28,12 +26,3 @@ abbrev pub named_pref_decode : model.PrefDecode → PrefDecode
 named_pref_decode no_pref = pref.Unimplemented
 named_pref_decode pref32 = pref.Bits32
 named_pref_decode pref64 = pref.Bits64
-
-abbrev pub bridge_of : ℕ → ℕ → ℕ → IoDecode → PrefDecode → model.Bridge
-bridge_of vendor device revision io pref = record {
-  vendor = vendor;
-  device = device;
-  revision = revision;
-  io = io_decode_of io;
-  pref = pref_decode_of pref;
-}

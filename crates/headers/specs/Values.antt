@@ -14,6 +14,7 @@ endpoint_of v = record {
   min_gnt = v.min_gnt;
   max_lat = v.max_lat;
   status = v.status;
+  multifunction = v.multifunction;
   regions = v.bar.items;
   blocks = v.config.items;
 }

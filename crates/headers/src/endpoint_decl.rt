@@ -14,6 +14,7 @@ use std::alloc::Global;
 use std::marker::Model;
 
 /// The values declared for an endpoint, not yet validated. Regions and blocks may be in any order.
+/// `multifunction` says whether bit 7 of the header type may be set in functions 1 to 7.
 #[derive(Clone, Debug, Drop)]
 pub struct EndpointValues {
     pub vendor: u16,
@@ -26,6 +27,7 @@ pub struct EndpointValues {
     pub min_gnt: u8,
     pub max_lat: u8,
     pub status: u16,
+    pub multifunction: bool,
     pub bar: Vec<Region>,
     pub config: Vec<ConfigBlock>,
 }
@@ -47,7 +49,7 @@ impl EndpointValues {
     ghost use Rattle.model_registers.specs.Declarations.{plain_endpoint};
 
     /// Returns an endpoint with this identity and class code, without regions or device-specific
-    /// registers. All other values are 0.
+    /// registers. All other values are 0. The header type may have bit 7 set.
     pub fn plain(alloc: Global, vendor: u16, device: u16, class: u32) -> EndpointValues
         ensures { result ≡ plain_endpoint vendor device class }
     {
@@ -62,6 +64,7 @@ impl EndpointValues {
             min_gnt: 0,
             max_lat: 0,
             status: 0,
+            multifunction: true,
             bar: Vec::new(alloc),
             config: Vec::new(alloc),
         }
@@ -73,7 +76,7 @@ impl EndpointValues {
         self.vendor < 0xffff
             && self.class < 1 << 24
             && self.pin <= 4
-            && self.status & 0xf900 | config_block::capabilities_list_bit(&self.config)
+            && self.status & 0xffe0 | config_block::capabilities_list_bit(&self.config)
                 == self.status
             && region::blocks_are_within_limit(&self.bar)
             && config_block::are_lawful(&self.config)

@@ -12,7 +12,7 @@ use paths::{Part, Path};
 fn sum_of_device_numbers(parts: &[Part]) -> u32
     requires { length parts.now ≤ 16 }
     ensures value { result ≡ sum_by (λ p. p.device) parts.now }
-    ensures bound { result < 256 }
+    ensures bound { result < 512 }
 {
     let mut sum = 0;
     for part in parts {

@@ -13,10 +13,10 @@ behind_2 d h = grind arith
 pub main_is_board : IsBoard main_board
 main_is_board = grind (arith, on_bus_0, behind_2)
 
-pub plain_is_lawful : (id status pin : ℕ) (rs : List Region) → id < 2 ^ 16 → bit_and status 0xf900 ≡ status → pin ≤ 4 → HasLawfulRegions rs → Each (λ r. length r.cells ≤ 4096) rs
+pub plain_is_lawful : (id status pin : ℕ) (rs : List Region) → id < 2 ^ 16 → bit_and status 0xffe0 ≡ status → pin ≤ 4 → HasLawfulRegions rs → Each (λ r. length r.cells ≤ 4096) rs
     → IsLawfulEndpoint (plain id status pin rs)
 plain_is_lawful id status pin rs device status_is small regions blocks =
-    let no_list = or_zero_r (bit_and status 0xf900) ∙ status_is in grind (arith, no_list)
+    let no_list = or_zero_r (bit_and status 0xffe0) ∙ status_is in grind (arith, no_list)
 
 first_regions : HasLawfulRegions (first_endpoint).regions
 first_regions = record {

@@ -6,4 +6,5 @@ pub mod PlacesLaw
 pub mod ClaimLanes
 pub mod ConfigAccesses
 pub mod StateRows
+pub mod Rows
 pub mod LawfulBoards

@@ -5,11 +5,11 @@
 --     IsAtReset      a lawful board with all cells at reset and CONFIG_ADDRESS 0
 use Rattle.std.specs.Prelude.{List, ◌≡◌, map}
 use Rattle.model_registers.specs.{Registers.File, EndpointTable.endpoint_reset, BridgeTable.bridge_reset}
-use Rattle.model_board.specs.{Paths.Path, Board.{Decl, endpoint, bridge, Board, is_multifunction, IsBoard}, State.{BoardFunction, State, row_at, state_of}, Lawful.HasLawfulDecls}
+use Rattle.model_board.specs.{Paths.Path, Board.{Decl, endpoint, bridge, Board, has_multifunction_bit, IsBoard}, State.{BoardFunction, State, row_at, state_of}, Lawful.HasLawfulDecls}
 
 abbrev pub reset_file : Board → Path → Decl → File
-reset_file b p (endpoint d) = endpoint_reset d (is_multifunction b p)
-reset_file b p (bridge d) = bridge_reset d (is_multifunction b p)
+reset_file b p (endpoint d) = endpoint_reset d (has_multifunction_bit b p)
+reset_file b p (bridge d) = bridge_reset d (has_multifunction_bit b p)
 
 abbrev pub reset_state : Board → State
 reset_state b = state_of b (reset_file b)

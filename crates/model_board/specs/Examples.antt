@@ -2,7 +2,7 @@
 --     main_board, main_apertures      two endpoints behind a bridge, and one endpoint on bus 0
 --     many_bridges      255 bridges
 use Rattle.std.specs.Prelude.{List, [], ◌∷◌, ℕ, zero, suc, ◌/◌, ◌%◌, true, false, replicate, ◌++◌, Some}
-use Rattle.model_registers.specs.{Cell.Cell, Declarations.{Kind, io_kind, mem32, mem64, Region, Endpoint, plain_endpoint, no_io, io16, no_pref, pref64, Bridge}, Apertures.{Aperture, Apertures}}
+use Rattle.model_registers.specs.{Cell.Cell, Declarations.{Kind, io_kind, mem32, mem64, Region, Endpoint, plain_endpoint, no_io, io16, no_pref, pref64, Bridge, plain_bridge}, Apertures.{Aperture, Apertures}}
 use Rattle.model_board.specs.{Paths.{Part, Path}, Board.{Decl, endpoint, bridge, Row, Board}}
 
 abbrev pub part : ℕ → ℕ → Part
@@ -35,7 +35,7 @@ first_endpoint = plain 1 0x8000 1 (
     ∷ record { index = 1; kind = mem32 false; size = 4096; cells = replicate 64 (writable_cell 0) } ∷ [])
 
 abbrev pub main_bridge : Bridge
-main_bridge = record { vendor = 0x1234; device = 2; revision = 0; io = io16; pref = pref64 }
+main_bridge = plain_bridge 0x1234 2 0 io16 pref64
 
 abbrev pub second_endpoint : Endpoint
 second_endpoint = plain 3 0 0 (region 0 (mem32 false) 0x100000 ∷ region 1 io_kind 8 ∷ [])
@@ -66,7 +66,7 @@ main_apertures = record {
 
 -- a bridge that forwards memory only
 abbrev pub memory_bridge : Bridge
-memory_bridge = record { vendor = 0x1234; device = 5; revision = 0; io = no_io; pref = no_pref }
+memory_bridge = plain_bridge 0x1234 5 0 no_io no_pref
 
 -- 128 bridges on bus 0, and one behind each of them except the last
 abbrev pub many_pairs : ℕ → Board

@@ -3,7 +3,8 @@
 --     path_before, is_ancestor_of      path order; one path is a proper prefix of another
 --     parent, last_part      the bridge above; the device and function on its own bus
 --     same_device, function_zero      two functions are in one device; function 0 of a device
---     IsPart, IsPath      16 devices of 8 functions on a bus; at most 16 buses down
+--     devfn_count      how many device and function numbers a bus has
+--     IsPart, IsPath      32 devices of 8 functions on a bus; at most 16 buses down
 use Rattle.std.specs.Prelude.{List, [], ◌∷◌, ℕ, ◌<◌, Bool, true, false, ◌&&◌, ◌==◌, ◌≤◌, length, ◌||◌, nat_lt}
 use Rattle.lists.specs.Elements.{Each}
 
@@ -60,8 +61,12 @@ function_zero (p ∷ q ∷ ps) = p ∷ function_zero (q ∷ ps)
 abbrev pub same_device : Path → Path → Bool
 same_device p q = path_eq (parent p) (parent q) && ((last_part p).device == (last_part q).device)
 
+-- how many functions a bus can have: 8 in each of 32 devices
+abbrev pub devfn_count : ℕ
+devfn_count = 256
+
 pub record IsPart (p : Part) : Type 0 where
-  pub device_fits : p.device < 16
+  pub device_fits : p.device < 32
   pub function_fits : p.function < 8
 
 pub record IsPath (p : Path) : Type 0 where

@@ -1,7 +1,7 @@
 -- A scan of all addresses finds all functions of a numbered state.
 use Rattle.std.{proofs.Common.{◌≡◌, ℕ, zero, suc, ◌+◌, ◌*◌, ◌/◌, ◌%◌, ◌<◌, inl, inr, List, [], ◌∷◌, length, Option, Some, None, refl, sym, subst, arith}, specs.{Prelude.{map, find}, List.range_with_len, Option.{option_to_list, option_map_or}}}
 use Rattle.lists.{specs.Elements.{Each, IsIn}, proofs.{Members.{each_in, each_from, in_map, in_flat_map}, FirstFound.found_in}}
-use Rattle.model_board.specs.{Paths.{Path, parent, last_part, IsPart, IsPath}, Board.Row, State.{BoardFunction, row_at}, Cycles.{secondary_register, BusAddress, reached}}
+use Rattle.model_board.specs.{Paths.{Path, parent, last_part, devfn_count, IsPart, IsPath}, Board.Row, State.{BoardFunction, row_at}, Cycles.{secondary_register, BusAddress, reached}}
 use Rattle.model_findings.{specs.Found.{is_bridge_at, current_bus_number, current_bdf, IsFoundOnce, address_at, scan_order, scanned, ScanFindsAll}, proofs.Found.found_once}
 
 in_range : (a n k : ℕ) → k < n → IsIn (a + k) (range_with_len a n)
@@ -22,13 +22,13 @@ leaves d f h = omega arith
 in_scan : (at : BusAddress) → at.bus < 256 → IsPart at.part → IsIn at scan_order
 in_scan at small lawful =
     let n : ℕ = at.part.device * 8 + at.part.function in
-    let fits : at.part.device * 8 + at.part.function < 128 = omega (arith, lawful.device_fits, lawful.function_fits) in
+    let fits : at.part.device * 8 + at.part.function < devfn_count = omega (arith, lawful.device_fits, lawful.function_fits) in
     let d : (at.part.device * 8 + at.part.function) / 8 ≡ at.part.device = divides at.part.device at.part.function lawful.function_fits in
     let f : (at.part.device * 8 + at.part.function) % 8 ≡ at.part.function = leaves at.part.device at.part.function lawful.function_fits in
     let same : address_at at.bus (at.part.device * 8 + at.part.function) ≡ at = λ i. record { bus = at.bus; part = record { device = d i; function = f i } } in
     subst (λ x. IsIn x scan_order) same
-    (in_flat_map (λ bus. map (address_at bus) (range_with_len 0 128)) at.bus (address_at at.bus (at.part.device * 8 + at.part.function)) (range_with_len 0 256) (below 256 at.bus small)
-    (in_map (address_at at.bus) (at.part.device * 8 + at.part.function) (range_with_len 0 128) (below 128 (at.part.device * 8 + at.part.function) fits)))
+    (in_flat_map (λ bus. map (address_at bus) (range_with_len 0 devfn_count)) at.bus (address_at at.bus (at.part.device * 8 + at.part.function)) (range_with_len 0 256) (below 256 at.bus small)
+    (in_map (address_at at.bus) (at.part.device * 8 + at.part.function) (range_with_len 0 devfn_count) (below devfn_count (at.part.device * 8 + at.part.function) fits)))
 
 last_lawful : (p : Path) → 0 < length p → Each IsPart p → IsPart (last_part p)
 last_lawful [] h k = absurd (omega arith)

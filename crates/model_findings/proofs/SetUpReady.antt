@@ -2,7 +2,7 @@
 use Rattle.std.{proofs.{Common.{◌≡◌, ℕ, ◌+◌, ◌≤◌, ◌<◌, ◌⊎◌, true, false, List, [], ◌∷◌, Option, refl, sym, ◌∙◌, subst, arith, rules}, lemmas.Bool.Decides.nat_tests}, specs.Prelude.{map, filter, IsTrue}}
 use Rattle.lists.{specs.Elements.{Each, IsIn}, proofs.Members.{each_in, each_from, from_flat_map, from_map, from_filter, any_in, none_front, each_none}}
 use Rattle.model_registers.specs.{Apertures.{Aperture, Apertures}, Declarations.{Region, Endpoint}, Decoding.{Space, base_address, space_of, same_space, opens_space}, EndpointTable.BaseAddress, Registers.File}
-use Rattle.model_board.specs.{Board.{Board, Row, Decl, endpoint, bridge, is_bridge, is_bridge_at, is_multifunction}, BusNumbers.{Enumerates, bus_behind}, Paths.{Path, IsPath, parent}, State.BoardFunction, Routing.{RoutingRow, row_of, routing}, Windows.is_in}
+use Rattle.model_board.specs.{Board.{Board, Row, Decl, endpoint, bridge, is_bridge, is_bridge_at, has_multifunction_bit}, BusNumbers.{Enumerates, bus_behind}, Paths.{Path, IsPath, parent}, State.BoardFunction, Routing.{RoutingRow, row_of, routing}, Windows.is_in}
 use Rattle.model_set_up.{specs.{Pools.{Pool, pref_pool, bridges_above}, Layout.{LayoutRow, IsLawful, layout}, PlacementLaws.{pool_at, region_row, HasRows}, PlacedRegions.{PlacedRegion, placed, pool_space, holds}, SetUp.{first_of, set_up_file, set_up_state}, UniqueClaimant.CanBePlaced, WindowLaws.{placed_window, HasPlacedWindows}}, proofs.{Holders.{Holds, holds_is, self_space}, PlacedApart.pool_of_space, PlacedReads.InAperture, PlacedRegions.region_there, SetUpNumbers.{numbers_small, set_up_has_numbers}, SetUpRegisters.endpoint_opens, UniqueClaimant.{bases, left}, LawfulPlacement.layout_is_lawful, DeclaredRows.one_row_per_region_or_window, BoardWindows.set_up_windows}}
 use Rattle.model_findings.{specs.{OpenRegions.{region_now, regions_of, open_of, open_regions}, Found.current_bus_number, ReadinessIssues.{primary_register, is_in_apertures, is_non_prefetchable_memory, plain_of, plain_regions, prefetches, primary_bus_issue, readiness_issues}, ReadyLaws.{IsWithinApertures, PrefetchesNone, LacksNothing, SetUpIsReady, ReadyAsSetUp}}, proofs.{Found.numbers_of_board, Holding.window_row_held, Placing.regions_placed, SetUpPasses.{set_up_passes_the_audit, routed_as_set_up}, Lacks.nothing_lacking}}
 
@@ -27,7 +27,7 @@ module _ (b : Board) (a : Apertures) (few : Enumerates b) (can : CanBePlaced b a
   -- ---- open
 
   placed_opens : (p : Path) (d : Endpoint) (g : Region) → IsIn g d.regions → opens_space (row_of (left b a (record { path = p; decl = endpoint d }))).command (space_of g.kind) ≡ true
-  placed_opens p d g k = endpoint_opens d (is_multifunction b p) (first_of b a p) (space_of g.kind) ∙ any_in (λ (x : Region). same_space (space_of x.kind) (space_of g.kind)) g d.regions k (self_space (space_of g.kind))
+  placed_opens p d g k = endpoint_opens d (has_multifunction_bit b p) (first_of b a p) (space_of g.kind) ∙ any_in (λ (x : Region). same_space (space_of x.kind) (space_of g.kind)) g d.regions k (self_space (space_of g.kind))
 
   opened : (p : Path) (d : Decl) → IsIn (record { path = p; decl = d }) b → Each (λ q. IsTrue (opens_space (row_of (left b a (record { path = p; decl = d }))).command q.space)) (regions_of (row_of (left b a (record { path = p; decl = d }))))
   opened p (bridge d) m = tt

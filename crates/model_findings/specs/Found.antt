@@ -10,7 +10,7 @@
 --     NumbersOfBoard      a board that holds its own numbers is numbered, and its BDFs are those of the board
 use Rattle.std.specs.{Prelude.{List, [], ◌∷◌, ◌≡◌, ℕ, ◌<◌, ◌/◌, ◌%◌, Bool, ◌&&◌, Option, Some, find, flat_map, map}, Option.{option_map, option_map_or, option_to_list}, List.range_with_len}
 use Rattle.lists.specs.Elements.{Each, IsIn}
-use Rattle.model_board.specs.{Paths.{Path, path_eq, parent, last_part}, Board.{is_bridge, Board, IsBoard}, State.BoardFunction, Cycles.{secondary_register, BusAddress, reached}}
+use Rattle.model_board.specs.{Paths.{Path, path_eq, parent, last_part, devfn_count}, Board.{is_bridge, Board, IsBoard}, State.BoardFunction, Cycles.{secondary_register, BusAddress, reached}}
 use Rattle.model_set_up.specs.Reach.{HasNumbers, address_of}
 use Rattle.model_findings.specs.Orderly.{IsStateOfBoard}
 
@@ -39,12 +39,12 @@ pub record IsFoundOnce (fs : List BoardFunction) (f : BoardFunction) : Type 0 wh
 abbrev pub FoundOnce : Type 0
 FoundOnce = (fs : List BoardFunction) → IsStateOfBoard fs → IsNumbered fs → Each (IsFoundOnce fs) fs
 
--- 256 buses of 16 devices of 8 functions
+-- 256 buses
 abbrev pub address_at : ℕ → ℕ → BusAddress
 address_at bus n = record { bus = bus; part = record { device = n / 8; function = n % 8 } }
 
 abbrev pub scan_order : List BusAddress
-scan_order = flat_map (λ bus. map (address_at bus) (range_with_len 0 128)) (range_with_len 0 256)
+scan_order = flat_map (λ bus. map (address_at bus) (range_with_len 0 devfn_count)) (range_with_len 0 256)
 
 abbrev pub scanned : List BoardFunction → List BoardFunction
 scanned fs = flat_map (λ at. option_to_list (reached fs at)) scan_order

@@ -2,7 +2,7 @@
 use Rattle.std.{proofs.Common.{◌≡◌, true, false, not, List, [], ◌∷◌, Option, ap, arith}, specs.{Prelude.map, Option.option_map_or}}
 use Rattle.lists.{specs.Elements.IsIn, proofs.{EachLemmas.{each_of_map, each_map}, Members.{any_in, in_map, from_map, from_filter, from_flat_map, no_elements}}}
 use Rattle.model_registers.specs.{Registers.File, EndpointTable.{BaseAddress, endpoint_reset}, Declarations.{Region, Endpoint}, CopiedFiles.shape_of, Decoding.{space_of, base_address, opens_space, command_word, is_open}, Apertures.Apertures}
-use Rattle.model_board.{specs.{Paths.Path, Board.{Decl, endpoint, bridge, Board, IsBoard, is_multifunction}, Lawful.{IsLawfulDecl, HasLawfulDecls}, Ports.file_at, Routing.{row_of, routing}, State.BoardFunction}, proofs.StateRows.state_rows}
+use Rattle.model_board.{specs.{Paths.Path, Board.{Decl, endpoint, bridge, Board, IsBoard, has_multifunction_bit}, Lawful.{IsLawfulDecl, HasLawfulDecls}, Ports.file_at, Routing.{row_of, routing}, State.BoardFunction}, proofs.StateRows.state_rows}
 use Rattle.model_set_up.{specs.{PlacedRegions.{PlacedRegion, placed}, SetUp.{command_of, first_of, bridge_values, set_up_file, set_up_state}}, proofs.{DeclaredRows.one_row_per_region_or_window, Holders.self_space, LawfulPlacement.layout_is_lawful, SetUpNumbers.set_up_has_numbers, SetUpRegisters.endpoint_opens, UniqueClaimant.left}}
 use Rattle.model_findings.{specs.{OpenRegions.{region_now, closed_of, closed_regions}, Orderly.IsStateOfBoard}, proofs.{Found.numbers_of_board, Witnesses.problems_are_real_and_complete, Placing.regions_placed, SetUpPasses.set_up_passes_the_audit}}
 use Rattle.model_guests.proofs.TablePlaces.{Alike, alike_tables}
@@ -13,11 +13,11 @@ state_is b a board decls = grind (arith, state_rows)
 
 -- with the cells that it has at reset, but for its routing registers
 pub alike : (b : Board) (a : Apertures) (p : Path) (d : Endpoint) → IsLawfulDecl (endpoint d) → Alike (endpoint_reset d false) (set_up_file b a p (endpoint d))
-alike b a p d lawful = alike_tables d (is_multifunction b p) (command_of d) (first_of b a p) lawful.regions.each
+alike b a p d lawful = alike_tables d (has_multifunction_bit b p) (command_of d) (first_of b a p) lawful.regions.each
 
 shape_is : (b : Board) (a : Apertures) (p : Path) (d : Decl) → shape_of (set_up_file b a p d) ≡ shape_of (declared_cells d)
-shape_is b a p (endpoint d) = endpoint_shape d (is_multifunction b p) (command_of d) (first_of b a p)
-shape_is b a p (bridge d) = bridge_shape d (is_multifunction b p) (bridge_values b a p)
+shape_is b a p (endpoint d) = endpoint_shape d (has_multifunction_bit b p) (command_of d) (first_of b a p)
+shape_is b a p (bridge d) = bridge_shape d (has_multifunction_bit b p) (bridge_values b a p)
 
 pub set_up_is_handoff : SetUpIsHandoff
 set_up_is_handoff b a board decls = grind (arith, state_is, each_of_map, each_map, shape_is, state_rows)

@@ -2,7 +2,7 @@
 use Rattle.std.{proofs.Common.{◌≡◌, ℕ, Bool, List, [], ◌∷◌, Some, None, Option, refl, sym, ap, ◌∙◌, subst}, specs.{Prelude.map, Option.option_map_or}}
 use Rattle.lists.{specs.Elements.Each, proofs.EachLemmas.{each_from_map, each_map}}
 use Rattle.model_registers.{specs.{Registers.{Place, File, write}, Capabilities.write_of}, proofs.Capabilities.{lists_held, lists_after, list_shown}}
-use Rattle.model_board.{specs.{Paths.Path, Board.{Decl, endpoint, bridge, Row, Board, is_multifunction}, AtReset.{board_at, reset_file}, Lawful.HasLawfulDecls, State.{BoardFunction, State, row_at}}, proofs.StateRows.state_rows}
+use Rattle.model_board.{specs.{Paths.Path, Board.{Decl, endpoint, bridge, Row, Board, has_multifunction_bit}, AtReset.{board_at, reset_file}, Lawful.HasLawfulDecls, State.{BoardFunction, State, row_at}}, proofs.StateRows.state_rows}
 use Rattle.model_guests.{specs.{Text.Text, World.{World, IsLawfulWorld, declared, endpoint_of}, Guests.{GuestsNow, file_of, guests_at_first}, AgreedBoard.state_over, Lines.meaning, LineRuns.after_lines, Seated.AreSeated, WorldNow.{WorldNow, names_now}}, proofs.{Along.seated_meaning, DeclaredRows.rows_found, ListedBoards.{GuestsReached, HoldsAt, Holds, all_agreed, guests_hold, guests_reached_at_first, meaning_reached}, SeatedFirst.seated_at_first}}
 use Rattle.model_handoff.{specs.{Handoffs.taken_over, Regions.{HandoffFault, first_fault}}, proofs.{First.first_is_reset, Keeping.rows_stay}}
 use Rattle.model_lines.{specs.{FirmwareLines.{Meaning, nothing, asked, bad}, Requests.{HostRequest, for_report, for_guests, for_why, request}, Sessions.{DrivenNow, SessionNow, driven, given, at_reset, session_functions, session_protocol, handed_over, after_handover, after_meant, after_board_line, after_request, after_session_line}, SessionLists.{ShowsDeclared, SessionsShowLists}}, proofs.FirmwareLeaves.{IsKept, access_alike}}
@@ -16,7 +16,7 @@ record DrivenHolds (b : DrivenNow) : Type 0 where
   lists : Each Holds b.state.functions
 
 reset_holds : (b : Board) (p : Path) (d : Decl) → HasLawfulDecls (record { path = p; decl = d } ∷ []) → HoldsAt d (reset_file b p d)
-reset_holds b p (endpoint d) h = lists_held d h.0 (is_multifunction b p) 0 (λ r. 0)
+reset_holds b p (endpoint d) h = lists_held d h.0 (has_multifunction_bit b p) 0 (λ r. 0)
 reset_holds b p (bridge d) h = tt
 
 all_reset : (b rs : Board) → HasLawfulDecls rs → Each Holds (map (λ (r : Row). record { path = r.path; decl = r.decl; file = reset_file b r.path r.decl }) rs)

@@ -1,5 +1,5 @@
 -- A capability list is found as it was declared.
-use Rattle.std.{proofs.{Common.{◌≡◌, ℕ, ◌+◌, ◌*◌, ◌/◌, ◌%◌, ◌<◌, ◌≤◌, ◌⊎◌, Bool, true, false, ◌&&◌, List, [], ◌∷◌, ◌++◌, length, refl, sym, ap, ◌∙◌, subst, arith, ltb, append_assoc}, lemmas.{Bool.{Decides.nat_tests, and_parts, ltb-true}, Nat.{and_mask, and_mod, and_shr, and_block, or_block, and_or_self}}, Math.Nat.{mod-eq_of_lt}}, specs.{Prelude.{⊤, IsTrue, bit_and, bit_or, flat_map}, Int.Bits.{or_zero_r, and_zero_r}}}
+use Rattle.std.{proofs.{Common.{◌≡◌, ℕ, ◌+◌, ◌/◌, ◌%◌, ◌<◌, ◌≤◌, ◌⊎◌, Bool, true, false, ◌&&◌, List, [], ◌∷◌, ◌++◌, length, refl, sym, ap, ◌∙◌, subst, arith, ltb, append_assoc}, lemmas.{Bool.{Decides.nat_tests, and_parts, ltb-true}, Nat.{and_mask, and_mod, and_or_self, and_or_apart}}, Math.Nat.{mod-eq_of_lt}}, specs.{Prelude.{⊤, IsTrue, bit_and, bit_or, flat_map}}}
 use Rattle.lists.specs.Elements.{Each, EachPair}
 use Rattle.model_registers.{specs.{Cell.{Cell, constant, IsConstant, no_cell, written, raised}, Registers.{Place, config, block, place_eq, after, File, cell_at, changed, write, cells_from}, Declarations.{ConfigBlock, Region, Endpoint}, DeclarationRules.{blocks_apart, IsConfigBlock, IsLawfulEndpoint}, EndpointTable.{block_cells, header_cells, region_cells, endpoint_file}, CopiedFiles.agreed_file, Capabilities.{Capability, first_offset_or_zero, structure, structures, pointer, with_capabilities, byte, Finds, ShowsList, Change, write_of, raise_of, after_change, after_changes, ListStays}}, proofs.{RegisterFiles.{change_at_place, place_same, self, above, below}, ConstantCells.{constant_written, constant_raised, no_cell_stays, raised_none}, Owned.same_cell}}
 
@@ -233,10 +233,5 @@ list_stays d c cs lawful ids multifunction command bases changes =
 
 -- ---- Status of a lawful declaration
 
-pub status_with_list : (s : ℕ) → bit_and s 0xf900 ≡ s → bit_and (bit_or s 0x10) 0xf900 ≡ s
-status_with_list s h =
-    let low : s % 256 ≡ 0 = ap (λ n. n % 256) (sym h) ∙ and_mod s 0xf900 8 ∙ and_zero_r (s % 256) in
-    let high : bit_and (s / 256) 0xf9 ≡ s / 256 = sym (and_shr s 0xf900 8) ∙ ap (λ n. n / 256) h in
-    let split : s ≡ s / 256 * 256 + 0 = omega (arith, low) in
-    let joined : bit_or s 0x10 ≡ s / 256 * 256 + 0x10 = ap (λ n. bit_or n 0x10) split ∙ or_block 8 (s / 256) 0 0 0x10 (omega arith) (omega arith) ∙ ap (λ n. n * 256 + 0x10) (or_zero_r (s / 256)) in
-    ap (λ n. bit_and n 0xf900) joined ∙ and_block 8 (s / 256) 0xf9 0x10 0 (omega arith) (omega arith) ∙ ap (λ n. n * 256 + 0) high ∙ sym split
+pub status_with_list : (s : ℕ) → bit_and s 0xffe0 ≡ s → bit_and (bit_or s 0x10) 0xffe0 ≡ s
+status_with_list s h = and_or_apart 0xffe0 s 0x10 refl ∙ h

@@ -43,7 +43,7 @@ module _ (d : Endpoint) (lawful : IsLawfulEndpoint d) (clear : bit_and d.status 
       let regions : File = flat_map (region_cells bases) d.regions in
       let blocks : File = flat_map block_cells d.blocks in
       ap (λ f. cell_at f (config 0x34)) (append_assoc (header_cells d multifunction command) blocks regions)
-      ∙ past_blocks d.blocks (all_high d.blocks (bit_clear (list_any is_capabilities_pointer d.blocks) (bit_and d.status 0xf900) d.status lawful.status clear) lawful.config_blocks) regions
+      ∙ past_blocks d.blocks (all_high d.blocks (bit_clear (list_any is_capabilities_pointer d.blocks) (bit_and d.status 0xffe0) d.status lawful.status clear) lawful.config_blocks) regions
       ∙ past_regions bases d.regions lawful.regions.each
 
   pub no_list_stays : (changes : List Change) → ShowsNoList (after_changes first changes)

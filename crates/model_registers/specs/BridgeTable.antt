@@ -54,12 +54,12 @@ pref_cells pref64 s =
 abbrev pub bridge_header : Bridge → Bool → BridgeValues → File
 bridge_header d multifunction r =
     field (config 0x00) 2 d.vendor 0 0 ++ field (config 0x02) 2 d.device 0 0
-    ++ field (config 0x04) 2 r.command 0x0147 0 ++ field (config 0x06) 2 0 0 0xf900
+    ++ field (config 0x04) 2 r.command 0x0147 0 ++ field (config 0x06) 2 d.status 0 0xf900
     ++ field (config 0x08) 1 d.revision 0 0 ++ field (config 0x09) 3 0x060400 0 0
     ++ field (config 0x0c) 2 0 0xffff 0 ++ field (config 0x0e) 1 (header_type 1 multifunction) 0 0
     ++ field (config 0x18) 1 r.primary 0xff 0 ++ field (config 0x19) 1 r.secondary 0xff 0
     ++ field (config 0x1a) 1 r.subordinate 0xff 0
-    ++ field (config 0x1b) 1 0 0xff 0 ++ field (config 0x1e) 2 0 0 0xf900 ++ field (config 0x3c) 1 0 0xff 0
+    ++ field (config 0x1b) 1 0 0xff 0 ++ field (config 0x1e) 2 d.secondary_status 0 0xf900 ++ field (config 0x3c) 1 0 0xff 0
 
 -- the cells of a bridge with these values, and all others at reset
 abbrev pub bridge_file : Bridge → Bool → BridgeValues → File

@@ -4,6 +4,7 @@
 --     is_capabilities_pointer b      whether a block is the Capabilities Pointer
 --     capabilities_list_bit bs      bit 4 of Status, which is set if there is a Capabilities Pointer
 --     status_with bs s      the bits of Status that a declaration may set, and bit 4
+--     is_fixed_status s      only the read-only bits of Status that a declaration may set
 --     endpoint_rules, bridge_rules      the rules for a declaration, in the order in which they are checked
 --     in_register_order      regions in the order of their registers
 --     IsLawfulEndpoint, IsLawfulBridge      the properties of a declaration that follows the rules
@@ -30,9 +31,13 @@ is_config_block b =
 abbrev pub capabilities_list_bit : List ConfigBlock → ℕ
 capabilities_list_bit bs = if list_any is_capabilities_pointer bs then 0x10 else 0
 
--- bits 8 and 11 to 15, and bit 4
+-- the bits that a function sets and software clears, 8 and 11 to 15; the read-only bits 5 to 7, 9 and 10; and bit 4
 abbrev pub status_with : List ConfigBlock → ℕ → ℕ
-status_with bs s = bit_or (bit_and s 0xf900) (capabilities_list_bit bs)
+status_with bs s = bit_or (bit_and s 0xffe0) (capabilities_list_bit bs)
+
+-- only read-only bits of Status
+abbrev pub is_fixed_status : ℕ → Bool
+is_fixed_status s = bit_and s 0x06e0 == s
 
 -- Vendor ID FFFFh means that no function is present
 abbrev pub has_values_in_range : Endpoint → Bool
@@ -59,7 +64,8 @@ endpoint_rules d =
     ∷ (107, list_all (λ r. nat_le (length r.cells) r.size) d.regions) ∷ (112, all_pairs blocks_apart d.blocks) ∷ []
 
 abbrev pub bridge_rules : Bridge → List (ℕ × Bool)
-bridge_rules d = (104, nat_lt d.vendor 0xffff) ∷ []
+bridge_rules d =
+    (104, nat_lt d.vendor 0xffff && is_fixed_status d.status && is_fixed_status d.secondary_status) ∷ []
 
 -- the region of register 0, then the region of register 1, and so on
 abbrev pub in_register_order : List Region → List Region
@@ -103,3 +109,5 @@ pub record IsLawfulBridge (d : Bridge) : Type 0 where
   pub vendor : d.vendor < 0xffff
   pub device : d.device < 2 ^ 16
   pub revision : d.revision < 2 ^ 8
+  pub status : IsTrue (is_fixed_status d.status)
+  pub secondary_status : IsTrue (is_fixed_status d.secondary_status)

@@ -1,9 +1,10 @@
 -- The declarations of a board's functions: PCI Local Bus 3.0, chapter 6; PCI-to-PCI Bridge Architecture 1.2, chapter 3.
 --     Kind, Bar      the kind of a base address register; a kind with the size of the region
 --     Region      a base address register with its index, and the cells at the beginning of its region
---     Endpoint, Bridge      the declared values of a function
+--     Endpoint, Bridge      the declared values of a function; `multifunction` says whether it may set bit 7 of its header type
 --     plain_endpoint      an endpoint that has only an identity and a class code
-use Rattle.std.specs.Prelude.{List, [], ◌≡◌, ℕ, ◌+◌, Bool, ◌≤◌, length, ◌^◌}
+--     plain_bridge      a bridge that has only an identity and windows
+use Rattle.std.specs.Prelude.{List, [], ◌≡◌, ℕ, ◌+◌, Bool, true, ◌≤◌, length, ◌^◌}
 use Rattle.lists.specs.Elements.{Each, EachPair}
 use Rattle.model_registers.specs.Cell.{Cell}
 
@@ -72,6 +73,7 @@ pub record Endpoint : Type 0 where
   pub min_gnt : ℕ
   pub max_lat : ℕ
   pub status : ℕ
+  pub multifunction : Bool
   pub regions : List Region
   pub blocks : List ConfigBlock
 
@@ -88,6 +90,7 @@ plain_endpoint vendor device class = record {
   min_gnt = 0;
   max_lat = 0;
   status = 0;
+  multifunction = true;
   regions = [];
   blocks = [];
 }
@@ -106,5 +109,21 @@ pub record Bridge : Type 0 where
   pub vendor : ℕ
   pub device : ℕ
   pub revision : ℕ
+  pub status : ℕ
+  pub secondary_status : ℕ
+  pub multifunction : Bool
   pub io : IoDecode
   pub pref : PrefDecode
+
+-- a bridge that has only an identity and windows: all other numbers are 0
+abbrev pub plain_bridge : ℕ → ℕ → ℕ → IoDecode → PrefDecode → Bridge
+plain_bridge vendor device revision io pref = record {
+  vendor = vendor;
+  device = device;
+  revision = revision;
+  status = 0;
+  secondary_status = 0;
+  multifunction = true;
+  io = io;
+  pref = pref;
+}

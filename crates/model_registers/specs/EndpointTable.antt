@@ -65,7 +65,7 @@ region_cells bases r = base_cells r.index r.kind r.size (bases r) ++ cells_from 
 abbrev pub block_cells : ConfigBlock → File
 block_cells b = cells_from (config b.offset) b.cells
 
--- `multifunction` means that the device has two or more functions: bit 7 of the header type
+-- `multifunction` is bit 7 of the header type
 abbrev pub header_type : ℕ → Bool → ℕ
 header_type layout multifunction = layout + (if multifunction then 0x80 else 0)
 

@@ -1,7 +1,7 @@
 -- A scan meets the functions in path order, and gives bus numbers in it.
 use Rattle.std.{proofs.{lemmas.{Grind.common_steps, Bool.{Decides.nat_tests, false_from_ne_true, or_right}, List.Sums.sum_by-cons}, Common.{◌≡◌, ℕ, ◌+◌, ◌<◌, inl, inr, Bool, true, false, ◌&&◌, ◌||◌, cond, List, [], ◌∷◌, ◌++◌, append_assoc, length, zero-add, refl, sym, ap, ap₂, ◌∙◌, subst, arith, rules}}, specs.Prelude.{filter, count_by, IsTrue}}
 use Rattle.lists.{specs.Elements.{Each, EachPair, IsIn}, proofs.{Members.{each_in, any_in, none_pass, filter_same}, Tests.{same_test, and_true}}}
-use Rattle.model_board.{specs.{Paths.{Path, path_eq, path_before, is_ancestor_of, IsPath}, Board.{Board, Row, is_bridge, is_bridge_at, stands_at, IsBoard}}, proofs.{PathOrder.{one, exclusive, part_same, path_same, part_self}, PathEnds.{path_self, length_snoc, not_before_itself, leads_longer, snoc_some}, BusNumbers.{bridges, bridges-cons, at, counted, counted_once}}}
+use Rattle.model_board.{specs.{Paths.{Path, path_eq, path_before, is_ancestor_of, devfn_count, IsPath}, Board.{Board, Row, is_bridge, is_bridge_at, stands_at, IsBoard}}, proofs.{PathOrder.{one, exclusive, part_same, path_same, part_self}, PathEnds.{path_self, length_snoc, not_before_itself, leads_longer, snoc_some}, BusNumbers.{bridges, bridges-cons, at, counted, counted_once}}}
 use Rattle.model_set_up.{specs.{Scanning.{no_numbers, board_numbers, open_numbers}, ScanOrder.{nth_part, on, next_devfn_to_probe, met, MeetsInPathOrder, GivesNumbersInPathOrder, ScanMeetsInPathOrder, ScanGivesNumbersInPathOrder}}, proofs.{Partings.{one_row, bridge_at, bridge_above}, Scanning.goes_before, ScanParts.{before_first, before_last, before_later, leads_place, is_between, none_passed, row_path}}}
 
 -- ---- filters
@@ -95,7 +95,7 @@ module _ (b : Board) (lawful : IsBoard b) where
   meets : MeetsInPathOrder b
   meets = record {
     first = none_pass (λ y. path_before y.path (on [] 0)) b (λ y m. before_first y.path [] ∙ not_none y m);
-    last = filter_all (λ y. path_before y.path (on [] 128)) b (λ y m. before_last y.path [] (row_path b lawful y m).parts ∙ some_before_end y.path);
+    last = filter_all (λ y. path_before y.path (on [] devfn_count)) b (λ y m. before_last y.path [] (row_path b lawful y m).parts ∙ some_before_end y.path);
     behind = λ r m. met_adds r m (on r.path 0) (λ y k. before_first y.path r.path);
     endpoint = λ bus n r m e h.
         subst (λ (x : Path). met b (on bus (next_devfn_to_probe b bus n)) ≡ met b x ++ r ∷ []) e
@@ -104,7 +104,7 @@ module _ (b : Board) (lawful : IsBoard b) where
         (met_next bus n (subst (λ (x : Path). is_bridge_at b x ≡ false) e (no_bridge_here r m h)) y k)));
     none = λ bus n h. met_same (on bus n) (on bus (next_devfn_to_probe b bus n))
         (λ y m. met_next bus n (no_bridge_none (on bus n) h) y m ∙ or_false (path_before y.path (on bus n)) (path_eq y.path (on bus n)) (none_there (on bus n) h y m));
-    back = λ bus n h. met_same (on (on bus n) 128) (on bus (next_devfn_to_probe b bus n))
+    back = λ bus n h. met_same (on (on bus n) devfn_count) (on bus (next_devfn_to_probe b bus n))
         (λ y m. before_next bus n y m ∙ ap (λ t. path_before y.path (on bus n) || t) (passed bus n y m)
         ∙ sym (or_assoc (path_before y.path (on bus n)) (path_eq y.path (on bus n)) (is_ancestor_of (on bus n) y.path)) ∙ sym (before_last y.path (on bus n) (row_path b lawful y m).parts));
   }
@@ -123,7 +123,7 @@ module _ (b : Board) (lawful : IsBoard b) where
   counted_met here (r ∷ bs) = grind (arith, nat_tests, common_steps, bridges-cons, bridges, one, and_true, sum_by-cons, zero-add, counted_met here bs)
 
   -- the bridges before the end of a bus are those before its bridge, that bridge, and those behind it
-  counted_last : (p : Path) (bs : Board) → Each (λ r. IsPath r.path) bs → bridges (λ x. path_before x (on p 128)) bs ≡ bridges (λ x. path_before x p) bs + bridges (at p) bs + bridges (λ x. is_ancestor_of p x) bs
+  counted_last : (p : Path) (bs : Board) → Each (λ r. IsPath r.path) bs → bridges (λ x. path_before x (on p devfn_count)) bs ≡ bridges (λ x. path_before x p) bs + bridges (at p) bs + bridges (λ x. is_ancestor_of p x) bs
   counted_last p [] h = refl
   counted_last p (r ∷ bs) h = grind (arith, nat_tests, common_steps, exclusive, one, before_last, bridges-cons, at, counted_last p bs h.1)
 
@@ -152,7 +152,7 @@ module _ (b : Board) (lawful : IsBoard b) where
     next_number = λ here. ap (λ n. 1 + n) (counted_met here b);
     last_number = λ p h. omega (arith, counted_last p b lawful.paths, counted b p h, counted_once b p lawful.in_order);
     first = λ q h. rw (leads_place q [] (nth_part 0) ∙ none_leads q h, before_first q [] ∙ some_path q h);
-    last = λ q h. rw (leads_place q [] (nth_part 128) ∙ none_leads q h, at_bridge (λ x. path_before x (on [] 128) ≡ true) (λ y m. before_last y.path [] (row_path b lawful y m).parts ∙ some_before_end y.path) q h);
+    last = λ q h. rw (leads_place q [] (nth_part devfn_count) ∙ none_leads q h, at_bridge (λ x. path_before x (on [] devfn_count) ≡ true) (λ y m. before_last y.path [] (row_path b lawful y m).parts ∙ some_before_end y.path) q h);
     behind = λ p q.
         ap₂ (λ s t. cond s (open_numbers b q) (cond t (board_numbers b q) no_numbers)) (leads_place q p (nth_part 0)) (before_first q p)
         ∙ behind_cases (open_numbers b q) (board_numbers b q) no_numbers (is_ancestor_of q p) (path_eq q p) (path_before q p);
@@ -163,8 +163,8 @@ module _ (b : Board) (lawful : IsBoard b) where
         (at_bridge (λ x. path_before x (on bus (next_devfn_to_probe b bus n)) ≡ (path_before x (on bus n) || (path_eq x (on bus n) || is_ancestor_of (on bus n) x))) (λ y m. before_next bus n y m ∙ ap (λ t. path_before y.path (on bus n) || t) (passed bus n y m)) q there)
         ∙ back_cases (open_numbers b q) (board_numbers b q) no_numbers (is_ancestor_of q bus || path_eq q bus) (path_eq q (on bus n)) (is_ancestor_of (on bus n) q) (path_before q (on bus n)) (not_above bus n q)
         ∙ ap (λ v. cond (path_eq q (on bus n)) (board_numbers b q) v) (sym (ap₂ (λ s t. cond s (open_numbers b q) (cond t (board_numbers b q) no_numbers))
-        (leads_place q (on bus n) (nth_part 128) ∙ ap (λ t. t || path_eq q (on bus n)) (leads_place q bus (nth_part n)))
-        (at_bridge (λ x. path_before x (on (on bus n) 128) ≡ (path_before x (on bus n) || path_eq x (on bus n) || is_ancestor_of (on bus n) x)) (λ y m. before_last y.path (on bus n) (row_path b lawful y m).parts) q there)));
+        (leads_place q (on bus n) (nth_part devfn_count) ∙ ap (λ t. t || path_eq q (on bus n)) (leads_place q bus (nth_part n)))
+        (at_bridge (λ x. path_before x (on (on bus n) devfn_count) ≡ (path_before x (on bus n) || path_eq x (on bus n) || is_ancestor_of (on bus n) x)) (λ y m. before_last y.path (on bus n) (row_path b lawful y m).parts) q there)));
   }
     where
       not_itself : (bus : Path) (n : ℕ) → is_bridge_at b (on bus n) ≡ false → (q : Path) → is_bridge_at b q ≡ true → path_eq q (on bus n) ≡ false

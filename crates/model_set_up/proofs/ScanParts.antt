@@ -1,7 +1,7 @@
 -- Parts of a bus in path order: which paths come before the first, the last and the next part.
 use Rattle.std.{proofs.{Common.{◌≡◌, ℕ, ◌+◌, ◌*◌, ◌/◌, ◌%◌, ◌≤◌, ◌<◌, ◌⊎◌, inl, inr, Bool, true, false, not, ◌&&◌, ◌||◌, cond, [], ◌∷◌, ◌++◌, refl, sym, ap, ◌∙◌, subst, arith, eqb, rules}, lemmas.Bool.{Decides.nat_tests, ltb-true}}, specs.Prelude.{nat_lt, nat_le}}
 use Rattle.lists.{specs.Elements.{Each, IsIn}, proofs.{Tests.{left_true, right_true}, Members.{each_in, any_in}}}
-use Rattle.model_board.{specs.{Paths.{Part, Path, part_eq, part_before, path_eq, path_before, is_ancestor_of, last_part, function_zero, IsPart, IsPath}, Board.{Board, Row, stands_at, is_multifunction, IsBoard}}, proofs.{PathOrder.{part_same, part_eq-sym}, PathEnds.{path_self, parent_snoc, last_snoc, path_eq-snoc, snoc_some}}}
+use Rattle.model_board.{specs.{Paths.{Part, Path, part_eq, part_before, path_eq, path_before, is_ancestor_of, last_part, function_zero, devfn_count, IsPart, IsPath}, Board.{Board, Row, stands_at, is_multifunction, IsBoard}}, proofs.{PathOrder.{part_same, part_eq-sym}, PathEnds.{path_self, parent_snoc, last_snoc, path_eq-snoc, snoc_some}}}
 use Rattle.model_set_up.{specs.ScanOrder.{nth_part, on, next_devfn_to_probe}, proofs.Partings.{bridge_above, leads_down}}
 
 -- ---- the first part behind a function
@@ -39,7 +39,7 @@ leads_place (u ∷ x) (a ∷ p) q = either false (part_eq u a) (is_ancestor_of x
 
 -- ---- past the last part of a bus
 
-pub before_last : (x p : Path) → Each IsPart x → path_before x (on p 128) ≡ (path_before x p || path_eq x p || is_ancestor_of p x)
+pub before_last : (x p : Path) → Each IsPart x → path_before x (on p devfn_count) ≡ (path_before x p || path_eq x p || is_ancestor_of p x)
 before_last [] a h = grind arith
 before_last (u ∷ x) [] h = grind (arith, nat_tests)
 before_last (u ∷ x) (a ∷ p) h = grind (arith, before_last x p, part_eq-sym)

@@ -130,9 +130,9 @@ pref_high n t o h = grind (arith, two_are)
 abbrev pub whole : ℕ → Window → Option Window
 whole unit s = window (cut unit s.first) (cut unit s.last + (unit - 1))
 
-module _ (vendor device revision : ℕ) (multifunction : Bool) (r : BridgeValues) where
+module _ (d : Bridge) (multifunction : Bool) (r : BridgeValues) where
   abbrev bridge_of : IoDecode → PrefDecode → Bridge
-  bridge_of k m = record { vendor = vendor; device = device; revision = revision; io = k; pref = m }
+  bridge_of k m = record d { io = k; pref = m }
 
   io_by : (k : IoDecode) (m : PrefDecode) → has_io k ≡ true → r.io.first < 2 ^ 16 → r.io.last < 2 ^ 16 → io_window k (bridge_file (bridge_of k m) multifunction r) ≡ whole (2 ^ 12) r.io
   io_by k m has f l = grind (arith, io_bits, io_high)
@@ -146,13 +146,13 @@ module _ (vendor device revision : ℕ) (multifunction : Bool) (r : BridgeValues
 
 module _ (d : Bridge) (multifunction : Bool) (r : BridgeValues) where
   pub io_reads : has_io d.io ≡ true → r.io.first < 2 ^ 16 → r.io.last < 2 ^ 16 → io_window d.io (bridge_file d multifunction r) ≡ whole (2 ^ 12) r.io
-  io_reads = io_by d.vendor d.device d.revision multifunction r d.io d.pref
+  io_reads = io_by d multifunction r d.io d.pref
 
   pub mem_reads : r.mem.first < 2 ^ 32 → r.mem.last < 2 ^ 32 → mem_window (bridge_file d multifunction r) ≡ whole (2 ^ 20) r.mem
   mem_reads f l = ap₂ (λ x y. window x (y + 0xfffff)) (mem_bits r.mem.first 0 (omega arith) f) (mem_bits r.mem.last 0 (omega arith) l)
 
   pub pref_reads_low : has_pref d.pref ≡ true → r.pref.first < 2 ^ 32 → r.pref.last < 2 ^ 32 → pref_window d.pref (bridge_file d multifunction r) ≡ whole (2 ^ 20) r.pref
-  pref_reads_low = low_by d.vendor d.device d.revision multifunction r d.io d.pref
+  pref_reads_low = low_by d multifunction r d.io d.pref
 
   pub pref_reads : has_pref64 d.pref ≡ true → r.pref.first < 2 ^ 64 → r.pref.last < 2 ^ 64 → pref_window d.pref (bridge_file d multifunction r) ≡ whole (2 ^ 20) r.pref
-  pref_reads = high_by d.vendor d.device d.revision multifunction r d.io d.pref
+  pref_reads = high_by d multifunction r d.io d.pref

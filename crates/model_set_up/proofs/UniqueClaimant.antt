@@ -2,7 +2,7 @@
 use Rattle.std.{proofs.{Common.{◌≡◌, ℕ, ◌+◌, ◌-◌, ◌≤◌, ◌<◌, Bool, true, false, ◌&&◌, ◌||◌, cond, List, [], ◌∷◌, Option, Some, None, refl, sym, ap, ap₂, ◌∙◌, subst, arith}, lemmas.{List.{map-append, Folds.list_all-map}, Bool.and_from}}, specs.{Prelude.{not, map, flat_map, slice_get}, Option.option_to_list}}
 use Rattle.lists.{specs.Elements.{Each, EachPair, IsIn}, proofs.Members.{each_in, each_from, any_in, in_map, in_flat_map, all_from, flat_map_same, flat_map_map, flat_map_flat}}
 use Rattle.model_registers.{specs.{Declarations.{Region, registers_of, IsLawfulRegion, HasLawfulRegions, Endpoint, Bridge}, DeclarationRules.IsConfigBlock, Decoding.{Space, space_of, same_space, base, is_open, Hit, hit_of}, Apertures.Apertures}, proofs.HitRegions.space_same}
-use Rattle.model_board.{specs.{Board.{Board, Row, Decl, endpoint, bridge, is_bridge, is_multifunction}, Paths.{Path, is_ancestor_of}, State.BoardFunction, Windows.{forwards, is_in_window}, Claims.{Claim, claim_at, claims_of, is_forwarded, claims, first_claim}, Routing.{RoutingRow, routing, is_routed, routed_claims}}, proofs.Routing.{first_listed, first_of_claims, forwarded_by_routing, claims_by_routing}}
+use Rattle.model_board.{specs.{Board.{Board, Row, Decl, endpoint, bridge, is_bridge, has_multifunction_bit}, Paths.{Path, is_ancestor_of}, State.BoardFunction, Windows.{forwards, is_in_window}, Claims.{Claim, claim_at, claims_of, is_forwarded, claims, first_claim}, Routing.{RoutingRow, routing, is_routed, routed_claims}}, proofs.Routing.{first_listed, first_of_claims, forwarded_by_routing, claims_by_routing}}
 use Rattle.model_set_up.{specs.{Pools.{Pool, unit_of, bridges_above}, Placement.{PlacementItem, need, items_on, bus_first}, Layout.{LayoutRow, IsAligned, IsLawful, layout}, Extents.IsInside, SetUp.{first_of, command_of, bridge_values, set_up_file, set_up_state}, PlacementLaws.{region_row, window_row, HasRows}, PlacedRegions.{pool_space, PlacedRegion, placed, placed_at, placed_regions, holds, claim_in, placed_claim}, UniqueClaimant.{CanBePlaced, IsClaimed, ShareNone, HasUniqueClaims, UniqueClaimant, ClaimOfRegion, ClaimInAnyOrder, RowsArePlaced}, WindowLaws.HasPlacedWindows}, proofs.{Holders.{Holds, holds_is, is_held, self_space, claims_in, one_at_most, holder_first, same_members}, SetUpRegisters.{FitsRegister, bases_read, endpoint_opens, bridge_opens}, LawfulPlacement.layout_is_lawful, DeclaredRows.one_row_per_region_or_window, BoardWindows.{set_up_windows, IsBridgeWindow, bridge_window, window_holds}, Partings.{one_row, bridge_above}, PlacedApart.{pool_of_space, WindowOver, window_over}, PlacedRegions.{source, lawful_decl, lawful_regions, region_there, placed_apart, rows_to_placed, placed_to_rows}, PlacedReads.{InAperture, fits_register}}}
 
 -- ---- claims function by function
@@ -24,7 +24,7 @@ module _ (b : Board) (a : Apertures) (can : CanBePlaced b a) (lawful : IsLawful 
   pub bases : (r : Row) (e : Endpoint) → IsIn r b → r.decl ≡ endpoint e → Each (λ g. base (set_up_file b a r.path (endpoint e)) g.index g.kind ≡ first_of b a r.path g) e.regions
   bases r e m decl_is =
       let regions : HasLawfulRegions e.regions = lawful_regions b can.declarations r e m decl_is in
-      bases_read e (is_multifunction b r.path) (command_of e) (first_of b a r.path) (each_from (λ k. 0x34 ≤ k.offset) e.blocks (λ k i. (each_in IsConfigBlock k e.blocks (lawful_decl b can.declarations r e m decl_is).config_blocks i).begins)) regions.in_order
+      bases_read e (has_multifunction_bit b r.path) (command_of e) (first_of b a r.path) (each_from (λ k. 0x34 ≤ k.offset) e.blocks (λ k i. (each_in IsConfigBlock k e.blocks (lawful_decl b can.declarations r e m decl_is).config_blocks i).begins)) regions.in_order
       (each_from (λ g. g.index + registers_of g.kind ≤ 6) e.regions (λ g k. (each_in IsLawfulRegion g e.regions regions.each k).registers))
       (each_from (λ g. FitsRegister g.kind (first_of b a r.path g)) e.regions (λ g k.
       let there : IsIn (region_row b a r.path g) (layout b a) = region_there b a has r e g m decl_is k in
@@ -58,7 +58,7 @@ module _ (b : Board) (a : Apertures) (can : CanBePlaced b a) (lawful : IsLawful 
 
     by_bridge : (p : Path) (d : Bridge) (n : ℕ) → IsIn (record { path = p; decl = bridge d }) b → is_ancestor_of p r.path ≡ true → row.first ≤ n → n < row.first + row.size → forwards (space_of g.kind) n (left b a (record { path = p; decl = bridge d })) ≡ true
     by_bridge p d n m h low high =
-        let opened : is_open (set_up_file b a p (bridge d)) (space_of g.kind) ≡ true = bridge_opens d (is_multifunction b p) (bridge_values b a p) (space_of g.kind) refl in
+        let opened : is_open (set_up_file b a p (bridge d)) (space_of g.kind) ≡ true = bridge_opens d (has_multifunction_bit b p) (bridge_values b a p) (space_of g.kind) refl in
         let held : is_in_window d (set_up_file b a p (bridge d)) (space_of g.kind) n ≡ true =
         subst (λ (x : Space). is_in_window d (set_up_file b a p (bridge d)) x n ≡ true) (pool_of_space a (bridges_above b r.path) g.kind) (bridge_forwards row p d n in_layout m h low high) in
         and_from (is_open (set_up_file b a p (bridge d)) (space_of g.kind)) (is_in_window d (set_up_file b a p (bridge d)) (space_of g.kind) n) opened held
@@ -82,7 +82,7 @@ module _ (b : Board) (a : Apertures) (can : CanBePlaced b a) (lawful : IsLawful 
   hit_is : (r : Row) (e : Endpoint) (g : Region) (space : Space) (n : ℕ) → IsIn r b → r.decl ≡ endpoint e → IsIn g e.regions
       → hit_of (set_up_file b a r.path (endpoint e)) space n g ≡ cond (holds space n (placed b a r.path g)) (Some (record { index = g.index; offset = n - first_of b a r.path g })) None
   hit_is r e g space n m decl_is k =
-      grind (arith, endpoint_opens e (is_multifunction b r.path) (first_of b a r.path) space, any_in, each_in, bases b a can lawful has r e m decl_is, drop_open)
+      grind (arith, endpoint_opens e (has_multifunction_bit b r.path) (first_of b a r.path) space, any_in, each_in, bases b a can lawful has r e m decl_is, drop_open)
 
   -- a hit of a placed region is a claim: it is forwarded
   hit_is_claim : (r : Row) (e : Endpoint) (g : Region) (space : Space) (n : ℕ) → IsIn r b → r.decl ≡ endpoint e → IsIn g e.regions

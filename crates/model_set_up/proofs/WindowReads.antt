@@ -24,9 +24,9 @@ memory_named s reach h = grind (arith, whole_first, in_order)
 
 -- ---- the registers of I/O with 32 address bits, above 64 KB too
 
-io_reads_wide : (vendor device revision : ℕ) (pref : PrefDecode) (multifunction : Bool) (r : BridgeValues) → r.io.first < 2 ^ 32 → r.io.last < 2 ^ 32
-    → io_window io32 (bridge_file (record { vendor = vendor; device = device; revision = revision; io = io32; pref = pref }) multifunction r) ≡ named_by (2 ^ 12) r.io
-io_reads_wide vendor device revision pref multifunction r f l = grind arith
+io_reads_wide : (d : Bridge) (pref : PrefDecode) (multifunction : Bool) (r : BridgeValues) → r.io.first < 2 ^ 32 → r.io.last < 2 ^ 32
+    → io_window io32 (bridge_file (record d { io = io32; pref = pref }) multifunction r) ≡ named_by (2 ^ 12) r.io
+io_reads_wide d pref multifunction r f l = grind arith
 
 -- a closed window lies within the reach of each decode, and its registers name no window
 record IsShut (unit reach : ℕ) (s : Window) : Type 0 where
@@ -52,9 +52,9 @@ module _ (d : Bridge) (multifunction : Bool) (r : BridgeValues) where
       grind (arith, io_shut r.io, io_closes d.io, io_reads d multifunction r, memory_shut r.mem, mem_reads d multifunction r, memory_shut r.pref, pref_closes d.pref, pref_reads_low d multifunction r)
 
 -- the same of the bridge's parts, one by one
-module _ (vendor device revision : ℕ) (multifunction : Bool) (r : BridgeValues) where
+module _ (d : Bridge) (multifunction : Bool) (r : BridgeValues) where
   abbrev bridge_with : IoDecode → PrefDecode → Bridge
-  bridge_with k m = record { vendor = vendor; device = device; revision = revision; io = k; pref = m }
+  bridge_with k m = record d { io = k; pref = m }
 
   io_by : (k : IoDecode) (m : PrefDecode) → IsWhole (2 ^ 12) (io_reach k) r.io → io_window k (bridge_file (bridge_with k m) multifunction r) ≡ named_by (2 ^ 12) r.io
   io_by k m h = grind (arith, io_reads, io_reads_wide)
@@ -69,4 +69,4 @@ closed_windows_forward_nothing d multifunction r = closes d multifunction r
 
 pub windows_named : NamedWindows
 windows_named d multifunction r =
-    grind (arith, io_by d.vendor d.device d.revision multifunction r d.io d.pref, io_named r.io (io_reach d.io), mem_reads d multifunction r, memory_named r.mem (2 ^ 32), pref_by d.vendor d.device d.revision multifunction r d.io d.pref, memory_named r.pref (pref_reach d.pref))
+    grind (arith, io_by d multifunction r d.io d.pref, io_named r.io (io_reach d.io), mem_reads d multifunction r, memory_named r.mem (2 ^ 32), pref_by d multifunction r d.io d.pref, memory_named r.pref (pref_reach d.pref))

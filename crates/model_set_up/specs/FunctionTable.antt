@@ -6,7 +6,7 @@
 --     board_in      a table read as a board that contains only what was found
 --     PlacedAsFound      placement uses nothing else of a board
 use Rattle.std.specs.Prelude.{List, ◌≡◌, ℕ, Option, Some, None, map}
-use Rattle.model_registers.specs.{Declarations.{Endpoint, plain_endpoint, no_io, no_pref, Bridge}, OwnCopies.bare, Apertures.Apertures}
+use Rattle.model_registers.specs.{Declarations.{Endpoint, plain_endpoint, plain_bridge, no_io, no_pref, Bridge}, OwnCopies.bare, Apertures.Apertures}
 use Rattle.model_board.specs.{Paths.Path, Board.{Decl, endpoint, bridge, Row, Board, IsBoard}, BusNumbers.{secondary, subordinate, bus_of, Enumerates}, Lawful.HasLawfulDecls}
 use Rattle.model_set_up.specs.SetUpWrites.{planned, placement_rules}
 
@@ -15,7 +15,7 @@ abbrev pub met_endpoint : Endpoint → Endpoint
 met_endpoint d = record (plain_endpoint d.vendor d.device 0) { pin = d.pin }
 
 abbrev pub met_bridge : Bridge → Bridge
-met_bridge d = record { vendor = d.vendor; device = d.device; revision = 0; io = no_io; pref = no_pref }
+met_bridge d = plain_bridge d.vendor d.device 0 no_io no_pref
 
 abbrev pub met_decl : Decl → Decl
 met_decl (endpoint d) = endpoint (met_endpoint d)

@@ -12,7 +12,7 @@
 use Rattle.std.specs.Prelude.{List, [], ◌∷◌, ◌++◌, ◌≡◌, ℕ, ◌≤◌, if◌then◌else◌, map, find, IsTrue, ◌⊎◌}
 use Rattle.lists.specs.Elements.{Each}
 use Rattle.model_registers.specs.{Registers.{config, File, number}, EndpointTable.endpoint_reset, BridgeTable.{BridgeValues, no_bridge_values, bridge_file}}
-use Rattle.model_board.specs.{Paths.{Part, Path, path_eq, path_before, is_ancestor_of}, Board.{Decl, endpoint, bridge, is_bridge, is_bridge_at, is_multifunction, Board, IsBoard}, BusNumbers.{secondary, subordinate, bus_behind, bus_of, Enumerates}, State.{BoardFunction, State, row_at, state_of}, Cycles.{secondary_register, subordinate_register, reached}, Lawful.HasLawfulDecls, AtReset.board_at}
+use Rattle.model_board.specs.{Paths.{Part, Path, path_eq, path_before, is_ancestor_of}, Board.{Decl, endpoint, bridge, is_bridge, is_bridge_at, has_multifunction_bit, Board, IsBoard}, BusNumbers.{secondary, subordinate, bus_behind, bus_of, Enumerates}, State.{BoardFunction, State, row_at, state_of}, Cycles.{secondary_register, subordinate_register, reached}, Lawful.HasLawfulDecls, AtReset.board_at}
 
 pub record BusNumbers : Type 0 where
   pub primary : ℕ
@@ -49,8 +49,8 @@ with_numbers n = record no_bridge_values { primary = n.primary; secondary = n.se
 
 -- the cells at reset, except for these bus numbers in the bridges
 abbrev pub numbered_file : Board → (Path → BusNumbers) → Path → Decl → File
-numbered_file b numbers p (endpoint d) = endpoint_reset d (is_multifunction b p)
-numbered_file b numbers p (bridge d) = bridge_file d (is_multifunction b p) (with_numbers (numbers p))
+numbered_file b numbers p (endpoint d) = endpoint_reset d (has_multifunction_bit b p)
+numbered_file b numbers p (bridge d) = bridge_file d (has_multifunction_bit b p) (with_numbers (numbers p))
 
 abbrev pub scan_state : Board → Path → State
 scan_state b here = state_of b (numbered_file b (scan_numbers b here))

@@ -8,7 +8,7 @@
 --     set_up_state      the state of a whole board after set-up
 use Rattle.std.specs.{Prelude.{List, [], ◌∷◌, ℕ, ◌-◌, ◌+◌, ◌*◌, Bool, if◌then◌else◌}, List.list_any}
 use Rattle.model_registers.specs.{Registers.File, Declarations.{Region, Endpoint}, EndpointTable.endpoint_file, BridgeTable.{Window, BridgeValues, bridge_file}, Decoding.{Space, io, memory, space_of, same_space}, Apertures.Apertures}
-use Rattle.model_board.specs.{Paths.Path, Board.{Decl, endpoint, bridge, Board, is_multifunction}, BusNumbers.{secondary, subordinate, bus_of}, State.{State, state_of}}
+use Rattle.model_board.specs.{Paths.Path, Board.{Decl, endpoint, bridge, Board, has_multifunction_bit}, BusNumbers.{secondary, subordinate, bus_of}, State.{State, state_of}}
 use Rattle.model_set_up.specs.{Pools.{Pool, io_pool, mem_pool, pref_pool, unit_of, bridges_above, pool_of}, Placement.{PlacementItem, need, items_on, bus_first, region_first}}
 
 -- the region's first address, in its pool
@@ -53,8 +53,8 @@ bridge_values b a p = record {
 }
 
 abbrev pub set_up_file : Board → Apertures → Path → Decl → File
-set_up_file b a p (endpoint d) = endpoint_file d (is_multifunction b p) (command_of d) (first_of b a p)
-set_up_file b a p (bridge d) = bridge_file d (is_multifunction b p) (bridge_values b a p)
+set_up_file b a p (endpoint d) = endpoint_file d (has_multifunction_bit b p) (command_of d) (first_of b a p)
+set_up_file b a p (bridge d) = bridge_file d (has_multifunction_bit b p) (bridge_values b a p)
 
 abbrev pub set_up_state : Board → Apertures → State
 set_up_state b a = state_of b (set_up_file b a)

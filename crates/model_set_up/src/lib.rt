@@ -41,7 +41,7 @@ pub fn scan_reaches_buses_found_so_far()
     ensures states { NumbersOfScanState }
 {}
 
-/// Proves that a scan visits devices 0 to 15 and functions 0 to 7 of each bus, and everything
+/// Proves that a scan visits devices 0 to 31 and functions 0 to 7 of each bus, and everything
 /// behind a bridge directly after the bridge. So the scan visits the functions in path order and
 /// assigns the board's bus numbers in sequence.
 pub fn scan_visits_in_path_order()

@@ -5,7 +5,7 @@ ghost use Rattle.std.specs.Prelude.{◌<◌};
 #[derive(Clone, Copy, Debug, PartialEq, Eq)]
 pub struct Bdf {
     pub bus: u8,
-    /// The device number, 0 to 31. Devices 16 to 31 are always empty.
+    /// The device number, 0 to 31.
     pub device: u8,
     /// The function number, 0 to 7.
     pub function: u8,

@@ -7,7 +7,7 @@ use arrayvec::ArrayVec;
 use std::cmp::Ordering;
 use std::marker::Model;
 
-/// A device number, 0 to 15, and a function number, 0 to 7, on one bus.
+/// A device number, 0 to 31, and a function number, 0 to 7, on one bus.
 #[derive(Clone, Copy, Debug, Default, PartialEq, Eq, PartialOrd, Ord)]
 pub struct Part {
     device: u8,
@@ -22,25 +22,25 @@ impl Model for Part {
 
     ghost view = { λ p. record { device = p.device; function = p.function } };
 
-    ghost invariant = { λ p. (p.device < 16) × (p.function < 8) };
+    ghost invariant = { λ p. (p.device < 32) × (p.function < 8) };
 
     ghost inverse = { λ p. record { device = p.device; function = p.function } };
 }
 
 impl Part {
-    /// Returns the part with this device number, 0 to 15, and function number, 0 to 7.
+    /// Returns the part with this device number, 0 to 31, and function number, 0 to 7.
     pub fn new(device: u8, function: u8) -> Part
-        requires device { device < 16 }
+        requires device { device < 32 }
         requires function { function < 8 }
         ensures { result ≡ record { device = device; function = function } }
     {
         Part { device, function }
     }
 
-    /// Returns the device number, 0 to 15.
+    /// Returns the device number, 0 to 31.
     pub fn device(self) -> u8
         ensures value { result ≡ self.device }
-        ensures range { result < 16 }
+        ensures range { result < 32 }
     {
         self.device
     }

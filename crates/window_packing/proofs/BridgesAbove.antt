@@ -1,8 +1,8 @@
 -- What stands above each function of a board, row by row.
 use Rattle.std.{proofs.{Common.{◌≡◌, ℕ, suc, ◌≤◌, ◌<◌, ◌⊎◌, inl, inr, Bool, true, ◌&&◌, [], ◌∷◌, ◌++◌, length, Some, refl, sym, ap, ◌∙◌, subst, arith}, lemmas.{Option.slice_get_within, Bool.and_parts}}, specs.{Prelude.filter, List.{list_all, slice_get}}}
-use Rattle.lists.{proofs.{Tests.{and_true, same_test}, Members.{each_in, from_flat_map, in_flat_map, from_filter, in_filter, all_in, all_from, pair_in}, Indices.index_in}, specs.Elements.IsIn}
+use Rattle.lists.{proofs.{Tests.{and_true, same_test}, Members.{each_in, from_flat_map, in_flat_map, from_filter, in_filter, all_in, all_from}, Indices.index_in}, specs.Elements.IsIn}
 use Rattle.model_registers.specs.Declarations.{Bridge}
-use Rattle.model_board.{specs.{Paths.{Path, is_ancestor_of, parent, last_part, IsPath}, Board.{Decl, Row, Board, IsBoard}}, proofs.PathEnds.{snoc, leads_up, leads_self, leads_trans, not_before_itself}}
+use Rattle.model_board.{specs.{Paths.{Path, is_ancestor_of, parent, last_part, IsPath}, Board.{Decl, Row, Board, IsBoard}}, proofs.{PathEnds.{snoc, leads_up, leads_self, leads_trans}, Rows.same_row}}
 use Rattle.model_set_up.specs.Pools.{bridge_of, bridges_above, has_io, has_pref, has_pref64}
 use Rattle.window_packing.specs.{declared.upstream_windows.UpstreamSupport.UpstreamSupport, Buses.{bus_path, nothing_above, behind}}
 
@@ -30,10 +30,6 @@ over_from b p d m = grind (arith, from_flat_map, from_filter)
 
 over_in : (b : Board) (p : Path) (d : Bridge) (r : Row) → IsIn r b → is_ancestor_of r.path p ≡ true → IsIn d (bridge_of r) → IsIn d (bridges_above b p)
 over_in b p d r m h k = in_flat_map bridge_of r d (filter (λ (r : Row). is_ancestor_of r.path p) b) (in_filter (λ (r : Row). is_ancestor_of r.path p) r b m h) k
-
--- two rows with one path are one
-pub same_row : (b : Board) → IsBoard b → (r s : Row) → IsIn r b → IsIn s b → r.path ≡ s.path → r ≡ s
-same_row b board r s m k e = grind (arith, pair_in, not_before_itself)
 
 -- a path of the board is some
 pub some_path : (b : Board) → IsBoard b → (r : Row) → IsIn r b → 0 < length r.path

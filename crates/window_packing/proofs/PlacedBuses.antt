@@ -2,9 +2,9 @@
 use Rattle.std.{proofs.{Common.{◌≡◌, ℕ, zero, suc, ◌+◌, ◌-◌, ◌^◌, ◌≤◌, ◌<◌, ◌⊎◌, inl, inr, true, false, List, [], ◌∷◌, ◌++◌, map, length, Option, MatchOption, refl, sym, ap, ◌∙◌, subst, arith}, lemmas.Bool.{and_parts, Decides.nat_tests}, Math.Nat.div-mul-le_self}, specs.Prelude.{filter, flat_map, IsTrue}}
 use Rattle.lists.{specs.Elements.{Each, EachPair, IsIn}, proofs.Members.{each_in, each_from, pair_in}}
 use Rattle.model_registers.specs.{Apertures.{Aperture, IsLawfulApertures, Apertures}, Declarations.{Endpoint, Region}}
-use Rattle.model_board.{specs.{Paths.{Part, Path, part_eq, parent, last_part, IsPath}, Board.{endpoint, is_bridge, Row, Board, IsBoard}, Lawful.{IsLawfulDecl, HasLawfulDecls}}, proofs.{PathOrder.part_same, PathEnds.{snoc, length_snoc}}}
+use Rattle.model_board.{specs.{Paths.{Part, Path, part_eq, parent, last_part, IsPath}, Board.{endpoint, is_bridge, Row, Board, IsBoard}, Lawful.{IsLawfulDecl, HasLawfulDecls}}, proofs.{PathOrder.part_same, PathEnds.{snoc, length_snoc}, Rows.same_row}}
 use Rattle.model_set_up.{specs.{Pools.{Pool, unit_of, aperture_of}, Placement.{Placed, a_region, a_window, same_placed, PlacementItem, PlacedItem, is_item, stands_before, in_order, round_up, need, alignment, spots_from, spots, offset_in, items_on, fits, offset_on, bus_first}, Layout.{LayoutRow, bus_rows, pool_rows}, Extents.IsInside, PlacementLaws.window_row}, proofs.{Packing.unit_positive, Items.{item_of, some_end, end_below_need, items_placeable, region_of_item, Origin, origin}, ItemOrder.{Strictly, items_strict}, Nesting.{HasItems, bus_first-snoc, window_of, bridge_of_bus}, LawfulPlacement.{row_in, pool_lawful}, DeclaredRows.has_window_row}}
-use Rattle.window_packing.proofs.{BridgesAbove.{same_row, some_path}, BusItems.{items_align, alignment_bounds}, SpotSearch.AreStrict}
+use Rattle.window_packing.proofs.{BridgesAbove.some_path, BusItems.{items_align, alignment_bounds}, SpotSearch.AreStrict}
 
 -- ---- spots in strict order
 

@@ -2,7 +2,7 @@
 use Rattle.std.{proofs.{Common.{◌≡◌, ◌+◌, ◌<◌, ◌≤◌, inl, inr, true, false, ◌&&◌, List, [], ◌∷◌, ◌++◌, refl, sym, ap, ap₂, ◌∙◌, subst, arith, append_assoc, append-nil}, lemmas.{List.map-append, Bool.ne_eqb}}, specs.Prelude.{map, count_by}}
 use Rattle.lists.{specs.Elements.{Each, EachPair, IsIn}, proofs.{Members.{each_in, each_from, any_in, in_front, in_back}, EachLemmas.{each_of_map, pairs_after}, Tests.and_true}}
 use Rattle.model_registers.{specs.{Cell.{Cell, written}, Registers.{Place, place_eq, File, cell_at, changed}, Declarations.{Bridge, Endpoint}, DeclarationRules.IsConfigBlock, BridgeTable.{BridgeValues, bridge_file}, Apertures.Apertures}, proofs.RegisterFiles.place_same}
-use Rattle.model_board.{specs.{Paths.{Path, path_eq, path_before, is_ancestor_of}, Board.{Board, Row, Decl, endpoint, bridge, is_bridge, is_bridge_at, is_multifunction}, BusNumbers.{secondary, subordinate, Enumerates}, State.{BoardFunction, State, row_at}, AtReset.board_at}, proofs.{StateRows.rows_of, PlacesLaw.before_apart, PathOrder.exclusive, PathEnds.{path_self, path_eq-sym}, BusNumbers.{bridges, at, count_three, counted}}}
+use Rattle.model_board.{specs.{Paths.{Path, path_eq, path_before, is_ancestor_of}, Board.{Board, Row, Decl, endpoint, bridge, is_bridge, is_bridge_at, has_multifunction_bit}, BusNumbers.{secondary, subordinate, Enumerates}, State.{BoardFunction, State, row_at}, AtReset.board_at}, proofs.{StateRows.rows_of, PlacesLaw.before_apart, PathOrder.exclusive, PathEnds.{path_self, path_eq-sym}, BusNumbers.{bridges, at, count_three, counted}}}
 use Rattle.model_set_up.{specs.{Reach.address_of, SetUp.{first_of, set_up_file, set_up_state}, SetUpWrites.{FunctionProgram, windows_of, writes_of, Plan, planned}, Scanning.{board_numbers, numbered_file, numbered_state, IsNumbered}, UniqueClaimant.CanBePlaced}, proofs.PlacedRegions.lawful_decl}
 use Rattle.host_bridge.specs.HostState.{HostState, with_functions}
 use Rattle.window_packing.{specs.WordWrites.{WordWrite, after_words, after_settings, words_of}, proofs.{FileWrites.file_after, BridgeWrites.bridge_written, EndpointWrites.endpoint_written, PlacedBases.bases_fit, BoardWrites.{HoldsNumbers, KeepsNumbers, words_at}}}
@@ -59,7 +59,7 @@ module _ (b : Board) (a : Apertures) (can : CanBePlaced b a) (few : Enumerates b
   bridge_there : (r : Row) → IsIn r b → is_bridge r.decl ≡ true → is_bridge_at b r.path ≡ true
   bridge_there r m h = any_in (λ (s : Row). is_bridge s.decl && path_eq s.path r.path) r b m (rw h (path_self r.path))
 
-  holds_routed : (d : Bridge) (p : Path) (r : BridgeValues) → r.secondary ≡ secondary b p → r.subordinate ≡ subordinate b p → Small b p → HoldsNumbers b (record { path = p; decl = bridge d; file = bridge_file d (is_multifunction b p) r })
+  holds_routed : (d : Bridge) (p : Path) (r : BridgeValues) → r.secondary ≡ secondary b p → r.subordinate ≡ subordinate b p → Small b p → HoldsNumbers b (record { path = p; decl = bridge d; file = bridge_file d (has_multifunction_bit b p) r })
   holds_routed d p r e f small k = grind arith
 
   set_up_holds : (p : Path) (d : Decl) → (is_bridge d ≡ true → Small b p) → HoldsNumbers b (record { path = p; decl = d; file = set_up_file b a p d })
@@ -75,8 +75,8 @@ module _ (b : Board) (a : Apertures) (can : CanBePlaced b a) (few : Enumerates b
   own_file : (r : Row) → IsIn r b → (d : Decl) → r.decl ≡ d → file_after (words_of (writes_of b a r.path d)) (numbered_file b (board_numbers b) r.path d) ≡ set_up_file b a r.path d
   own_file r m (endpoint d) e =
       let lawful = lawful_decl b can.declarations r d m e in
-      endpoint_written d (each_from (λ k. 0x34 ≤ k.offset) d.blocks (λ k i. (each_in IsConfigBlock k d.blocks lawful.config_blocks i).begins)) lawful.regions (is_multifunction b r.path) (first_of b a r.path) (bases_fit b a can r d m e)
-  own_file r m (bridge d) e = bridge_written d (is_multifunction b r.path) (board_numbers b r.path) (windows_of b a r.path)
+      endpoint_written d (each_from (λ k. 0x34 ≤ k.offset) d.blocks (λ k i. (each_in IsConfigBlock k d.blocks lawful.config_blocks i).begins)) lawful.regions (has_multifunction_bit b r.path) (first_of b a r.path) (bases_fit b a can r d m e)
+  own_file r m (bridge d) e = bridge_written d (has_multifunction_bit b r.path) (board_numbers b r.path) (windows_of b a r.path)
 
   one_setting : (done : Board) (r : Row) (todo : Board) → b ≡ done ++ r ∷ todo
       → after_words (address_of b r.path) (words_of (writes_of b a r.path r.decl)) (map set_up done ++ numbered r ∷ map numbered todo) ≡ map set_up done ++ set_up r ∷ map numbered todo

@@ -21,19 +21,25 @@ fn parse_one_digit_part(text: &[u8]) -> Option<(Part, &[u8])>
     }
 }
 
-/// Parses a part with device 10 to 15 at the start of a text. Returns the part and the rest of the
+/// Parses a part with device 10 to 31 at the start of a text. Returns the part and the rest of the
 /// text.
 fn parse_two_digit_part(text: &[u8]) -> Option<(Part, &[u8])>
     ensures { option_map (λ p. (p.0, p.1.now)) result ≡ parse_two_digit_part text.now }
 {
     match text {
         [
-            b'1',
-            device @ b'0'..=b'5',
+            tens @ b'1'..=b'3',
+            unit @ b'0'..=b'9',
             b'.',
             function @ b'0'..=b'7',
             rest @ ..,
-        ] => { Some((Part::new(10 + (*device - b'0'), *function - b'0'), rest)) }
+        ] => {
+            let device = 10 * (*tens - b'0') + (*unit - b'0');
+            if device > 31 {
+                return None;
+            }
+            Some((Part::new(device, *function - b'0'), rest))
+        }
         _ => None,
     }
 }
@@ -72,7 +78,7 @@ fn parse_slash_parts_into(path: &mut Path, text: &[u8], room: usize) -> bool
     }
 }
 
-/// Parses a path: 1 to 16 parts, separated by slashes. A part is a device from 0 to 15, a dot and a
+/// Parses a path: 1 to 16 parts, separated by slashes. A part is a device from 0 to 31, a dot and a
 /// function from 0 to 7, without leading zeros.
 pub fn parse_path(text: &[u8]) -> Option<Path>
     ensures { result ≡ parse_path text.now }

@@ -14,4 +14,4 @@ returns-clause-written c = λ b numbers p lawful there is reaches.
     let fits : FitBytes n = record { primary = c.ranges.primary.fits; secondary = c.ranges.secondary.fits; subordinate = c.ranges.subordinate.fits } in
     numbers_written b lawful numbers p there n fits c.args.host.now.state is (bus_address_of c.args.at) reaches c.config_write.new.self.state
     (ap (λ (h : HostState). h.state) c.config_write.ensures
-    ∙ ap (λ v. let s : State = record { functions = after_config_write c.args.host.now.state.functions (bus_address_of c.args.at) 0x18 (lanes 7) v; latch = 0 } in s) word)
+    ∙ ap (λ v. let s : State = record { functions = after_config_write c.args.host.now.state.functions (bus_address_of c.args.at) 0x18 (lanes 15) v; latch = 0 } in s) word)
