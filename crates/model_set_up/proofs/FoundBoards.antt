@@ -156,7 +156,7 @@ module _ (b : Board) (a : Apertures) where
 
   -- ---- what set-up writes
 
-  first_of_found : (p : Path) (r : Region) → first_of (found_board b) a p (bare r) ≡ first_of b a p r
+  pub first_of_found : (p : Path) (r : Region) → first_of (found_board b) a p (bare r) ≡ first_of b a p r
   first_of_found p r =
       ap (λ (pool : Pool). region_first (found_board b) a pool p r.index) (found_pool b a p r.kind)
       ∙ region_first_same b (found_board b) a (pool_of a (bridges_above b p) r.kind) (on_bus (pool_of a (bridges_above b p) r.kind)) p r.index
@@ -165,7 +165,7 @@ module _ (b : Board) (a : Apertures) where
   bases_found p [] = refl
   bases_found p (r ∷ rs) = ap₂ (λ n (bs : List BaseAddress). record { index = r.index; kind = r.kind; size = r.size; base = n } ∷ bs) (first_of_found p r) (bases_found p rs)
 
-  windows_found : (p : Path) → windows_of (found_board b) a p ≡ windows_of b a p
+  pub windows_found : (p : Path) → windows_of (found_board b) a p ≡ windows_of b a p
   windows_found p = grind (arith, bus_first_same, on_bus io_pool, on_bus mem_pool, on_bus pref_pool)
 
   any_bare : (t : Kind → Bool) (rs : List Region) → list_any (λ r. t r.kind) (map bare rs) ≡ list_any (λ r. t r.kind) rs
@@ -199,7 +199,7 @@ module _ (b : Board) (a : Apertures) where
 -- ---- the law
 
 -- as many bridges stand in the table
-all_bridges : (b : Board) → count_by (λ (r : Row). is_bridge r.decl) (found_board b) ≡ count_by (λ (r : Row). is_bridge r.decl) b
+pub all_bridges : (b : Board) → count_by (λ (r : Row). is_bridge r.decl) (found_board b) ≡ count_by (λ (r : Row). is_bridge r.decl) b
 all_bridges [] = refl
 all_bridges (r ∷ b) = search (rules, sum_by-cons, one, found_is_bridge, all_bridges b)
 

@@ -22,4 +22,5 @@ pub mod UniqueClaimant
 pub mod SetUpNumbers
 pub mod LawfulExamples
 pub mod FoundBoards
+pub mod MultifunctionBits
 pub mod Unasked

@@ -1,7 +1,7 @@
 -- The registers that set-up leaves read what it put there.
 use Rattle.std.{proofs.Common.{◌≡◌, ℕ, zero, suc, ◌+◌, ◌-◌, ◌*◌, ◌/◌, ◌%◌, ◌^◌, ◌≤◌, ◌<◌, Bool, true, List, [], ◌∷◌, ◌++◌, refl, ap, ◌∙◌, cond, arith, append_assoc, rules, Option, ap₂}, specs.Prelude.flat_map}
 use Rattle.lists.specs.Elements.{Each, EachPair}
-use Rattle.model_registers.{proofs.{Owned.{cells_above, cells_elsewhere}, RegisterFiles.{field_reads, below}}, specs.{Cell.Cell, Registers.{config, block, File, cell_at, number, cells_from}, Declarations.{Kind, io_kind, mem32, mem64, Region, registers_of, least_size, ConfigBlock, Endpoint, Bridge, IoDecode, PrefDecode, pref64}, EndpointTable.{base_register, base_cells, region_cells, block_cells, header_cells, endpoint_file}, BridgeTable.{BridgeValues, bridge_file, address_bits}, Decoding.{Space, io, base, is_open}}}
+use Rattle.model_registers.{proofs.{Owned.{cells_above, cells_elsewhere}, RegisterFiles.{field_reads, below}}, specs.{Cell.Cell, Registers.{config, block, File, cell_at, number, cells_from}, Declarations.{Kind, io_kind, mem32, mem64, Region, registers_of, least_size, ConfigBlock, Endpoint, Bridge, IoDecode, PrefDecode, pref64}, EndpointTable.{base_register, base_cells, region_cells, block_cells, header_cells, endpoint_file}, BridgeTable.{BridgeValues, bridge_file, address_bits}, Decoding.{Space, base, is_open}}}
 use Rattle.model_set_up.specs.{SetUp.{opens, command_of}, Pools.{has_io, has_pref, has_pref64}}
 use Rattle.model_board.{proofs.Routing.same_number, specs.Windows.{Window, window, io_window, mem_window, pref_window}}
 

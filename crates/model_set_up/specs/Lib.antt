@@ -5,6 +5,7 @@ pub mod Layout
 pub mod SetUp
 pub mod SetUpWrites
 pub mod FunctionTable
+pub mod MultifunctionBits
 pub mod PlacementLaws
 pub mod OrderLaws
 pub mod WindowLaws

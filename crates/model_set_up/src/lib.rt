@@ -4,7 +4,7 @@
 //! that set-up writes, and the resulting claims, with theorems about them.
 #![tactic(auto)]
 
-ghost use Rattle.model_set_up.specs.{FunctionTable.PlacedAsFound, Levels.ItemsByBus, OrderLaws.{OneOrder, OrderIsSorted}, Packing.{CompactIsRun, FlatNeedOnBus}, PlacementLaws.{LayoutIsLawful, PoolsAreLawful, RowsAreDeclared}, Reach.{OneRoute, OnlyNamed, ReachedByNumbers, SetUpHasNumbers}, ScanOrder.{ScanGivesNumbersInPathOrder, ScanMeetsInPathOrder}, Scanning.{NumbersOfScanState, ReachedWhileScanning}, UniqueClaimant.{ClaimInAnyOrder, ClaimOfRegion, PlacedWithin, RowsArePlaced, UniqueClaimant}, WindowLaws.{ClosedWindows, NamedWindows, SetUpWindows}};
+ghost use Rattle.model_set_up.specs.{FunctionTable.PlacedAsFound, Levels.ItemsByBus, MultifunctionBits.OnlyBitOfFunction0Matters, OrderLaws.{OneOrder, OrderIsSorted}, Packing.{CompactIsRun, FlatNeedOnBus}, PlacementLaws.{LayoutIsLawful, PoolsAreLawful, RowsAreDeclared}, Reach.{OneRoute, OnlyNamed, ReachedByNumbers, SetUpHasNumbers}, ScanOrder.{ScanGivesNumbersInPathOrder, ScanMeetsInPathOrder}, Scanning.{NumbersOfScanState, ReachedWhileScanning}, UniqueClaimant.{ClaimInAnyOrder, ClaimOfRegion, PlacedWithin, RowsArePlaced, UniqueClaimant}, WindowLaws.{ClosedWindows, NamedWindows, SetUpWindows}};
 
 /// Proves that on a bus without bridges the compact placement needs the sum of the sizes rounded up
 /// to the window granularity, and that no lawful placement needs fewer units.
@@ -108,4 +108,11 @@ pub fn placed_addresses_are_in_range()
 /// refusals, and it can be enumerated if and only if the original board can.
 pub fn scan_finds_all_placement_needs()
     ensures { PlacedAsFound }
+{}
+
+/// Proves that what a scan and the sizing find, the plan, the refusals and the state after set-up
+/// don't depend on bit 7 of the header type in functions 1 to 7: on a lawful board, each function
+/// may declare it set or clear. Only the bit itself differs in the states.
+pub fn only_function_0_decides_multifunction()
+    ensures { OnlyBitOfFunction0Matters }
 {}
