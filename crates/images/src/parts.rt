@@ -2,7 +2,7 @@
 ghost use Rattle.std.specs.Prelude.{◌≡◌, ◌≤◌, ◌<◌, length};
 ghost use Rattle.model_registers.specs.Cell.{IsCell};
 ghost use Rattle.bars.specs.Kinds.{kind_of};
-ghost use Rattle.model_images.specs.{Layouts.le_bytes, ImageBytes.kind_number};
+ghost use Rattle.model_images.specs.{Layouts.le_bytes, ImageBytes.{kind_number, pin_number}};
 ghost use Rattle.images.specs.Parts.{block_head, cell_bytes, endpoint_head, region_head};
 
 use bars::Kind;
@@ -98,6 +98,14 @@ pub(crate) fn block_head_bytes(block: &ConfigBlock) -> [u8; 2]
     [block.off as u8, block.block.len() as u8]
 }
 
+/// Returns Interrupt Pin, with bit 7 set if the function keeps bit 7 of its header type clear.
+fn pin_byte(pin: u8, multifunction: bool) -> u8
+    requires { pin < 0x80 }
+    ensures { result ≡ pin_number (pin, multifunction) }
+{
+    if multifunction { pin } else { pin + 0x80 }
+}
+
 /// Returns the bytes in front of an endpoint's regions: its identity and other header values, and
 /// the number of regions.
 #[tactic(auto, unfolding(crate::specs::Parts::endpoint_head))]
@@ -126,7 +134,7 @@ pub(crate) fn endpoint_head_bytes(decl: &EndpointDecl) -> [u8; 18]
         m1,
         n0,
         n1,
-        values.pin,
+        pin_byte(values.pin, values.multifunction),
         values.min_gnt,
         values.max_lat,
         s0,

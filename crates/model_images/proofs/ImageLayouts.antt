@@ -2,7 +2,7 @@
 use Rattle.std.{proofs.Common.{◌≡◌, ℕ, true, false, eqb, refl, arith}, specs.Prelude.{length, nat_lt}}
 use Rattle.lists.proofs.Tests.{right_true}
 use Rattle.model_registers.specs.{ConfigAddress.latched, Declarations.{Kind, Region, ConfigBlock, Endpoint}, Cell.Cell, EndpointTable.endpoint_reset}
-use Rattle.model_images.{specs.{Images.{SavedFunction, Image, fit_cells}, Layouts.number, ImageBytes.{magic, version, CellParts, cell_layout, kind_number, kind_of, kind_layout, RegionParts, region_layout, block_layout, identity_layout, fixed_layout, endpoint_of_parts, parts_of_endpoint, endpoint_layout, values_layout, function_layout, latch_layout, ImageParts, image_layout}, ByteLaws.IsLayout}, proofs.{Numbers.number_is, Layouts.{checked_is, through_is, followed_is, both_is, exactly_is, repeated_is, counted_is, optional_is}}}
+use Rattle.model_images.{specs.{Images.{SavedFunction, Image, fit_cells}, Layouts.number, ImageBytes.{magic, version, CellParts, cell_layout, kind_number, kind_of, kind_layout, RegionParts, region_layout, block_layout, Pin, pin_number, pin_of, pin_layout, identity_layout, fixed_layout, endpoint_of_parts, parts_of_endpoint, endpoint_layout, values_layout, function_layout, latch_layout, ImageParts, image_layout}, ByteLaws.IsLayout}, proofs.{Numbers.number_is, Layouts.{checked_is, through_is, checked_through_is, followed_is, both_is, exactly_is, repeated_is, counted_is, optional_is}}}
 
 -- ---- declarations
 
@@ -31,8 +31,17 @@ block_is = through_is _ (both_is _ _ (number_is 1) (counted_is _ cell_is 1)) (λ
 identity_is : IsLayout identity_layout
 identity_is = both_is _ _ (number_is 2) (both_is _ _ (number_is 2) (both_is _ _ (number_is 1) (both_is _ _ (number_is 3) (both_is _ _ (number_is 2) (number_is 2)))))
 
+pin_back : (x : Pin) → nat_lt x.0 0x80 ≡ true → pin_of (pin_number x) ≡ x
+pin_back x h = grind arith
+
+pin_same : (n : ℕ) → nat_lt n 256 ≡ true → pin_number (pin_of n) ≡ n
+pin_same n h = grind arith
+
+pub pin_is : IsLayout pin_layout
+pin_is = checked_through_is (number 1) (number_is 1) pin_of pin_number (λ x. nat_lt x.0 0x80) pin_back pin_same
+
 fixed_is : IsLayout fixed_layout
-fixed_is = both_is _ _ (number_is 1) (both_is _ _ (number_is 1) (both_is _ _ (number_is 1) (number_is 2)))
+fixed_is = both_is _ _ pin_is (both_is _ _ (number_is 1) (both_is _ _ (number_is 1) (number_is 2)))
 
 pub endpoint_is : IsLayout endpoint_layout
 endpoint_is =

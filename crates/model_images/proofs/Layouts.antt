@@ -13,6 +13,11 @@ module _ {A : Type 0} (L : Layout A) (l : IsLayout L) where
     pub through_is : ((y : B) → to (from y) ≡ y) → ((x : A) → IsTrue (L.fits x) → from (to x) ≡ x) → IsLayout (through to from L)
     through_is back same = grind (arith, from_map)
 
+    -- the same, where only the values that pass a test can be seen back
+    pub checked_through_is : (test : B → Bool) → ((y : B) → test y ≡ true → to (from y) ≡ y) → ((x : A) → IsTrue (L.fits x) → from (to x) ≡ x)
+        → IsLayout (checked test (through to from L))
+    checked_through_is test back same = grind (arith, from_next, from_map, left_true, right_true, and_from, same_Some)
+
 -- ---- one value after another
 
 module _ {A B : Type 0} (L : Layout A) (M : A → Layout B) (l : IsLayout L) (m : (x : A) → IsLayout (M x)) where

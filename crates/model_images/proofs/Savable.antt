@@ -60,8 +60,8 @@ masked n m h = let a = and_le_r n m in let low : n ≤ m = subst (λ x. x ≤ m)
 -- Status has 16 bits
 status_small : (d : Endpoint) → IsLawfulEndpoint d → d.status < 2 ^ 16
 status_small d h =
-    let masked = and_le_r d.status 0xf900 in
-    subst (λ n. n < 2 ^ 16) h.status (or_of_16 (bit_and d.status 0xf900) (capabilities_list_bit d.blocks) (omega (arith, masked)) (bit_small (list_any is_capabilities_pointer d.blocks)))
+    let masked = and_le_r d.status 0xffe0 in
+    subst (λ n. n < 2 ^ 16) h.status (or_of_16 (bit_and d.status 0xffe0) (capabilities_list_bit d.blocks) (omega (arith, masked)) (bit_small (list_any is_capabilities_pointer d.blocks)))
   where
     bit_small : (t : Bool) → cond t 0x10 0 < 2 ^ 16
     bit_small t = grind arith

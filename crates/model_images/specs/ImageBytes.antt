@@ -1,11 +1,11 @@
 -- The bytes of an image: a header, CONFIG_ADDRESS, and 32 slots. A function has its declaration, then a byte for each cell.
 --     magic, version      the first bytes of an image, and its version
---     cell_layout, region_layout, block_layout, endpoint_layout      the parts of a declaration
+--     cell_layout, region_layout, block_layout, pin_layout, endpoint_layout      the parts of a declaration
 --     values_layout, function_layout, latch_layout, image_layout      values; a function; CONFIG_ADDRESS; an image
 --     declaration_bytes, image_bytes      the bytes of a declaration, and of an image
 --     image_of bytes      the image that the bytes encode
 --     greatest_declaration, greatest_values, greatest_function, greatest_image      the most bytes of each
-use Rattle.std.specs.Prelude.{List, ℕ, ◌+◌, ◌*◌, ◌==◌, true, false, if◌then◌else◌, nat_lt, length, Option}
+use Rattle.std.specs.Prelude.{List, ℕ, ◌+◌, ◌*◌, ◌%◌, ◌==◌, Bool, true, false, if◌then◌else◌, nat_lt, length, Option}
 use Rattle.model_registers.specs.{Cell.Cell, ConfigAddress.latched, Declarations.{Kind, io_kind, mem32, mem64, Region, ConfigBlock, Endpoint}, EndpointTable.endpoint_reset}
 use Rattle.model_images.specs.{Images.{SavedFunction, Image, fit_cells}, Layouts.{Layout, number, checked, through, followed, both, exactly, repeated, counted, optional, whole}}
 
@@ -62,12 +62,26 @@ Identity = ℕ × (ℕ × (ℕ × (ℕ × (ℕ × ℕ))))
 abbrev pub identity_layout : Layout Identity
 identity_layout = both (number 2) (both (number 2) (both (number 1) (both (number 3) (both (number 2) (number 2)))))
 
+-- Interrupt Pin, and whether the function may set bit 7 of its header type
+abbrev pub Pin : Type 0
+Pin = ℕ × Bool
+
+-- bit 7 is set in a function that keeps bit 7 of its header type clear
+abbrev pub pin_number : Pin → ℕ
+pin_number x = x.0 + (if x.1 then 0 else 0x80)
+
+abbrev pub pin_of : ℕ → Pin
+pin_of n = (n % 0x80, nat_lt n 0x80)
+
+abbrev pub pin_layout : Layout Pin
+pin_layout = checked (λ x. nat_lt x.0 0x80) (through pin_of pin_number (number 1))
+
 -- Interrupt Pin, Min_Gnt, Max_Lat, Status at reset
 abbrev pub Fixed : Type 0
-Fixed = ℕ × (ℕ × (ℕ × ℕ))
+Fixed = Pin × (ℕ × (ℕ × ℕ))
 
 abbrev pub fixed_layout : Layout Fixed
-fixed_layout = both (number 1) (both (number 1) (both (number 1) (number 2)))
+fixed_layout = both pin_layout (both (number 1) (both (number 1) (number 2)))
 
 abbrev pub EndpointParts : Type 0
 EndpointParts = Identity × (Fixed × (List Region × List ConfigBlock))
@@ -80,10 +94,11 @@ endpoint_of_parts x = record {
   class = x.0.1.1.1.0;
   subvendor = x.0.1.1.1.1.0;
   subsystem = x.0.1.1.1.1.1;
-  pin = x.1.0.0;
+  pin = x.1.0.0.0;
   min_gnt = x.1.0.1.0;
   max_lat = x.1.0.1.1.0;
   status = x.1.0.1.1.1;
+  multifunction = x.1.0.0.1;
   regions = x.1.1.0;
   blocks = x.1.1.1;
 }
@@ -91,7 +106,7 @@ endpoint_of_parts x = record {
 abbrev pub parts_of_endpoint : Endpoint → EndpointParts
 parts_of_endpoint d = (
   (d.vendor, (d.device, (d.revision, (d.class, (d.subvendor, d.subsystem))))),
-  ((d.pin, (d.min_gnt, (d.max_lat, d.status))), (d.regions, d.blocks)),
+  (((d.pin, d.multifunction), (d.min_gnt, (d.max_lat, d.status))), (d.regions, d.blocks)),
 )
 
 abbrev pub endpoint_layout : Layout Endpoint
