@@ -4,7 +4,7 @@ use Rattle.lists.{specs.Elements.{IsIn, all_pairs}, proofs.Members.all_in}
 use Rattle.model_registers.specs.Apertures.{is_io_aperture, is_mem_aperture, has_lawful_pref, are_lawful}
 use Rattle.model_board.specs.{Paths.{parent, function_zero}, Places.has_path}
 use Rattle.model_guests.specs.World.{is_name}
-use Rattle.board_file.{specs.{Entries.File, PathTexts.{is_path_text, path_at}, Functions.{standings, aperture, apertures}, Rules.{has_at_most_15_slashes, names_endpoint, is_non_negative, is_none_or_non_negative}, Endpoints.{masks_hold, keeps}, EntryRules.{are_same_valid_path, is_existing_bus}, MarkedPaths.{function_texts, slot_texts}, Problems.{none, problems_in}, Meaning.file_checks, Judged.{is_lawful_bridge, is_judged}, declared.{fault.BoardFault.BoardFault, entry.Entry.Entry}}, proofs.Tests.{all-both, with_earlier, pairs-append, pairs-map, any_order, nothing_listed}}
+use Rattle.board_file.{specs.{Entries.File, PathTexts.{is_path_within, path_at}, Functions.{standings, aperture, apertures}, Rules.{has_at_most_15_slashes, is_device_count, device_limit, names_endpoint, is_non_negative, is_none_or_non_negative}, Endpoints.{masks_hold, keeps}, EntryRules.{are_same_valid_path, is_existing_bus}, MarkedPaths.{function_texts, slot_texts}, Problems.{none, problems_in}, Meaning.file_checks, Judged.{is_lawful_bridge, is_judged}, declared.{fault.BoardFault.BoardFault, entry.Entry.Entry}}, proofs.Tests.{all-both, with_earlier, pairs-append, pairs-map, any_order, nothing_listed}}
 use Rattle.board_file.specs.declared.fault.BoardFault.TheVariants as fault
 
 -- no problem is found under a check of a judged file
@@ -16,7 +16,8 @@ abbrev pub others : Entry × List ℕ → Entry × List ℕ → Bool
 others s t = not (are_same_valid_path s.1 t.1)
 
 module _ (f : File) where
-  pub numbers : none (problems_in f fault.Number) ≡ (list_all (λ e. keeps fault.Number e) f.endpoints && list_all (λ b. is_lawful_bridge b) f.bridges)
+  pub numbers : none (problems_in f fault.Number)
+      ≡ (is_device_count f.devices && (list_all (λ e. keeps fault.Number e) f.endpoints && list_all (λ b. is_lawful_bridge b) f.bridges))
   numbers = simp (nothing_listed, and_assoc)
 
   pub registers : none (problems_in f fault.Register) ≡ list_all (λ e. keeps fault.Register e) f.endpoints
@@ -39,7 +40,7 @@ module _ (f : File) where
   masks = simp (nothing_listed, all-both, with_earlier, pairs-append, pairs-map, list_all-map, any_order)
 
   pub places : none (problems_in f fault.Place)
-      ≡ (list_all (λ p. is_path_text p.1) (function_texts f)
+      ≡ (list_all (λ p. is_path_within (device_limit f.devices) p.1) (function_texts f)
       && (all_pairs others (function_texts f)
       && (list_all (λ p. is_existing_bus (standings f) (parent (path_at p.1))) (function_texts f)
       && list_all (λ p. has_path (standings f) (function_zero (path_at p.1))) (function_texts f))))

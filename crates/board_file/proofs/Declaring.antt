@@ -1,9 +1,9 @@
 -- A judged endpoint breaks no rule of declarations but that of blocks that overlap, and it breaks that one where two blocks of its
 -- tables overlap.
-use Rattle.std.{proofs.{Common.{◌≡◌, inl, inr, ℕ, ◌+◌, ◌<◌, ◌≤◌, ◌^◌, ◌==◌, ℤ, pos, ◌+ℤ◌, nat_abs, Bool, true, false, cond, ◌&&◌, ◌||◌, List, [], ◌∷◌, ◌++◌, map, length, nat_le, drop, bit_and, bit_or, refl, ◌∙◌, sym, ap, ap₂, arith, leb-true, le-leb, lt-ltb, append-nil}, lemmas.{Bool.{and_parts, eqb-true, eq-eqb, ne_eqb}, List.{map-append, FromFn.length-map-range_with_len, Folds.{list_all-map, list_all-append}}}}, specs.{Prelude.{int_le, is_none}, Int.Bits.or_zero_r, List.{list_all, list_any}}}
+use Rattle.std.{proofs.{Common.{◌≡◌, inl, inr, ℕ, ◌+◌, ◌<◌, ◌≤◌, ◌^◌, ◌==◌, ℤ, pos, ◌+ℤ◌, nat_abs, Bool, true, false, cond, ◌&&◌, ◌||◌, List, [], ◌∷◌, ◌++◌, map, length, nat_le, bit_and, bit_or, refl, ◌∙◌, sym, ap, ap₂, arith, leb-true, le-leb, lt-ltb, append-nil}, lemmas.{Bool.{and_parts, eqb-true, eq-eqb, ne_eqb}, Nat.{and_le_r, or_of_16, Bits.{bit_at_and, bit_at_or, same_from_bits_below}}, List.{map-append, FromFn.length-map-range_with_len, Folds.{list_all-map, list_all-append}}}}, specs.{Prelude.{int_le, is_none}, Int.{bit_at, Bits.or_zero_r}, List.{list_all, list_any}}}
 use Rattle.lists.{specs.Elements.{Each, all_pairs}, proofs.{EachLemmas.each_test, Tests.{left_true, right_true, asked_true}}}
-use Rattle.model_registers.{specs.{Cell.Cell, Declarations.ConfigBlock, DeclarationRules.{first_broken, endpoint_rules, blocks_apart, is_read_only, is_capabilities_pointer, status_with}, Capabilities.{first_offset_or_zero, structure, structures, pointer, with_capabilities}}, proofs.Capabilities.status_with_list}
-use Rattle.board_file.{specs.{Bars.{Bar, region, bar_rules, is_region}, Configs.{Config, config_block, config_extent, is_config_block}, Capabilities.{Capability, declared_capability as capability, capability_extent, is_capability}, Endpoints.{Endpoint, plain_values, endpoint_values, extents, endpoint_numbers, value_rules, keeps, is_declarable, HasSmallNumbers}, Values.Patterns, Entries.File, Blocks.block_cells, Rules.{is_between, has_only_bits, is_valid_bar_size, are_apart, kept}, Judged.{is_lawful_bridge, is_judged}, declared.{rule.Rule.Rule, functions.blocks.ByteRange.ByteRange}}, proofs.{Asked.{unbroken, numbers, registers, sizes}, Tests.{first_three, imply_all, all-both, pairs-map, pairs-swap}}}
+use Rattle.model_registers.{specs.{Cell.Cell, Declarations.ConfigBlock, DeclarationRules.{first_broken, endpoint_rules, blocks_apart, is_read_only, is_capabilities_pointer, status_with, is_fixed_status}, Capabilities.{first_offset_or_zero, structure, structures, pointer, with_capabilities}}, proofs.Capabilities.status_with_list}
+use Rattle.board_file.{specs.{Bars.{Bar, region, bar_rules, is_region}, Configs.{Config, config_block, config_extent, is_config_block}, Capabilities.{Capability, declared_capability as capability, capability_extent, is_capability}, Endpoints.{Endpoint, plain_values, endpoint_values, extents, endpoint_numbers, keeps, is_declarable, HasSmallNumbers}, Values.Patterns, Entries.{Bridge, File}, EntryRules.bridge_rules, Blocks.block_cells, Rules.{is_between, has_only_fixed_bits, is_device_count, is_valid_bar_size, are_apart, kept}, Judged.{is_lawful_bridge, is_judged}, declared.{rule.Rule.Rule, functions.blocks.ByteRange.ByteRange}}, proofs.{Asked.{unbroken, numbers, registers, sizes}, Tests.{first_three, imply_all, all-both, pairs-map, pairs-swap}}}
 use Rattle.model_registers.specs.DeclarationRules as rules
 use Rattle.model_registers.specs.Capabilities as listed
 use Rattle.board_file.specs.Endpoints as asked
@@ -32,6 +32,21 @@ within_ge first last n h = grind (arith, leb-true, and_parts)
 below : (last : ℕ) (n : ℤ) → is_between 0 last n ≡ true → nat_abs n < last + 1
 below last n h = let le = within_le 0 last n h in omega (arith, le)
 
+-- bits that a device sets together with read-only bits
+status_bits : (a b : ℕ) → bit_and a 0xf900 ≡ a → bit_and b 0x06e0 ≡ b → bit_and (bit_or a b) 0xffe0 ≡ bit_or a b
+status_bits a b h k =
+    same_from_bits_below 16 (bit_and (bit_or a b) 0xffe0) (bit_or a b) (omega (arith, and_le_r (bit_or a b) 0xffe0))
+    (or_of_16 a b (omega (arith, h, and_le_r a 0xf900)) (omega (arith, k, and_le_r b 0x06e0)))
+    (λ i l. omega (
+      arith,
+      bit_at_and (bit_or a b) 0xffe0 i,
+      bit_at_or a b i,
+      sym (bit_at_and a 0xf900 i) ∙ ap (λ n. bit_at n i) h,
+      sym (bit_at_and b 0x06e0 i) ∙ ap (λ n. bit_at n i) k,
+      bit_at_and 0xf900 0xffe0 i,
+      bit_at_and 0x06e0 0xffe0 i,
+    ))
+
 module _ (e : Endpoint) (h : is_declarable e ≡ true) where
   parts_of : (keeps fault.Number e ≡ true) × (keeps fault.Register e ≡ true) × (keeps fault.Size e ≡ true)
   parts_of = three_parts (keeps fault.Number e) (keeps fault.Register e) (keeps fault.Size e) h
@@ -51,8 +66,14 @@ module _ (e : Endpoint) (h : is_declarable e ≡ true) where
   status_of : (is_between 0 0xffff e.status ≡ true) × ((bit_and (nat_abs e.status) 0xf900 == nat_abs e.status) ≡ true)
   status_of = grind (arith, and_parts, numbers_kept)
 
+  fixed_of : (is_between 0 0xffff e.fixed_status ≡ true) × ((bit_and (nat_abs e.fixed_status) 0x06e0 == nat_abs e.fixed_status) ≡ true)
+  fixed_of = grind (arith, and_parts, numbers_kept)
+
   pub small : HasSmallNumbers e
-  small = grind (arith, below, within_le, numbers_kept, status_of)
+  small = grind (arith, below, within_le, numbers_kept, status_of, fixed_of)
+
+  declared_status : bit_and (plain_values e).status 0xffe0 ≡ (plain_values e).status
+  declared_status = status_bits (nat_abs e.status) (nat_abs e.fixed_status) (eqb-true _ _ status_of.1) (eqb-true _ _ fixed_of.1)
 
   registers_of : (kept (asked.endpoint_rules fault.Register e) ≡ true) × (keep_all (bar_rules fault.Register 0) ≡ true)
   registers_of = and_parts _ _ (left_true (kept (asked.endpoint_rules fault.Register e) && keep_all (bar_rules fault.Register 0)) _ (left_true _ _ parts_of.1))
@@ -236,8 +257,8 @@ no_list (c ∷ cs) h =
     let (here, more) = and_parts (is_config_block c) (list_all is_config_block cs) h in
     ap₂ (λ (a b : Bool). a || b) (no_pointer c here) (no_list cs more)
 
-plain_status : (s : ℕ) (cs : List Config) → bit_and s 0xf900 ≡ s → list_all is_config_block cs ≡ true → status_with (map config_block cs) s ≡ s
-plain_status s cs h k = ap (λ (t : Bool). bit_or (bit_and s 0xf900) (cond t 0x10 0)) (no_list cs k) ∙ or_zero_r (bit_and s 0xf900) ∙ h
+plain_status : (s : ℕ) (cs : List Config) → bit_and s 0xffe0 ≡ s → list_all is_config_block cs ≡ true → status_with (map config_block cs) s ≡ s
+plain_status s cs h k = ap (λ (t : Bool). bit_or (bit_and s 0xffe0) (cond t 0x10 0)) (no_list cs k) ∙ or_zero_r (bit_and s 0xffe0) ∙ h
 
 -- whatever Status and blocks it declares, as long as they are lawful
 lawful_numbers : (e : Endpoint) → is_declarable e ≡ true → (s : ℕ) (bs : List ConfigBlock)
@@ -272,12 +293,12 @@ with_list : (e : Endpoint) → is_declarable e ≡ true → (ds : List Capabilit
     → is_none (first_broken (endpoint_rules (with_capabilities (map capability ds) (plain_values e))))
     ≡ all_pairs are_apart (map config_extent e.configs ++ map capability_extent ds)
 with_list e h [] k =
-    let status = plain_status (nat_abs e.status) e.configs (eqb-true _ _ (status_of e h).1) (configs_of e h) in
-    by_blocks e h (nat_abs e.status) (map config_block e.configs) status (lawful_configs e.configs (configs_of e h)) ∙ plain_apart e.configs
+    let status = plain_status (plain_values e).status e.configs (declared_status e h) (configs_of e h) in
+    by_blocks e h (plain_values e).status (map config_block e.configs) status (lawful_configs e.configs (configs_of e h)) ∙ plain_apart e.configs
 with_list e h (d ∷ ds) k =
-    let status = ap (λ n. bit_or n 0x10) (status_with_list (nat_abs e.status) (eqb-true _ _ (status_of e h).1)) in
+    let status = ap (λ n. bit_or n 0x10) (status_with_list (plain_values e).status (declared_status e h)) in
     let blocks = lawful_blocks e.configs (d ∷ ds) (configs_of e h) k in
-    by_blocks e h (bit_or (nat_abs e.status) 0x10) (blocks_with e.configs (d ∷ ds)) status blocks
+    by_blocks e h (bit_or (plain_values e).status 0x10) (blocks_with e.configs (d ∷ ds)) status blocks
     ∙ listed_apart e.configs (d ∷ ds) (configs_of e h) k
 
 pub decided : (e : Endpoint) → is_declarable e ≡ true → is_none (first_broken (endpoint_rules (endpoint_values e))) ≡ all_pairs are_apart (extents e)
@@ -291,13 +312,24 @@ declared_regions e = same (map capability e.capabilities)
     same [] = refl
     same (c ∷ cs) = refl
 
+-- ---- bridges
+
+pub fixed_bits : (n : ℤ) → has_only_fixed_bits n ≡ true → is_fixed_status (nat_abs n) ≡ true
+fixed_bits n h = right_true (is_between 0 0xffff n) _ h
+
+pub fixed_secondary : (b : Bridge) → is_lawful_bridge b ≡ true → has_only_fixed_bits b.fixed_secondary_status ≡ true
+fixed_secondary b h = (each_test (λ r. r.1) (bridge_rules fault.Number b) h).1.1.1.1.0
+
 -- ---- all functions
+
+functions_of : (f : File) → is_judged f ≡ true → (list_all (keeps fault.Number) f.endpoints ≡ true) × (list_all is_lawful_bridge f.bridges ≡ true)
+functions_of f j =
+    and_parts _ _ (right_true (is_device_count f.devices) (list_all (keeps fault.Number) f.endpoints && list_all is_lawful_bridge f.bridges) (sym (numbers f) ∙ unbroken f j fault.Number (inl refl)))
 
 pub all_declarable : (f : File) → is_judged f ≡ true → list_all is_declarable f.endpoints ≡ true
 all_declarable f j =
-    all_three (keeps fault.Number) (keeps fault.Register) (keeps fault.Size) f.endpoints
-    (left_true (list_all (keeps fault.Number) f.endpoints) (list_all is_lawful_bridge f.bridges) (sym (numbers f) ∙ unbroken f j fault.Number (inl refl)))
+    all_three (keeps fault.Number) (keeps fault.Register) (keeps fault.Size) f.endpoints (functions_of f j).0
     (sym (registers f) ∙ unbroken f j fault.Register (inr (inr (inr (inl refl))))) (sym (sizes f) ∙ unbroken f j fault.Size (inr (inr (inr (inr (inl refl))))))
 
 pub all_bridges : (f : File) → is_judged f ≡ true → list_all is_lawful_bridge f.bridges ≡ true
-all_bridges f j = grind (arith, right_true, numbers, unbroken)
+all_bridges f j = (functions_of f j).1

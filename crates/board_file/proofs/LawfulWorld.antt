@@ -3,7 +3,7 @@ use Rattle.std.{proofs.{Common.{◌≡◌, ◌⊎◌, inl, inr, ℕ, ◌+◌, �
 use Rattle.lists.{specs.Elements.{IsIn, Each, EachPair, all_pairs}, proofs.{EachLemmas.{each_map, each_of_map, each_from_map, each_test, pairs_map, pairs_from_map, pairs_test}, Members.{all_in, each_from, pairs_of_map, pairs_weaker}, Tests.{left_true, right_true}}}
 use Rattle.model_board.{specs.{Paths.{Path, IsPath, path_eq, parent, function_zero}, Board.{Decl, Row, Board, IsBoard, is_bridge, stands_at, is_bridge_at}, Places.{Standing, standing, has_path, has_bridge, board_of, IsFounded, AreLawfulPlaces}, Lawful.{HasLawfulDecls, IsLawfulDecl}, State.{row_at, State}, AtReset.{reset_state, reset_file, board_at, IsAtReset}}, proofs.PlacesLaw.{any_board, apart_turn, each_to_board, lawful_places_are_boards}}
 use Rattle.model_guests.specs.World.{is_name, declared, HasLawfulGuests, IsLawfulWorld}
-use Rattle.board_file.{specs.{Endpoints.Endpoint, Entries.{Bridge, Guest, File}, Functions.{rows, standings, guest}, PathTexts.{is_path_text, path_at}, Rules.{is_root, is_endpoint, names_endpoint}, EntryRules.{are_same_valid_path, is_existing_bus}, MarkedPaths.{guest_texts, function_texts, slot_texts}, Problems.{none, problems_in}, Judged.{is_judged, IsShortGuest}, Meaning.world_of, declared.entry.Entry.Entry}, proofs.{Asked.{others, unbroken, counts, names, places, slots}, ListTests.pairs_of_test, PathParts.path_at_is_path, Tests.{first_three, imply_all}}}
+use Rattle.board_file.{specs.{Endpoints.Endpoint, Entries.{Bridge, Guest, File}, Functions.{rows, standings, guest}, PathTexts.{is_path_text, is_path_within, path_at}, Rules.{device_limit, is_root, is_endpoint, names_endpoint}, EntryRules.{are_same_valid_path, is_existing_bus}, MarkedPaths.{guest_texts, function_texts, slot_texts}, Problems.{none, problems_in}, Judged.{is_judged, IsShortGuest}, Meaning.world_of, declared.entry.Entry.Entry}, proofs.{Asked.{others, unbroken, counts, names, places, slots}, ListTests.pairs_of_test, PathParts.path_at_is_path, Tests.{first_three, imply_all}}}
 use Rattle.model_registers.specs.Registers as registers
 use Rattle.model_guests.specs.World as world
 use Rattle.board_file.specs.declared.fault.BoardFault.TheVariants as fault
@@ -15,7 +15,7 @@ unnumbered : {A B : Type 0} (g : A → B) (n : ℕ) (xs : List A) → map (λ (p
 unnumbered g n [] = refl
 unnumbered g n (x ∷ xs) = ap (λ ys. g x ∷ ys) (unnumbered g (n + 1) xs)
 
-abbrev path_in : Entry × List ℕ → Path
+abbrev pub path_in : Entry × List ℕ → Path
 path_in s = path_at s.1
 
 differ : (s t : List ℕ) → is_path_text s ≡ true → is_path_text t ≡ true → not (are_same_valid_path s t) ≡ true → path_eq (path_at s) (path_at t) ≡ false
@@ -30,7 +30,7 @@ apart texts paths own =
 
 -- ---- the board
 
-place_paths : (f : File) → map path_in (function_texts f) ≡ map (λ (s : Standing). s.path) (standings f)
+pub place_paths : (f : File) → map path_in (function_texts f) ≡ map (λ (s : Standing). s.path) (standings f)
 place_paths f = simp (map-append, map-map, unnumbered (λ (e : Endpoint). path_at e.at) 0 f.endpoints, unnumbered (λ (b : Bridge). path_at b.at) 0 f.bridges)
 
 root_of_test : (p : Path) → is_root p ≡ true → p ≡ []
@@ -45,7 +45,8 @@ behind ss p h = grind (arith, or_cases, root_of_test)
 lawful_places : (f : File) → none (problems_in f fault.Place) ≡ true → AreLawfulPlaces (standings f)
 lawful_places f h =
     let ss = standings f in let texts = function_texts f in
-    let (paths, own, bridges, zeros) = first_three _ _ _ _ (sym (places f) ∙ h) in
+    let (limited, own, bridges, zeros) = first_three _ _ _ _ (sym (places f) ∙ h) in
+    let paths = imply_all (λ s. is_path_within (device_limit f.devices) s.1) (λ s. is_path_text s.1) (λ s. left_true (is_path_text s.1) _) texts limited in
     let each = each_from (λ t. Founded ss (path_in t)) texts
     (λ t m. (
       path_at_is_path t.1,
@@ -59,7 +60,7 @@ lawful_places f h =
       apart = pairs_from_map (λ p q. IsFalse (path_eq q p)) (λ (s : Standing). s.path) ss (subst (EachPair (λ p q. IsFalse (path_eq q p))) (place_paths f) turned);
     }
 
-places_of_rows : (f : File) → map standing (rows f) ≡ standings f
+pub places_of_rows : (f : File) → map standing (rows f) ≡ standings f
 places_of_rows f = simp (map-append, map-map)
 
 pub is_board : (f : File) → is_judged f ≡ true → IsBoard (board_of (rows f))

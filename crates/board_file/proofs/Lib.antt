@@ -13,5 +13,6 @@ pub mod Taken
 pub mod FirstBroken
 pub mod ByChecks
 pub mod RefusalLaws
+pub mod DeviceLaws
 pub mod Searches
 pub mod PathSets

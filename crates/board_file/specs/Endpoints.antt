@@ -7,11 +7,11 @@
 --         regions in order
 --     keeps fault e, is_declarable e      it and the tables inside it keep the rules with a fault; all rules but those of patterns
 --     HasSmallNumbers e      its values fit their registers
-use Rattle.std.specs.{Prelude.{ℕ, ℤ, ◌<◌, ◌≤◌, ◌^◌, nat_abs, codes, Bool, not, ◌&&◌, ◌||◌, List, [], ◌∷◌, ◌++◌, map, length}, List.list_all}
+use Rattle.std.specs.{Prelude.{ℕ, ℤ, ◌<◌, ◌≤◌, ◌^◌, nat_abs, bit_or, codes, Bool, not, ◌&&◌, ◌||◌, List, [], ◌∷◌, ◌++◌, map, length}, List.list_all}
 use Rattle.toml.specs.Data.{Members}
 use Rattle.lists.specs.Elements.{all_pairs}
 use Rattle.model_registers.specs.{DeclarationRules.{has_own_registers, with_ordered_regions}, Capabilities.with_capabilities}
-use Rattle.board_file.specs.{Values.{number, text, tables}, Bars.{Bar, bar, bar_holds, bar_rules, region}, Configs.{Config, config, config_extent, config_holds, config_rules, config_block}, Capabilities.{Capability, capability, capability_extent, capability_holds, capability_rules, declared_capability}, Rules.{is_between, fits_byte_rule, fits_half_word_rule, has_only_bits, has_at_most_15_slashes, identity_rules, are_apart, kept}, declared.{functions.blocks.ByteRange.ByteRange, entry.EndpointPart.EndpointPart, rule.Rule.Rule, fault.BoardFault.BoardFault}}
+use Rattle.board_file.specs.{Values.{number, boolean_or_true, text, tables}, Bars.{Bar, bar, bar_holds, bar_rules, region}, Configs.{Config, config, config_extent, config_holds, config_rules, config_block}, Capabilities.{Capability, capability, capability_extent, capability_holds, capability_rules, declared_capability}, Rules.{is_between, fits_byte_rule, fits_half_word_rule, has_only_bits, has_at_most_15_slashes, identity_rules, fixed_status_rule, multifunction_rule, are_apart, kept}, declared.{functions.blocks.ByteRange.ByteRange, entry.EndpointPart.EndpointPart, rule.Rule.Rule, fault.BoardFault.BoardFault}}
 use Rattle.model_registers.specs.Declarations as declared
 use Rattle.board_file.specs.declared.entry.EndpointPart.TheVariants as part
 use Rattle.board_file.specs.declared.fault.BoardFault.TheVariants as fault
@@ -32,6 +32,8 @@ pub record Endpoint : Type 0 where
   pub min_gnt : ℤ
   pub max_lat : ℤ
   pub status : ℤ
+  pub fixed_status : ℤ
+  pub multifunction : Bool
   pub bars : List Bar
   pub configs : List Config
   pub capabilities : List Capability
@@ -49,6 +51,8 @@ endpoint ms = record {
   min_gnt = number (codes "min_gnt") ms;
   max_lat = number (codes "max_lat") ms;
   status = number (codes "status") ms;
+  fixed_status = number (codes "fixed_status") ms;
+  multifunction = boolean_or_true (codes "multifunction") ms;
   bars = map bar (tables (codes "bar") ms);
   configs = map config (tables (codes "config") ms);
   capabilities = map capability (tables (codes "capability") ms);
@@ -72,7 +76,9 @@ value_rules e =
     ∷ (rule.Pin, is_between 0 4 e.pin)
     ∷ fits_byte_rule register.MinGnt e.min_gnt
     ∷ fits_byte_rule register.MaxLat e.max_lat
-    ∷ (rule.Status, has_only_bits 0xf900 e.status) ∷ []
+    ∷ (rule.Status, has_only_bits 0xf900 e.status)
+    ∷ fixed_status_rule e.fixed_status
+    ∷ multifunction_rule e.at e.multifunction ∷ []
 
 abbrev pub endpoint_numbers : Endpoint → List (Rule × Bool)
 endpoint_numbers e = identity_rules e.vendor e.device e.revision ++ value_rules e
@@ -106,6 +112,7 @@ pub record HasSmallNumbers (e : Endpoint) : Type 0 where
   pub min_gnt : nat_abs e.min_gnt < 2 ^ 8
   pub max_lat : nat_abs e.max_lat < 2 ^ 8
   pub status : nat_abs e.status < 2 ^ 16
+  pub fixed_status : nat_abs e.fixed_status < 2 ^ 16
 
 -- ---- blocks and structures
 
@@ -131,7 +138,8 @@ plain_values e = record {
   pin = nat_abs e.pin;
   min_gnt = nat_abs e.min_gnt;
   max_lat = nat_abs e.max_lat;
-  status = nat_abs e.status;
+  status = bit_or (nat_abs e.status) (nat_abs e.fixed_status);
+  multifunction = e.multifunction;
   regions = map region e.bars;
   blocks = map config_block e.configs;
 }

@@ -1,10 +1,10 @@
 -- The entries of a board file, read from its table: texts and numbers that haven't been checked. Endpoints stand in Endpoints.
 --     Bridge, Guest      what the tables of these names say
 --     File, file      the whole file, and how it is read from the table of a document
-use Rattle.std.specs.{Prelude.{ℕ, ℤ, pos, codes, List, [], ◌∷◌, map, Option, unwrap_or, option_map}, List.filter_map}
+use Rattle.std.specs.{Prelude.{ℕ, ℤ, pos, codes, Bool, List, [], ◌∷◌, map, Option, unwrap_or, option_map}, List.filter_map}
 use Rattle.toml.specs.Data.{Data, Members, get_member, as_integer, as_str}
 use Rattle.model_registers.specs.Declarations.{IoDecode, no_io, PrefDecode, no_pref}
-use Rattle.board_file.specs.{Texts.{parse_io_decode, parse_pref_decode}, Values.{number, text, values, tables, table_at}, Endpoints.{Endpoint, endpoint}, declared.entries.Bounds.Bounds}
+use Rattle.board_file.specs.{Texts.{parse_io_decode, parse_pref_decode}, Values.{number_or, number, boolean_or_true, text, values, tables, table_at}, Endpoints.{Endpoint, endpoint}, declared.entries.Bounds.Bounds}
 
 -- ---- tables
 
@@ -13,6 +13,9 @@ pub record Bridge : Type 0 where
   pub vendor : ℤ
   pub device : ℤ
   pub revision : ℤ
+  pub fixed_status : ℤ
+  pub fixed_secondary_status : ℤ
+  pub multifunction : Bool
   pub io : IoDecode
   pub pref : PrefDecode
 
@@ -22,6 +25,9 @@ bridge ms = record {
   vendor = number (codes "vendor") ms;
   device = number (codes "device") ms;
   revision = number (codes "revision") ms;
+  fixed_status = number (codes "fixed_status") ms;
+  fixed_secondary_status = number (codes "fixed_secondary_status") ms;
+  multifunction = boolean_or_true (codes "multifunction") ms;
   io = unwrap_or (parse_io_decode (text (codes "io") ms)) no_io;
   pref = unwrap_or (parse_pref_decode (text (codes "pref") ms)) no_pref;
 }
@@ -50,6 +56,7 @@ pub record File : Type 0 where
   pub io : Bounds
   pub mem : Bounds
   pub pref : Option Bounds
+  pub devices : ℤ
   pub endpoints : List Endpoint
   pub bridges : List Bridge
   pub guests : List Guest
@@ -59,6 +66,7 @@ file ms = let host = table_at (codes "host") ms in record {
   io = range (codes "io") host;
   mem = range (codes "mem") host;
   pref = option_map (λ _. range (codes "pref") host) (get_member (codes "pref") host);
+  devices = number_or (pos 16) (codes "devices") host;
   endpoints = map endpoint (tables (codes "endpoint") ms);
   bridges = map bridge (tables (codes "bridge") ms);
   guests = map guest (tables (codes "guest") ms);

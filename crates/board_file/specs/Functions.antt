@@ -16,6 +16,9 @@ bridge b = record {
   vendor = nat_abs b.vendor;
   device = nat_abs b.device;
   revision = nat_abs b.revision;
+  status = nat_abs b.fixed_status;
+  secondary_status = nat_abs b.fixed_secondary_status;
+  multifunction = b.multifunction;
   io = b.io;
   pref = b.pref;
 }

@@ -20,5 +20,6 @@ pub mod KeyProblems
 pub mod Meaning
 pub mod Judged
 pub mod RefusalLaws
+pub mod DeviceLaws
 pub mod Sources
 pub mod PathSets

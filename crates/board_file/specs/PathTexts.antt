@@ -3,7 +3,8 @@
 --     parse_leading_part      the part with which a text begins, and what comes after it
 --     parse_path, is_path_text      the path of 1 to 16 parts that a text is
 --     path_at      that path, or 0.0 for any other text
-use Rattle.std.specs.Prelude.{ℕ, zero, suc, ◌+◌, ◌-◌, ◌*◌, Bool, ◌&&◌, List, [], ◌∷◌, ◌==◌, nat_le, Option, Some, None, is_some, unwrap_or, option_map, option_and_then, if◌then◌else◌}
+--     is_path_within n text      a path whose devices are below n
+use Rattle.std.specs.{Prelude.{ℕ, zero, suc, ◌+◌, ◌-◌, ◌*◌, Bool, ◌&&◌, List, [], ◌∷◌, ◌==◌, nat_le, Option, Some, None, is_some, nat_lt, unwrap_or, option_map, option_and_then, if◌then◌else◌}, List.list_all}
 use Rattle.lists.specs.Elements.{first_of_two}
 use Rattle.model_board.specs.Paths.{Part, Path}
 
@@ -47,3 +48,6 @@ is_path_text text = is_some (parse_path text)
 
 abbrev pub path_at : List ℕ → Path
 path_at text = unwrap_or (parse_path text) (record { device = 0; function = 0 } ∷ [])
+
+abbrev pub is_path_within : ℕ → List ℕ → Bool
+is_path_within n text = is_path_text text && list_all (λ p. nat_lt p.device n) (path_at text)

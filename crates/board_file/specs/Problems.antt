@@ -6,7 +6,7 @@
 --     Adds these old new      the problems, and then these
 --     none ps      there are none
 use Rattle.std.specs.{Prelude.{◌≡◌, ℕ, Bool, true, false, List, [], ◌∷◌, ◌++◌, map, flat_map, if◌then◌else◌}, List.enumerate_from}
-use Rattle.board_file.specs.{Bars.bar_rules, Configs.config_rules, Capabilities.capability_rules, Endpoints.{Endpoint, endpoint_rules}, Entries.{Bridge, Guest, File}, Functions.standings, MarkedPaths.{MarkedPath, path_texts_for_check, mark_duplicates}, RuleFaults.key_of, EntryRules.{file_rules, host_rules, path_rules, bridge_rules, guest_rules}, declared.{fault.BoardFault.BoardFault, entry.{Entry.Entry, EndpointPart.EndpointPart}, rule.Rule.Rule, finding.Violation.Violation}}
+use Rattle.board_file.specs.{Bars.bar_rules, Configs.config_rules, Capabilities.capability_rules, Endpoints.{Endpoint, endpoint_rules}, Entries.{Bridge, Guest, File}, Functions.standings, MarkedPaths.{MarkedPath, path_texts_for_check, mark_duplicates}, RuleFaults.key_of, Rules.device_limit, EntryRules.{file_rules, host_rules, path_rules, bridge_rules, guest_rules}, declared.{fault.BoardFault.BoardFault, entry.{Entry.Entry, EndpointPart.EndpointPart}, rule.Rule.Rule, finding.Violation.Violation}}
 use Rattle.model_board.specs.Places.{Standing}
 use Rattle.board_file.specs.declared.fault.BoardFault.TheVariants as fault
 use Rattle.board_file.specs.declared.entry.Entry.TheVariants as entry
@@ -73,11 +73,12 @@ of_values fault f =
 
 -- ---- path by path
 
-abbrev pub of_path : BoardFault → List Standing → MarkedPath → List Found
-of_path fault ss p = broken p.entry (path_rules fault ss p.text p.is_first)
+-- on buses with n devices
+abbrev pub of_path : BoardFault → ℕ → List Standing → MarkedPath → List Found
+of_path fault n ss p = broken p.entry (path_rules fault n ss p.text p.is_first)
 
 abbrev pub of_paths : BoardFault → File → List Found
-of_paths fault f = flat_map (of_path fault (standings f)) (mark_duplicates (path_texts_for_check fault f))
+of_paths fault f = flat_map (of_path fault (device_limit f.devices) (standings f)) (mark_duplicates (path_texts_for_check fault f))
 
 abbrev pub problems_in : File → BoardFault → List Found
 problems_in f fault.Place = of_paths fault.Place f

@@ -5,11 +5,13 @@
 --     is_valid_bar_size      a power of two within the limits of a region's kind
 --     fits_byte_rule, fits_half_word_rule      the rule that a number fits in its register, and whether it is kept
 --     identity_rules, kept      the rules of what identifies a function; all rules of a list are kept
+--     fixed_status_rule, multifunction_rule      the rules of the read-only bits of Status, and of bit 7 of Header Type
+--     is_device_count, device_limit      how many devices a bus may have; that number, or 32 if the file has another
 --     is_non_negative, is_none_or_non_negative      both addresses of an aperture are 0 or more
 --     are_apart      two ranges of offsets don't overlap
-use Rattle.std.specs.{Prelude.{ℕ, ℤ, ◌+◌, pos, nat_abs, int_le, Bool, true, false, not, ◌&&◌, ◌||◌, List, [], ◌∷◌, ◌==◌, nat_le, Option, Some, None, bit_and, count_by}, List.list_all, Int.is_power_of_two}
+use Rattle.std.specs.{Prelude.{ℕ, ℤ, ◌+◌, pos, nat_abs, int_le, Bool, true, false, not, ◌&&◌, ◌||◌, List, [], ◌∷◌, ◌==◌, nat_le, Option, Some, None, bit_and, count_by, if◌then◌else◌}, List.list_all, Int.is_power_of_two, Ordering.int_eq}
 use Rattle.model_registers.specs.Declarations.{Kind, least_size, greatest_size}
-use Rattle.model_board.specs.{Paths.Path, Places.{Standing, has_path, has_bridge}}
+use Rattle.model_board.specs.{Paths.{Path, last_part}, Places.{Standing, has_path, has_bridge}}
 use Rattle.board_file.specs.{PathTexts.{is_path_text, path_at}, declared.{document.keys.RegisterKey.RegisterKey, entries.Bounds.Bounds, functions.blocks.ByteRange.ByteRange, rule.Rule.Rule}}
 use Rattle.board_file.specs.declared.document.keys.RegisterKey.TheVariants as register
 use Rattle.board_file.specs.declared.rule.Rule.TheVariants as rule
@@ -41,6 +43,26 @@ identity_rules vendor device revision =
 
 abbrev pub kept : List (Rule × Bool) → Bool
 kept rules = list_all (λ r. r.1) rules
+
+-- bits 5 to 7, 9 and 10
+abbrev pub has_only_fixed_bits : ℤ → Bool
+has_only_fixed_bits n = has_only_bits 0x06e0 n
+
+abbrev pub fixed_status_rule : ℤ → Rule × Bool
+fixed_status_rule n = (rule.FixedStatus, has_only_fixed_bits n)
+
+-- bit 7 of Header Type can be clear in functions 1 to 7 alone; a text that isn't a path breaks another rule
+abbrev pub multifunction_rule : List ℕ → Bool → Rule × Bool
+multifunction_rule at m = (rule.Multifunction, m || not (is_path_text at && (last_part (path_at at)).function == 0))
+
+-- ---- devices
+
+abbrev pub is_device_count : ℤ → Bool
+is_device_count n = int_eq n (pos 16) || int_eq n (pos 32)
+
+-- a number that breaks that rule makes no path wrong
+abbrev pub device_limit : ℤ → ℕ
+device_limit n = if int_eq n (pos 16) then 16 else 32
 
 -- ---- paths
 

@@ -5,8 +5,8 @@
 --     has_form      a value has the type, or is one of the words, that stands at its key
 --     form_at      what stands at a key
 use Rattle.std.specs.{Prelude.{ℕ, codes, Bool, true, false, ◌&&◌, List, [], ◌∷◌, length, ◌==◌, Option, Some, None, is_some, if◌then◌else◌}, List.list_all}
-use Rattle.toml.specs.Data.{Data, string, array, Items, no_items, item, as_integer, as_str, as_table}
-use Rattle.board_file.specs.{Texts.{same_text, parse_region_kind, parse_io_decode, parse_pref_decode}, declared.{entry.EndpointPart.EndpointPart, document.{keys.RegisterKey.RegisterKey, schema.{TableKind.TableKind, Keyword.{Keyword, TheVariants.{RegionKind, IoDecode, PrefDecode}}, ValueType.{ValueType, TheVariants.{Integer, Text, Word, Pair, Texts, Table, Tables}}, Field.Field as FieldInCode}}}}
+use Rattle.toml.specs.Data.{Data, string, array, Items, no_items, item, as_integer, as_bool, as_str, as_table}
+use Rattle.board_file.specs.{Texts.{same_text, parse_region_kind, parse_io_decode, parse_pref_decode}, declared.{entry.EndpointPart.EndpointPart, document.{keys.RegisterKey.RegisterKey, schema.{TableKind.TableKind, Keyword.{Keyword, TheVariants.{RegionKind, IoDecode, PrefDecode}}, ValueType.{ValueType, TheVariants.{Integer, Boolean, Text, Word, Pair, Texts, Table, Tables}}, Field.Field as FieldInCode}}}}
 use Rattle.board_file.specs.declared.document.schema.TableKind.TheVariants as level
 use Rattle.board_file.specs.declared.entry.EndpointPart.TheVariants as part
 use Rattle.board_file.specs.declared.document.keys.RegisterKey.TheVariants as register
@@ -49,7 +49,8 @@ fields level.Top =
     ∷ optional (codes "bridge") (Tables level.Bridge)
     ∷ optional (codes "guest") (Tables level.Guest) ∷ []
 fields level.Host =
-    needed (codes "io") Pair ∷ needed (codes "mem") Pair ∷ optional (codes "pref") Pair ∷ []
+    needed (codes "io") Pair ∷ needed (codes "mem") Pair ∷ optional (codes "pref") Pair
+    ∷ optional (codes "devices") Integer ∷ []
 fields level.Endpoint =
     needed (codes "at") Text
     ∷ needed (codes "vendor") Integer
@@ -62,6 +63,8 @@ fields level.Endpoint =
     ∷ optional (codes "min_gnt") Integer
     ∷ optional (codes "max_lat") Integer
     ∷ optional (codes "status") Integer
+    ∷ optional (codes "fixed_status") Integer
+    ∷ optional (codes "multifunction") Boolean
     ∷ optional (codes "bar") (Tables (level.Part part.Bar))
     ∷ optional (codes "config") (Tables (level.Part part.Config))
     ∷ optional (codes "capability") (Tables (level.Part part.Capability)) ∷ []
@@ -91,6 +94,9 @@ fields level.Bridge =
     ∷ needed (codes "vendor") Integer
     ∷ needed (codes "device") Integer
     ∷ optional (codes "revision") Integer
+    ∷ optional (codes "fixed_status") Integer
+    ∷ optional (codes "fixed_secondary_status") Integer
+    ∷ optional (codes "multifunction") Boolean
     ∷ needed (codes "io") (Word IoDecode)
     ∷ needed (codes "pref") (Word PrefDecode) ∷ []
 fields level.Guest = needed (codes "name") Text ∷ needed (codes "slots") Texts ∷ []
@@ -113,6 +119,7 @@ is_allowed_word PrefDecode t = is_some (parse_pref_decode t)
 -- the value has the type, or is one of the words, that stands at its key
 abbrev pub has_form : ValueType → Data → Bool
 has_form Integer d = is_some (as_integer d)
+has_form Boolean d = is_some (as_bool d)
 has_form Text d = is_some (as_str d)
 has_form (Word words) (string t) = is_allowed_word words t
 has_form (Word words) _ = false

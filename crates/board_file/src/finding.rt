@@ -8,7 +8,7 @@ use crate::entry::Entry;
 use crate::fault::BoardFault;
 use crate::functions::bridge::push_all_bridge_problems;
 use crate::functions::endpoint::push_all_endpoint_problems;
-use crate::functions::numbers::has_at_most_1024_functions;
+use crate::functions::numbers::{has_at_most_1024_functions, is_device_count};
 use crate::guests::problems::push_all_guest_problems;
 use crate::path::problems::push_all_path_problems;
 use crate::rule::Rule;
@@ -65,8 +65,8 @@ fn push_own_file_problems(
     }
 }
 
-/// Appends the problems of the apertures.
-fn push_aperture_problems(
+/// Appends the problems of the `host` table.
+fn push_host_problems(
     problems: &mut Vec<Violation<'_>>,
     fault: BoardFault,
     file: &FileEntries<'_>,
@@ -75,6 +75,11 @@ fn push_aperture_problems(
         problems.new.items) }
 {
     match fault {
+        BoardFault::Number => push_broken_rules(
+            problems,
+            Entry::Host,
+            &[(Rule::Devices, is_device_count(file.devices))],
+        ),
         BoardFault::Aperture => push_broken_rules(
             problems,
             Entry::Host,
@@ -101,7 +106,7 @@ fn push_non_path_problems(
     ensures { OnOk result (Adds (of_values fault file.now) problems.old.items problems.new.items) }
 {
     push_own_file_problems(problems, fault, file)?;
-    push_aperture_problems(problems, fault, file)?;
+    push_host_problems(problems, fault, file)?;
     push_all_endpoint_problems(alloc, problems, file, fault)?;
     push_all_bridge_problems(problems, file, fault)?;
     push_all_guest_problems(problems, file, fault)

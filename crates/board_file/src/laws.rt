@@ -1,5 +1,5 @@
-//! Theorems about problems and refusals.
-ghost use Rattle.board_file.specs.RefusalLaws.{ProblemsBreakChecks, RefusalsHaveProblems};
+//! Theorems about problems, refusals and accepted files.
+ghost use Rattle.board_file.specs.{RefusalLaws.{ProblemsBreakChecks, RefusalsHaveProblems}, DeviceLaws.AcceptedDevicesAreBelowLimit};
 
 /// Proves that a document that is refused with a fault has at least one problem with that fault.
 pub fn refusals_have_problems()
@@ -9,4 +9,10 @@ pub fn refusals_have_problems()
 /// Proves that a document that passes a check has no problem with the fault of that check.
 pub fn problems_break_checks()
     ensures { ProblemsBreakChecks }
+{}
+
+/// Proves that no function of an accepted file has a device above 15, unless the file has
+/// `devices = 32`.
+pub fn accepted_devices_are_below_limit()
+    ensures { AcceptedDevicesAreBelowLimit }
 {}

@@ -26,6 +26,14 @@ pub enum Rule {
     Pin,
     /// Status has only bits of F900h, the error bits that a device can report.
     Status,
+    /// The read-only bits of Status are only bits of 06E0h.
+    FixedStatus,
+    /// The read-only bits of Secondary Status are only bits of 06E0h.
+    FixedSecondaryStatus,
+    /// Bit 7 of Header Type isn't declared clear in function 0 of a device.
+    Multifunction,
+    /// A bus may have 16 or 32 devices.
+    Devices,
     /// The register block of a BAR has at most 4096 bytes.
     BarBlock,
     /// A configuration block begins at an offset from 40h to FFh.
@@ -60,7 +68,7 @@ pub enum Rule {
     BarMasks,
     /// The patterns of a configuration block or a structure are valid.
     ConfigMasks,
-    /// The `at` of a function is a valid path.
+    /// The `at` of a function is a valid path, with devices that a bus of the file may have.
     Path,
     /// No earlier function has the same path.
     OwnPlace,
@@ -104,6 +112,10 @@ impl Rule {
             Rule::Class => (BoardFault::Number, "class"),
             Rule::Pin => (BoardFault::Number, "pin"),
             Rule::Status => (BoardFault::Number, "status"),
+            Rule::FixedStatus => (BoardFault::Number, "fixed_status"),
+            Rule::FixedSecondaryStatus => (BoardFault::Number, "fixed_secondary_status"),
+            Rule::Multifunction => (BoardFault::Number, "multifunction"),
+            Rule::Devices => (BoardFault::Number, "devices"),
             Rule::BarBlock => (BoardFault::Number, "block"),
             Rule::ConfigOff => (BoardFault::Number, "off"),
             Rule::ConfigBlock => (BoardFault::Number, "block"),

@@ -2,7 +2,7 @@
 
 use crate::key_causes::push_similar_or_all_keys;
 use crate::others::path_text_of_entry;
-use crate::path_causes::push_path_help;
+use crate::path_causes::{DEVICES_KEY, push_path_help};
 use board_file::document::schema::TableKind;
 use board_file::document::tables::table_kind_of_entry;
 use board_file::entries::FileEntries;
@@ -19,9 +19,14 @@ pub(crate) fn push_remedy_if_any(
     let at = path_text_of_entry(file, problem.entry);
     match (problem.rule, table_kind_of_entry(problem.entry), at) {
         (Rule::Known, Some(level), _) => push_similar_or_all_keys(alloc, text, level, problem.key),
+        (Rule::Path, _, Some(at)) if at.is_path() => text.push_str(DEVICES_KEY),
         (Rule::Path | Rule::NamesEndpoint, _, Some(at)) => push_path_help(
             text,
             at.text().as_bytes(),
+            file.device_limit(),
+        ),
+        (Rule::Multifunction, _, _) => text.push_str(
+            "in function 0 of a device with several functions, bit 7 of the header type is always set",
         ),
         (Rule::Name, _, _) => text.push_str(
             "a name is 1 to 16 lowercase letters and digits, and begins with a letter; \"host\" is reserved",

@@ -51,6 +51,7 @@ pub(crate) fn push_expected_form(
 ) -> Result<(), AllocError> {
     let words = match form_at(level, key) {
         Some(ValueType::Integer) => " an integer such as 16 or 0x10, without quotes",
+        Some(ValueType::Boolean) => " true or false, without quotes",
         Some(ValueType::Text) => match key {
             "reset" | "rw" | "w1c" => " hexadecimal digits in quotes, such as \"ff\"",
             _ => " a string in quotes",

@@ -9,9 +9,32 @@ use std::alloc::AllocError;
 
 const DECIMAL: &str = "numbers in a path are decimal, without leading zeros";
 
+/// What to write if a device is above 15.
+pub(crate) const DEVICES_KEY: &str = "set devices = 32 in [host] to use devices 16 to 31";
+
+/// Returns the value of a hexadecimal digit.
+fn hexadecimal_value(digit: u8) -> Option<u8> {
+    match digit {
+        b'0'..=b'9' => Some(digit - b'0'),
+        b'a'..=b'f' => Some(digit - b'a' + 10),
+        _ => None,
+    }
+}
+
+/// Returns the device of a part that is written as `lspci` writes it, with two hexadecimal digits.
+fn hexadecimal_device(part: &[u8]) -> Option<u8> {
+    match part {
+        [sixteens @ b'0'..=b'1', unit, b'.', b'0'..=b'7'] => {
+            Some(16 * (*sixteens - b'0') + hexadecimal_value(*unit)?)
+        }
+        _ => None,
+    }
+}
+
 /// Appends the path that was probably meant by an invalid one, or else the syntax of paths. Appends
-/// nothing for a valid path. Recognises the form of `lspci` and leading zeros.
-pub(crate) fn push_path_help(text: &mut String, at: &[u8]) -> Result<(), AllocError> {
+/// nothing for a valid path. Recognises the form of `lspci` and leading zeros. A bus has at most
+/// `limit` devices.
+pub(crate) fn push_path_help(text: &mut String, at: &[u8], limit: u8) -> Result<(), AllocError> {
     let short = match at {
         [b'0', b'0', b':', rest @ ..] => rest,
         _ => at,
@@ -19,26 +42,26 @@ pub(crate) fn push_path_help(text: &mut String, at: &[u8]) -> Result<(), AllocEr
     if parse_path(at).is_some() {
         return Ok(());
     }
+    if let Some(device) = hexadecimal_device(short) {
+        write!(
+            text,
+            "did you mean \"{device}{}\"? {DECIMAL}",
+            Shown(&short[2..])
+        )?;
+        return if device < limit {
+            Ok(())
+        } else {
+            write!(text, "; {DEVICES_KEY}")
+        };
+    }
     if parse_path(short).is_some() {
         return write!(text, "did you mean \"{}\"?", Shown(short));
     }
-    match short {
-        [b'0', b'0'..=b'9', b'.', b'0'..=b'7'] => {
-            write!(text, "did you mean \"{}\"? {}", Shown(&short[1..]), DECIMAL)
-        }
-        [b'0', digit @ b'a'..=b'f', b'.', b'0'..=b'7'] => {
-            write!(
-                text,
-                "did you mean \"1{}{}\"? {}",
-                *digit - b'a',
-                Shown(&short[2..]),
-                DECIMAL
-            )
-        }
-        _ => text.push_str(
-            "write DEVICE.FUNCTION for each bus, for example \"2.0/1.0\": devices are 0 to 31, functions 0 to 7, without leading zeros",
-        ),
-    }
+    write!(
+        text,
+        "write DEVICE.FUNCTION for each bus, for example \"2.0/1.0\": devices are 0 to {}, functions 0 to 7, without leading zeros",
+        limit.saturating_sub(1)
+    )
 }
 
 /// Appends the first prefix of a path at which there is no bridge.

@@ -81,8 +81,8 @@ impl<'a> fmt::Display for Head<'a> {
     }
 }
 
-/// Displays the key of a message, and its value if that is a string or an integer. An integer is
-/// shown as it is written in the file.
+/// Displays the key of a message, and its value if that is a string, an integer or a Boolean. An
+/// integer is shown as it is written in the file.
 #[derive(Clone, Copy)]
 pub struct Subject<'a>(pub Head<'a>);
 
@@ -97,8 +97,13 @@ impl<'a> fmt::Display for Subject<'a> {
             value_at(head.document, head.entry, head.key),
             head.value_text_if_one_word(),
         ) {
-            (Some(Value::Integer(_)), Some(word)) => write!(f, " = {}", Shown(word)),
+            (Some(Value::Integer(_) | Value::Boolean(_)), Some(word)) => write!(
+                f,
+                " = {}",
+                Shown(word)
+            ),
             (Some(Value::Integer(number)), None) => write!(f, " = {number}"),
+            (Some(Value::Boolean(flag)), None) => write!(f, " = {flag}"),
             (Some(Value::String(text)), _) => write!(f, " = \"{}\"", Shown(text.as_bytes())),
             _ => Ok(()),
         }

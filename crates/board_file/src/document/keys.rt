@@ -61,13 +61,14 @@ const TOP: [Field; 4] = [
     optional!("guest", ValueType::Tables(TableKind::Guest)),
 ];
 
-const HOST: [Field; 3] = [
+const HOST: [Field; 4] = [
     needed!("io", ValueType::Pair),
     needed!("mem", ValueType::Pair),
     optional!("pref", ValueType::Pair),
+    optional!("devices", ValueType::Integer),
 ];
 
-const ENDPOINT: [Field; 14] = [
+const ENDPOINT: [Field; 16] = [
     needed!("at", ValueType::Text),
     needed!("vendor", ValueType::Integer),
     needed!("device", ValueType::Integer),
@@ -79,6 +80,8 @@ const ENDPOINT: [Field; 14] = [
     optional!("min_gnt", ValueType::Integer),
     optional!("max_lat", ValueType::Integer),
     optional!("status", ValueType::Integer),
+    optional!("fixed_status", ValueType::Integer),
+    optional!("multifunction", ValueType::Boolean),
     optional!("bar", ValueType::Tables(TableKind::Part(EndpointPart::Bar))),
     optional!(
         "config",
@@ -117,11 +120,14 @@ const CAPABILITY: [Field; 6] = [
     optional!("w1c", ValueType::Text),
 ];
 
-const BRIDGE: [Field; 6] = [
+const BRIDGE: [Field; 9] = [
     needed!("at", ValueType::Text),
     needed!("vendor", ValueType::Integer),
     needed!("device", ValueType::Integer),
     optional!("revision", ValueType::Integer),
+    optional!("fixed_status", ValueType::Integer),
+    optional!("fixed_secondary_status", ValueType::Integer),
+    optional!("multifunction", ValueType::Boolean),
     needed!("io", ValueType::Word(Keyword::IoDecode)),
     needed!("pref", ValueType::Word(Keyword::PrefDecode)),
 ];

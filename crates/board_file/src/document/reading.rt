@@ -1,7 +1,7 @@
 //! Conversion of a TOML document to entries.
-ghost use Rattle.std.specs.{Prelude.{◌≡◌, map, unwrap_or, option_and_then, option_map, IfOk, codes}, List.filter_map};
+ghost use Rattle.std.specs.{Prelude.{◌≡◌, map, unwrap_or, option_and_then, option_map, IfOk, codes, pos}, List.filter_map};
 ghost use Rattle.toml.specs.{Data.{Members, get_member, as_str, as_table, as_array}, View.{view, array_view, table_view}};
-ghost use Rattle.board_file.specs.{Schema.list_of, Values.{number, text_at, text, values, tables, table_at, patterns}, Entries.{as_integer_or_zero, bounds_or_zeros, range, file}};
+ghost use Rattle.board_file.specs.{Schema.list_of, Values.{number_or, number, boolean_or_true, text_at, text, values, tables, table_at, patterns}, Entries.{as_integer_or_zero, bounds_or_zeros, range, file}};
 
 use crate::entries::{Bounds, FileEntries, PatternTexts};
 use crate::path::text::PathText;
@@ -15,13 +15,30 @@ pub fn value_at<'a>(table: &'a Table, key: &str) -> Option<&'a Value>
     table.get(key)
 }
 
+/// Returns the integer value of a key. A missing or mistyped value reads as `default`.
+fn integer_or(table: &Table, key: &str, default: i64) -> i64
+    ensures { result ≡ number_or default key.now (table_view table.now) }
+{
+    match value_at(table, key) {
+        Some(value) => value.as_integer().unwrap_or(default),
+        None => default,
+    }
+}
+
 /// Returns the integer value of a key. A missing or mistyped value reads as 0.
 pub(crate) fn integer_or_zero(table: &Table, key: &str) -> i64
     ensures { result ≡ number key.now (table_view table.now) }
 {
+    integer_or(table, key, 0)
+}
+
+/// Returns the Boolean value of a key. A missing or mistyped value reads as true.
+pub(crate) fn boolean_or_true(table: &Table, key: &str) -> bool
+    ensures { result ≡ boolean_or_true key.now (table_view table.now) }
+{
     match value_at(table, key) {
-        Some(value) => value.as_integer().unwrap_or(0),
-        None => 0,
+        Some(value) => value.as_bool().unwrap_or(true),
+        None => true,
     }
 }
 
@@ -178,8 +195,19 @@ fn find_host_pref_or_zeros(table: &Table) -> Option<Bounds>
     }
 }
 
-/// Reads the entries of a document without checking them. A missing or mistyped value reads as 0,
-/// as an empty string or as an empty list. Fails only if memory is exhausted.
+fn host_devices_or_16(table: &Table) -> i64
+    ensures { result
+        ≡ number_or (pos 16) (codes "devices") (table_at (codes "host") (table_view table.now)) }
+{
+    match table_at(table, "host") {
+        Some(host) => integer_or(host, "devices", 16),
+        None => 16,
+    }
+}
+
+/// Reads the entries of a document without checking them. A missing or mistyped value reads as the
+/// default of its key, or else as 0, as an empty string or as an empty list. Fails only if memory is
+/// exhausted.
 pub fn read_entries(alloc: Global, table: &Table) -> Result<FileEntries<'_>, AllocError>
     ensures { IfOk result (λ f. f ≡ file (table_view table.now)) }
 {
@@ -187,6 +215,7 @@ pub fn read_entries(alloc: Global, table: &Table) -> Result<FileEntries<'_>, All
         io: host_bounds_or_zeros(table, "io"),
         mem: host_bounds_or_zeros(table, "mem"),
         pref: find_host_pref_or_zeros(table),
+        devices: host_devices_or_16(table),
         endpoints: entries_at_or_empty(alloc, table, "endpoint")?,
         bridges: entries_at_or_empty(alloc, table, "bridge")?,
         guests: entries_at_or_empty(alloc, table, "guest")?,

@@ -31,6 +31,7 @@ pub enum Keyword {
 #[derive(Clone, Copy)]
 pub enum ValueType {
     Integer,
+    Boolean,
     Text,
     Word(Keyword),
     /// An array of two integers.
@@ -89,6 +90,7 @@ pub fn has_form(form: ValueType, value: &Value) -> bool
 {
     match form {
         ValueType::Integer => value.is_integer(),
+        ValueType::Boolean => value.is_bool(),
         ValueType::Text => value.is_str(),
         ValueType::Word(words) => is_allowed_word_value(words, value),
         ValueType::Table(_) => value.is_table(),

@@ -1,20 +1,20 @@
 //! The `bridge` tables of a board file.
-ghost use Rattle.std.specs.{Prelude.{◌≡◌, ◌<◌, ◌^◌, nat_abs, OnOk, flat_map}, List.enumerate_from};
+ghost use Rattle.std.specs.{Prelude.{◌≡◌, ◌<◌, ◌^◌, nat_abs, IsTrue, OnOk, flat_map}, List.enumerate_from};
 ghost use Rattle.model_registers.specs.DeclarationRules.{IsLawfulBridge};
 ghost use Rattle.headers.specs.Decodes.{io_decode_of, pref_decode_of};
-ghost use Rattle.board_file.specs.{Entries.bridge, Functions.{bridge as declared_bridge}, Problems.{Adds, of_bridge}};
+ghost use Rattle.board_file.specs.{Entries.bridge, Functions.{bridge as declared_bridge}, Rules.has_only_fixed_bits, Problems.{Adds, of_bridge}};
 ghost use Rattle.board_file.specs.Entries as said;
 
 use crate::document::keys::RegisterKey;
 use crate::document::keywords::{parse_io_decode, parse_pref_decode};
-use crate::document::reading::{FromTable, integer_or_zero, text_or_empty};
+use crate::document::reading::{FromTable, boolean_or_true, integer_or_zero, text_or_empty};
 use crate::entries::FileEntries;
 use crate::entry::Entry;
 use crate::fault::BoardFault;
 use crate::finding::{Violation, push_broken_rules};
 use crate::functions::numbers::{
-    fits_byte_rule, fits_half_word_rule, has_at_most_15_slashes, is_between, magnitude_as_u8,
-    magnitude_as_u16,
+    fits_byte_rule, fits_half_word_rule, fixed_status_rule, has_at_most_15_slashes,
+    has_only_fixed_bits, is_between, magnitude_as_u8, magnitude_as_u16, multifunction_rule,
 };
 use crate::path::text::PathText;
 use crate::rule::Rule;
@@ -30,6 +30,9 @@ pub struct BridgeEntry<'a> {
     pub vendor: i64,
     pub device: i64,
     pub revision: i64,
+    pub fixed_status: i64,
+    pub fixed_secondary_status: i64,
+    pub multifunction: bool,
     pub io: IoDecode,
     pub pref: PrefDecode,
 }
@@ -42,6 +45,9 @@ impl<'a> Model for BridgeEntry<'a> {
       vendor = b.vendor;
       device = b.device;
       revision = b.revision;
+      fixed_status = b.fixed_status;
+      fixed_secondary_status = b.fixed_secondary_status;
+      multifunction = b.multifunction;
       io = io_decode_of b.io;
       pref = pref_decode_of b.pref;
     } };
@@ -56,6 +62,9 @@ impl<'a> FromTable<'a> for BridgeEntry<'a> {
             vendor: integer_or_zero(table, "vendor"),
             device: integer_or_zero(table, "device"),
             revision: integer_or_zero(table, "revision"),
+            fixed_status: integer_or_zero(table, "fixed_status"),
+            fixed_secondary_status: integer_or_zero(table, "fixed_secondary_status"),
+            multifunction: boolean_or_true(table, "multifunction"),
             io: parse_io_decode(text_or_empty(table, "io")).unwrap_or(IoDecode::Unimplemented),
             pref: parse_pref_decode(text_or_empty(table, "pref")).unwrap_or(
                 PrefDecode::Unimplemented,
@@ -70,6 +79,8 @@ impl<'a> BridgeEntry<'a> {
         requires vendor { nat_abs self.now.vendor < 0xffff }
         requires device { nat_abs self.now.device < 2 ^ 16 }
         requires revision { nat_abs self.now.revision < 2 ^ 8 }
+        requires status { IsTrue (has_only_fixed_bits self.now.fixed_status) }
+        requires secondary_status { IsTrue (has_only_fixed_bits self.now.fixed_secondary_status) }
         ensures value { result ≡ declared_bridge self.now }
         ensures lawful { IsLawfulBridge result }
     {
@@ -81,6 +92,12 @@ impl<'a> BridgeEntry<'a> {
             self.pref,
         )
         .unwrap()
+        .with_fixed_status(
+            magnitude_as_u16(self.fixed_status),
+            magnitude_as_u16(self.fixed_secondary_status),
+        )
+        .unwrap()
+        .with_multifunction(self.multifunction)
     }
 }
 
@@ -103,6 +120,12 @@ fn push_bridge_problems(
                 (Rule::Vendor, is_between(0, 0xfffe, bridge.vendor)),
                 fits_half_word_rule(RegisterKey::Device, bridge.device),
                 fits_byte_rule(RegisterKey::Revision, bridge.revision),
+                fixed_status_rule(bridge.fixed_status),
+                (
+                    Rule::FixedSecondaryStatus,
+                    has_only_fixed_bits(bridge.fixed_secondary_status),
+                ),
+                multifunction_rule(&bridge.at, bridge.multifunction),
             ],
         ),
         BoardFault::TooMany => {

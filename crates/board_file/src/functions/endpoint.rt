@@ -5,15 +5,17 @@ ghost use Rattle.board_file.specs.{Bars.region, Blocks.Gives, Endpoints.{endpoin
 ghost use Rattle.board_file.specs.Endpoints as said;
 
 use crate::document::keys::RegisterKey;
-use crate::document::reading::{FromTable, entries_at_or_empty, integer_or_zero, text_or_empty};
+use crate::document::reading::{
+    FromTable, boolean_or_true, entries_at_or_empty, integer_or_zero, text_or_empty,
+};
 use crate::entries::{BarEntry, CapabilityEntry, ConfigEntry, FileEntries};
 use crate::entry::{EndpointPart, Entry};
 use crate::fault::BoardFault;
 use crate::finding::{Violation, push_broken_rules};
 use crate::functions::bar::has_valid_index;
 use crate::functions::numbers::{
-    fits_byte_rule, fits_half_word_rule, has_at_most_15_slashes, has_only_bits, is_between,
-    magnitude_as_u8, magnitude_as_u16, magnitude_as_u64,
+    fits_byte_rule, fits_half_word_rule, fixed_status_rule, has_at_most_15_slashes, has_only_bits,
+    is_between, magnitude_as_u8, magnitude_as_u16, magnitude_as_u64, multifunction_rule,
 };
 use crate::functions::part::{declare_all_if_masks_hold, push_part_problems};
 use crate::path::text::PathText;
@@ -37,6 +39,8 @@ pub struct EndpointEntry<'a> {
     pub min_gnt: i64,
     pub max_lat: i64,
     pub status: i64,
+    pub fixed_status: i64,
+    pub multifunction: bool,
     pub bars: Vec<BarEntry<'a>>,
     pub configs: Vec<ConfigEntry<'a>>,
     pub capabilities: Vec<CapabilityEntry<'a>>,
@@ -57,6 +61,8 @@ impl<'a> Model for EndpointEntry<'a> {
       min_gnt = e.min_gnt;
       max_lat = e.max_lat;
       status = e.status;
+      fixed_status = e.fixed_status;
+      multifunction = e.multifunction;
       bars = e.bars.items;
       configs = e.configs.items;
       capabilities = e.capabilities.items;
@@ -79,6 +85,8 @@ impl<'a> FromTable<'a> for EndpointEntry<'a> {
             min_gnt: integer_or_zero(table, "min_gnt"),
             max_lat: integer_or_zero(table, "max_lat"),
             status: integer_or_zero(table, "status"),
+            fixed_status: integer_or_zero(table, "fixed_status"),
+            multifunction: boolean_or_true(table, "multifunction"),
             bars: entries_at_or_empty(alloc, table, "bar")?,
             configs: entries_at_or_empty(alloc, table, "config")?,
             capabilities: entries_at_or_empty(alloc, table, "capability")?,
@@ -166,6 +174,8 @@ fn push_number_problems(
             fits_byte_rule(RegisterKey::MinGnt, endpoint.min_gnt),
             fits_byte_rule(RegisterKey::MaxLat, endpoint.max_lat),
             (Rule::Status, has_only_bits(0xf900, endpoint.status)),
+            fixed_status_rule(endpoint.fixed_status),
+            multifunction_rule(&endpoint.at, endpoint.multifunction),
         ],
     )
 }
@@ -295,7 +305,8 @@ fn values_without_capabilities(
         pin: magnitude_as_u8(entry.pin),
         min_gnt: magnitude_as_u8(entry.min_gnt),
         max_lat: magnitude_as_u8(entry.max_lat),
-        status: magnitude_as_u16(entry.status),
+        status: magnitude_as_u16(entry.status) | magnitude_as_u16(entry.fixed_status),
+        multifunction: entry.multifunction,
         bar,
         config,
     }

@@ -1,6 +1,6 @@
 //! Ranges and conversions of integers, and limits on the number of entries.
 ghost use Rattle.std.specs.Prelude.{◌≡◌, ◌<◌, ◌+◌, ◌^◌, ◌+ℤ◌, int_le, nat_abs, nat_le, pos, length};
-ghost use Rattle.board_file.specs.Rules.{is_between, fits_byte_rule, fits_half_word_rule, has_only_bits, has_at_most_15_slashes};
+ghost use Rattle.board_file.specs.Rules.{is_between, fits_byte_rule, fits_half_word_rule, has_only_bits, has_only_fixed_bits, fixed_status_rule, multifunction_rule, is_device_count, has_at_most_15_slashes};
 
 use crate::document::keys::RegisterKey;
 use crate::entries::FileEntries;
@@ -36,6 +36,37 @@ pub(crate) fn fits_half_word_rule(key: RegisterKey, number: i64) -> (Rule, bool)
     ensures { result ≡ fits_half_word_rule key number }
 {
     (Rule::HalfWord(key), is_between(0, 0xffff, number))
+}
+
+/// Returns whether only bits of Status are set that a file may declare as read-only: 5 to 7, 9 and
+/// 10.
+pub(crate) fn has_only_fixed_bits(number: i64) -> bool
+    ensures { result ≡ has_only_fixed_bits number }
+{
+    has_only_bits(0x06e0, number)
+}
+
+/// Returns the rule of the read-only bits of Status, and whether it is kept.
+pub(crate) fn fixed_status_rule(number: i64) -> (Rule, bool)
+    ensures { result ≡ fixed_status_rule number }
+{
+    (Rule::FixedStatus, has_only_fixed_bits(number))
+}
+
+/// Returns the rule that bit 7 of Header Type isn't declared clear in function 0, and whether it is
+/// kept. It is kept if the text isn't a path, which another rule reports.
+pub(crate) fn multifunction_rule(at: &PathText<'_>, multifunction: bool) -> (Rule, bool)
+    ensures { result ≡ multifunction_rule at.now multifunction }
+{
+    let is_zero = at.is_path() && at.path_or_zero().last().function() == 0;
+    (Rule::Multifunction, multifunction || !is_zero)
+}
+
+/// Returns whether a bus may have this number of devices: 16 or 32.
+pub(crate) fn is_device_count(devices: i64) -> bool
+    ensures { result ≡ is_device_count devices }
+{
+    devices == 16 || devices == 32
 }
 
 /// Returns whether the sum of `off` and `block` is at most `end`.

@@ -11,15 +11,16 @@ use crate::path::sets::PathSets;
 use crate::rule::Rule;
 use std::alloc::{AllocError, Global};
 
-/// Appends the problems of the path of a function or slot.
+/// Appends the problems of the path of a function or slot. A bus has at most `limit` devices.
 fn push_path_problems(
     problems: &mut Vec<Violation<'_>>,
+    limit: u8,
     functions: &PathSets<'_>,
     fault: BoardFault,
     at: &MarkedPath<'_, '_>,
 ) -> Result<(), AllocError>
     ensures { OnOk result
-        (Adds (of_path fault functions.now at.now) problems.old.items problems.new.items) }
+        (Adds (of_path fault limit functions.now at.now) problems.old.items problems.new.items) }
 {
     match fault {
         BoardFault::Place => {
@@ -30,7 +31,7 @@ fn push_path_problems(
                 problems,
                 at.entry,
                 &[
-                    (Rule::Path, at.text.is_path()),
+                    (Rule::Path, at.text.is_path_within(limit)),
                     (Rule::OwnPlace, at.is_first),
                     (Rule::BehindBridge, is_behind),
                     (Rule::FunctionZero, has_zero),
@@ -61,10 +62,11 @@ pub(crate) fn push_all_path_problems(
     ensures { OnOk result
         (Adds (of_paths fault file.now) problems.old.items problems.new.items) }
 {
+    let limit = file.device_limit();
     let functions = PathSets::new(alloc, functions)?;
     let entries = marked_paths_for_check(alloc, file, fault)?;
     'entries: for at in &entries {
-        push_path_problems(problems, &functions, fault, at)?;
+        push_path_problems(problems, limit, &functions, fault, at)?;
     }
     Ok(())
 }

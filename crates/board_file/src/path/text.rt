@@ -1,6 +1,6 @@
 //! Parsing of paths.
-ghost use Rattle.std.specs.Prelude.{◌≡◌, ◌+◌, ◌≤◌, ◌++◌, length, option_map, is_some, IfSome};
-ghost use Rattle.board_file.specs.{EntryRules.are_same_valid_path, PathTexts.{parse_one_digit_part, parse_two_digit_part, parse_leading_part, parts_after, parse_path, is_path_text, path_at}};
+ghost use Rattle.std.specs.{Prelude.{◌≡◌, ◌+◌, ◌≤◌, ◌++◌, length, nat_lt, option_map, is_some, IfSome}, List.list_all};
+ghost use Rattle.board_file.specs.{EntryRules.are_same_valid_path, PathTexts.{parse_one_digit_part, parse_two_digit_part, parse_leading_part, parts_after, parse_path, is_path_text, is_path_within, path_at}};
 
 use paths::{Part, Path};
 use std::marker::Model;
@@ -96,6 +96,12 @@ pub fn parse_path(text: &[u8]) -> Option<Path>
     }
 }
 
+fn are_devices_below(parts: &[Part], limit: u8) -> bool
+    ensures { result ≡ list_all (λ p. nat_lt p.device limit) parts.now }
+{
+    parts.iter().all(|part| part.device() < limit)
+}
+
 /// The text of a path, parsed but not necessarily valid.
 #[derive(Drop)]
 pub struct PathText<'a> {
@@ -137,6 +143,16 @@ impl<'a> PathText<'a> {
         ensures { result ≡ is_path_text self.now }
     {
         self.path.is_some()
+    }
+
+    /// Returns whether the text is a valid path whose devices are below `limit`.
+    pub fn is_path_within(&self, limit: u8) -> bool
+        ensures { result ≡ is_path_within limit self.now }
+    {
+        match &self.path {
+            Some(path) => are_devices_below(path.parts(), limit),
+            None => false,
+        }
     }
 
     /// Returns the path, or `0.0` if the text isn't a valid path.

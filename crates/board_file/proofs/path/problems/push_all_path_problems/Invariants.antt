@@ -4,5 +4,5 @@ use Rattle.board_file.proofs.path.problems.push_all_path_problems.Given as goal
 
 abbrev pub invariant-entries : goal.invariant-entries
 invariant-entries l =
-    map found_of l.problems.items ++ flat_map (of_path l.fault l.functions) (drop l.at-index l.at-items)
-    ≡ map found_of l.initial.problems.items ++ flat_map (of_path l.fault l.functions) l.at-items
+    map found_of l.problems.items ++ flat_map (of_path l.fault l.limit l.functions) (drop l.at-index l.at-items)
+    ≡ map found_of l.initial.problems.items ++ flat_map (of_path l.fault l.limit l.functions) l.at-items
