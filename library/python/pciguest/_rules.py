@@ -154,8 +154,6 @@ class ByFirmware:
         return ACCESSES["claimed" if asked.found_nothing(1) else "cells"]
 
     def config(self, at: Tuple[int, int, int], offset: int, asked: Asked) -> Row:
-        if at[1] > 15:
-            return ACCESSES["device above 15"]
         latch = self.board.io[LATCH:4]
         header = self.board.config[at][0x0E:1]
         self.board.io[LATCH:4] = latch
