@@ -5,7 +5,7 @@ import tomllib
 import unittest
 
 import places
-from pciguest._board_file import functions, text_of
+from pciguest._board_file import apertures, functions, text_of
 from pciguest._drawing import PLAIN, RandomChoices, draw_board
 from pciguest._firmware_run import findings
 from pciguest._judge import KINDS, kind_of, same_problem
@@ -129,6 +129,20 @@ class Drawing(unittest.TestCase):
         self.assertEqual(set().union(*drawn[1:]), {0x1234, 0, 1, 0xFFFE})
         self.assertLess(sum(vendors != {0x1234} for vendors in drawn[1:]), 50)
 
+    def test_devices_and_odd_bits(self):
+        """Half of the boards may have devices above 15, unless the last device is given; odd bits are drawn on all."""
+        drawn = [draw_board(RandomChoices(seed)) for seed in range(50)]
+        every = [one for document in drawn for one in functions(document)]
+        self.assertEqual({document["host"].get("devices", 16) for document in drawn}, {16, 32})
+        self.assertEqual(max(device for one in every for device, _ in one.path), 31)
+        clear = {one.path[-1][1] for one in every if one.table.get("multifunction") is False}
+        self.assertEqual(clear, {*range(1, 8)})
+        self.assertTrue({True, False} <= {one.is_bridge for one in every if one.table.get("fixed_status")})
+        for last in (7, 15, 20):
+            few = [draw_board(RandomChoices(seed), last_device=last) for seed in range(50)]
+            self.assertEqual(max(device for document in few for one in functions(document) for device, _ in one.path), last)
+            self.assertEqual({document["host"].get("devices", 16) for document in few}, {16, 32} if last > 15 else {16})
+
     def test_a_seed_says_all(self):
         self.assertEqual(draw_board(RandomChoices(7)), draw_board(RandomChoices(7)))
         self.assertNotEqual(draw_board(RandomChoices(7)), draw_board(RandomChoices(8)))
@@ -170,7 +184,7 @@ class Tight(unittest.TestCase):
             choices = RandomChoices(seed)
             document = tight(draw_board(choices, 2, guests=False), [], choices, self.refusal)
             self.assertIsNone(self.refusal(document))
-            for key, (first, last) in document["host"].items():
+            for key, (first, last) in apertures(document).items():
                 sizes = [bar["size"] for table in document["endpoint"] for bar in table.get("bar", [])
                          if (bar["kind"] == "io") == (key == "io")]
                 self.assertTrue(sum(sizes) <= last + 1 - first or key != "io")
@@ -181,7 +195,7 @@ class Tight(unittest.TestCase):
         small = PLAIN._replace(mem=(0xE0000000, 0xE3FFFFFF), io=(0x1000, 0x7FFF))
         choices = RandomChoices(1)
         document = tight(draw_board(choices, 2, [small], guests=False), ["io", "mem"], choices, self.refusal)
-        self.assertEqual(document["host"], small.table())
+        self.assertEqual(apertures(document), small.table())
         self.assertIsNone(self.refusal(document))
         self.assertEqual(self.refusal(too_small(document, choices, self.refusal)), TOO_SMALL["mem"])
 
@@ -276,6 +290,9 @@ class Findings(unittest.TestCase):
         self.assertEqual(seen("host cw 00:03.0 6 2 0xffff", document=document), [told.format("write to Status")])
         for line in ("4 4 0x2", "4 2 0x2", "6 2 0x6ff", "7 1 0"):
             self.assertEqual(seen(f"host cw 00:01.0 {line}", document=document), [], line)
+        self.assertEqual(seen("host cw 00:01.0 6 2 0", document=SPECIAL["odd_bits"]()), [])
+        told = "status: 2.3: a write to Status changes Status from 0x8000 to 0x0000"
+        self.assertEqual(seen("host cw 00:02.3 6 2 0x8000", document=SPECIAL["odd_bits"]()), [told])
 
     def test_each_finding_has_a_kind(self):
         kinds = {kind_of(line) for line in findings(SecondHandBoard(AUDITED))}
