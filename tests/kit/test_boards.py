@@ -1,6 +1,5 @@
-"""Board files as documents and from dumps, random boards, smaller ones, and what is told of firmware."""
+"""Board files as documents, random boards, smaller ones, and what is told of firmware."""
 
-import sys
 import tomllib
 import unittest
 
@@ -15,12 +14,9 @@ from pciguest._special import SPECIAL
 from pciguest._tight import TOO_SMALL, cut, halved, tight, too_small
 from pciguest._watch import Watch
 from pciguest._writers import story_of, why_unfound, writers
-from second_hand import SecondHand, SecondHandBoard, audited, board_of, placement
+from second_hand import SecondHand, SecondHandBoard
 
-sys.path.append(str(places.TOP / "tools"))
-import from_lspci  # noqa: E402  (the tool stands there)
-
-(answers,), (registers,) = places.modules("fuzz", "answers"), places.modules("firmware", "registers")
+(registers,) = places.modules("firmware", "registers")
 BOARDS = places.TOP / "boards"
 AUDITED = tomllib.loads((places.TOP / "examples/audit/board.toml").read_text())
 AUDITED["host"]["pref"] = [0x400000000, 0x4FFFFFFFF]
@@ -62,53 +58,6 @@ class Documents(unittest.TestCase):
             again = tomllib.loads(text_of(document))
             for key in document:
                 self.assertCountEqual(again[key], document[key], (name, key))
-
-
-def dumped(document):
-    """A board that is set up, as the lines of `lspci -vvxxx`."""
-    made = board_of(document)
-    layout, state = placement.Layout(made), audited.State(made)
-    answers.set_up(state, layout)
-    for function in made.functions:
-        shown = state.read_bytes(function.path, 0, 256).to_bytes(256, "little")
-        yield "{:02x}:{:02x}.{} A function: of this board".format(*layout.number(function.path))
-        for bar in () if state.is_bridge(function.path) else function.bars:
-            yield f"\tRegion {bar.index}: somewhere [size={bar.size >> 10}K]"
-        yield from (f"{at:02x}: {shown[at:at + 16].hex(' ')}" for at in range(0, 256, 16))
-        yield ""
-
-
-class Dumps(unittest.TestCase):
-    LINES = [*dumped(tomllib.loads((BOARDS / "modern.toml").read_text()))]
-
-    def endpoints(self, lines):
-        text = from_lspci.board_text(lines)
-        self.assertIsNone(SecondHand().refusal(text))
-        return {one["at"]: one for one in tomllib.loads(text)["endpoint"]}
-
-    def test_a_board_comes_back(self):
-        """All but what no dump tells, and the ends of structures."""
-        found = self.endpoints(self.LINES)
-        for one in tomllib.loads((BOARDS / "modern.toml").read_text())["endpoint"]:
-            other = found.pop(one["at"])
-            for key in ("vendor", "device", "class", "pin"):
-                self.assertEqual(other[key], one[key], key)
-            for key, parts in (("bar", ("index", "kind", "size")), ("capability", ("id", "off"))):
-                self.assertEqual(*([[each[part] for part in parts] for each in of[key]] for of in (one, other)))
-            for mine, theirs in zip(one["capability"], other["capability"]):
-                self.assertTrue(theirs["reset"].startswith(mine["reset"]), mine)
-        self.assertEqual(found, {})
-
-    def test_what_can_be_written(self):
-        power, msi = self.endpoints(self.LINES)["2.0/2.0"]["capability"]
-        self.assertEqual((power["rw"][:12], power["w1c"][:12]), ("000003010000", "000000800000"))
-        self.assertEqual((msi["rw"][:24], "w1c" in msi), ("7100fcffffffffffffffffff", False))
-        self.assertEqual(self.endpoints(self.LINES)["1.0/1.0"]["capability"][0]["rw"][:8], "00c00000")
-
-    def test_places(self):
-        """A device above 15 moves, and other domains aren't of the board."""
-        lines = [line.replace("02:02.0", "02:1f.0") for line in self.LINES]
-        self.assertIn("2.0/0.0", self.endpoints([*lines, "10000:00:00.0 Another domain", *self.LINES[1:18]]))
 
 
 class Drawing(unittest.TestCase):
