@@ -172,7 +172,7 @@ def with_decimal(lines, number, column, text):
     key = f"{told[2]} = "
     if number is None or not lines[number - 1][column - 1 - len(key):].startswith(key + told[3]):
         return f"{text} (not as in line {number}, column {column})"
-    return f"{told[1]}{int(told[3], 0)}{text[told.end():]}"
+    return text if told[3] in BOOLEANS else f"{told[1]}{int(told[3], 0)}{text[told.end():]}"
 
 
 def differs(lines, told, problems):

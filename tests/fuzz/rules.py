@@ -107,7 +107,7 @@ def problem(entry, key, words, number, *others, has_subject=True, remedy="", lab
     """A message: of `words`, each {} is the name of another entry."""
     name, _, last = entry.name.rpartition(".") if entry.kind == "slot" else (entry.name, "", key)
     value = entry.values.get(key)
-    shown = f" = {value}" if is_integer(value) else f' = "{value}"' if isinstance(value, str) else ""
+    shown = f" = {str(value).lower()}" if isinstance(value, int) else f' = "{value}"' if isinstance(value, str) else ""
     owner = "" if entry.owner is None or key in {"at", "name"} else f' ("{entry.owner}")'
     place = f"{name}{owner}: " if entry.kind else ""
     subject = f"{last}{shown} " if has_subject else ""
@@ -117,7 +117,7 @@ def problem(entry, key, words, number, *others, has_subject=True, remedy="", lab
     return Problem(text, entry.table, entry.outer or key, named, number)
 
 
-FORMS = {"host": "a table: write [host]", "multifunction": "true or false", "slots": 'an array of strings such as ["1.0", "2.0/0.0"]',
+FORMS = {"host": "a table: write [host]", "multifunction": "true or false, without quotes", "slots": 'an array of strings such as ["1.0", "2.0/0.0"]',
          ("bar", "kind"): '"io", "mem32", "mem32p", "mem64" or "mem64p"',
          ("bridge", "io"): '"none", "16" or "32"', ("bridge", "pref"): '"none", "32" or "64"'}
 
@@ -185,11 +185,12 @@ def number_problems(every):
         for key, bits in BITS.items():
             if entry.values.get(key, 0) & ~bits:
                 yield problem(entry, key, f"has bits outside {bits:#06x}", 104)
-        if entry.values.get("multifunction") is False and entry.values.get("at", "").endswith(".0"):
-            yield problem(entry, "multifunction", "is false in a function 0", 104)
+        at = entry.values.get("at", "")
+        if entry.values.get("multifunction") is False and is_path(at) and at.endswith(".0"):
+            yield problem(entry, "multifunction", "is not possible in function 0", 104, remedy=ALWAYS_SET)
     for entry in of(every, "host"):
         if entry.values.get("devices", 16) not in (16, 32):
-            yield problem(entry, "devices", "is not 16 or 32", 104)
+            yield problem(entry, "devices", "is neither 16 nor 32", 104)
     for kind, key, least, greatest, words in BLOCK_RANGES:
         for entry in of(every, kind):
             value = entry.values.get(key, least)
@@ -209,35 +210,38 @@ def count_problems(every):
             yield problem(entry, "slots", "too many slots (at most 32)", 108, has_subject=False)
 
 
+DEVICES_KEY = "set devices = 32 in [host] to use devices 16 to 31"
+ALWAYS_SET = "in function 0 of a device with several functions, bit 7 of the header type is always set"
+
+
 def devices_of(every):
-    """How many devices a bus of the board may have."""
-    return 32 if any(entry.values.get("devices") == 32 for entry in of(every, "host")) else 16
+    """How many devices a bus of the board may have. A number that is refused makes no path wrong."""
+    return 32 if any(entry.values.get("devices", 16) != 16 for entry in of(every, "host")) else 16
 
 
-def is_path(text, devices):
+def is_path(text, devices=32):
     parts = [re.fullmatch(r"(0|[1-9]\d?)\.[0-7]", part) for part in text.split("/")]
     return len(parts) <= 16 and all(part and int(part[1]) < devices for part in parts)
 
 
 def standing(every):
     """Each function's path with its kind. A text that is no path stands for 0.0."""
-    return [(at if is_path(at, devices_of(every)) else "0.0", entry.kind) for entry in of(every, "endpoint", "bridge")
+    return [(at if is_path(at) else "0.0", entry.kind) for entry in of(every, "endpoint", "bridge")
             for at in [entry.values.get("at", "")]]
 
 
 def meant_path(text, devices):
     """The path that may be meant by a text, or what a path is. Nothing of a path."""
     short = text.removeprefix("00:")
-    padded = re.fullmatch(r"0([0-9a-f])\.([0-7])", short)
-    if is_path(text, devices):
+    padded = re.fullmatch(r"([01][0-9a-f])\.([0-7])", short)
+    if is_path(text):
         return ""
-    if is_path(text, 32):
-        return "devices 16 to 31 require devices = 32 in [host]"
-    if is_path(short, devices):
-        return f'did you mean "{short}"?'
     if padded:
-        return (f'did you mean "{int(padded[1], 16)}.{padded[2]}"? '
-                "numbers in a path are decimal, without leading zeros")
+        device = int(padded[1], 16)
+        return (f'did you mean "{device}.{padded[2]}"? numbers in a path are decimal, without leading zeros'
+                + (f"; {DEVICES_KEY}" if device >= devices else ""))
+    if is_path(short):
+        return f'did you mean "{short}"?'
     return (f'write DEVICE.FUNCTION for each bus, for example "2.0/1.0": devices are 0 to {devices - 1}, functions 0 to 7, '
             "without leading zeros")
 
@@ -249,7 +253,8 @@ def place_problems(every):
         at = entry.values.get("at", "")
         *above, part = at.split("/")
         if not is_path(at, devices):
-            yield problem(entry, "at", "is not a valid path", 105, remedy=meant_path(at, devices))
+            yield problem(entry, "at", "is not a valid path", 105, remedy=DEVICES_KEY if is_path(at) else meant_path(at, devices))
+        if not is_path(at):
             continue
         if at in earlier:
             yield problem(entry, "at", "is already used by {}", 105, earlier[at])
@@ -326,7 +331,7 @@ def name_problems(every):
 def slot_problems(every):
     earlier, stands, devices = {}, dict(standing(every)), devices_of(every)
     for entry in of(every, "slot"):
-        slot, is_valid = entry.values[""], is_path(entry.values[""], devices)
+        slot, is_valid = entry.values[""], is_path(entry.values[""])
         if not is_valid or stands.get(slot) != "endpoint":
             there = "is not the path of any endpoint"
             if stands.get(slot) == "bridge":
