@@ -29,7 +29,7 @@ def bridge(at: str, io: str = "16", pref: str = "64", **keys: Any) -> Document:
 
 
 def board(*tables: Document, io: List[int] = IO, mem: List[int] = MEM, pref: List[int] = [], **keys: int) -> Document:
-    host = {"io": io, "mem": mem, **({"pref": pref} if pref else {}), **keys}
+    host: Document = {"io": io, "mem": mem, **({"pref": pref} if pref else {}), **keys}
     kinds = {"endpoint": [each for each in tables if "class" in each], "bridge": [each for each in tables if "io" in each]}
     return {"host": host, **{kind: found for kind, found in kinds.items() if found}}
 
@@ -186,7 +186,7 @@ def last_devices() -> Document:
 
 def odd_bits() -> Document:
     """Functions whose own bit 7 of Header Type is clear, before others of their device; and read-only bits of Status."""
-    clear = {"multifunction": False}
+    clear: Dict[str, Any] = {"multifunction": False}
     return board(
         endpoint("1.0", "mem32 16", fixed_status=0x0200), endpoint("1.2", "mem32 256", **clear),
         endpoint("1.5", "io 4", fixed_status=0x02A0, **clear), endpoint("2.0", fixed_status=0x06E0),
