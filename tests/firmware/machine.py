@@ -41,8 +41,8 @@ class Machine:
             words += ["-bios", firmware.rom, "-serial", "chardev:console"]
             if firmware.plain:
                 words[-2:] = ["-device", "isa-debugcon,iobase=0x402,chardev=console"]
-        else:
-            words += ["-S"]
+        else:  # with the serial port of U-Boot's console: the ISA bridge of q35 shows that it is there
+            words += ["-S", "-serial", "chardev:console"]
         self.process = subprocess.Popen(words + devices, stdin=subprocess.PIPE, stdout=subprocess.PIPE,
                                         stderr=subprocess.PIPE, text=True)
         self.console = self.connect(path)
