@@ -164,7 +164,7 @@ struct pciguest_function {
     uint8_t path[PCIGUEST_PATH]; /* as in board files ("2.0/1.0"); the rest is 0 */
     size_t path_length;          /* in bytes, without a terminating 0 */
     uint32_t bus;                /* 0 on bus 0, else the Secondary Bus Number of the bridge above */
-    uint32_t device;             /* 0 to 15 */
+    uint32_t device;             /* 0 to 31 */
     uint32_t function;           /* 0 to 7 */
     uint32_t vendor_id;
     uint32_t device_id;

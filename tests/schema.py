@@ -28,13 +28,13 @@ except ImportError:
 from compared import lines_of, options
 from mistakes import with_mistakes
 
-TYPES = {"object": dict, "array": list, "string": str, "integer": int}
+TYPES = {"object": dict, "array": list, "string": str, "integer": int, "boolean": bool}
 # What each word of a schema asks of a value of its type: whether it is broken.
 ASKS = {
     "minimum": lambda value, least: value < least,
     "maximum": lambda value, most: value > most,
     "multipleOf": lambda value, unit: value % unit != 0,
-    "enum": lambda value, words: value not in words or isinstance(value, bool),
+    "enum": lambda value, words: (type(value), value) not in [(type(word), word) for word in words],
     "pattern": lambda value, text: re.search(text, value) is None,
     "minItems": lambda value, least: len(value) < least,
     "maxItems": lambda value, most: len(value) > most,
@@ -62,7 +62,7 @@ class Schema:
 
     def has_type(self, value, part):
         wanted = TYPES.get(part.get("type"))
-        return wanted is None or isinstance(value, wanted) and not isinstance(value, bool)
+        return wanted is None or isinstance(value, wanted) and isinstance(value, bool) == (wanted is bool)
 
     def keeps(self, value, part):
         asked = (word for word in ASKS if word in part and isinstance(value, TYPE_OF.get(word, object)))

@@ -39,13 +39,13 @@ struct function {
 /* A bus, and how many bits of prefetchable addresses all bridges above it forward. */
 struct bus {
     unsigned number, prefetchable_bits, count;
-    struct function *functions[16 * 8];
+    struct function *functions[32 * 8];
 };
 
 /* Addresses that are free, in order. */
 struct ranges {
     unsigned count;
-    struct { uint64_t first, last; } free[16 * 8 * 6 + 1];
+    struct { uint64_t first, last; } free[32 * 8 * 6 + 1];
 };
 
 static const char *const names[SPACES] = { "io", "mem", "pref" };

@@ -23,7 +23,7 @@ struct item {
 /* A bus, and how many bits of prefetchable addresses all bridges above it forward. */
 struct bus {
     unsigned number, prefetchable_bits, count;
-    struct item items[16 * 8 * 6];
+    struct item items[32 * 8 * 6];
 };
 
 static uint64_t first[SPACES], last[SPACES];

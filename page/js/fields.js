@@ -8,6 +8,8 @@ import { capability_list } from './capabilities.js';
 const COMMAND_BITS = [['I/O space', 0], ['Memory space', 1], ['Bus master', 2], ['Parity error response', 6], ['SERR# enable', 8], ['Interrupt disable', 10]];
 const STATUS_BITS = [['Master data parity error', 8], ['Signaled target abort', 11], ['Received target abort', 12], ['Received master abort', 13],
   ['Signaled system error', 14], ['Detected parity error', 15]];
+// Bits of Status that are read-only, and that the board file may declare. They are shown where they are set.
+const FIXED_STATUS_BITS = [['66 MHz capable', 5], ['Reserved bit 6', 6], ['Fast back-to-back capable', 7], ['Medium DEVSEL timing', 9], ['Slow DEVSEL timing', 10]];
 const SECONDARY_STATUS_BITS = STATUS_BITS.map(([name, bit]) => [bit === 14 ? 'Received system error' : name, bit]);
 
 const at_offset = registers => `${registers[0].title}, offset ${registers.map(({ offset }) => hex(offset)).join(' and ')}`;
@@ -36,8 +38,9 @@ function switches_of(register, names, now, clears = false) {
 
 function bits_of(of, names, { kind, values }, clears) {
   const register = register_named(kind, of), { title } = register, now = Number(number_in(values, register));
+  const fixed = clears ? switches_of(register, FIXED_STATUS_BITS, now).filter(({ on }) => on).map(one => ({ ...one, shut: true })) : [];
   const form = clears ? null : { is: 'command', title, registers: [{ ...register, name: title, low: 0, names: names_by_bit(names) }] };
-  return { title, told: `${word_in_hex(now)}${clears ? ', writing a one clears' : ''}`, fields: [], switches: switches_of(register, names, now, clears), form };
+  return { title, told: `${word_in_hex(now)}${clears ? ', writing a one clears' : ''}`, fields: [], switches: [...switches_of(register, names, now, clears), ...fixed], form };
 }
 
 // Some bits of a register as a number.

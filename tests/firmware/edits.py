@@ -30,6 +30,8 @@ EDITS = [
     ("a region of 32 bits in place of 64", r'"mem64p"', '"mem32p"'),
     ("another pin", r"pin = 0x1\b", "pin = 0x2"),
     ("own cells that can't be written", r'rw = "[0-9a-f]{384}"', 'rw = "00"'),
+    ("no read-only bits of Status", r"fixed_status = 0x[0-9a-f]+", "fixed_status = 0x0"),
+    ("bit 7 of Header Type set in a function 1 to 7", r"multifunction = false\n", ""),
     ("another revision", r"revision = 0x[0-9a-f]+", "revision = 0x77"),
     ("another class code", r"class = 0xff00", "class = 0xff01"),
 ]

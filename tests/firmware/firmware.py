@@ -2,11 +2,12 @@
 """Boots firmware of others, unmodified, on boards of the library, and compares what it leaves with what it leaves in
 QEMU.
 
-    firmware.py PROGRAM [--trees N] [--seed S] [--keep FOLDER]
+    firmware.py PROGRAM [--trees N] [--q35 N] [--seed S] [--keep FOLDER]
 
 First each firmware boots on boards of the folder boards, with the addresses that it gives out. Then it boots on N random
-trees (30), here and in QEMU's machine, and the configuration bytes of all functions are compared; the same seed makes the
-same trees. After each boot the program audits what the firmware left, and says whether that is ready; what is wrong or
+trees (30), here and in QEMU's machine `pc`, and U-Boot on some (10) in `q35` (SeaBIOS uses ECAM there, which boards don't
+have). The configuration bytes of all functions are compared, and each firmware has to find its ISA bridge; the same seed makes
+the same trees. After each boot the program audits what the firmware left, and says whether that is ready; what is wrong or
 lacking is told, and each such line is held against the board. Then the board is given to the guests of its file, or
 refused, and scripts are told what they are after our own set-up. With --keep the consoles and the boards are kept. Status 1
 says that a boot went wrong, that a line of what is wrong or lacking isn't so, or that a byte differs and no rule names it.
@@ -18,19 +19,19 @@ from collections import Counter
 from contextlib import closing
 from pathlib import Path
 
-from board import options, registers
+from board import options, paths, registers
 from boot import SEABIOS, UBOOT, boot
 from guests import guests_text
-from machine import Machine, MachineError
-from pciguest._board_file import text_of
+from machine import PC, Q35, Machine, MachineError
+from pciguest._board_file import devices, text_of
 from pciguest._judge import kind_of
 from rules import Comparison
 from trees import HOST, Reading, Tree
 
 FOLDER = Path(__file__).resolve().parents[2] / "boards"
 # U-Boot stops before its first words on the other two
-BOARDS = {SEABIOS: ["main", "server", "second_bridge", "kinds", "chain", "largest"],
-          UBOOT: ["main", "server", "second_bridge", "kinds"]}
+BOARDS = {SEABIOS: ["main", "server", "second_bridge", "kinds", "last_devices", "chain", "largest"],
+          UBOOT: ["main", "server", "second_bridge", "kinds", "last_devices"]}
 
 
 class Run:
@@ -78,38 +79,42 @@ class Run:
         """The file of a board of the folder boards, with the addresses that firmware gives out."""
         document = tomllib.loads((FOLDER / f"{name}.toml").read_text())
         file = self.room / f"{name}.toml"
-        file.write_text(text_of({**document, "host": HOST}))
+        file.write_text(text_of({**document, "host": {**HOST, "devices": devices(document)}}))
         return file
 
-    def read_tree(self, seed):
+    def read_tree(self, seed, chipset=PC):
         """A random tree as QEMU has it at reset, and the file of its board."""
-        tree = Tree(seed)
-        with closing(Machine(tree.words)) as machine:
+        tree = Tree(seed, chipset=chipset)
+        with closing(Machine(tree.words, kind=chipset.words)) as machine:
             reading = Reading(machine)
-        file = self.room / f"tree{seed}.toml"
+        file = self.room / f"tree{seed}.{chipset.bus}.toml"
         file.write_text(reading.text + guests_text(reading.text, seed))
         return tree, reading, file
 
     def boot_machine(self, seed, tree, firmware):
         """What the firmware leaves in QEMU."""
-        machine = Machine(tree.words, firmware)
+        machine = Machine(tree.words, firmware, tree.chipset.words)
         try:
             machine.wait(firmware)
             return registers(machine)
         finally:
-            (self.room / f"tree{seed}.{firmware.name}.qemu.told").write_text(machine.told)
+            (self.room / f"tree{seed}.{tree.chipset.bus}.{firmware.name}.qemu.told").write_text(machine.told)
             machine.close()
 
-    def compare(self, seed, comparison):
-        """Boots both firmwares on a tree, here and in QEMU."""
-        tree, reading, file = self.read_tree(seed)
-        for firmware in (SEABIOS, UBOOT):
+    def compare(self, seed, comparison, chipset, *firmwares):
+        """Boots firmwares on a tree beside a chipset, here and in QEMU."""
+        tree, reading, file = self.read_tree(seed, chipset)
+        for firmware in firmwares:
             theirs = self.boot_machine(seed, tree, firmware)
-            left = self.boot(f"tree{seed}", file, firmware)
+            left = self.boot(f"tree{seed}.{chipset.bus}", file, firmware)
             known = len(comparison.unnamed)
             comparison.add(reading.reset, theirs, left.cells)
             for line in comparison.unnamed[known:]:
-                self.fail(f"{firmware.name} on tree{seed}: {line}")
+                self.fail(f"{firmware.name} on tree{seed}.{chipset.bus}: {line}")
+            at, before = chipset.isa_bridge, reading.reset[chipset.isa_bridge]
+            found = {path: left.cells[place] for place, path in paths(left.cells).items()}
+            if found.get(at, before)[0x40:] == before[0x40:]:
+                self.fail(f"{firmware.name} on tree{seed}.{chipset.bus}: it writes nothing in the ISA bridge, {at}")
 
 
 def examine(options, room):
@@ -118,15 +123,16 @@ def examine(options, room):
     for firmware in (SEABIOS, UBOOT):
         for name in BOARDS[firmware]:
             run.boot(name, run.own_board(name), firmware)
-    for seed in range(options.seed, options.seed + options.trees):
+    kinds = [(options.trees, PC, SEABIOS, UBOOT), (options.q35, Q35, UBOOT)]
+    for seed, chipset, *firmwares in ((options.seed + n, *how) for count, *how in kinds for n in range(count)):
         try:
-            run.compare(seed, comparison)
+            run.compare(seed, comparison, chipset, *firmwares)
         except MachineError as error:
-            run.fail(f"tree{seed}: {error}")
+            run.fail(f"tree{seed}.{chipset.bus}: {error}")
     comparison.tell()
     run.tell()
     named = sum(comparison.by_rule.values())
-    print(f"trees {options.trees}, each with SeaBIOS and U-Boot: functions {comparison.functions}, "
+    print(f"trees {options.trees}, each with SeaBIOS and U-Boot, and {options.q35} with U-Boot in q35: functions {comparison.functions}, "
           f"bytes compared {comparison.bytes}, bytes that differ by rule {named}, "
           f"differences not named {len(comparison.unnamed)}, boots that failed {run.failed - len(comparison.unnamed)}")
     return run.failed
@@ -134,4 +140,4 @@ def examine(options, room):
 
 if __name__ == "__main__":
     with tempfile.TemporaryDirectory() as place:
-        sys.exit(examine(options(__doc__, "program", "--keep", trees=30, seed=1), place) > 0)
+        sys.exit(examine(options(__doc__, "program", "--keep", trees=30, q35=10, seed=1), place) > 0)

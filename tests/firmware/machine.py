@@ -1,10 +1,11 @@
-"""QEMU's machine `pc` over a tree of its devices, as a board of the same four calls, with a console."""
+"""QEMU's machines `pc` and `q35` over a tree of its devices, as a board of the same four calls, with a console."""
 import json
 import os
 import socket
 import subprocess
 import tempfile
 import time
+from typing import NamedTuple
 
 PATIENCE = 120  # seconds of a boot
 LETTERS = {1: "b", 2: "w", 4: "l"}
@@ -14,13 +15,23 @@ class MachineError(Exception):
     """QEMU ended, or its firmware isn't done in time."""
 
 
-PLAIN = ["-machine", "pc,accel=tcg,acpi=off", "-m", "128"]
+class Chipset(NamedTuple):
+    """A machine of QEMU: its words, its bus 0, the devices that are free there, and the path of its ISA bridge."""
+
+    words: list
+    bus: str
+    free: range
+    isa_bridge: str
+
+
+PC = Chipset(["-machine", "pc,accel=tcg,acpi=off", "-m", "128"], "pci.0", range(2, 32), "1.0")
+Q35 = Chipset(["-machine", "q35,accel=tcg,acpi=off,sata=off,usb=off", "-m", "128"], "pcie.0", range(2, 31), "31.0")
 
 
 class Machine:
     """`firmware` runs at once; without one the machine stands at reset. `told` is what the console has had."""
 
-    def __init__(self, devices, firmware=None, kind=PLAIN):
+    def __init__(self, devices, firmware=None, kind=PC.words):
         self.told, self.room = "", tempfile.TemporaryDirectory()
         path, self.monitor = os.path.join(self.room.name, "console"), os.path.join(self.room.name, "monitor")
         words = ["qemu-system-x86_64", *kind, "-nodefaults", "-display", "none", "-monitor", "none",
@@ -30,8 +41,8 @@ class Machine:
             words += ["-bios", firmware.rom, "-serial", "chardev:console"]
             if firmware.plain:
                 words[-2:] = ["-device", "isa-debugcon,iobase=0x402,chardev=console"]
-        else:
-            words += ["-S"]
+        else:  # with the serial port of U-Boot's console: the ISA bridge of q35 shows that it is there
+            words += ["-S", "-serial", "chardev:console"]
         self.process = subprocess.Popen(words + devices, stdin=subprocess.PIPE, stdout=subprocess.PIPE,
                                         stderr=subprocess.PIPE, text=True)
         self.console = self.connect(path)

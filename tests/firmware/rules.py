@@ -8,25 +8,20 @@ from board import is_bridge, number, paths
 
 
 class Rule(NamedTuple):
-    """Bits of a register that may differ. A side that is not `free` has there what it has at reset."""
+    """Bits of a register that may differ. A side that is not `free` has there what it has at reset: a board 0."""
 
     name: str
     headers: tuple     # header types of the functions
     offsets: range
     bits: int
-    ours: int = 0      # a board's bits at reset
     free: str = ""     # the side where the bits can be written: 'QEMU', 'board' or none
 
 
 ENDPOINT, BRIDGE = (0,), (1,)
 BOTH = ENDPOINT + BRIDGE
 RULES = [
-    Rule("Status: 66 MHz, fast back-to-back", ENDPOINT, range(0x06, 0x07), 0xA0),
-    Rule("Status: capabilities of a bridge, 66 MHz, fast back-to-back", BRIDGE, range(0x06, 0x07), 0xB0),
-    Rule("Status: DEVSEL timing", BOTH, range(0x07, 0x08), 0x06),
+    Rule("Status: capabilities of a bridge", BRIDGE, range(0x06, 0x07), 0x10),
     Rule("Latency Timer: read-only in QEMU", BOTH, range(0x0D, 0x0E), 0xFF, free="board"),
-    Rule("Header Type: bit 7 in functions 1 to 7", BOTH, range(0x0E, 0x0F), 0x80, ours=0x80),
-    Rule("Secondary Status: 66 MHz, fast back-to-back", BRIDGE, range(0x1E, 0x1F), 0xA0),
     Rule("Capabilities Pointer of a bridge, or without a list", BOTH, range(0x34, 0x35), 0xFF),
     Rule("Bridge Control: SERR# enable", BRIDGE, range(0x3E, 0x3F), 0x02, free="QEMU"),
     Rule("capabilities of a bridge", BRIDGE, range(0x40, 0x100), 0xFF),
@@ -40,7 +35,7 @@ def names(rule, theirs, ours, reset):
     if (theirs ^ ours) & ~rule.bits:
         return False
     as_there = rule.free == "QEMU" or theirs & rule.bits == reset & rule.bits
-    as_here = rule.free == "board" or ours & rule.bits == rule.ours
+    as_here = rule.free == "board" or ours & rule.bits == 0
     return as_there and as_here
 
 

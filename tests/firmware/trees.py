@@ -7,6 +7,7 @@ import sys
 from pathlib import Path
 
 from board import DATA, LATCH, configuration, functions_of, number
+from machine import PC
 from pciguest._drawing import PLAIN
 
 sys.path.append(str(Path(__file__).resolve().parents[2] / "tools"))
@@ -23,20 +24,20 @@ HOST = PLAIN.table()
 
 
 class Tree:
-    """The devices of a random tree as words for QEMU."""
+    """The devices of a random tree as words for QEMU, beside a chipset."""
 
-    def __init__(self, seed, endpoints=ENDPOINTS):
+    def __init__(self, seed, endpoints=ENDPOINTS, chipset=PC):
         self.random, self.words, self.count, self.bridges = random.Random(seed), [], 0, 0
-        self.endpoints = endpoints
+        self.endpoints, self.chipset = endpoints, chipset
         self.words += ["-audiodev", "none,id=none", "-object", "can-bus,id=can"]
-        self.fill("pci.0", 2, 0)
+        self.fill(chipset.bus, chipset.free, 0)
 
-    def fill(self, bus, first, depth):
-        for device in self.random.sample(range(first, 16), self.random.randint(1, 6)):
+    def fill(self, bus, free, depth):
+        for device in self.random.sample(free, self.random.randint(1, 6)):
             if depth < DEEPEST and self.bridges < MOST_BRIDGES and self.random.random() < 0.35:
                 self.bridges += 1
                 below = self.add(BRIDGE, bus, f"{device:x}.0")
-                self.fill(below, 0, depth + 1)
+                self.fill(below, range(32), depth + 1)
             else:
                 functions = self.random.choice([1, 1, 1, 1, 2, 3])
                 for function in range(functions):
@@ -108,12 +109,12 @@ class Reading:
 
     def __init__(self, machine):
         self.machine, self.last, self.reset, self.text = machine, 0, {}, ""
-        self.text = "".join(["[host]\n", *(f"{key} = [{first:#x}, {last:#x}]\n" for key, (first, last) in HOST.items())])
+        self.text = "".join(["[host]\n", *(f"{key} = [{first:#x}, {last:#x}]\n" for key, (first, last) in HOST.items()), "devices = 32\n"])
         self.walk(0, "")
 
     def walk(self, bus, above):
         """Reads a bus and all behind it. Bridges are numbered on the way, so that cycles get there."""
-        for device in range(16):
+        for device in range(32):
             for function in functions_of(self.machine, bus, device):
                 at, path = (bus, device, function), f"{above}{device}.{function}"
                 cells = b"".join(configuration(self.machine, *at, offset).to_bytes(4, "little")

@@ -15,11 +15,11 @@ def bridge_cells(bridge):
     cells = {}
     put(cells, 0x00, 4, bridge.values["vendor"] | bridge.values["device"] << 16)
     put(cells, 0x04, 2, 0, bits("writable", 1, 0x04))
-    put(cells, 0x06, 2, 0, 0, bits("clears", 1, 0x06))
+    put(cells, 0x06, 2, bridge.values.get("fixed_status", 0), 0, bits("clears", 1, 0x06))
     put(cells, 0x08, 4, bridge.values.get("revision", 0) | 0x06040000)
     put(cells, 0x0C, 2, 0, 0xFFFF)
     put(cells, 0x18, 4, 0, 0xFFFFFFFF)
-    put(cells, 0x1E, 2, 0, 0, 0xF900)
+    put(cells, 0x1E, 2, bridge.values.get("fixed_secondary_status", 0), 0, 0xF900)
     put(cells, 0x20, 4, 0, 0xFFF0FFF0)
     put(cells, 0x3C, 1, 0, 0xFF)
     if bridge.io != "none":

@@ -3,6 +3,8 @@
 from keys import RANGES
 
 IDENTITY = {"vendor", "device", "revision", "class"}
+# the read-only bits of Status that a function may declare
+FIXED_STATUS = 0x06E0
 SIZES = {"io": (2, 8), "mem32": (4, 31), "mem32p": (4, 31), "mem64": (4, 40), "mem64p": (4, 40)}
 
 
@@ -28,8 +30,8 @@ class Endpoint:
     def __init__(self, path, table, bars, own):
         self.path, self.table, self.bars, self.own = path, table, bars, own
         structures = list_blocks(table.get("capability", []))
-        status = {"status": table.get("status", 0) | 0x10} if structures else {}
-        self.values, self.config = {**table, **status}, structures + own
+        status = table.get("status", 0) | table.get("fixed_status", 0) | (0x10 if structures else 0)
+        self.values, self.config = {**table, "status": status}, structures + own
 
 
 class Bridge:
@@ -40,19 +42,20 @@ class Bridge:
 
 
 class Board:
-    """Apertures, functions in path order, and guests as (name, paths of their slots)."""
+    """Apertures, functions in path order, guests as (name, paths of their slots), and how many devices a bus may have."""
 
-    def __init__(self, apertures, functions, guests):
-        self.apertures, self.functions, self.guests = apertures, functions, guests
+    def __init__(self, apertures, functions, guests, devices=16):
+        self.apertures, self.functions, self.guests, self.devices = apertures, functions, guests, devices
 
     def endpoints(self):
         return [function for function in self.functions if isinstance(function, Endpoint)]
 
     def header_type(self, function):
-        """The Header Type of a function, which says whether its device has others."""
+        """The Header Type of a function, which says whether its device has others, unless its table leaves that out."""
         is_of_many = sum(other.path[:-1] == function.path[:-1] and other.path[-1][0] == function.path[-1][0]
                          for other in self.functions) > 1
-        return int(isinstance(function, Bridge)) | 0x80 * is_of_many
+        table = function.values if isinstance(function, Bridge) else function.table
+        return int(isinstance(function, Bridge)) | 0x80 * (is_of_many and table.get("multifunction", True))
 
 
 def masks(given, n):
@@ -94,7 +97,9 @@ def board_of(document):
         config = [(block["off"], block["block"], patterns_of(block)) for block in one.get("config", [])]
         made.append(Endpoint(path_of(one["at"]), one, bars, config))
     guests = [(guest["name"], [*map(path_of, guest["slots"])]) for guest in document.get("guest", [])]
-    return Board(document["host"], sorted(made, key=lambda function: function.path), guests)
+    host = document["host"]
+    apertures = {key: value for key, value in host.items() if key != "devices"}
+    return Board(apertures, sorted(made, key=lambda function: function.path), guests, host.get("devices", 16))
 
 
 def bridges_above(path):
@@ -164,8 +169,17 @@ def random_capabilities(rng, config):
     return found
 
 
+def odd_bits(rng, path):
+    """Keys that any function may have: read-only bits of Status, and bit 7 of Header Type, which only functions 1 to 7 leave
+    out."""
+    values = {"fixed_status": rng.getrandbits(16) & FIXED_STATUS} if rng.random() < 0.3 else {}
+    if rng.random() < 0.4:
+        values["multifunction"] = path[-1][1] == 0 or rng.random() < 0.3
+    return values
+
+
 def identity(rng):
-    """Values that any function may have, some of them left out."""
+    """Values that any function has, some of them left out."""
     values = {"vendor": rng.choice([0, 0x1234, 0xFFFE]), "device": rng.choice([0, 1, 0xFFFF, rng.randrange(0x10000)])}
     if rng.random() < 0.5:
         values["revision"] = rng.randrange(256)
@@ -180,14 +194,22 @@ def random_endpoint(rng, path):
             values[key] = rng.randint(0, greatest)
     if rng.random() < 0.5:
         values["status"] = rng.randrange(0x10000) & 0xF900
+    values |= odd_bits(rng, path)
     bars, config = random_bars(rng), random_config(rng)
     return Endpoint(path, {**values, "capability": random_capabilities(rng, config)}, bars, config)
 
 
-def random_bus(rng, above, depth, functions, windows):
+def random_bridge(rng, path, io):
+    values = {**identity(rng), **odd_bits(rng, path)}
+    if rng.random() < 0.3:
+        values["fixed_secondary_status"] = rng.getrandbits(16) & FIXED_STATUS
+    return Bridge(path, values, io, rng.choice(["none", "32", "64"]))
+
+
+def random_bus(rng, above, depth, board, windows):
     """Functions of one bus and of all behind it; `windows` tells whether I/O can reach it."""
-    count = rng.choice([1, 1, 2, 3, 5]) if above else rng.choice([2, 3, 4, 6, 8])
-    for device in sorted(rng.sample(range(32), count)):
+    count, functions = rng.choice([1, 1, 2, 3, 5]) if above else rng.choice([2, 3, 4, 6, 8]), board.functions
+    for device in sorted(rng.sample(range(board.devices), count)):
         more = sorted(rng.sample(range(1, 8), rng.choice([1, 2]))) if rng.random() < 0.3 else []
         for function in [0] + more:
             path = above + ((device, function),)
@@ -195,8 +217,8 @@ def random_bus(rng, above, depth, functions, windows):
                 return
             if depth and rng.random() < 0.3:
                 io = rng.choice(["16", "32"]) if rng.random() < 0.8 else "none"
-                functions.append(Bridge(path, identity(rng), io, rng.choice(["none", "32", "64"])))
-                random_bus(rng, path, depth - 1, functions, windows and io != "none")
+                functions.append(random_bridge(rng, path, io))
+                random_bus(rng, path, depth - 1, board, windows and io != "none")
             else:
                 endpoint = random_endpoint(rng, path)
                 if not windows:
@@ -234,11 +256,15 @@ def random_guests(rng, endpoints):
 
 
 def random_board(rng):
-    functions = []
-    random_bus(rng, (), rng.choice([0, 1, 2, 3, 6]), functions, True)
-    board = Board(random_apertures(rng), functions, [])
+    board = Board(random_apertures(rng), [], [], rng.choice([16, 32]))
+    random_bus(rng, (), rng.choice([0, 1, 2, 3, 6]), board, True)
     board.guests = random_guests(rng, board.endpoints())
     return board
+
+
+def value_text(value):
+    """A value of a function's own key."""
+    return str(value).lower() if isinstance(value, bool) else f"{value:#x}"
 
 
 def block_text(pattern):
@@ -256,13 +282,13 @@ def endpoint_keys(endpoint):
             + block_text(bar.patterns) + " }" for bar in endpoint.bars]
     config = [f"{{ off = {off}, block = {count}" + block_text(pattern) + " }" for off, count, pattern in endpoint.own]
     structures = [*map(structure_text, endpoint.table.get("capability", []))]
-    yield from (f"{key} = {value:#x}" for key, value in endpoint.table.items() if key != "capability")
+    yield from (f"{key} = {value_text(value)}" for key, value in endpoint.table.items() if key != "capability")
     yield from (f"{key} = [{', '.join(texts)}]" for key, texts in
                 [("bar", bars), ("config", config), ("capability", structures)] if texts)
 
 
 def bridge_keys(bridge):
-    yield from (f"{key} = {value:#x}" for key, value in bridge.values.items())
+    yield from (f"{key} = {value_text(value)}" for key, value in bridge.values.items())
     yield from (f'io = "{bridge.io}"', f'pref = "{bridge.pref}"')
 
 
@@ -270,6 +296,7 @@ def board_file(board):
     """The text of a board file."""
     lines = ["[host]"]
     lines += [f"{key} = [{first:#x}, {last:#x}]" for key, (first, last) in board.apertures.items()]
+    lines += [f"devices = {board.devices}"] if board.devices != 16 else []
     for function in board.functions:
         kind, below = ("endpoint", endpoint_keys) if isinstance(function, Endpoint) else ("bridge", bridge_keys)
         lines += [f"[[{kind}]]", f'at = "{path_text(function.path)}"', *below(function)]

@@ -27,7 +27,9 @@ def declared(cells):
 def declaration(function):
     """The bytes of what a function declares."""
     endpoint = function.endpoint
-    told = b"".join(le(endpoint.values.get(key, 0), count) for key, count in WIDTHS.items())
+    numbers = {key: endpoint.values.get(key, 0) for key in WIDTHS}
+    numbers["pin"] |= 0 if endpoint.table.get("multifunction", True) else 0x80
+    told = b"".join(le(numbers[key], count) for key, count in WIDTHS.items())
     told += le(len(endpoint.bars), 1)
     for bar in sorted(endpoint.bars, key=lambda bar: bar.index):
         told += le(bar.index, 1) + le(KINDS.index(bar.kind), 1) + le(bar.size, 8) + le(bar.block, 2)

@@ -44,7 +44,7 @@ def elsewhere(board):
     beside = [Endpoint(path, {"vendor": 0x1234, "device": 0x0E0E, "class": 0}, [], []) for path in (((0, 0),), ((6, 1),))]
     functions = [beside[0], bridge(BEHIND[:1]), bridge(BEHIND), *map(moved, board.functions), beside[1]]
     guests = [(name, [BEHIND + path for path in slots]) for name, slots in board.guests]
-    return Board(board.apertures, functions, guests)
+    return Board(board.apertures, functions, guests, board.devices)
 
 
 def of_guest(guest, mine):

@@ -22,13 +22,14 @@ from compared import Room, lines_of, options
 from judged import judged, reasons
 from rules import all_faults, place_of
 
-NUMBERS = [-1, 0, 1, 4, 5, 6, 17, 63, 64, 192, 255, 256, 3000, 4096, 4097, 0xF900, 0xFFFE, 0xFFFF, 0x10000,
+NUMBERS = [-1, 0, 1, 4, 5, 6, 16, 17, 20, 32, 63, 0x06E0, 64, 192, 255, 256, 3000, 4096, 4097, 0xF900, 0xFFFE, 0xFFFF, 0x10000,
            1 << 24, 1 << 31, 1 << 40, 1 << 62, -(1 << 62)]
 BACKSLASH = "\\"
 TEXTS = ["x", "a", "host", "A", "", "0.0", "1.0", "01.0", "15.7", "16.0", "31.7", "32.0", "1.8", "1.0/2.0", "mem32", "io", "none", "64",
          "ff", "f", "0g", "ffff", "/".join(["1.0"] * 17)]
 # what may stand after a value on its line
 ENDS = ["", "", "", " ", "\t", "\t# x", " # \"", "\t\t#'"]
+BOOLEANS = ["true", "false"]
 OTHERS = ["true", "[1, 2]", '["x"]', "[0x1000, 0x1fff]", "[-4096, 8191]", "[0x100000, 0xffffffff]"]
 
 
@@ -44,6 +45,8 @@ def some_value(rng, old=""):
     """A value as it is written, mostly of the type of the one before."""
     if rng.random() < 0.1:
         old = rng.choice(["1", '"', "["])
+    if old in BOOLEANS:
+        return rng.choice(BOOLEANS)
     if old.startswith(('"', "'")):
         return rng.choice([f'"{rng.choice(TEXTS)}"', f"'{rng.choice([*TEXTS, BACKSLASH])}'", f'"{BACKSLASH * 2}"'])
     return rng.choice(OTHERS) if old.startswith("[") else written(rng, rng.choice(NUMBERS))
@@ -95,6 +98,13 @@ def left_out(rng, lines):
     del lines[rng.choice(keys_in(lines) if rng.random() < 0.95 else range(len(lines)))]
 
 
+def other_devices(rng, lines):
+    """Another number of devices, or none."""
+    places = [place for place, line in enumerate(lines) if line.startswith("devices = ")]
+    if places:
+        lines[places[0]:places[0] + 1] = rng.choice([[], ["devices = 16"], ["devices = 20"]])
+
+
 def unknown_key(rng, lines):
     lines.insert(rng.randrange(len(lines) + 1), f"colour = {some_value(rng)}")
 
@@ -106,8 +116,8 @@ def table_again(rng, lines):
         lines += lines[heads[at]:heads[at + 1]]
 
 
-MISTAKES = [other_value, other_value, other_value, inner_value, inner_value, other_offset, other_slot, left_out, unknown_key,
-            table_again]
+MISTAKES = [other_value, other_value, other_value, inner_value, inner_value, other_offset, other_slot, other_devices, left_out,
+            unknown_key, table_again]
 
 
 def with_mistakes(rng, counts):
@@ -162,7 +172,7 @@ def with_decimal(lines, number, column, text):
     key = f"{told[2]} = "
     if number is None or not lines[number - 1][column - 1 - len(key):].startswith(key + told[3]):
         return f"{text} (not as in line {number}, column {column})"
-    return f"{told[1]}{int(told[3], 0)}{text[told.end():]}"
+    return text if told[3] in BOOLEANS else f"{told[1]}{int(told[3], 0)}{text[told.end():]}"
 
 
 def differs(lines, told, problems):

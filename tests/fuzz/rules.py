@@ -14,6 +14,8 @@ SIZES = {"io": (4, 256), "mem32": (16, 1 << 31), "mem32p": (16, 1 << 31), "mem64
 BLOCK_RANGES = [("bar", "block", 0, 4096, "0 to 4096"), ("config", "off", 0x40, 0xFF, "0x40 to 0xff"),
                 ("config", "block", 1, 192, "1 to 192"), ("capability", "id", 1, 0xFF, "1 to 0xff"),
                 ("capability", "off", 0x40, 0xFC, "0x40 to 0xfc, a multiple of 4"), ("capability", "block", 1, 190, "1 to 190")]
+# bits that a number may have, by its key
+BITS = {"status": 0xF900, "fixed_status": 0x06E0, "fixed_secondary_status": 0x06E0}
 # blocks of configuration space: the bytes of the header before each, and the help where one has no room
 HEADERS = {"config": 0, "capability": 2}
 ROOM = {"config": "", "capability": "the header of a structure takes the two bytes at off, and its block follows them"}
@@ -53,10 +55,12 @@ def has_form(kind, key, value):
     """Whether a value has the type, or is one of the words, that its key asks."""
     if (kind, key) in CHOICES:
         return value in CHOICES[kind, key] if isinstance(value, str) else False
-    if kind == "host":
+    if kind == "host" and key != "devices":
         return isinstance(value, list) and len(value) == 2 and all(map(is_integer, value))
     if key == "host":
         return isinstance(value, dict)
+    if key == "multifunction":
+        return isinstance(value, bool)
     if key in LISTS:
         return are_tables(value)
     if key == "slots":
@@ -103,7 +107,7 @@ def problem(entry, key, words, number, *others, has_subject=True, remedy="", lab
     """A message: of `words`, each {} is the name of another entry."""
     name, _, last = entry.name.rpartition(".") if entry.kind == "slot" else (entry.name, "", key)
     value = entry.values.get(key)
-    shown = f" = {value}" if is_integer(value) else f' = "{value}"' if isinstance(value, str) else ""
+    shown = f" = {str(value).lower()}" if isinstance(value, int) else f' = "{value}"' if isinstance(value, str) else ""
     owner = "" if entry.owner is None or key in {"at", "name"} else f' ("{entry.owner}")'
     place = f"{name}{owner}: " if entry.kind else ""
     subject = f"{last}{shown} " if has_subject else ""
@@ -113,7 +117,7 @@ def problem(entry, key, words, number, *others, has_subject=True, remedy="", lab
     return Problem(text, entry.table, entry.outer or key, named, number)
 
 
-FORMS = {"host": "a table: write [host]", "slots": 'an array of strings such as ["1.0", "2.0/0.0"]',
+FORMS = {"host": "a table: write [host]", "multifunction": "true or false, without quotes", "slots": 'an array of strings such as ["1.0", "2.0/0.0"]',
          ("bar", "kind"): '"io", "mem32", "mem32p", "mem64" or "mem64p"',
          ("bridge", "io"): '"none", "16" or "32"', ("bridge", "pref"): '"none", "32" or "64"'}
 
@@ -122,7 +126,7 @@ def asked(kind, key):
     """What the value of a key must be."""
     if (kind, key) in FORMS:
         return FORMS[kind, key]
-    if kind == "host":
+    if kind == "host" and key != "devices":
         return "an array of two integers such as [0x1000, 0xffff]"
     if key in LISTS:
         return f"an array of tables: write [[{'endpoint.' if kind == 'endpoint' else ''}{key}]]"
@@ -178,9 +182,15 @@ def number_problems(every):
         for key, greatest in RANGES.items():
             if not 0 <= entry.values.get(key, 0) <= greatest:
                 yield problem(entry, key, f"is out of range (0 to {greatest if key == 'pin' else hex(greatest)})", 104)
-        status = entry.values.get("status", 0)
-        if not 0 <= status <= 0xFFFF or status & ~0xF900:
-            yield problem(entry, "status", "has bits outside 0xf900", 104)
+        for key, bits in BITS.items():
+            if entry.values.get(key, 0) & ~bits:
+                yield problem(entry, key, f"has bits outside {bits:#06x}", 104)
+        at = entry.values.get("at", "")
+        if entry.values.get("multifunction") is False and is_path(at) and at.endswith(".0"):
+            yield problem(entry, "multifunction", "is not possible in function 0", 104, remedy=ALWAYS_SET)
+    for entry in of(every, "host"):
+        if entry.values.get("devices", 16) not in (16, 32):
+            yield problem(entry, "devices", "is neither 16 nor 32", 104)
     for kind, key, least, greatest, words in BLOCK_RANGES:
         for entry in of(every, kind):
             value = entry.values.get(key, least)
@@ -200,9 +210,18 @@ def count_problems(every):
             yield problem(entry, "slots", "too many slots (at most 32)", 108, has_subject=False)
 
 
-def is_path(text):
-    parts = text.split("/")
-    return len(parts) <= 16 and all(re.fullmatch(r"(\d|[12]\d|3[01])\.[0-7]", part) for part in parts)
+DEVICES_KEY = "set devices = 32 in [host] to use devices 16 to 31"
+ALWAYS_SET = "in function 0 of a device with several functions, bit 7 of the header type is always set"
+
+
+def devices_of(every):
+    """How many devices a bus of the board may have. A number that is refused makes no path wrong."""
+    return 32 if any(entry.values.get("devices", 16) != 16 for entry in of(every, "host")) else 16
+
+
+def is_path(text, devices=32):
+    parts = [re.fullmatch(r"(0|[1-9]\d?)\.[0-7]", part) for part in text.split("/")]
+    return len(parts) <= 16 and all(part and int(part[1]) < devices for part in parts)
 
 
 def standing(every):
@@ -211,29 +230,31 @@ def standing(every):
             for at in [entry.values.get("at", "")]]
 
 
-def meant_path(text):
+def meant_path(text, devices):
     """The path that may be meant by a text, or what a path is. Nothing of a path."""
     short = text.removeprefix("00:")
-    padded = re.fullmatch(r"0([0-9a-f])\.([0-7])", short)
+    padded = re.fullmatch(r"([01][0-9a-f])\.([0-7])", short)
     if is_path(text):
         return ""
+    if padded:
+        device = int(padded[1], 16)
+        return (f'did you mean "{device}.{padded[2]}"? numbers in a path are decimal, without leading zeros'
+                + (f"; {DEVICES_KEY}" if device >= devices else ""))
     if is_path(short):
         return f'did you mean "{short}"?'
-    if padded:
-        return (f'did you mean "{int(padded[1], 16)}.{padded[2]}"? '
-                "numbers in a path are decimal, without leading zeros")
-    return ('write DEVICE.FUNCTION for each bus, for example "2.0/1.0": devices are 0 to 31, functions 0 to 7, '
+    return (f'write DEVICE.FUNCTION for each bus, for example "2.0/1.0": devices are 0 to {devices - 1}, functions 0 to 7, '
             "without leading zeros")
 
 
 def place_problems(every):
-    earlier, stands = {}, {path for path, _ in standing(every)}
+    earlier, stands, devices = {}, {path for path, _ in standing(every)}, devices_of(every)
     bridges = {path for path, kind in standing(every) if kind == "bridge"}
     for entry in of(every, "endpoint", "bridge"):
         at = entry.values.get("at", "")
         *above, part = at.split("/")
+        if not is_path(at, devices):
+            yield problem(entry, "at", "is not a valid path", 105, remedy=DEVICES_KEY if is_path(at) else meant_path(at, devices))
         if not is_path(at):
-            yield problem(entry, "at", "is not a valid path", 105, remedy=meant_path(at))
             continue
         if at in earlier:
             yield problem(entry, "at", "is already used by {}", 105, earlier[at])
@@ -308,16 +329,16 @@ def name_problems(every):
 
 
 def slot_problems(every):
-    earlier, stands = {}, dict(standing(every))
+    earlier, stands, devices = {}, dict(standing(every)), devices_of(every)
     for entry in of(every, "slot"):
-        slot = entry.values[""]
-        if not is_path(slot) or stands.get(slot) != "endpoint":
+        slot, is_valid = entry.values[""], is_path(entry.values[""])
+        if not is_valid or stands.get(slot) != "endpoint":
             there = "is not the path of any endpoint"
             if stands.get(slot) == "bridge":
                 is_both = any(other.values["at"] == slot for other in of(every, "endpoint"))
                 there = "is the path of " + ("both an endpoint and a bridge" if is_both else "a bridge, not of an endpoint")
-            yield problem(entry, "", there if is_path(slot) else "is not a valid path", 110, remedy=meant_path(slot))
-        if is_path(slot) and slot in earlier:
+            yield problem(entry, "", there if is_valid else "is not a valid path", 110, remedy=meant_path(slot, devices))
+        if is_valid and slot in earlier:
             yield problem(entry, "", "is already used by {}", 110, earlier[slot])
         earlier.setdefault(slot, entry)
 

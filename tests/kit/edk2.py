@@ -39,7 +39,7 @@ class System(NamedTuple):
 
 BACK_TO_BACK = rules.Rule("Bridge Control: fast back-to-back enable", rules.BRIDGE, range(0x3E, 0x3F), 0x80, free="QEMU")
 EDK2 = System(boot.Firmware("EDK2", "/usr/share/ovmf/OVMF.fd", "Shell> ", (), False), ["-machine", "pc,accel=tcg", "-m", "256"],
-              [], {"io": [0x1000, 0xFFFF], "mem": [0x80000000, 0xFBFFFFFF], "pref": [0xE000000000, 0xFFFFFFFFFF]},
+              [], {"io": [0x1000, 0xFFFF], "mem": [0x80000000, 0xFBFFFFFF], "pref": [0xE000000000, 0xFFFFFFFFFF], "devices": 32},
               [*rules.RULES, BACK_TO_BACK], 400)
 # Command opens the function's spaces last, when all else stands
 ORDER = [*range(0x08, 0x100, 4), 0x04]
@@ -67,7 +67,7 @@ def fill(tree, document, maker, is_over):
     print(f"memory that is left: {left} MB", flush=True)
     sizes += [64] if is_over else []
     taken = {one.path[0][0] for one in functions(document)}
-    free = [device for device in range(2, 16) if device not in taken]
+    free = [device for device in range(2, 32) if device not in taken]
     for place, size in enumerate(sizes):
         device, function = free[place % len(free)], place // len(free)
         many = ",multifunction=on" if function or place + len(free) < len(sizes) else ""

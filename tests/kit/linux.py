@@ -23,7 +23,7 @@ LINUX = edk2.System(
     edk2.boot.Firmware("Linux", "/usr/share/qemu/qboot.rom", f"\n{ENABLED}\r\n", (), False),
     ["-machine", "pc,accel=tcg,acpi=off", "-m", "256"],
     ["-kernel", str(MADE / "vmlinuz"), "-initrd", str(MADE / "initrd"), "-append", APPEND],
-    {"io": [0x1000, 0xFFFF], "mem": [0x10000000, 0xFEBFFFFF], "pref": [0x100000000, 0xFFFFFFFFFF]},
+    {"io": [0x1000, 0xFFFF], "mem": [0x10000000, 0xFEBFFFFF], "pref": [0x100000000, 0xFFFFFFFFFF], "devices": 32},
     edk2.EDK2.rules, 200)
 
 if __name__ == "__main__":

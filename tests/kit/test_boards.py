@@ -1,11 +1,10 @@
-"""Board files as documents and from dumps, random boards, smaller ones, and what is told of firmware."""
+"""Board files as documents, random boards, smaller ones, and what is told of firmware."""
 
-import sys
 import tomllib
 import unittest
 
 import places
-from pciguest._board_file import functions, text_of
+from pciguest._board_file import apertures, functions, text_of
 from pciguest._drawing import PLAIN, RandomChoices, draw_board
 from pciguest._firmware_run import findings
 from pciguest._judge import KINDS, kind_of, same_problem
@@ -15,12 +14,9 @@ from pciguest._special import SPECIAL
 from pciguest._tight import TOO_SMALL, cut, halved, tight, too_small
 from pciguest._watch import Watch
 from pciguest._writers import story_of, why_unfound, writers
-from second_hand import SecondHand, SecondHandBoard, audited, board_of, placement
+from second_hand import SecondHand, SecondHandBoard
 
-sys.path.append(str(places.TOP / "tools"))
-import from_lspci  # noqa: E402  (the tool stands there)
-
-(answers,), (registers,) = places.modules("fuzz", "answers"), places.modules("firmware", "registers")
+(registers,) = places.modules("firmware", "registers")
 BOARDS = places.TOP / "boards"
 AUDITED = tomllib.loads((places.TOP / "examples/audit/board.toml").read_text())
 AUDITED["host"]["pref"] = [0x400000000, 0x4FFFFFFFF]
@@ -64,53 +60,6 @@ class Documents(unittest.TestCase):
                 self.assertCountEqual(again[key], document[key], (name, key))
 
 
-def dumped(document):
-    """A board that is set up, as the lines of `lspci -vvxxx`."""
-    made = board_of(document)
-    layout, state = placement.Layout(made), audited.State(made)
-    answers.set_up(state, layout)
-    for function in made.functions:
-        shown = state.read_bytes(function.path, 0, 256).to_bytes(256, "little")
-        yield "{:02x}:{:02x}.{} A function: of this board".format(*layout.number(function.path))
-        for bar in () if state.is_bridge(function.path) else function.bars:
-            yield f"\tRegion {bar.index}: somewhere [size={bar.size >> 10}K]"
-        yield from (f"{at:02x}: {shown[at:at + 16].hex(' ')}" for at in range(0, 256, 16))
-        yield ""
-
-
-class Dumps(unittest.TestCase):
-    LINES = [*dumped(tomllib.loads((BOARDS / "modern.toml").read_text()))]
-
-    def endpoints(self, lines):
-        text = from_lspci.board_text(lines)
-        self.assertIsNone(SecondHand().refusal(text))
-        return {one["at"]: one for one in tomllib.loads(text)["endpoint"]}
-
-    def test_a_board_comes_back(self):
-        """All but what no dump tells, and the ends of structures."""
-        found = self.endpoints(self.LINES)
-        for one in tomllib.loads((BOARDS / "modern.toml").read_text())["endpoint"]:
-            other = found.pop(one["at"])
-            for key in ("vendor", "device", "class", "pin"):
-                self.assertEqual(other[key], one[key], key)
-            for key, parts in (("bar", ("index", "kind", "size")), ("capability", ("id", "off"))):
-                self.assertEqual(*([[each[part] for part in parts] for each in of[key]] for of in (one, other)))
-            for mine, theirs in zip(one["capability"], other["capability"]):
-                self.assertTrue(theirs["reset"].startswith(mine["reset"]), mine)
-        self.assertEqual(found, {})
-
-    def test_what_can_be_written(self):
-        power, msi = self.endpoints(self.LINES)["2.0/2.0"]["capability"]
-        self.assertEqual((power["rw"][:12], power["w1c"][:12]), ("000003010000", "000000800000"))
-        self.assertEqual((msi["rw"][:24], "w1c" in msi), ("7100fcffffffffffffffffff", False))
-        self.assertEqual(self.endpoints(self.LINES)["1.0/1.0"]["capability"][0]["rw"][:8], "00c00000")
-
-    def test_places(self):
-        """Each device keeps its number, and other domains aren't of the board."""
-        lines = [line.replace("02:02.0", "02:1f.0") for line in self.LINES]
-        self.assertIn("2.0/31.0", self.endpoints([*lines, "10000:00:00.0 Another domain", *self.LINES[1:18]]))
-
-
 class Drawing(unittest.TestCase):
     def test_boards_can_be_set_up(self):
         bridges, depth = 0, 0
@@ -128,6 +77,20 @@ class Drawing(unittest.TestCase):
         self.assertEqual(drawn[0], {0x1234, 0, 1, 0xFFFE})
         self.assertEqual(set().union(*drawn[1:]), {0x1234, 0, 1, 0xFFFE})
         self.assertLess(sum(vendors != {0x1234} for vendors in drawn[1:]), 50)
+
+    def test_devices_and_odd_bits(self):
+        """Half of the boards may have devices above 15, unless the last device is given; odd bits are drawn on all."""
+        drawn = [draw_board(RandomChoices(seed)) for seed in range(50)]
+        every = [one for document in drawn for one in functions(document)]
+        self.assertEqual({document["host"].get("devices", 16) for document in drawn}, {16, 32})
+        self.assertEqual(max(device for one in every for device, _ in one.path), 31)
+        clear = {one.path[-1][1] for one in every if one.table.get("multifunction") is False}
+        self.assertEqual(clear, {*range(1, 8)})
+        self.assertTrue({True, False} <= {one.is_bridge for one in every if one.table.get("fixed_status")})
+        for last in (7, 15, 20):
+            few = [draw_board(RandomChoices(seed), last_device=last) for seed in range(50)]
+            self.assertEqual(max(device for document in few for one in functions(document) for device, _ in one.path), last)
+            self.assertEqual({document["host"].get("devices", 16) for document in few}, {16, 32} if last > 15 else {16})
 
     def test_a_seed_says_all(self):
         self.assertEqual(draw_board(RandomChoices(7)), draw_board(RandomChoices(7)))
@@ -170,7 +133,7 @@ class Tight(unittest.TestCase):
             choices = RandomChoices(seed)
             document = tight(draw_board(choices, 2, guests=False), [], choices, self.refusal)
             self.assertIsNone(self.refusal(document))
-            for key, (first, last) in document["host"].items():
+            for key, (first, last) in apertures(document).items():
                 sizes = [bar["size"] for table in document["endpoint"] for bar in table.get("bar", [])
                          if (bar["kind"] == "io") == (key == "io")]
                 self.assertTrue(sum(sizes) <= last + 1 - first or key != "io")
@@ -181,7 +144,7 @@ class Tight(unittest.TestCase):
         small = PLAIN._replace(mem=(0xE0000000, 0xE3FFFFFF), io=(0x1000, 0x7FFF))
         choices = RandomChoices(1)
         document = tight(draw_board(choices, 2, [small], guests=False), ["io", "mem"], choices, self.refusal)
-        self.assertEqual(document["host"], small.table())
+        self.assertEqual(apertures(document), small.table())
         self.assertIsNone(self.refusal(document))
         self.assertEqual(self.refusal(too_small(document, choices, self.refusal)), TOO_SMALL["mem"])
 
@@ -276,6 +239,9 @@ class Findings(unittest.TestCase):
         self.assertEqual(seen("host cw 00:03.0 6 2 0xffff", document=document), [told.format("write to Status")])
         for line in ("4 4 0x2", "4 2 0x2", "6 2 0x6ff", "7 1 0"):
             self.assertEqual(seen(f"host cw 00:01.0 {line}", document=document), [], line)
+        self.assertEqual(seen("host cw 00:01.0 6 2 0", document=SPECIAL["odd_bits"]()), [])
+        told = "status: 2.3: a write to Status changes Status from 0x8000 to 0x0000"
+        self.assertEqual(seen("host cw 00:02.3 6 2 0x8000", document=SPECIAL["odd_bits"]()), [told])
 
     def test_each_finding_has_a_kind(self):
         kinds = {kind_of(line) for line in findings(SecondHandBoard(AUDITED))}

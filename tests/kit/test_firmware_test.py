@@ -362,6 +362,17 @@ class FirmwareTest(unittest.TestCase):
         self.assertEqual((status, told), (2, f"{self.board} cannot be set up with these addresses; `pciguest check {self.failed}` says why\n"))
         self.assertEqual(tomllib.loads(self.failed.read_text())["host"]["io"], [0, 0xFFFF])
 
+    def test_boards_with_devices_above_the_last_one(self):
+        options = firmware_test.parser().parse_args(["--max-device", "15", "--boards", "9", "--", "true"])
+        test = firmware_test.Test(options, SecondHand())
+        boards = [test.special(name) for name in ("deep", "odd_bits", "last_devices")] + [test.random(seed) for seed in range(1, 10)]
+        self.assertEqual([board.name for board in boards if test.why_left_out(board)], ["the special board last_devices"])
+        self.assertEqual(test.why_left_out(boards[2]), "devices above 15")
+        self.assertIn("--max-device 15", " ".join(test.repeated()))
+        for number in ("-1", "32", "x"):
+            with self.assertRaises(SystemExit), contextlib.redirect_stderr(io.StringIO()):
+                firmware_test.parser().parse_args(["--max-device", number, "--", "true"])
+
     def test_numbers_that_cannot_be_used(self):
         for option in ("--boards", "--bridges", "--lines"):
             with self.assertRaises(SystemExit) as ended, contextlib.redirect_stderr(io.StringIO()) as errors:

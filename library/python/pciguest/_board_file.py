@@ -9,7 +9,9 @@ Document = Dict[str, Any]
 #: device and function on each bus, from bus 0 down
 Path = Tuple[Tuple[int, int], ...]
 
-HEXADECIMAL = {"vendor", "device", "revision", "class", "subvendor", "subsystem", "status", "size", "off"}
+#: the keys of a host that are apertures
+APERTURES = ("io", "mem", "pref")
+HEXADECIMAL = {"vendor", "device", "revision", "class", "subvendor", "subsystem", "status", "fixed_status", "fixed_secondary_status", "size", "off"}
 
 
 class Region(NamedTuple):
@@ -46,6 +48,16 @@ class Function(NamedTuple):
         return sorted(Region(bar["index"], bar["kind"], bar["size"]) for bar in bars)
 
 
+def apertures(document: Document) -> Dict[str, List[int]]:
+    """The first and last address of each aperture of a board."""
+    return {key: value for key, value in document["host"].items() if key in APERTURES}
+
+
+def devices(document: Document) -> int:
+    """How many devices a bus of a board may have."""
+    return document["host"].get("devices", 16)  # type: ignore[no-any-return]
+
+
 def path_of(text: str) -> Path:
     """The numbers of a path as 2.0/1.0."""
     parts = (part.split(".") for part in text.split("/"))
@@ -73,6 +85,8 @@ def bridges_above(every: List[Function]) -> Dict[str, List[Function]]:
 
 
 def _value(key: str, value: Any) -> str:
+    if isinstance(value, bool):
+        return str(value).lower()
     if isinstance(value, str):
         return f'"{value}"'
     if isinstance(value, dict):
@@ -81,7 +95,7 @@ def _value(key: str, value: Any) -> str:
         if value and isinstance(value[0], dict):
             return "[\n" + "".join(f"  {_value(key, each)},\n" for each in value) + "]"
         return "[" + ", ".join(_value(key, each) for each in value) + "]"
-    return f"{value:#x}" if key in HEXADECIMAL or key in ("io", "mem", "pref") else str(value)
+    return f"{value:#x}" if key in HEXADECIMAL or key in APERTURES else str(value)
 
 
 def _table(table: Document) -> Iterator[str]:

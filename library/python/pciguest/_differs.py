@@ -98,6 +98,7 @@ class _Bytes:
     def declared(self) -> Tuple[Found, int]:
         """What is declared of a function, and how many bytes of values come behind it."""
         numbers = {key: self.number(width) for key, (_, width) in DECLARED.items()}
+        numbers["pin"] &= 0x7F  # bit 7 says whether bit 7 of Header Type is clear
         found = Found({name: numbers[key] for key, name in IDENTITY.items()}, {}, {})
         values = len(HEADER)
         for _ in range(self.number(1)):

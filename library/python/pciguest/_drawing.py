@@ -53,6 +53,8 @@ PARTED = Apertures(mem=(0x80000000, 0xBFFFFFFF), pref=(0xC0000000, 0xFEBFFFFF))
 
 #: Vendor IDs that may be taken for those of no function, by the low byte of the Device ID, so that none is drawn beside it
 VENDORS = {1: 0x0000, 2: 0x0001, 3: 0xFFFE}
+#: as real functions have it: 66 MHz, fast back-to-back and medium DEVSEL timing, and all that may be declared
+FIXED_STATUS = [0x0200, 0x02A0, 0x0280, 0x0020, 0x06E0]
 KINDS = ["mem32", "io", "mem32p", "mem64", "mem64p"]
 SMALLEST = {"io": 4}
 PATTERNS = ["", "ff", "f0", "0f", "55aa"]
@@ -68,8 +70,9 @@ class Above(NamedTuple):
 class BoardDrawing:
     """Draws a board that fits its apertures with much room left, however one places it."""
 
-    def __init__(self, choices: Choices, bridges: int, apertures: Sequence[Apertures]) -> None:
+    def __init__(self, choices: Choices, bridges: int, apertures: Sequence[Apertures], last_device: int) -> None:
         self.choices, self.bridges, self.most_functions = choices, bridges, 60
+        self.last_device = choices.one_of(sorted({min(last_device, 15), last_device}))
         self.apertures = choices.one_of(apertures)
         room = self.apertures.mem[1] - self.apertures.mem[0] + 1
         self.memory, self.io_buses = room // 8, (self.apertures.io[1] - self.apertures.io[0] + 1) // 0x1000 - 4
@@ -81,7 +84,7 @@ class BoardDrawing:
 
     def bus(self, above: Path, windows: Above) -> None:
         """The functions of one bus, and all behind it."""
-        for device in self.choices.some(range(16), 0 if above else 1, 4):
+        for device in self.choices.some(range(self.last_device + 1), 0 if above else 1, 4):
             others = self.choices.some(range(1, 8), 1, 2) if self.percent(25) else []
             for function in [0, *others]:
                 self.function(above + ((device, function),), windows)
@@ -97,7 +100,13 @@ class BoardDrawing:
 
     def identity(self, path: Path) -> Document:
         device = self.choices.number(0, 0xFFFF)
-        return {"at": path_text(path), "vendor": VENDORS.get(device & 0xFF, 0x1234), "device": device}
+        found = {"at": path_text(path), "vendor": VENDORS.get(device & 0xFF, 0x1234), "device": device}
+        return {**found, **self.odd_bits(path[-1][1])}
+
+    def odd_bits(self, function: int) -> Document:
+        """Read-only bits of Status, and in functions 1 to 7 a clear bit 7 of Header Type."""
+        found: Document = {"multifunction": False} if function and self.percent(50) else {}
+        return {**found, "fixed_status": self.choices.one_of(FIXED_STATUS)} if self.percent(20) else found
 
     def bridge(self, path: Path, windows: Above) -> None:
         """A bridge. An I/O window is drawn while there is room for one more unit of ports."""
@@ -152,12 +161,14 @@ class BoardDrawing:
 
 
 def draw_board(
-    choices: Choices, bridges: int = 6, apertures: Sequence[Apertures] = (PLAIN, WIDE, PARTED), guests: bool = True
+    choices: Choices, bridges: int = 6, apertures: Sequence[Apertures] = (PLAIN, WIDE, PARTED), guests: bool = True,
+    last_device: int = 31
 ) -> Document:
-    """A board with so many bridges at most. It can be set up, with room to spare."""
-    drawing = BoardDrawing(choices, bridges, apertures)
+    """A board with so many bridges at most, and no device above the last one. It can be set up, with room to spare."""
+    drawing = BoardDrawing(choices, bridges, apertures, last_device)
     drawing.bus((), Above(True, 64))
-    document: Dict[str, Any] = {"host": drawing.apertures.table()}
+    devices = {"devices": 32} if drawing.last_device > 15 else {}
+    document: Dict[str, Any] = {"host": {**drawing.apertures.table(), **devices}}
     for key, tables in [("endpoint", drawing.endpoint_tables), ("bridge", drawing.bridge_tables)]:
         if tables:
             document[key] = tables

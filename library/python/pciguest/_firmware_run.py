@@ -6,7 +6,7 @@ import re
 from contextlib import closing
 from typing import Dict, FrozenSet, List, NamedTuple, Optional, Set, Union
 
-from ._board_file import Document, text_of
+from ._board_file import APERTURES, Document, text_of
 from ._child import Child, Limits, Misbehaviour
 from ._driven import DrivenBoard, Maker
 from ._judge import TRANSIENTS, findings, kind_of, same_problem
@@ -60,7 +60,7 @@ def environment(document: Document) -> Dict[str, str]:
     host = document["host"]
     return {
         f"PCIGUEST_{key.upper()}": " ".join(f"{end:#x}" for end in host[key]) if key in host else ""
-        for key in ("io", "mem", "pref")
+        for key in APERTURES
     }
 
 

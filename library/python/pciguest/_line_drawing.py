@@ -5,7 +5,7 @@ from __future__ import annotations
 
 from typing import Callable, List, Optional, Sequence, Tuple, cast
 
-from ._board_file import Document, Function, Region, bridges_above, functions
+from ._board_file import Document, Function, Region, apertures, bridges_above, functions
 from ._drawing import Choices
 
 VALUES = [0, 1, 2, 3, 7, 0x80, 0xFF, 0x547, 0xFFFF, 0xF900F900, 0x80000000, 0xFFFFFFFF]
@@ -53,8 +53,8 @@ class Lines:
 
     def base(self, is_io: bool) -> int:
         """A base to be written: one of those where something begins, or of another region."""
-        host = self.document["host"]
-        known = [*BASES, *self.recent[is_io], *(host[key][0] for key in host)]
+        starts = (first for first, _ in apertures(self.document).values())
+        known = [*BASES, *self.recent[is_io], *starts]
         base: int = self.choices.one_of(known) + self.choices.one_of([0, 0, 0x1000, 0x100000, 0x20])
         self.recent[is_io] = [*self.recent[is_io][-5:], base]
         return base

@@ -72,7 +72,7 @@ def at_lower_places(document: Document) -> Iterator[Document]:
     for one in functions(document):
         depth, (device, function) = len(one.path), one.path[-1]
         taken = {other.path[-1] for other in functions(document) if other.path[:-1] == one.path[:-1]}
-        free = next(each for each in range(depth == 1, 17) if each == device or (each, 0) not in taken)
+        free = next(each for each in range(depth == 1, 33) if each == device or (each, 0) not in taken)
         if function == 0 and free < device:
             yield moved(document, lambda path: path if path[: depth - 1] != one.path[:-1] or len(path) < depth
                         or path[depth - 1][0] != device else (*path[: depth - 1], (free, path[depth - 1][1]), *path[depth:]))
@@ -83,15 +83,16 @@ def at_lower_places(document: Document) -> Iterator[Document]:
 
 def with_simpler_tables(document: Document) -> Iterator[Document]:
     """One table with less in it: no region, a smaller one or one at a lower register; a plain value; no key that it
-    needn't have. Or no prefetchable aperture."""
+    needn't have. Or no prefetchable aperture, or the usual number of devices."""
     for kind in ("endpoint", "bridge"):
         for place, table in enumerate(document.get(kind, [])):
             for simpler in simpler_tables(table):
                 changed = copy.copy(document)
                 changed[kind] = [*document[kind][:place], simpler, *document[kind][place + 1 :]]
                 yield changed
-    if "pref" in document["host"]:
-        yield {**document, "host": {key: value for key, value in document["host"].items() if key != "pref"}}
+    for gone in ("pref", "devices"):
+        if gone in document["host"]:
+            yield {**document, "host": {key: value for key, value in document["host"].items() if key != gone}}
 
 
 def simpler_tables(table: Document) -> Iterator[Document]:

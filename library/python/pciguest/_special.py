@@ -24,12 +24,12 @@ def endpoint(at: str, *regions: str, **keys: Any) -> Document:
     return {**table, "bar": bars} if bars else table
 
 
-def bridge(at: str, io: str = "16", pref: str = "64") -> Document:
-    return {"at": at, "vendor": 0x1234, "device": 2, "io": io, "pref": pref}
+def bridge(at: str, io: str = "16", pref: str = "64", **keys: Any) -> Document:
+    return {"at": at, "vendor": 0x1234, "device": 2, "io": io, "pref": pref, **keys}
 
 
-def board(*tables: Document, io: List[int] = IO, mem: List[int] = MEM, pref: List[int] = []) -> Document:
-    host = {"io": io, "mem": mem, **({"pref": pref} if pref else {})}
+def board(*tables: Document, io: List[int] = IO, mem: List[int] = MEM, pref: List[int] = [], **keys: int) -> Document:
+    host: Document = {"io": io, "mem": mem, **({"pref": pref} if pref else {}), **keys}
     kinds = {"endpoint": [each for each in tables if "class" in each], "bridge": [each for each in tables if "io" in each]}
     return {"host": host, **{kind: found for kind, found in kinds.items() if found}}
 
@@ -177,6 +177,23 @@ def many_functions() -> Document:
     return board(*gaps, endpoint("3.0"), bridge("3.4"), bridge("3.7"), *behind, *singles)
 
 
+def last_devices() -> Document:
+    """Devices 16 to 31 on bus 0, and at the ends of the bus behind a bridge that is the very last function."""
+    singles = [endpoint(f"{device}.0", "mem32 16") for device in range(16, 31)]
+    behind = [endpoint(f"31.7/{device}.0", "mem32 4096") for device in (0, 15, 16, 31)]
+    return board(*singles, endpoint("31.0", "io 8"), bridge("31.7"), *behind, endpoint("31.7/31.7", "io 4"), devices=32)
+
+
+def odd_bits() -> Document:
+    """Functions whose own bit 7 of Header Type is clear, before others of their device; and read-only bits of Status."""
+    clear: Dict[str, Any] = {"multifunction": False}
+    return board(
+        endpoint("1.0", "mem32 16", fixed_status=0x0200), endpoint("1.2", "mem32 256", **clear),
+        endpoint("1.5", "io 4", fixed_status=0x02A0, **clear), endpoint("2.0", fixed_status=0x06E0),
+        bridge("2.1", fixed_status=0x02A0, fixed_secondary_status=0x0280, **clear), endpoint("2.1/0.0", "mem32 4096"),
+        endpoint("2.1/0.1", "mem32 4096", **clear), endpoint("2.1/0.7", "io 8"), endpoint("2.3", "mem32 16", status=0x8000))
+
+
 def identities() -> Document:
     """Vendor IDs, Device IDs and class codes at their ends. Only the Vendor ID FFFFh says that there is no function. Among
     the class codes are those of bridges of other kinds, which have no bus behind."""
@@ -247,6 +264,7 @@ SPECIAL: Dict[str, Callable[[], Document]] = {
     for drawn in (
         large_regions, half_of_memory, from_zero, top_of_memory, last_region, top_of_prefetchable, top_of_ports, small_regions,
         least_windows, greatest_windows, aligned_windows, without_windows, narrow_windows, prefetchable_below,
-        not_prefetchable, deep, many_buses, many_functions, identities, registers, siblings, empty_bridges, status_bits,
+        not_prefetchable, deep, many_buses, many_functions, last_devices, odd_bits,
+        identities, registers, siblings, empty_bridges, status_bits,
         no_ports_left, no_memory_left, no_prefetchable_left)
 }

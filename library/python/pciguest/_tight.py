@@ -5,7 +5,7 @@ from __future__ import annotations
 
 from typing import Callable, Dict, List, Optional, Sequence
 
-from ._board_file import Document, Path, functions, path_of, path_text
+from ._board_file import Document, Path, apertures, devices, functions, path_of, path_text
 from ._drawing import Choices
 
 Refusal = Callable[[Document], Optional[int]]
@@ -33,7 +33,7 @@ def with_aperture(document: Document, key: str, units: int) -> Document:
 
 def halved(document: Document) -> Document:
     """The board with half of each aperture."""
-    for key, (first, last) in document["host"].items():
+    for key, (first, last) in apertures(document).items():
         document = with_aperture(document, key, max(1, (last + 1 - first) // UNITS[key] // 2))
     return document
 
@@ -61,7 +61,7 @@ def with_region(document: Document, bus: Path, kind: str, size: int) -> Optional
             more = {**table, "bar": [*table["bar"], {"index": end, "kind": kind, "size": size}]}
             return {**document, "endpoint": [*endpoints[:place], more, *endpoints[place + 1 :]]}
     taken = {one.path[-1][0] for one in functions(document) if one.path[:-1] == bus}
-    free = next((device for device in range(16) if device not in taken), None)
+    free = next((device for device in range(devices(document)) if device not in taken), None)
     if free is None:
         return None
     new = {"at": path_text((*bus, (free, 0))), "vendor": 0x1234, "device": ADDED, "class": 0xFF0000,
@@ -87,13 +87,13 @@ def filled(document: Document, bus: Path, key: str, refusal: Refusal) -> Documen
 def tight(document: Document, given: Sequence[str], choices: Choices, refusal: Refusal) -> Document:
     """The board with no room left on bus 0 and on some buses behind bridges. Apertures that are given stay as they are,
     and are filled with memory alone: ports would take hundreds of regions."""
-    for key in document["host"]:
+    for key in apertures(document):
         if key not in given:
             document = cut(document, key, refusal)
     bridges = [one.path for one in functions(document) if one.is_bridge]
     chosen = choices.some(range(len(bridges)), 0, 2)
     for bus in [*(bridges[place] for place in chosen), ()]:
-        for key in document["host"]:
+        for key in apertures(document):
             if key not in given or key == "mem":
                 document = filled(document, bus, key, refusal)
     return document
@@ -101,7 +101,7 @@ def tight(document: Document, given: Sequence[str], choices: Choices, refusal: R
 
 def too_small(document: Document, choices: Choices, refusal: Refusal) -> Optional[Document]:
     """A tight board with more regions than fit in one of its apertures; None where one more never is too many."""
-    keys: List[str] = sorted(document["host"])
+    keys: List[str] = sorted(apertures(document))
     first = choices.number(0, len(keys) - 1)
     sizes: Dict[str, int] = {key: min(UNITS[key], SIZES[key][1]) for key in keys}
     for key in keys[first:] + keys[:first]:

@@ -50,7 +50,7 @@ class Kept:
     """What the registers of a function held when they were seen last: at reset first."""
 
     def __init__(self, function: Function) -> None:
-        self.command, self.status = 0, function.table.get("status", 0)
+        self.command, self.status = 0, function.table.get("status", 0) | function.table.get("fixed_status", 0)
         self.bases = {region.index: 0 for region in function.regions()}
 
 

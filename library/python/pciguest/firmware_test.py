@@ -20,7 +20,7 @@ from pathlib import Path
 from typing import Dict, Iterator, List, NamedTuple, Optional, Tuple, Union
 
 from . import _junit
-from ._board_file import Document, functions, text_of
+from ._board_file import Document, apertures, functions, text_of
 from ._drawing import PARTED, PLAIN, WIDE, Apertures, RandomChoices, draw_board
 from ._child import CannotStart, Limits
 from ._driven import Library, Maker, Program, ProgramFailed
@@ -88,6 +88,8 @@ def parser() -> argparse.ArgumentParser:
     words.add_argument("--boards", type=natural, default=100, metavar="N", help="random boards (100)")
     words.add_argument("--seed", type=int, default=1, metavar="S", help="of the first random board (1)")
     words.add_argument("--bridges", type=natural, default=6, metavar="N", help="most bridges of a random board (6)")
+    words.add_argument("--max-device", type=int, choices=range(32), default=31, metavar="N",
+                       help="leave out boards with devices above N (31): for firmware that stops there on purpose")
     words.add_argument("--board", action="append", default=[], metavar="FILE", help="this board file, and no other board")
     words.add_argument("--special", action="append", default=[], choices=SPECIAL, metavar="NAME",
                        help=f"the board for this kind of mistake, and no other board: {', '.join(SPECIAL)}")
@@ -153,7 +155,7 @@ class Test:
         document, given = SPECIAL[name](), self.given()
         own = {key: value for key, value in document["host"].items() if key != "pref" or "mem" not in given}
         document = {**document, "host": {**own, **given}}
-        for key in document["host"]:
+        for key in apertures(document):
             if key not in given and not self.options.roomy and self.refusal(document) is None:
                 document = cut(document, key, self.refusal)
         return self.named(f"the special board {name}", document, f"--special {name}")
@@ -161,9 +163,9 @@ class Test:
     def random(self, seed: int) -> Named:
         """A random board. One in three has no room left, and one in nine not enough, unless it is to be roomy."""
         given = self.given()
-        apertures = [PLAIN._replace(**{key: (first, last) for key, (first, last) in given.items()})]
-        choices = RandomChoices(seed)
-        document = draw_board(choices, self.options.bridges, apertures if given else [PLAIN, WIDE, PARTED], guests=False)
+        spaces = [PLAIN._replace(**{key: (first, last) for key, (first, last) in given.items()})] if given else [PLAIN, WIDE, PARTED]
+        choices, last_device = RandomChoices(seed), self.options.max_device
+        document = draw_board(choices, self.options.bridges, spaces, guests=False, last_device=last_device)
         if self.refusal(document) is None and not self.options.roomy and (seed % 3 == 1 or seed % 9 == 3):
             document = tight(document, list(given), choices, self.refusal)
             document = (too_small(document, choices, self.refusal) if seed % 9 == 3 else None) or document
@@ -186,6 +188,8 @@ class Test:
         """Why a board isn't asked, unless it was chosen."""
         if self.options.board or self.options.special:
             return None
+        if max(device for one in functions(board.document) for device, _ in one.path) > self.options.max_device:
+            return f"devices above {self.options.max_device}"
         if self.options.roomy and self.refusal(halved(board.document)) is not None:
             return "less than twice the room that set-up needs"
         return "no room in these addresses" if board.refusal in TOO_SMALL.values() and board.again.startswith("--board ") else None
@@ -332,7 +336,7 @@ class Test:
             words += [f"--{key}", "{:#x}-{:#x}".format(*getattr(options, key))] if getattr(options, key) else []
         words += [word for kind in options.allow for word in ("--allow", kind)]
         words += [f"--{key}" for key in ("transients", "warm", "roomy") if getattr(options, key)]
-        for key in ("no_room", "bridges", "time", "lines", "program"):
+        for key in ("no_room", "bridges", "max_device", "time", "lines", "program"):
             value = getattr(options, key)
             if value != parser().get_default(key):
                 words += [f"--{key.replace('_', '-')}", f"{value:g}" if key == "time" else str(value)]

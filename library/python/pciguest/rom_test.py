@@ -22,7 +22,7 @@ from contextlib import closing
 from pathlib import Path
 from typing import List, Optional, Tuple, Union
 
-from ._board_file import text_of
+from ._board_file import APERTURES, text_of
 from ._child import KEPT
 from ._chipset import BoardError
 from ._drawing import PLAIN, Apertures
@@ -87,7 +87,9 @@ def boot(machine: PC, ending: Optional[str], seconds: float) -> Tuple[str, bool]
 def examine(rom: bytes, file: Path, options: argparse.Namespace, maker: Maker) -> bool:
     """Boots the ROM over the board of a file, and tells what came of it: whether something is wrong."""
     given = Apertures(options.io, options.mem, options.pref)
-    document = {**tomllib.loads(file.read_text()), "host": given.table()}
+    document = tomllib.loads(file.read_text())
+    own = {key: value for key, value in document["host"].items() if key not in APERTURES}
+    document = {**document, "host": {**given.table(), **own}}
     with closing(maker.board(text_of(document))) as driven:
         lines = LineBoard(driven)
         machine = PC(lines, rom, options.old)

@@ -54,9 +54,11 @@ def boards(
     bridges: int = 6,
     apertures: Sequence[Apertures] = (PLAIN, WIDE, PARTED),
     guests: bool = True,
+    last_device: int = 31,
 ) -> str:
-    """Board files, each with so many bridges at most. Each can be set up, with room to spare."""
-    return text_of(draw_board(DrawnChoices(draw), bridges, apertures, guests))
+    """Board files, each with so many bridges at most, and no device above the last one. Each can be set up, with room to
+    spare."""
+    return text_of(draw_board(DrawnChoices(draw), bridges, apertures, guests, last_device))
 
 
 @st.composite

@@ -253,6 +253,9 @@ class Attaching(Case):
         less = type("Less", (Doorbell,), {name: None for name in ("status", "far", "more")})
         with Machine(board(Doorbell)) as machine:
             machine.attach(machine.guest("a"), 0, less())
+        odd = board(Doorbell, Doorbell).replace('at = "2.0"', 'multifunction = false\nfixed_status = 0x0200\nat = "1.1"')
+        with Machine(odd.replace('"2.0"', '"1.1"')) as machine:
+            machine.attach(machine.guest("a"), 1, Doorbell())
 
     def test_two_devices(self):
         other = Doorbell()

@@ -134,7 +134,8 @@ impl<'a> Bytes<'a> {
         for (number, (_, width)) in numbers.iter_mut().zip(IDENTITY) {
             *number = self.number(width)?;
         }
-        let identity = core::array::from_fn(|at| numbers[at]); // the first seven numbers
+        let mut identity: [u64; 7] = core::array::from_fn(|at| numbers[at]); // the first seven numbers
+        identity[6] &= 0x7f; // bit 7 isn't of the pin: it says whether bit 7 of Header Type is clear
         let (mut regions, mut blocks) = ([None; 6], Vec::new());
         let (mut values, count) = (HEADER, self.number(1)?);
         for _ in 0..count {

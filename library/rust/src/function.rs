@@ -14,7 +14,7 @@ pub struct Function {
     pub path: String,
     /// 0 on bus 0, else the Secondary Bus Number of the bridge above.
     pub bus: u8,
-    /// 0 to 15.
+    /// 0 to 31.
     pub device: u8,
     /// 0 to 7.
     pub function: u8,

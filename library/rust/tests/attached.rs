@@ -3,7 +3,9 @@
 mod doorbell;
 
 use doorbell::{memory, Case, Doorbell, BELL, FAR, LONG, MORE, OWN, PORT, RINGS, STATUS};
-use pciguest::{Declaration, DeviceModel, Error, Guest, Kind, NotAttached, Register, Registers};
+use pciguest::{
+    Declaration, DeviceModel, Error, Guest, Kind, Machine, NotAttached, Register, Registers,
+};
 use std::sync::{Arc, Mutex};
 
 /// The same device with another declaration.
@@ -99,6 +101,16 @@ fn what_is_not_declared_may_be_anything() {
     let less = with_registers(identity(0x00d0, 0xff0000), [RINGS, BELL, OWN]);
     assert_ne!(less, with_registers(identity(0x00d0, 0xff0000), REGISTERS));
     assert_eq!(case.machine.attach(case.a, 1, Other(less)), Ok(()));
+}
+
+#[test]
+fn bit_7_of_the_header_type_is_not_declared() {
+    let [odd, plain] = ["1.1", "1.0"].map(|at| Doorbell::default().declaration().endpoint(at));
+    let host = "host = { io = [0x1000, 0xffff], mem = [0xc0000000, 0xdfffffff] }\n";
+    let keys = "multifunction = false\nfixed_status = 0x0200\n[[guest]]\nname = \"a\"\nslots = [\"1.1\"]\n";
+    let mut machine = Machine::new([host, &plain, &odd, keys].concat()).expect("a board");
+    let a = machine.guest("a").unwrap();
+    assert_eq!(machine.attach(a, 0, Doorbell::default()), Ok(()));
 }
 
 /// What a device was told.
