@@ -40,6 +40,13 @@ built() {
   holds "$kind: $name.c is built" build "$name.$kind" "$top/$1" "${flags[@]}" "${@:2}"
 }
 
+# build_hostile KIND: compiles the test of the devices in examples/kvm, which needs no KVM
+build_hostile() {
+  local devices; devices=$(sed -n 's/^devices := //p' "$top/examples/kvm/Makefile")
+  (cd "$top/examples/kvm" && "$compile" -std=gnu11 -O1 -g -Wall -Wextra -Werror -I"$top/library" -pthread "${flags[@]}" \
+    -o "$room/hostile.$1" hostile.c $devices "$top/library/libpciguest.a")
+}
+
 # seeded FILE BOARD COUNT WHAT WORD..: compiles a program too, and runs it with three seeds
 seeded() {
   built "$1" "${@:5}"
@@ -78,6 +85,9 @@ for kind in "${kinds[@]}"; do
 
   built tests/library/messages.c
   holds "$kind: Bus Master and messages of MSI-X" "./messages.$kind" "$top/tests/library/messages.toml"
+  holds "$kind: the devices of examples/kvm are built" build_hostile "$kind"
+  holds "$kind: the devices of examples/kvm, with drivers and images that mean harm" \
+    "./hostile.$kind" "$top/examples/kvm/board.toml" 5000
   built tests/library/given.c "${wraps[@]}"
   holds "$kind: guests over a board of one's own" "./given.$kind" "$board"
   built tests/library/firmware.c
