@@ -5,14 +5,18 @@
  *
  * COUNT images that were changed at random are loaded. The exit status is 1 if something went wrong. */
 #include "machine.h"
+#include "without_kvm.h"
 
 #include <linux/virtio_blk.h>
 #include <linux/virtio_config.h>
 #include <linux/virtio_pci.h>
 #include <linux/virtio_ring.h>
+#include <fcntl.h>
+#include <sched.h>
 #include <stdio.h>
 #include <stdlib.h>
 #include <string.h>
+#include <sys/syscall.h>
 #include <unistd.h>
 
 enum { PORT, BELL_SLOT, DISK, CARD, REGION = 0x20000000, RINGS = 0x1000, REQUEST = 0x8000, BUFFER = 1 << 20, ROOM = 1 << 16,
@@ -23,31 +27,6 @@ static struct machine a = {.board = &board, .name = "a"}, b = {.board = &board, 
 static char text[1 << 16];
 static size_t length;
 static int wrong;
-
-/* What machine.c and kvm.c have. */
-void machine_line(struct machine *machine, unsigned line, bool is_high)
-{
-    (void)machine, (void)line, (void)is_high;
-}
-
-void machine_message(struct machine *machine, uint64_t address, uint32_t data)
-{
-    (void)machine, (void)address, (void)data;
-}
-
-void machine_print(struct machine *machine, uint8_t byte)
-{
-    (void)machine, (void)byte;
-}
-
-int needed(int result, const char *what)
-{
-    if (result < 0) {
-        perror(what);
-        exit(1);
-    }
-    return result;
-}
 
 static void is(int line, uint64_t found, uint64_t wanted)
 {
@@ -228,44 +207,72 @@ static void too_many_chains(void)
 }
 
 static volatile bool is_done;
-static uint64_t longest;
+static volatile uint64_t longest;
+static int statistics[2]; /* files of Linux about two threads */
+
+static void open_statistics(int number)
+{
+    char name[64];
+
+    snprintf(name, sizeof name, "/proc/self/task/%ld/schedstat", syscall(SYS_gettid));
+    statistics[number] = open(name, O_RDONLY | O_CLOEXEC);
+}
+
+/* How long the two threads waited for a processor so far, in nanoseconds: on a computer with other work that is long. */
+static uint64_t delayed(void)
+{
+    uint64_t all = 0;
+
+    for (int i = 0; i < 2; i++) {
+        char line[64] = "";
+        unsigned long long delay = 0;
+
+        if (pread(statistics[i], line, sizeof line - 1, 0) > 0)
+            (void)sscanf(line, "%*u %llu", &delay);
+        all += delay;
+    }
+    return all;
+}
 
 /* Machine b reads the identity of its bell until it is told to end. */
 static void *read_often(void *argument)
 {
+    open_statistics(1);
     while (!is_done) {
-        uint64_t began = now(), passed;
+        uint64_t began = now() - delayed(), passed;
 
         access_of(&b, PCIGUEST_IO, 0xcfc, 4, false, 0);
-        passed = now() - began;
-        longest = passed > longest ? passed : longest;
+        passed = now() - delayed() - began;
+        if ((int64_t)passed > (int64_t)longest)
+            longest = passed;
     }
+    close(statistics[1]);
     return argument;
 }
 
-/* How long b waited at most while a's disk read 125 MB, unless that took no time; UINT64_MAX then. */
+/* How long b waited at most while a's disk read 125 MB. */
 static uint64_t waited(void)
 {
-    enum { LONG = 30000000 };
     pthread_t thread;
-    uint64_t began;
 
     set_up_disk();
     offer(PARTS, PART, 1);
+    open_statistics(0);
     longest = 0;
     is_done = false;
     pthread_create(&thread, NULL, read_often, NULL);
-    began = now();
+    while (longest == 0)
+        sched_yield();
     notify();
-    began = now() - began;
     is_done = true;
     pthread_join(thread, NULL);
+    close(statistics[0]);
     IS(used(), 1);
     IS(a.memory[REQUEST + 64], VIRTIO_BLK_S_OK);
-    return began > LONG ? longest : UINT64_MAX;
+    return longest;
 }
 
-/* On a computer with other work a thread may wait for a processor, so the best of some attempts counts. */
+/* Other work of the computer still costs some time, so the best of some attempts counts. */
 static void other_machine_goes_on(void)
 {
     enum { ATTEMPTS = 50, MOST = 10000000 };
@@ -388,6 +395,5 @@ int main(int argc, char **argv)
     forbidden();
     unaligned_ports();
     IS(a.has_failed || b.has_failed, false);
-    pciguest_free(&board.guests);
     return wrong != 0;
 }

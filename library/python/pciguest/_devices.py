@@ -82,6 +82,14 @@ class Device:
     def before_read(self, register: Register) -> None:
         """Its driver is about to read a register, and is told what it holds then."""
 
+    def on_command(self, old: int, new: int) -> None:
+        """Its guest changed Command by a write. Bit 0 enables I/O space, bit 1 memory space, bit 2 is Bus Master, and bit 10
+        Interrupt Disable. A reset, a move and a load may change Command too; they have calls of their own."""
+
+    def on_config_write(self, offset: int, width: int, value: int) -> None:
+        """Its guest wrote bytes of its configuration space, whichever registers these are. Called after `on_command`, and
+        before `on_write`."""
+
     def on_reset(self) -> None:
         """Its function was reset where it is, by `Guest.reset` or `reset_guest`."""
 
@@ -129,6 +137,21 @@ class Device:
         """
         guest, slot = self._taken()
         return guest.msix_message(slot, vector)
+
+    def msi_message(self, vector: int) -> Message:
+        """Returns the message for an MSI vector, and whether the device may send it now, like
+        `Guest.msi_message`.
+
+        303: the driver hasn't allocated the vector.
+        """
+        guest, slot = self._taken()
+        return guest.msi_message(slot, vector)
+
+    def set_interrupt(self, is_requested: bool) -> bool:
+        """Sets or clears Interrupt Status, and returns whether the device asserts its interrupt pin
+        now, like `Guest.set_interrupt`."""
+        guest, slot = self._taken()
+        return guest.set_interrupt(slot, is_requested)
 
     def _attached(self) -> Tuple[Attaching, Tuple[int, int]]:
         """Returns the machine and the seat. ValueError: the device has no machine or no seat."""
