@@ -184,7 +184,8 @@ if cargo --version > /dev/null 2>&1; then
   holds 'Rust: the virtio device and its driver' cmp entropy.rust.out "$top/tests/library/entropy.stdout"
   if ls -d /usr/share/cargo/registry/vm-{memory,superio}-* > /dev/null 2>&1; then
     offline "$top/examples/rust" vmm make -s vmm > vmm.out
-    holds 'Rust: the buses of a hypervisor' test "$(cat vmm.out)" = $'printer: read from RAM by the device\nserial: 1 printed'
+    holds 'Rust: the buses of a hypervisor' \
+      test "$(cat vmm.out)" = $'serial: 0 printed\nprinter: read from RAM by the device\nserial: 1 printed'
   else
     skips 'a hypervisor in Rust' 'no crates of VMMs' 'librust-vm-memory-dev librust-vm-superio-dev'
   fi

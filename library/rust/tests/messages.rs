@@ -119,7 +119,8 @@ fn messages_of_msi() -> Result<(), Error> {
         machine.device_write_wide(a, 3, Part::Config, 0x60, 4, mask)?;
         let data = (0x4327 & !(count - 1)) + count - 1;
         let can_be_sent = is_enabled && is_master;
-        let plain = Message { address: 0xfee0_2000, data, is_enabled, is_masked: false, can_be_sent };
+        let plain =
+            Message { address: 0xfee0_2000, data, is_enabled, is_masked: false, can_be_sent };
         assert_eq!(machine.msi_message(a, 4, count - 1)?, plain, "{bits:05b}");
         let can_be_sent = can_be_sent && !is_masked;
         let both = Message { address: 0x1_fee0_1000, is_masked, can_be_sent, ..plain };
