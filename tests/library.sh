@@ -83,6 +83,8 @@ for kind in "${kinds[@]}"; do
   seeded tests/library/boards.c "$board" 20000 'boards of firmware, by calls and by lines' "${wraps[@]}"
   seeded tests/library/driven.c "$board" 5000 'functions of a board of firmware'
 
+  built tests/library/declare.c
+  holds "$kind: tables of endpoints from names and widths" "./declare.$kind" "$top/examples/device.toml"
   built tests/library/messages.c
   holds "$kind: Bus Master and messages of MSI-X" "./messages.$kind" "$top/tests/library/messages.toml"
   holds "$kind: the devices of examples/kvm are built" build_hostile "$kind"
