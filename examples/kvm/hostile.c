@@ -245,6 +245,7 @@ static void *read_often(void *argument)
         passed = now() - delayed() - began;
         if ((int64_t)passed > (int64_t)longest)
             longest = passed;
+        usleep(200);
     }
     close(statistics[1]);
     return argument;

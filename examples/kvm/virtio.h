@@ -101,6 +101,7 @@ struct disk {
     const char *name; /* of the file */
     int file;
     bool is_read_only;
+    uint8_t *piece; /* room for what is transferred at once */
 };
 extern const struct virtio_kind virtio_blk;
 void disk_open(struct disk *disk, const char *path, const char *file);

@@ -25,6 +25,8 @@ void disk_open(struct disk *disk, const char *path, const char *file)
     struct stat status;
 
     needed(stat(file, &status), file);
+    disk->piece = malloc(PIECE);
+    needed(disk->piece ? 0 : -1, file);
     disk->path = path;
     disk->name = file;
     disk->is_read_only = !(status.st_mode & (S_IWUSR | S_IWGRP | S_IWOTH));
@@ -82,13 +84,13 @@ static uint8_t move_bytes(struct request *request, uint8_t *bytes, size_t length
  * under the lock, while the device may do so. */
 static uint8_t transfer(struct request *request, const struct iovec *data, unsigned count)
 {
-    uint8_t *piece = malloc(PIECE);
+    uint8_t *piece = ((const struct disk *)request->device->behind)->piece;
     bool is_write = request->header.type == VIRTIO_BLK_T_OUT;
     size_t length = virtio_length(data, count), size;
     uint64_t end = size_of(request->device->behind), at = request->header.sector * SECTOR;
     uint8_t status = VIRTIO_BLK_S_OK;
 
-    if (!piece || length % SECTOR != 0 || length > MEMORY || request->header.sector > end / SECTOR || length > end - at)
+    if (length % SECTOR != 0 || length > MEMORY || request->header.sector > end / SECTOR || length > end - at)
         status = VIRTIO_BLK_S_IOERR;
     for (size_t done = 0; done < length && status == VIRTIO_BLK_S_OK; done += size) {
         size = length - done < PIECE ? length - done : PIECE;
@@ -98,7 +100,6 @@ static uint8_t transfer(struct request *request, const struct iovec *data, unsig
         if (!is_write && status == VIRTIO_BLK_S_OK)
             virtio_copy(data, count, done, piece, size, true);
     }
-    free(piece);
     return status;
 }
 
