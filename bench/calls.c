@@ -35,7 +35,7 @@ int main(int argc, char **argv)
     struct pciguest_hit hit = {0};
     struct pciguest_function function = {0};
     struct pciguest_message message = {0};
-    bool is_master = false;
+    bool is_master = false, is_asserted = false;
 
     if (!file)
         return 2;
@@ -56,6 +56,10 @@ int main(int argc, char **argv)
     COST("reset a function", 1000000, pciguest_reset(&machine, 0, 0));
     COST("read a byte as the device", 1000000, pciguest_device_read_wide(&machine, 0, 0, 1, 0x10, 1, &wide));
     COST("write a byte as the device", 1000000, pciguest_device_write_wide(&machine, 0, 0, 1, 0x10, 1, (uint8_t)i));
+    COST("read 4 bytes as the device", 1000000, pciguest_device_read_wide(&machine, 0, 0, 1, 0x10, 4, &wide));
+    COST("write 4 bytes as the device", 1000000, pciguest_device_write_wide(&machine, 0, 0, 1, 0x10, 4, i));
+    COST("read 8 bytes as the device", 1000000, pciguest_device_read_wide(&machine, 0, 0, 1, 0x10, 8, &wide));
+    COST("write 8 bytes as the device", 1000000, pciguest_device_write_wide(&machine, 0, 0, 1, 0x10, 8, i));
     pciguest_write(&machine, 0, PCIGUEST_CONFIG, 0, 0x14, 4, 0xc0100000);
     pciguest_write(&machine, 0, PCIGUEST_CONFIG, 0, 4, 2, 2);
     COST("read memory by region", 1000000, pciguest_region_read(&machine, 0, 0, 1, 0x10, 4, &wide));
@@ -74,6 +78,9 @@ int main(int argc, char **argv)
         return 1;
     pciguest_write(&other, 0, PCIGUEST_CONFIG, 0, 4, 2, 6);
     COST("ask whether a device may access memory", 1000000, pciguest_bus_master(&other, 0, 0, &is_master));
+    COST("find the first structure of a list", 1000000, pciguest_find_capability(&other, 0, 0, 0, 0x11, &wide));
+    COST("find no structure in a list of six", 1000000, pciguest_find_capability(&other, 0, 0, 0, 5, &wide));
+    COST("set Interrupt Status and ask for the pin", 1000000, pciguest_set_interrupt(&other, 0, 0, i & 1, &is_asserted));
     COST("ask for the message of a vector", 1000000, pciguest_msix_message(&other, 0, 0, 1, &message));
     faults += !message.can_be_sent;
     pciguest_free(&other);

@@ -15,6 +15,12 @@
  * is checked first: 901 if the struct is empty (not returned by calls that fill or free it); 902 if
  * a pointer is null (a pointer to bytes or to a buffer may be null if its length is 0); 909 if
  * another call is running on the struct.
+ * If several errors apply, calls that take a guest, a slot and a part or a register (the calls
+ * pciguest_raise, pciguest_region_* and pciguest_device_*) return the first of these: 902 for the
+ * guest, then for the part; 302; 303 for bytes past the last offset of 64 bits, then for the slot;
+ * 601; 303 for the register, then for the bytes. pciguest_take, pciguest_reset and pciguest_move
+ * check 902, 303, 601 and 602 in this order. pciguest_give checks 902; 303 for the slot, then for
+ * the path; 602 for the function, then for the slot; 206.
  *
  * Memory. Only calls whose comments list 199 or 299 allocate memory.
  *
@@ -108,13 +114,16 @@ struct pciguest_hit {
     uint32_t found; /* 1 if the access reaches anything, otherwise 0 */
 };
 
-/* Describes a vector of a function's MSI-X table: the message (a 4-byte write to memory) that the
- * function sends for it, and whether the function may send the message now. If `is_enabled` is 1
- * and `can_be_sent` is 0, the function keeps the message pending. */
+/* Describes a vector of a function's MSI-X or MSI structure: the message (a 4-byte write to memory)
+ * that the function sends for it, and whether the function may send the message now. If
+ * `is_enabled` is 1 and `can_be_sent` is 0, the function keeps the message pending. A function may
+ * use its interrupt pin only while both MSI Enable and MSI-X Enable are clear (PCI Local Bus 3.0,
+ * 6.8.1.3 and 6.8.2.3), so that `is_enabled` is 0 doesn't mean that the pin may be used;
+ * pciguest_set_interrupt says whether the pin is asserted. */
 struct pciguest_message {
     uint64_t address;     /* where the message is written */
     uint32_t data;        /* what is written */
-    uint32_t is_enabled;  /* 1 if MSI-X Enable is set; if 0, the function uses its interrupt pin */
+    uint32_t is_enabled;  /* 1 if MSI-X Enable (or, for MSI, MSI Enable) is set, otherwise 0 */
     uint32_t is_masked;   /* 1 if Function Mask or the vector's own mask bit is set, otherwise 0 */
     uint32_t can_be_sent; /* 1 if enabled and not masked, and the guest has set Bus Master */
 };
@@ -534,31 +543,36 @@ uint32_t pciguest_device_write_wide(struct pciguest *machine, size_t guest, uint
  * whole list if `after` is 0. Stores the structure's offset, which you can pass as `after` to find
  * the next one, or 0 if there is none. Reads the registers as the device does. If bit 4 of Status
  * is 0, the function has no list. The two low bits of a pointer are ignored, and a pointer below
- * 40h ends the list. Because a device can change the pointers, even to a loop, a search ends after
- * 48 structures; no list without a loop has more. Changes nothing.
- * Returns 0 on success; 303 if the slot is above 31, or if there is a list and the device can't
- * access offset `after` + 1; 601 if the slot is empty; 902 if there is no such guest. Since
- * 0.4.0. */
+ * 40h ends the list. A device or an image can change the pointers, even to a loop. So the list also
+ * ends where it would come to a structure for the second time; it then has at most 48 structures,
+ * and a loop that passes each result as the next `after` ends. Changes nothing.
+ * Returns 0 on success; 303 if the slot is above 31, if there is a list and `after` is neither 0
+ * nor the offset of one of its structures, or if a structure extends past FFh; 601 if the slot is
+ * empty; 902 if there is no such guest. Since 0.4.0. */
 static inline uint32_t pciguest_find_capability(struct pciguest *machine, size_t guest,
                                                 uint64_t slot, uint64_t after, uint8_t id,
                                                 uint64_t *offset)
 {
     const uint32_t part = PCIGUEST_PART_CONFIG;
-    uint64_t status = 0, next = 0, header = 0, found = 0;
-    uint32_t left = 48, number;
+    uint64_t status = 0, next = 0, header = 0, found = 0, seen = 0; /* a bit for each 4 bytes */
+    bool is_past = after == 0;
+    uint32_t number;
 
     if (!offset)
         return PCIGUEST_ARGUMENT;
     number = pciguest_device_read_wide(machine, guest, slot, part, 0x06, 1, &status);
     if (!number && (status & 0x10))
-        number = pciguest_device_read_wide(machine, guest, slot, part, after ? after + 1 : 0x34, 1,
-                                           &next);
-    while (!number && !found && next >= 0x40 && left--) {
+        number = pciguest_device_read_wide(machine, guest, slot, part, 0x34, 1, &next);
+    while (!number && !found && next >= 0x40 && !(seen >> next / 4 & 1)) {
         next &= 0xfc;
+        seen |= (uint64_t)1 << next / 4;
         number = pciguest_device_read_wide(machine, guest, slot, part, next, 2, &header);
-        found = (header & 0xff) == id ? next : 0;
+        found = is_past && (header & 0xff) == id ? next : 0;
+        is_past = is_past || next == after;
         next = header >> 8;
     }
+    if (!number && !is_past && (status & 0x10))
+        number = PCIGUEST_OUT_OF_RANGE;
     if (!number)
         *offset = found;
     return number;
@@ -631,6 +645,95 @@ static inline uint32_t pciguest_msix_message(struct pciguest *machine, size_t gu
     return 0;
 }
 
+/* Stores the message that the function in a guest's slot sends for an MSI vector, and whether the
+ * function may send it now (PCI Local Bus 3.0, 6.8.1). Vectors are counted from 0. Finds the MSI
+ * structure in the capability list, and reads its registers as the device does. The low bits of
+ * `data` are the vector, as many bits as Multiple Message Enable says. `is_masked` can be 1 only if
+ * the structure has mask bits. If the function has no MSI structure, all fields are 0. A message is
+ * a write to memory, so it can only be sent while Bus Master is set. The library doesn't set
+ * pending bits: a device model that can't send a message sets the vector's pending bit, if the
+ * structure has pending bits, and repeats the call when the guest has written Command or the
+ * structure. Changes nothing.
+ * Returns 0 on success; 303 if the slot is above 31, the driver hasn't allocated the vector (vector
+ * 0 is always allocated), or the structure extends past FFh; 601 if the slot is empty; 902 if there
+ * is no such guest. Since 0.4.0. */
+static inline uint32_t pciguest_msi_message(struct pciguest *machine, size_t guest, uint64_t slot,
+                                            uint32_t vector, struct pciguest_message *message)
+{
+    const uint32_t part = PCIGUEST_PART_CONFIG;
+    struct pciguest_message found = {0, 0, 0, 0, 0};
+    uint64_t at = 0, control = 0, data = 0, masks = 0, half;
+    uint32_t allocated, number;
+    bool is_master = false;
+
+    if (!message)
+        return PCIGUEST_ARGUMENT;
+    number = pciguest_bus_master(machine, guest, slot, &is_master);
+    if (!number)
+        number = pciguest_find_capability(machine, guest, slot, 0, 0x05, &at);
+    if (!number && at)
+        number = pciguest_device_read_wide(machine, guest, slot, part, at + 2, 2, &control);
+    allocated = (uint32_t)(control >> 4) & 7; /* Multiple Message Enable; 6 and 7 are reserved */
+    allocated = (uint32_t)1 << (allocated < 5 ? allocated : 5);
+    half = control & 0x80 ? 4 : 0; /* an address of 64 bits moves what follows it */
+    if (!number && at && vector >= allocated)
+        number = PCIGUEST_OUT_OF_RANGE;
+    if (!number && at)
+        number = pciguest_device_read_wide(machine, guest, slot, part, at + 4, (uint32_t)(4 + half),
+                                           &found.address);
+    if (!number && at)
+        number = pciguest_device_read_wide(machine, guest, slot, part, at + 8 + half, 2, &data);
+    if (!number && (control & 0x100)) /* Per-vector masking capable */
+        number = pciguest_device_read_wide(machine, guest, slot, part, at + 12 + half, 4, &masks);
+    if (number)
+        return number;
+    found.data = at ? ((uint32_t)data & ~(allocated - 1)) | vector : 0;
+    found.is_enabled = (uint32_t)control & 1;
+    found.is_masked = (uint32_t)(masks >> (vector & 31)) & 1;
+    found.can_be_sent = is_master && found.is_enabled && !found.is_masked;
+    *message = found;
+    return 0;
+}
+
+/* Sets or clears Interrupt Status, bit 3 of Status, of the function in a guest's slot, and stores
+ * whether the function asserts its interrupt pin now (PCI Local Bus 3.0, 6.2.2, 6.2.3 and 6.8.1.3):
+ * it does if the bit is set, the function has a pin (Interrupt Pin isn't 0), the guest's own
+ * Command doesn't set Interrupt Disable, and both MSI Enable and MSI-X Enable are clear. A device
+ * model sets the bit while it requests an interrupt, because a driver that shares its interrupt
+ * reads the bit to find out whether the interrupt is its own. Repeat the call with the same value
+ * after a guest write to Command or to a structure of the capability list, and after a load; after
+ * a reset or a move, the bit is clear.
+ * Returns 0 on success; 303 if the slot is above 31, or a structure of the capability list extends
+ * past FFh; 601 if the slot is empty; 902 if there is no such guest. Since 0.4.0. */
+static inline uint32_t pciguest_set_interrupt(struct pciguest *machine, size_t guest, uint64_t slot,
+                                              bool is_requested, bool *is_asserted)
+{
+    const uint32_t part = PCIGUEST_PART_CONFIG;
+    static const uint8_t ids[2] = {0x05, 0x11}, enables[2] = {0x01, 0x80}; /* MSI, MSI-X */
+    uint64_t status = 0, at = 0, control = 0, is_enabled = 0;
+    uint32_t command = 0, pin = 0, number, i;
+
+    if (!is_asserted)
+        return PCIGUEST_ARGUMENT;
+    number = pciguest_device_read_wide(machine, guest, slot, part, 0x06, 1, &status);
+    for (i = 0; i < 2 && !number; i++) {
+        number = pciguest_find_capability(machine, guest, slot, 0, ids[i], &at);
+        if (!number && at) /* the byte of Message Control that has the Enable bit */
+            number = pciguest_device_read_wide(machine, guest, slot, part, at + 2 + i, 1, &control);
+        is_enabled |= at ? control & enables[i] : 0;
+    }
+    if (!number)
+        number = pciguest_read(machine, guest, PCIGUEST_CONFIG, slot, 0x04, 2, &command);
+    if (!number)
+        number = pciguest_read(machine, guest, PCIGUEST_CONFIG, slot, 0x3d, 1, &pin);
+    if (!number)
+        number = pciguest_device_write_wide(machine, guest, slot, part, 0x06, 1,
+                                            (status & 0xf7) | (is_requested ? 0x08 : 0));
+    if (!number)
+        *is_asserted = is_requested && pin && !(command & 0x400) && !is_enabled;
+    return number;
+}
+
 /* Stores where a region of the function in a guest's slot is now, as the guest sees it. The region
  * is the one that begins at base address register `bar`, 0 to 5. The result stays valid until the
  * guest writes Command or a base address register of this function, or until the function is moved,
@@ -641,13 +744,15 @@ static inline uint32_t pciguest_msix_message(struct pciguest *machine, size_t gu
 uint32_t pciguest_region(struct pciguest *machine, size_t guest, uint64_t slot, uint32_t bar,
                          struct pciguest_region *region);
 
-/* Stores a count that shows whether a region of the guest may have moved. As long as the count
- * stays the same, so does every result of pciguest_region for this guest, for all slots and
- * registers. The count increases by one with each guest access, move, reset, pciguest_give or
- * pciguest_take that touches one of the guest's slots in a way that may change one of these
- * results. It also increases by one with each pciguest_reset_guest or pciguest_load of the guest,
- * and by one or more with each pciguest_load_all. Nothing else increases the count. In a new
- * machine, the count is 0; after `2^64 - 1`, it returns to 0. Changes nothing.
+/* Stores a count that shows whether a region of the guest may have moved, or Command of one of its
+ * functions may have changed. As long as the count stays the same, so does every result of
+ * pciguest_region and pciguest_bus_master for this guest, and Interrupt Disable, for all slots. The
+ * count increases by one with each guest write that includes a byte of Command (04h, 05h) or of a
+ * base address register of one of the guest's functions, whatever the value, and with each move,
+ * reset, pciguest_give or pciguest_take that touches one of the guest's slots. It also increases by
+ * one with each pciguest_reset_guest or pciguest_load of the guest, and by one or more with each
+ * pciguest_load_all. Nothing else increases the count. In a new machine, the count is 0; after
+ * `2^64 - 1`, it returns to 0. Changes nothing.
  * Returns 0 on success; 902 if there is no such guest. Since 0.4.0. */
 uint32_t pciguest_changed(struct pciguest *machine, size_t guest, uint64_t *count);
 

@@ -40,6 +40,13 @@ built() {
   holds "$kind: $name.c is built" build "$name.$kind" "$top/$1" "${flags[@]}" "${@:2}"
 }
 
+# build_hostile KIND: compiles the test of the devices in examples/kvm, which needs no KVM
+build_hostile() {
+  local devices; devices=$(sed -n 's/^devices := //p' "$top/examples/kvm/Makefile")
+  (cd "$top/examples/kvm" && "$compile" -std=gnu11 -O1 -g -Wall -Wextra -Werror -I"$top/library" -pthread "${flags[@]}" \
+    -o "$room/hostile.$1" hostile.c $devices "$top/library/libpciguest.a")
+}
+
 # seeded FILE BOARD COUNT WHAT WORD..: compiles a program too, and runs it with three seeds
 seeded() {
   built "$1" "${@:5}"
@@ -76,8 +83,13 @@ for kind in "${kinds[@]}"; do
   seeded tests/library/boards.c "$board" 20000 'boards of firmware, by calls and by lines' "${wraps[@]}"
   seeded tests/library/driven.c "$board" 5000 'functions of a board of firmware'
 
+  built tests/library/declare.c
+  holds "$kind: tables of endpoints from names and widths" "./declare.$kind" "$top/examples/device.toml"
   built tests/library/messages.c
   holds "$kind: Bus Master and messages of MSI-X" "./messages.$kind" "$top/tests/library/messages.toml"
+  holds "$kind: the devices of examples/kvm are built" build_hostile "$kind"
+  holds "$kind: the devices of examples/kvm, with drivers and images that mean harm" \
+    "./hostile.$kind" "$top/examples/kvm/board.toml" 5000
   built tests/library/given.c "${wraps[@]}"
   holds "$kind: guests over a board of one's own" "./given.$kind" "$board"
   built tests/library/firmware.c
@@ -174,7 +186,8 @@ if cargo --version > /dev/null 2>&1; then
   holds 'Rust: the virtio device and its driver' cmp entropy.rust.out "$top/tests/library/entropy.stdout"
   if ls -d /usr/share/cargo/registry/vm-{memory,superio}-* > /dev/null 2>&1; then
     offline "$top/examples/rust" vmm make -s vmm > vmm.out
-    holds 'Rust: the buses of a hypervisor' test "$(cat vmm.out)" = $'printer: read from RAM by the device\nserial: 1 printed'
+    holds 'Rust: the buses of a hypervisor' \
+      test "$(cat vmm.out)" = $'serial: 0 printed\nprinter: read from RAM by the device\nserial: 1 printed'
   else
     skips 'a hypervisor in Rust' 'no crates of VMMs' 'librust-vm-memory-dev librust-vm-superio-dev'
   fi

@@ -14,20 +14,20 @@ enum { INTERRUPT_LINE = 0x3c, CONFIG_ADDRESS = 0xcf8, BELL_STATUS = 0, BELL_COUN
 /* The interrupt lines to which the wires of the machine's bus lead. */
 static const unsigned lines[WIRES] = {5, 9, 10, 11};
 
-/* A number of the library that this program can't go on with. */
-void expect(uint32_t number, const char *what)
+/* A number of the library that a machine can't go on with. The others do. */
+void expect(struct machine *machine, uint32_t number, const char *what)
 {
-    if (!number)
-        return;
-    fprintf(stderr, "kvm: %s: %s (%u)\n", what, pciguest_strerror(number), number);
-    exit(1);
+    if (number && !machine->has_failed)
+        fprintf(stderr, "kvm: %s: %s: %s (%u)\n", machine->name, what, pciguest_strerror(number), number);
+    machine->has_failed |= number != 0;
 }
 
 uint64_t machine_cells(struct machine *machine, uint64_t slot, uint32_t part, uint64_t offset, uint32_t width)
 {
     uint64_t value = 0;
 
-    expect(pciguest_device_read_wide(&machine->board->guests, machine->guest, slot, part, offset,
+    expect(machine,
+           pciguest_device_read_wide(&machine->board->guests, machine->guest, slot, part, offset,
                                      width, &value),
            "a device's cells");
     return value;
@@ -36,7 +36,8 @@ uint64_t machine_cells(struct machine *machine, uint64_t slot, uint32_t part, ui
 void machine_set_cells(struct machine *machine, uint64_t slot, uint32_t part, uint64_t offset,
                        uint32_t width, uint64_t value)
 {
-    expect(pciguest_device_write_wide(&machine->board->guests, machine->guest, slot, part, offset,
+    expect(machine,
+           pciguest_device_write_wide(&machine->board->guests, machine->guest, slot, part, offset,
                                       width, value),
            "a device's cells");
 }
@@ -45,7 +46,7 @@ void machine_set_cells(struct machine *machine, uint64_t slot, uint32_t part, ui
  * card. */
 static bool find_virtio(struct machine *machine, uint64_t slot, const struct pciguest_function *function)
 {
-    struct virtio device = {.machine = machine, .slot = slot};
+    struct virtio device = {.machine = machine, .slot = slot, .resets = machine->virtio[slot].resets};
 
     if (function->vendor_id != 0x1af4)
         return false;
@@ -85,21 +86,27 @@ static void find_device(struct machine *machine, uint64_t slot)
         virtio_reset(&machine->virtio[slot]);
 }
 
+void machine_find_devices(struct machine *machine)
+{
+    for (uint64_t slot = 0; slot < SLOTS; slot++)
+        find_device(machine, slot);
+}
+
 /* Finds the guest of the machine's name, and the devices behind its functions. */
 void machine_find_guest(struct machine *machine)
 {
-    expect(pciguest_guest(&machine->board->guests, machine->name, strlen(machine->name),
+    expect(machine,
+           pciguest_guest(&machine->board->guests, machine->name, strlen(machine->name),
                           &machine->guest),
            machine->name);
-    for (uint64_t slot = 0; slot < SLOTS; slot++)
-        find_device(machine, slot);
+    machine_find_devices(machine);
 }
 
 /* The interrupt line to which a function's pin is wired; 0 where it has none. To a guest a function stands on bus 0 as the
  * device of its slot, with no bridge above: its pin arrives there as it is, and the four wires go round as on a PC. */
 static unsigned line_of(struct machine *machine, uint64_t slot, struct pciguest_function *function)
 {
-    expect(pciguest_slot(&machine->board->guests, machine->guest, slot, function), "a function");
+    expect(machine, pciguest_slot(&machine->board->guests, machine->guest, slot, function), "a function");
     return function->interrupt.pin ? lines[(function->interrupt.pin - 1 + slot) % WIRES] : 0;
 }
 
@@ -129,7 +136,8 @@ static void write_line(struct machine *machine, uint64_t slot)
     struct pciguest_function function;
 
     if (machine->devices[slot])
-        expect(pciguest_write(&machine->board->guests, machine->guest, PCIGUEST_CONFIG, slot,
+        expect(machine,
+               pciguest_write(&machine->board->guests, machine->guest, PCIGUEST_CONFIG, slot,
                               INTERRUPT_LINE, 1, line_of(machine, slot, &function)),
                "Interrupt Line");
 }
@@ -150,25 +158,43 @@ void machine_wire(struct machine *machine)
         write_line(machine, slot);
 }
 
-/* Asks where the regions stand now. */
+/* Finds out which regions are open, and where, if the library's count says that this may have changed. */
 static void follow_regions(struct machine *machine)
 {
+    uint64_t changed = machine->changed;
     size_t count = 0;
 
-    expect(pciguest_moved(&machine->board->guests, machine->guest, machine->places, PCIGUEST_PLACES, &count), "regions");
+    expect(machine, pciguest_changed(&machine->board->guests, machine->guest, &changed), "a count");
+    if (changed == machine->changed)
+        return;
+    machine->changed = changed;
+    expect(machine,
+           pciguest_moved(&machine->board->guests, machine->guest, machine->places, PCIGUEST_PLACES, &count), "regions");
+    machine->open_count = 0;
+    for (unsigned i = 0; i < PCIGUEST_PLACES; i++)
+        if (machine->places[i].now.is_open)
+            machine->open[machine->open_count++] = (uint8_t)i;
+}
+
+/* Whether an access reaches a port of configuration space, with any of its bytes. */
+static bool is_of_configuration(const struct access *access)
+{
+    return access->space == PCIGUEST_IO && access->place < CONFIG_ADDRESS + 8 &&
+           access->place + access->width > CONFIG_ADDRESS;
 }
 
 /* Whether an access is the board's, and the byte that it hits: at the ports of configuration space what CONFIG_ADDRESS selects,
  * and else one of an open region. */
 static bool find(struct machine *machine, const struct access *access, struct pciguest_hit *hit)
 {
-    if (access->space == PCIGUEST_IO && access->place - CONFIG_ADDRESS < 8)
+    if (is_of_configuration(access))
         return pciguest_locate(&machine->board->guests, machine->guest, PCIGUEST_IO, 0, access->place, hit) == 0;
-    for (uint32_t i = 0; i < PCIGUEST_PLACES && !hit->found; i++) {
-        const struct pciguest_region *region = &machine->places[i].now;
+    for (unsigned i = 0; i < machine->open_count && !hit->found; i++) {
+        unsigned row = machine->open[i];
+        const struct pciguest_region *region = &machine->places[row].now;
 
-        if (region->is_open && region->space == access->space && access->place - region->first < region->size)
-            *hit = (struct pciguest_hit){i / PCIGUEST_BARS, access->place - region->first, i % PCIGUEST_BARS, 1};
+        if (region->space == access->space && access->place - region->first < region->size)
+            *hit = (struct pciguest_hit){row / PCIGUEST_BARS, access->place - region->first, row % PCIGUEST_BARS, 1};
     }
     return hit->found;
 }
@@ -179,9 +205,9 @@ static void ring(struct machine *machine, const struct pciguest_hit *hit)
     struct pciguest *guests = &machine->board->guests;
     uint64_t count = 0;
 
-    expect(pciguest_device_read_wide(guests, machine->guest, hit->slot, hit->part, BELL_COUNT, 4, &count), "a bell");
-    expect(pciguest_device_write_wide(guests, machine->guest, hit->slot, hit->part, BELL_COUNT, 4, count + 1), "a bell");
-    expect(pciguest_raise(guests, machine->guest, hit->slot, hit->part, BELL_STATUS, 1), "a bell");
+    count = machine_cells(machine, hit->slot, hit->part, BELL_COUNT, 4);
+    machine_set_cells(machine, hit->slot, hit->part, BELL_COUNT, 4, count + 1);
+    expect(machine, pciguest_raise(guests, machine->guest, hit->slot, hit->part, BELL_STATUS, 1), "a bell");
 }
 
 /* What the device of a function does after the access that hit it. In configuration space a driver may have moved a region, or
@@ -236,20 +262,51 @@ static void make(struct machine *machine, struct access *access, const struct pc
         (void)pciguest_read_wide(guests, machine->guest, access->space, 0, access->place, access->width, &access->value);
 }
 
-/* Serves an access if it is the board's. What nobody answers there reads all ones, and what is written is lost. */
-bool machine_board_access(struct machine *machine, struct access *access)
+/* Serves an access by what its first byte hits. */
+static bool serve(struct machine *machine, struct access *access)
 {
     struct pciguest_hit hit = {0};
-    uint64_t began = now();
 
-    machine->board->away = 0;
     if (!find(machine, access, &hit))
         return false;
     make(machine, access, &hit);
     if (hit.found)
         act(machine, access, &hit);
+    return true;
+}
+
+/* An access that reaches the ports of configuration space goes there as the bus sees it: in cycles of its own, each of which
+ * may hit something else. An `out` of 4 bytes at CFBh writes to CFCh too. */
+static void serve_configuration(struct machine *machine, struct access *access)
+{
+    uint64_t all = 0;
+
+    for (uint32_t done = 0, size; done < access->width; done += size) {
+        struct access part = *access;
+
+        size = pciguest_piece(access->place + done, access->width - done);
+        part.place += done;
+        part.width = size;
+        part.value = access->is_write ? access->value >> 8 * done : UINT64_MAX;
+        (void)serve(machine, &part);
+        all |= (part.value & (UINT64_MAX >> (64 - 8 * size))) << 8 * done;
+    }
+    if (!access->is_write)
+        access->value = all;
+}
+
+/* Serves an access if it is the board's. What nobody answers there reads all ones, and what is written is lost. */
+bool machine_board_access(struct machine *machine, struct access *access)
+{
+    uint64_t began = now();
+
+    machine->away = 0;
+    if (is_of_configuration(access))
+        serve_configuration(machine, access);
+    else if (!serve(machine, access))
+        return false;
     machine->board_exits++;
-    machine->board_nanoseconds += now() - began - machine->board->away;
+    machine->board_nanoseconds += now() - began - machine->away;
     return true;
 }
 
@@ -265,15 +322,22 @@ void machine_settle(struct machine *machine)
     follow_regions(machine);
 }
 
-/* Moves a function, with the device behind it, to a slot of another machine. The function is reset,
- * so the device is too. */
+/* Moves a function, with the device behind it, to a slot of another machine, once the device has
+ * ended the piece that it transfers. The function is reset, so the device is too. */
 uint32_t machine_move(struct machine *from, uint64_t slot, struct machine *to, uint64_t target)
 {
+    struct pciguest *guests = &from->board->guests;
+    struct pciguest_function function;
     uint32_t fault;
 
+    if (pciguest_slot(guests, from->guest, slot, &function) == 0 &&
+        pciguest_slot(guests, to->guest, target, &function) == PCIGUEST_EMPTY_SLOT)
+        from->virtio[slot].is_leaving = true;
+    while (slot < SLOTS && from->virtio[slot].is_leaving && from->virtio[slot].is_busy)
+        board_pause(from->board);
     if (slot < SLOTS && from->devices[slot])
         machine_interrupt(from, slot, false);
-    fault = pciguest_move(&from->board->guests, from->guest, slot, to->guest, target);
+    fault = pciguest_move(guests, from->guest, slot, to->guest, target);
     if (!fault) {
         find_device(from, slot);
         find_device(to, target);

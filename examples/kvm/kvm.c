@@ -77,14 +77,14 @@ static void tell_counts(struct machine *machine)
     double seconds;
     uint64_t time = now();
 
-    pthread_mutex_lock(&board.lock);
+    board_take(&board);
     seconds = (double)(time - machine->counted_from) / 1e9;
     printf("host: %s: %" PRIu64 " exits, %.0f a second; %" PRIu64 " of the board, %.0f ns of the library in one\n",
            machine->name, machine->exits, (double)machine->exits / seconds, machine->board_exits,
            machine->board_exits ? (double)machine->board_nanoseconds / (double)machine->board_exits : 0);
     machine->exits = machine->board_exits = machine->board_nanoseconds = 0;
     machine->counted_from = time;
-    pthread_mutex_unlock(&board.lock);
+    board_release(&board);
 }
 
 /* A byte is typed once the console has room for it. */
@@ -93,9 +93,9 @@ static void type_byte(struct machine *machine, uint8_t byte)
     bool is_taken = false;
 
     while (!is_taken && !machine->has_ended) {
-        pthread_mutex_lock(&board.lock);
+        board_take(&board);
         is_taken = uart_receive(&machine->console, byte);
-        pthread_mutex_unlock(&board.lock);
+        board_release(&board);
         if (!is_taken)
             usleep(MOMENT);
     }
@@ -108,11 +108,11 @@ static void move(const char *from, uint64_t slot, const char *to, uint64_t targe
     struct machine *source = machine_of(from, strlen(from)), *sink = machine_of(to, strlen(to));
     uint32_t fault = PCIGUEST_UNKNOWN_GUEST;
 
-    pthread_mutex_lock(&board.lock);
+    board_take(&board);
     if (source && sink)
         fault = machine_move(source, slot, sink, target);
     printf("host: %s\n", fault ? pciguest_strerror(fault) : "moved");
-    pthread_mutex_unlock(&board.lock);
+    board_release(&board);
 }
 
 static void host_line(char *line)
@@ -125,7 +125,8 @@ static void host_line(char *line)
     if (strcmp(line, "count\n") == 0) {
         for (machine = machines; machine->board; machine++)
             tell_counts(machine);
-    } else if (sscanf(line, "save %16s %255s", name, path) == 2 && (machine = machine_of(name, strlen(name)))) {
+    } else if (sscanf(line, "save %16s %255s", name, path) == 2 && (machine = machine_of(name, strlen(name))) &&
+               !machine->has_ended) {
         machine_stop(machine, strcpy(paths[machine - machines], path));
     } else if (sscanf(line, "move %16s %" SCNu64 " %16s %" SCNu64, name, &slot, to, &target) == 4) {
         move(name, slot, to, target);
@@ -160,18 +161,23 @@ static void *take_lines(void *argument)
     return argument;
 }
 
-/* Makes the machine of a word: GUEST boots, and GUEST=FILE goes on. */
+/* Makes the machine of a word: GUEST boots, and GUEST=FILE goes on, unless the file can't be. */
 static void make_machine(struct machine *machine, char *word, const char *kernel, const char *initial)
 {
     char *file = strchr(word, '=');
+    const char *fault;
 
     if (file)
         *file++ = '\0';
     machine_new(machine, &board, word);
-    if (file)
-        machine_load(machine, file);
-    else
+    if (machine->has_failed)
+        exit(1); /* no guest has this name */
+    if (!file)
         machine_boot(machine, kernel, initial, words);
+    else if ((fault = machine_load(machine, file))) {
+        printf("host: %s: %s: %s\n", word, file, fault);
+        machine->has_ended = true;
+    }
 }
 
 /* Opens the disks of the words PATH=FILE, which come first. Returns how many there are. */
@@ -204,10 +210,12 @@ int main(int argc, char **argv)
     for (int i = 0; i < count; i++)
         make_machine(&machines[i], argv[4 + disks + i], argv[2], argv[3]);
     for (int i = 0; i < count; i++)
-        machine_start(&machines[i]);
+        if (!machines[i].has_ended)
+            machine_start(&machines[i]);
     needed(-pthread_create(&reader, NULL, take_lines, NULL), "a thread");
     for (int i = 0; i < count; i++)
-        pthread_join(machines[i].thread, NULL);
+        if (machines[i].thread)
+            pthread_join(machines[i].thread, NULL);
     for (int i = 0; i < count; i++)
         tell_counts(&machines[i]);
     pciguest_free(&board.guests);

@@ -80,7 +80,7 @@ void machine_line(struct machine *machine, unsigned line, bool is_high)
     uint64_t began = now();
 
     needed(ioctl(machine->file, KVM_IRQ_LINE, &level), "KVM_IRQ_LINE");
-    machine->board->away += now() - began;
+    machine->away += now() - began;
 }
 
 /* A message that isn't for an interrupt controller, or that none accepts, is lost: the driver chose
@@ -94,7 +94,7 @@ void machine_message(struct machine *machine, uint64_t address, uint32_t data)
 
     if (address >> 20 == 0xfee)
         (void)ioctl(machine->file, KVM_SIGNAL_MSI, &message);
-    machine->board->away += now() - began;
+    machine->away += now() - began;
 }
 
 /* The console prints whole lines, each after the machine's name. */
@@ -130,11 +130,11 @@ static void serve(struct machine *machine, struct access access, void *bytes)
     access.value = UINT64_MAX;
     if (access.is_write)
         memcpy(&access.value, bytes, access.width);
-    pthread_mutex_lock(&machine->board->lock);
+    board_take(machine->board);
     machine->exits++;
     if (!console_access(machine, &access))
         (void)machine_board_access(machine, &access);
-    pthread_mutex_unlock(&machine->board->lock);
+    board_release(machine->board);
     if (!access.is_write)
         memcpy(bytes, &access.value, access.width);
 }
@@ -187,14 +187,14 @@ static void *run(void *argument)
 {
     struct machine *machine = argument;
 
-    while (run_on(machine))
+    while (run_on(machine) && !machine->has_failed)
         ;
-    pthread_mutex_lock(&machine->board->lock);
-    if (machine->save_path)
+    board_take(machine->board);
+    if (machine->save_path && !machine->has_failed)
         machine_save(machine, machine->save_path);
     machine->has_ended = true;
-    printf("host: %s: %s\n", machine->name, machine->save_path ? "saved" : "ended");
-    pthread_mutex_unlock(&machine->board->lock);
+    printf("host: %s: %s\n", machine->name, machine->has_failed ? "failed" : machine->save_path ? "saved" : "ended");
+    board_release(machine->board);
     return NULL;
 }
 

@@ -16,10 +16,18 @@ enum { MEMORY = 128 << 20, SLOTS = 32, DISKS = 8, CONSOLE_PORT = 0x3f8, CONSOLE_
 struct board {
     struct pciguest guests;
     pthread_mutex_t lock;
+    uint32_t waiting; /* threads that wait for the lock */
+    uint64_t turns;   /* how often it was taken */
     struct disk disks[DISKS]; /* by their functions; those that have no path aren't there */
     struct cable cable;
-    uint64_t away; /* nanoseconds of an access that were spent in KVM or in files */
 };
+
+/* board.c: takes the lock, and releases it; lends it, and takes it back after those who waited for it; or does so at once. */
+void board_take(struct board *board);
+void board_release(struct board *board);
+uint64_t board_lend(struct board *board);
+void board_take_back(struct board *board, uint64_t turns);
+void board_pause(struct board *board);
 
 /* An access at which KVM stopped. */
 struct access {
@@ -44,6 +52,9 @@ struct machine {
     size_t length;
 
     struct pciguest_place places[PCIGUEST_PLACES]; /* where the guest's regions are, six for each slot */
+    uint8_t open[PCIGUEST_PLACES]; /* the rows of regions that are open, */
+    unsigned open_count;           /* so many, */
+    uint64_t changed;              /* when the library's count was this */
     uint32_t asking;      /* a bit for each slot whose device requests an interrupt */
     uint32_t driving[16]; /* for each line, a bit for each slot that drives it */
 
@@ -53,6 +64,8 @@ struct machine {
     pthread_t thread;
     const char *volatile save_path; /* where to save it, once it is stopped for that */
     volatile bool has_ended;
+    bool has_failed; /* a call of the library failed: this machine ends, and the others go on */
+    uint64_t away; /* nanoseconds of an access that were spent in KVM, in files or without the lock */
     uint64_t exits, board_exits, board_nanoseconds, counted_from;
 };
 
@@ -69,22 +82,26 @@ void machine_boot(struct machine *machine, const char *kernel, const char *initi
 
 /* guest.c: the machine's PCI. */
 void machine_find_guest(struct machine *machine);
+void machine_find_devices(struct machine *machine); /* behind its functions, each at reset */
 void machine_wire(struct machine *machine); /* acts as the machine's firmware */
 uint32_t machine_move(struct machine *from, uint64_t slot, struct machine *to, uint64_t target);
 bool machine_board_access(struct machine *machine, struct access *access);
 void machine_settle(struct machine *machine); /* updates lines and regions after a load */
 uint64_t now(void); /* nanoseconds */
 void machine_interrupt(struct machine *machine, uint64_t slot, bool is_asking);
-void expect(uint32_t number, const char *what); /* ends the program if a call failed */
+void expect(struct machine *machine, uint32_t number, const char *what); /* ends the machine if a call failed */
 
 /* Reads and writes cells of a function as its device does, 1 to 8 bytes. */
 uint64_t machine_cells(struct machine *machine, uint64_t slot, uint32_t part, uint64_t offset, uint32_t width);
 void machine_set_cells(struct machine *machine, uint64_t slot, uint32_t part, uint64_t offset,
                        uint32_t width, uint64_t value);
 
-/* saved.c: saves a stopped machine to a file, and loads one. */
+/* restore.c: loads the image of the machine's guest, or says why it can't. */
+const char *machine_restore(struct machine *machine, const void *image, size_t length);
+
+/* saved.c: saves a stopped machine to a file, and loads one, or says why it can't. */
 void machine_save(struct machine *machine, const char *path);
-void machine_load(struct machine *machine, const char *path);
+const char *machine_load(struct machine *machine, const char *path);
 
 /* kvm.c: ends the program if a result is negative, and says what failed. */
 int needed(int result, const char *what);

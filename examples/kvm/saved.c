@@ -8,7 +8,7 @@
 #include <sys/ioctl.h>
 #include <unistd.h>
 
-enum { MODEL_REGISTERS = 512, PAGE = 4096 };
+enum { MODEL_REGISTERS = 512, PAGE = 4096, LARGEST_IMAGE = 4 << 20 };
 
 struct state {
     struct kvm_sregs system;
@@ -52,12 +52,14 @@ static const struct part {
     PROCESSOR(MP_STATE, running),
 };
 
-static void for_parts(struct machine *machine, struct state *state, bool is_get)
+/* Asks KVM for all parts, or tells them back. Returns the name of one that KVM refuses, or NULL. */
+static const char *for_parts(struct machine *machine, struct state *state, bool is_get)
 {
     for (const struct part *part = parts; part < parts + sizeof parts / sizeof *parts; part++)
-        needed(ioctl(part->is_of_machine ? machine->file : machine->processor, is_get ? part->get : part->set,
-                     (uint8_t *)state + part->offset),
-               part->name);
+        if (ioctl(part->is_of_machine ? machine->file : machine->processor, is_get ? part->get : part->set,
+                  (uint8_t *)state + part->offset) < 0)
+            return part->name;
+    return NULL;
 }
 
 /* Registers of the processor's model are asked for one by one: KVM lists some that a processor has not. */
@@ -108,7 +110,7 @@ void machine_save(struct machine *machine, const char *path)
     needed(file ? 0 : -1, path);
     for (uint32_t i = 0; i < 3; i++)
         state->controllers[i].chip_id = i;
-    for_parts(machine, state, true);
+    needed(for_parts(machine, state, true) ? -1 : 0, "the processor's state");
     get_model(machine, state);
     state->clock.flags = 0; /* the machine's clock stood still meanwhile */
     memcpy(state->console, machine->console.own, CELLS);
@@ -126,28 +128,46 @@ void machine_save(struct machine *machine, const char *path)
     free(state);
 }
 
-void machine_load(struct machine *machine, const char *path)
+/* Reads a file of a machine; false if it isn't one. */
+static bool read_file(struct machine *machine, const char *path, struct state *state, uint8_t *image)
+{
+    FILE *file = fopen(path, "rb");
+    bool is_whole = file && fread(state, sizeof *state, 1, file) == 1 && state->model_count <= MODEL_REGISTERS &&
+                    state->image_length <= LARGEST_IMAGE && fread(image, state->image_length, 1, file) == 1 &&
+                    fread(machine->memory, MEMORY, 1, file) == 1;
+
+    if (file)
+        fclose(file);
+    return is_whole;
+}
+
+/* Puts a machine into a state, or says why that can't be. */
+static const char *set_state(struct machine *machine, struct state *state, const uint8_t *image)
+{
+    const char *fault = machine_restore(machine, image, state->image_length);
+
+    memcpy(machine->console.own, state->console, CELLS);
+    if (!fault && !uart_is_sound(&machine->console))
+        fault = "the console's registers contradict each other";
+    if (!fault)
+        fault = for_parts(machine, state, false);
+    for (uint32_t i = 0; i < state->model_count && !fault; i++)
+        (void)ask_model(machine, KVM_SET_MSRS, &state->model[i]); /* some are only read */
+    if (!fault)
+        machine_settle(machine);
+    return fault;
+}
+
+const char *machine_load(struct machine *machine, const char *path)
 {
     struct state *state = calloc(1, sizeof *state);
-    FILE *file = fopen(path, "rb");
-    uint8_t *image;
-    uint32_t fault;
+    uint8_t *image = malloc(LARGEST_IMAGE);
+    const char *fault = "it isn't the file of a machine";
 
-    needed(file && fread(state, sizeof *state, 1, file) == 1 ? 0 : -1, path);
-    image = malloc(state->image_length);
-    needed(image && fread(image, state->image_length, 1, file) == 1 ? 0 : -1, path);
-    needed(fread(machine->memory, MEMORY, 1, file) == 1 ? 0 : -1, path);
-    fclose(file);
-    fault = pciguest_load(&machine->board->guests, machine->guest, image, state->image_length);
-    if (fault) {
-        fprintf(stderr, "kvm: %s: %s (%u)\n", path, pciguest_strerror(fault), fault);
-        exit(1);
-    }
-    for_parts(machine, state, false);
-    for (uint32_t i = 0; i < state->model_count; i++)
-        (void)ask_model(machine, KVM_SET_MSRS, &state->model[i]); /* some are only read */
-    memcpy(machine->console.own, state->console, CELLS);
-    machine_settle(machine);
+    needed(state && image ? 0 : -1, path);
+    if (read_file(machine, path, state, image))
+        fault = set_state(machine, state, image);
     free(image);
     free(state);
+    return fault;
 }

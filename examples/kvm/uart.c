@@ -73,6 +73,11 @@ void uart_settle(struct uart *uart)
         machine_interrupt(uart->machine, uart->slot, cause != NO_CAUSE);
 }
 
+bool uart_is_sound(const struct uart *uart)
+{
+    return get(uart, FIRST) < QUEUE_LENGTH && get(uart, COUNT) <= QUEUE_LENGTH;
+}
+
 static void queue(struct uart *uart, uint8_t byte)
 {
     uint8_t count = get(uart, COUNT);

@@ -33,6 +33,9 @@ void uart_touched(struct uart *uart, unsigned offset, bool is_write);
 /* Shows in the registers what came in and what may be sent, and requests an interrupt if the driver wants one. */
 void uart_settle(struct uart *uart);
 
+/* Returns whether the cells that only the device writes hold what it can have written. An image may hold anything else. */
+bool uart_is_sound(const struct uart *uart);
+
 /* Receives a byte; returns false if there is no room for it. */
 bool uart_receive(struct uart *uart, uint8_t byte);
 

@@ -8,13 +8,13 @@
 #include <string.h>
 
 /* A queue. Its first words are cells: the registers of the common configuration from Q_SIZE on, as
- * the driver left them, and then how many chains the device has taken and returned. */
+ * the driver left them, and then how many chains the device has served. */
 struct queue {
     union {
         struct {
             uint16_t size, vector, is_enabled, notify_offset;
             uint64_t descriptors_at, available_at, used_at;
-            uint16_t taken, returned, zeros[2];
+            uint16_t served, zeros[3];
         };
         uint64_t words[5];
     };
@@ -35,12 +35,18 @@ static void set(struct virtio *device, uint32_t region, uint64_t offset, uint32_
     machine_set_cells(device->machine, device->slot, region, offset, width, value);
 }
 
+static uint64_t cells_of(unsigned queue)
+{
+    return OWN_QUEUES + QUEUE_BYTES * queue;
+}
+
 static struct pciguest_message message_of(struct virtio *device, uint32_t vector)
 {
     struct machine *machine = device->machine;
     struct pciguest_message message = {0};
 
-    expect(pciguest_msix_message(&machine->board->guests, machine->guest, device->slot, vector, &message), "a vector");
+    expect(machine, pciguest_msix_message(&machine->board->guests, machine->guest, device->slot, vector, &message),
+           "a vector");
     return message;
 }
 
@@ -62,12 +68,25 @@ void virtio_settle(struct virtio *device)
     struct pciguest_message message = message_of(device, 0);
     bool is_driven = get(device, VIRTIO_OWN, OWN_ISR, 1) & QUEUE_INTERRUPT && !message.is_enabled;
 
-    for (uint32_t vector = 0; pending >> vector; vector++) {
+    for (uint32_t vector = 0; vector < device->kind->vectors && pending >> vector; vector++) {
         message = message_of(device, vector);
         if (pending >> vector & 1)
             send(device, vector, &message);
     }
     machine_interrupt(device->machine, device->slot, is_driven);
+}
+
+bool virtio_is_sound(struct virtio *device)
+{
+    bool is_sound = get(device, VIRTIO_OWN, OWN_PENDING, 8) >> device->kind->vectors == 0;
+
+    for (unsigned queue = 0; queue < device->kind->queues; queue++) {
+        struct queue kept = {.words = {get(device, VIRTIO_OWN, cells_of(queue), 8)}};
+
+        is_sound &= kept.notify_offset == queue;
+        is_sound &= kept.vector < device->kind->vectors || kept.vector == VIRTIO_MSI_NO_VECTOR;
+    }
+    return is_sound;
 }
 
 /* Interrupts the driver by a vector that it chose, or by the pin if it doesn't use MSI-X. */
@@ -82,11 +101,6 @@ static void interrupt(struct virtio *device, uint16_t vector)
         set(device, VIRTIO_OWN, OWN_ISR, 1, QUEUE_INTERRUPT);
         virtio_settle(device);
     }
-}
-
-static uint64_t cells_of(unsigned queue)
-{
-    return OWN_QUEUES + QUEUE_BYTES * queue;
 }
 
 /* Shows the registers of the queue that the driver selected. One that isn't there has size 0. */
@@ -143,6 +157,7 @@ void virtio_reset(struct virtio *device)
 {
     const struct virtio_kind *kind = device->kind;
 
+    device->resets++;
     for (uint64_t at = 0; at < VIRTIO_PCI_COMMON_Q_SIZE; at += 8)
         set(device, VIRTIO_COMMON, at, 8, 0);
     set(device, VIRTIO_COMMON, VIRTIO_PCI_COMMON_MSIX, 2, VIRTIO_MSI_NO_VECTOR);
@@ -222,10 +237,20 @@ static bool may_access_memory(struct virtio *device)
 {
     bool is_set = false;
 
-    expect(pciguest_bus_master(&device->machine->board->guests, device->machine->guest,
+    expect(device->machine,
+           pciguest_bus_master(&device->machine->board->guests, device->machine->guest,
                                device->slot, &is_set),
            "Command");
     return is_set;
+}
+
+/* The library's count grows with each write to Command, each reset, move and load. */
+uint64_t virtio_permit(struct virtio *device)
+{
+    uint64_t count = 0;
+
+    expect(device->machine, pciguest_changed(&device->machine->board->guests, device->machine->guest, &count), "a count");
+    return count + device->resets;
 }
 
 /* Reads a queue from its cells; false if the device can't use it now. */
@@ -274,17 +299,28 @@ static bool find_parts(struct virtio *device, const struct queue *queue, struct 
     return false;
 }
 
+/* How many chains wait in a queue; none if its driver says that there are more than it can have. */
+static uint16_t waiting(struct virtio *device, const struct queue *queue)
+{
+    uint16_t count = (uint16_t)(__atomic_load_n(&queue->available->idx, __ATOMIC_ACQUIRE) - queue->served);
+
+    if (count <= queue->size)
+        return count;
+    set(device, VIRTIO_COMMON, VIRTIO_PCI_COMMON_STATUS, 1,
+        get(device, VIRTIO_COMMON, VIRTIO_PCI_COMMON_STATUS, 1) | VIRTIO_CONFIG_S_NEEDS_RESET);
+    return 0;
+}
+
 bool virtio_take(struct virtio *device, unsigned index, struct virtio_chain *chain)
 {
     struct queue queue;
 
-    if (!open_queue(device, index, &queue) || __atomic_load_n(&queue.available->idx, __ATOMIC_ACQUIRE) == queue.taken)
+    if (!open_queue(device, index, &queue) || waiting(device, &queue) == 0)
         return false;
-    chain->head = queue.available->ring[queue.taken++ % queue.size];
+    chain->head = queue.available->ring[queue.served % queue.size];
     chain->out = chain->in = 0;
     if (!find_parts(device, &queue, chain))
         chain->out = chain->in = 0;
-    keep_counts(device, index, &queue);
     return true;
 }
 
@@ -294,9 +330,9 @@ void virtio_return(struct virtio *device, unsigned index, const struct virtio_ch
 
     if (!open_queue(device, index, &queue))
         return;
-    queue.used->ring[queue.returned++ % queue.size] =
+    queue.used->ring[queue.served++ % queue.size] =
         (struct vring_used_elem){chain->head, written};
-    __atomic_store_n(&queue.used->idx, queue.returned, __ATOMIC_SEQ_CST);
+    __atomic_store_n(&queue.used->idx, queue.served, __ATOMIC_SEQ_CST);
     keep_counts(device, index, &queue);
 }
 

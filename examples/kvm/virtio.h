@@ -31,7 +31,8 @@ struct virtio_kind {
     /* Writes the device configuration, at OWN_CONFIG, after a reset. */
     void (*configure)(struct virtio *device);
 
-    /* Acts after the driver put chains into a queue. */
+    /* Serves the chains that the driver put into a queue. It lends the board's lock after each, and doesn't have it while it
+     * reads or writes a file. */
     void (*notified)(struct virtio *device, unsigned queue);
 };
 
@@ -42,6 +43,9 @@ struct virtio {
     struct machine *machine; /* whose guest has the function, and whose memory it accesses */
     uint64_t slot;
     void *behind; /* what its kind needs: a disk's file, a card's cable */
+    uint64_t resets;
+    bool is_busy;    /* it transfers without the lock: its function can't be moved meanwhile */
+    bool is_leaving; /* its function is about to be moved: it begins no transfer */
 };
 
 /* The buffers of one request, in the machine's memory: the device reads the first `out`, and writes
@@ -59,16 +63,25 @@ void virtio_reset(struct virtio *device);
 /* Acts after the driver's access to the region of a base address register. */
 void virtio_touched(struct virtio *device, uint32_t region, uint64_t offset, uint32_t width, bool is_write);
 
+/* Returns whether the registers that only the device writes hold what it can have written. An image
+ * may hold anything else. */
+bool virtio_is_sound(struct virtio *device);
+
 /* Drives the interrupt pin, and sends the messages that were pending and may be sent now: after a
  * write to configuration space or to the MSI-X table, and after a load. */
 void virtio_settle(struct virtio *device);
 
-/* Takes the next chain from a queue. Returns false if there is none, if the driver hasn't set up
- * the queue, or if the device may not access memory, because Bus Master is clear. A chain that
- * isn't valid is empty. */
+/* Finds the next chain of a queue, which stays the next one until it is returned. Returns false if
+ * there is none, if the driver hasn't set up the queue, or if the device may not access memory,
+ * because Bus Master is clear. A chain that isn't valid is empty. A queue with more chains than it
+ * has room for isn't valid either: the device then asks its driver for a reset. */
 bool virtio_take(struct virtio *device, unsigned queue, struct virtio_chain *chain);
 
-/* Returns a chain to the driver, with the number of bytes that were written to it. */
+/* What allowed the device to access memory: a number that grows with each change that may forbid
+ * it. Whoever lets go of the lock compares it afterwards. */
+uint64_t virtio_permit(struct virtio *device);
+
+/* Returns the chain that was found to the driver, with the number of bytes that were written to it. */
 void virtio_return(struct virtio *device, unsigned queue, const struct virtio_chain *chain, uint32_t written);
 
 /* Interrupts the driver because chains were returned, unless it asked for no interrupts. */
@@ -88,6 +101,7 @@ struct disk {
     const char *name; /* of the file */
     int file;
     bool is_read_only;
+    uint8_t *piece; /* room for what is transferred at once */
 };
 extern const struct virtio_kind virtio_blk;
 void disk_open(struct disk *disk, const char *path, const char *file);

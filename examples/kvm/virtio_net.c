@@ -57,19 +57,21 @@ static void send(const struct virtio *device, const struct virtio_chain *chain)
     receive(other, &frame, length);
 }
 
-/* Sends all frames of the transmit queue. Buffers of the receive queue stay there for frames that
+/* Sends the frames of the transmit queue, as many as it can hold. Buffers of the receive queue stay there for frames that
  * come later. */
 static void notified(struct virtio *device, unsigned queue)
 {
     struct virtio_chain chain;
+    unsigned left = VIRTIO_QUEUE_SIZE;
     bool has_returned = false;
 
-    while (queue == TRANSMIT && virtio_take(device, queue, &chain)) {
+    while (queue == TRANSMIT && left-- > 0 && device->kind == &virtio_net && virtio_take(device, queue, &chain)) {
         send(device, &chain);
         virtio_return(device, queue, &chain, 0);
         has_returned = true;
+        board_pause(device->machine->board);
     }
-    if (has_returned)
+    if (has_returned && device->kind == &virtio_net)
         virtio_interrupt(device, queue);
 }
 

@@ -166,7 +166,9 @@ class EntropyDriver:
         self.config[0x10:4], self.config[0x14:4] = 0xE0000000, 0xE0001000
         self.config[0x04:2] = 0x0006  # memory and Bus Master
         self.places, at = {}, self.config[0x34:1]
-        while at:
+        for _ in range(48):  # no list without a loop has more structures
+            if at < 0x40:
+                break
             if self.config[at:1] == 0x09:  # virtio's structures by cfg_type, 4.1.4
                 bar, place = self.config[at + 4:1], self.config[at + 8:4]
                 self.places[self.config[at + 3:1]] = self.address(bar) + place

@@ -276,7 +276,11 @@ impl EntropyDriver {
         let mut read =
             |offset: u64, width| machine.read(guest, config(offset), width).map(u64::from);
         let mut at = read(0x34, 1)?;
-        while at != 0 {
+        for _ in 0..48 {
+            // no list without a loop has more structures
+            if at < 0x40 {
+                break;
+            }
             let id = read(at, 1)?;
             if id == 0x09 {
                 let (kind, bar, place) = (read(at + 3, 1)?, read(at + 4, 1)?, read(at + 8, 4)?);

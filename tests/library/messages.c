@@ -1,5 +1,6 @@
-/* Whether a device may access its guest's memory (pciguest_bus_master), and the messages of MSI-X
- * vectors (pciguest_msix_message): in each state of the four bits that decide, and out of range.
+/* Whether a device may access its guest's memory (pciguest_bus_master), the messages of MSI-X
+ * and MSI vectors (pciguest_msix_message, pciguest_msi_message) in each state of the bits that
+ * decide and out of range, and whether a function asserts its pin (pciguest_set_interrupt).
  *
  *     messages BOARD
  *
@@ -66,7 +67,7 @@ static void bus_masters(struct pciguest *machine)
     IS(is_master(machine, 1, 5), false);
     IS(pciguest_bus_master(machine, 0, 0, &is_set), 601);
     IS(pciguest_move(machine, 1, 5, 0, 0), 0);
-    IS(pciguest_bus_master(machine, 0, 3, &is_set), 601);
+    IS(pciguest_bus_master(machine, 0, 5, &is_set), 601);
     IS(pciguest_bus_master(machine, 0, 32, &is_set), 303);
     IS(pciguest_bus_master(machine, 0, UINT64_MAX, &is_set), 303);
     IS(pciguest_bus_master(machine, 2, 0, &is_set), 902);
@@ -130,12 +131,130 @@ static void refused(struct pciguest *machine)
     IS(pciguest_msix_message(machine, 0, 0, 0, &message), 303);
     set(machine, 0x34, 1, 0); /* no structure */
     are(message_of(machine, 0, 0), (struct pciguest_message){0, 0, 0, 0, 0});
-    IS(pciguest_msix_message(machine, 0, 3, 0, &message), 601);
+    IS(pciguest_msix_message(machine, 0, 5, 0, &message), 601);
     IS(pciguest_msix_message(machine, 0, 32, 0, &message), 303);
     IS(pciguest_msix_message(machine, 2, 0, 0, &message), 902);
     IS(pciguest_msix_message(machine, 0, 0, 0, NULL), 902);
     IS(pciguest_msix_message(NULL, 0, 0, 0, &message), 902);
     are(message, (struct pciguest_message){7, 7, 7, 7, 7});
+}
+
+enum { MSI = 0x50, BOTH = 3, PLAIN = 4, DISABLE = 0x400, INTERRUPT = 8 };
+
+static void set_in(struct pciguest *machine, uint64_t slot, uint64_t offset, uint32_t width, uint32_t value)
+{
+    IS(pciguest_write(machine, 0, PCIGUEST_CONFIG, slot, offset, width, value), 0);
+}
+
+static struct pciguest_message msi_of(struct pciguest *machine, uint64_t slot, uint32_t vector)
+{
+    struct pciguest_message message = {7, 7, 7, 7, 7};
+
+    IS(pciguest_msi_message(machine, 0, slot, vector, &message), 0);
+    return message;
+}
+
+/* The low bits of the data are the vector's, as many as the driver allocated. */
+static void msi_messages(struct pciguest *machine)
+{
+    struct pciguest_message none = {0, 0, 0, 0, 0};
+
+    are(msi_of(machine, 0, 7), none); /* MSI-X alone */
+    are(msi_of(machine, 2, 0), none); /* no list */
+    are(msi_of(machine, BOTH, 0), none);
+    set_in(machine, BOTH, MSI + 4, 4, 0xfee01003);
+    set_in(machine, BOTH, MSI + 8, 4, 0x1);
+    set_in(machine, BOTH, MSI + 12, 2, 0x4327);
+    set_in(machine, PLAIN, MSI + 4, 4, 0xfee02000);
+    set_in(machine, PLAIN, MSI + 8, 2, 0x4327);
+    for (uint32_t bits = 0; bits < 32; bits++) {
+        bool enabled = bits & 1, masked = bits & 2, master = bits & 4;
+        uint32_t exponent = bits >> 3, count = 1u << exponent; /* Multiple Message Enable: 1 to 8 vectors */
+        struct pciguest_message wanted = {0x1fee01000, (0x4327 & ~(count - 1)) + count - 1, enabled, masked,
+                                          enabled && !masked && master};
+
+        set_in(machine, BOTH, MSI + 2, 2, exponent << 4 | enabled);
+        set_in(machine, PLAIN, MSI + 2, 2, exponent << 4 | enabled);
+        IS(pciguest_device_write_wide(machine, 0, BOTH, PCIGUEST_PART_CONFIG, MSI + 16, 4, masked ? 1u << (count - 1) : 0), 0);
+        set_in(machine, BOTH, COMMAND, 2, master ? MASTER : 0);
+        set_in(machine, PLAIN, COMMAND, 2, master ? MASTER : 0);
+        are(msi_of(machine, BOTH, count - 1), wanted);
+        wanted.address = 0xfee02000;
+        wanted.is_masked = 0;
+        wanted.can_be_sent = enabled && master;
+        are(msi_of(machine, PLAIN, count - 1), wanted);
+        IS(pciguest_msi_message(machine, 0, BOTH, count, &wanted), 303);
+    }
+}
+
+static void msi_refused(struct pciguest *machine)
+{
+    struct pciguest_message message = {7, 7, 7, 7, 7};
+
+    set_in(machine, PLAIN, MSI + 2, 1, 0x71); /* a reserved number of vectors */
+    IS(pciguest_msi_message(machine, 0, PLAIN, 31, &message), 0);
+    message = (struct pciguest_message){7, 7, 7, 7, 7};
+    IS(pciguest_msi_message(machine, 0, PLAIN, 32, &message), 303);
+    IS(pciguest_msi_message(machine, 0, PLAIN, UINT32_MAX, &message), 303);
+    IS(pciguest_device_write_wide(machine, 0, PLAIN, PCIGUEST_PART_CONFIG, 0x34, 1, 0xf8), 0);
+    IS(pciguest_device_write_wide(machine, 0, PLAIN, PCIGUEST_PART_CONFIG, 0xf8, 1, 5), 0);
+    IS(pciguest_msi_message(machine, 0, PLAIN, 0, &message), 303); /* it extends past FFh */
+    IS(pciguest_msi_message(machine, 0, 5, 0, &message), 601);
+    IS(pciguest_msi_message(machine, 0, 32, 0, &message), 303);
+    IS(pciguest_msi_message(machine, 2, 0, 0, &message), 902);
+    IS(pciguest_msi_message(machine, 0, 0, 0, NULL), 902);
+    IS(pciguest_msi_message(NULL, 0, 0, 0, &message), 902);
+    are(message, (struct pciguest_message){7, 7, 7, 7, 7});
+    IS(pciguest_reset(machine, 0, PLAIN), 0);
+}
+
+static bool asserts(struct pciguest *machine, size_t guest, uint64_t slot, bool is_requested)
+{
+    bool is_asserted = !is_requested;
+
+    IS(pciguest_set_interrupt(machine, guest, slot, is_requested, &is_asserted), 0);
+    IS(config(machine, guest, slot, 6, 2), 0x10 | (is_requested ? INTERRUPT : 0));
+    return is_asserted;
+}
+
+/* The pin is asserted in one of the 16 states of the bits that decide. */
+static void interrupts(struct pciguest *machine)
+{
+    bool is_asserted = true;
+
+    for (uint32_t bits = 0; bits < 16; bits++) {
+        bool requested = bits & 1, disabled = bits & 2, msi = bits & 4, msix = bits & 8;
+
+        set_in(machine, BOTH, COMMAND, 2, disabled ? DISABLE : 0);
+        set_in(machine, BOTH, MSI + 2, 1, msi);
+        set_in(machine, BOTH, 0x72, 2, msix ? ENABLE : 0);
+        IS(asserts(machine, 0, BOTH, requested), bits == 1);
+    }
+    IS(asserts(machine, 0, PLAIN, true), true);
+    IS(asserts(machine, 0, 1, true), false); /* no pin */
+    set_in(machine, PLAIN, 6, 2, 0xffff); /* the driver only reads the bit */
+    IS(config(machine, 0, PLAIN, 6, 2), 0x10 | INTERRUPT);
+    IS(pciguest_move(machine, 0, PLAIN, 1, 9), 0);
+    IS(config(machine, 1, 9, 6, 2), 0x10);
+    IS(asserts(machine, 1, 9, true), true);
+    IS(pciguest_set_interrupt(machine, 0, 5, true, &is_asserted), 601);
+    IS(pciguest_set_interrupt(machine, 0, 32, true, &is_asserted), 303);
+    IS(pciguest_set_interrupt(machine, 2, 0, true, &is_asserted), 902);
+    IS(pciguest_set_interrupt(machine, 0, 0, true, NULL), 902);
+    IS(pciguest_set_interrupt(NULL, 0, 0, true, &is_asserted), 902);
+    IS(is_asserted, true);
+}
+
+/* The image of a guest has the bit. */
+static void interrupts_are_saved(struct pciguest *machine)
+{
+    static uint8_t image[65536];
+    size_t size = 0;
+
+    IS(pciguest_save(machine, 1, image, sizeof image, &size), 0);
+    IS(pciguest_reset(machine, 1, 9), 0);
+    IS(pciguest_load(machine, 1, image, size), 0);
+    IS(config(machine, 1, 9, 6, 2), 0x10 | INTERRUPT);
 }
 
 int main(int argc, char **argv)
@@ -149,6 +268,10 @@ int main(int argc, char **argv)
     set_config(&machine, CONTROL, 2, ENABLE);
     set_config(&machine, COMMAND, 2, MASTER);
     refused(&machine);
+    msi_messages(&machine);
+    msi_refused(&machine);
+    interrupts(&machine);
+    interrupts_are_saved(&machine);
     pciguest_free(&machine);
     return wrong != 0;
 }

@@ -1,7 +1,7 @@
 /* Random events of two guests. After each, where every region stands is compared with the base address registers and
  * the Command that its guest reads there, what addresses hit with the first such region that is open, each guest's
- * count of changes with what the event touched, where that count stays, each answer with the one before, and which regions
- * are told to have moved with the answers that differ from those of the last time that this was asked.
+ * count of changes with what the event touched, where that count stays, each answer and each Command with the one before, and
+ * which regions are told to have moved with the answers that differ from those of the last time that this was asked.
  *
  *     queries BOARD COUNT SEED
  *
@@ -19,6 +19,7 @@ struct answer {
 static struct answer answers[GUESTS][SLOTS][REGISTERS];
 static struct pciguest_place places[GUESTS][PCIGUEST_PLACES];
 static uint64_t counts[GUESTS];
+static uint32_t commands[GUESTS][SLOTS];
 
 /* A region as its guest sees it by reads of configuration space alone, but for its size. */
 static void compare(struct pciguest *machine, size_t guest, uint64_t slot, uint32_t bar,
@@ -38,7 +39,12 @@ static void compare(struct pciguest *machine, size_t guest, uint64_t slot, uint3
 /* Asks for all regions of a guest; `same` says that each answer is to be the one before. */
 static void ask(struct pciguest *machine, size_t guest, bool same)
 {
-    for (uint64_t slot = 0; slot < SLOTS; slot++)
+    for (uint64_t slot = 0; slot < SLOTS; slot++) {
+        uint32_t command = config(machine, guest, slot, 4, 2);
+
+        if (same)
+            IS(command, commands[guest][slot]);
+        commands[guest][slot] = command;
         for (uint32_t bar = 0; bar < REGISTERS; bar++) {
             struct answer *kept = &answers[guest][slot][bar], now = {0};
 
@@ -51,6 +57,7 @@ static void ask(struct pciguest *machine, size_t guest, bool same)
                 IS(memcmp(&now, kept, sizeof now), 0);
             *kept = now;
         }
+    }
 }
 
 /* The counts, and then all regions; `touched` says which guests' counts are to have grown by one. */

@@ -303,8 +303,22 @@ static void lists_as_declared(struct pciguest *machine)
     IS(pciguest_find_capability(machine, 0, 32, 0, 9, &offset), 303);
     IS(pciguest_find_capability(machine, 0, 0, 0xff, 9, &offset), 303);
     IS(pciguest_find_capability(machine, 0, 0, UINT64_MAX, 9, &offset), 303);
+    IS(pciguest_find_capability(machine, 0, 0, 0x33, 9, &offset), 303);
+    IS(pciguest_find_capability(machine, 0, 0, 0x44, 9, &offset), 303);
+    IS(found(machine, 1, 0x44, 9), 0);
     IS(pciguest_find_capability(machine, 0, 31, 0, 9, &offset), 601);
     IS(offset, 7);
+}
+
+/* How many structures with an ID a walk finds that passes each result as the next `after`. */
+static unsigned walked(struct pciguest *machine, uint8_t id)
+{
+    unsigned count = 0;
+    uint64_t at = found(machine, 0, 0, id);
+
+    for (; at && count < 100; count++)
+        at = found(machine, 0, at, id);
+    return count;
 }
 
 /* Lists that devices changed: each search ends, and the image of the machine stays one of its board. */
@@ -314,7 +328,12 @@ static void changed_lists(struct pciguest *machine)
 
     set(machine, 0, 0x61, 0x80); /* a loop */
     IS(found(machine, 0, 0, 5), 0);
-    IS(found(machine, 0, 0x60, 0x11), 0x40);
+    IS(found(machine, 0, 0x60, 0x11), 0);
+    IS(walked(machine, 9), 2);
+    set(machine, 0, 0x41, 0x43); /* one that points to itself */
+    IS(walked(machine, 9), 1);
+    IS(walked(machine, 0x11), 1);
+    set(machine, 0, 0x41, 0x60);
     set(machine, 0, 0x34, 0x43); /* the low two bits are ignored */
     IS(found(machine, 0, 0, 9), 0x60);
     save(machine, ALL, &saved);

@@ -60,12 +60,14 @@ from ._machine import Guest, Host, Machine
 from ._refusal import BoardRefusal, Problem, Refusal, strerror
 from ._regions import Hit, Moved, Region
 from ._spaces import Functions, ReadableSpace, ReadableWide, Space, Wide
+from ._structures import Msi, Msix, Power, Structure, Vendor
 from ._texts import Check, check, report, report_json
 
 __all__ = [
-    "Audit", "Bar", "Board", "BoardFunction", "BoardRefusal", "Capability", "Check", "DeclaredOtherwise", "Device",
-    "Function", "Functions", "Guest", "Hit", "Host", "ImageFault", "Interrupt", "Limits", "Machine", "Message", "Moved",
-    "Problem", "ReadableSpace", "ReadableWide", "Readiness", "Refusal", "Region", "Register", "Space", "Wide", "Window",
-    "Windows", "check", "limits", "report", "report_json", "strerror", "version",
+    "Audit", "Bar", "Board", "BoardFunction", "BoardRefusal", "Capability", "Check", "DeclaredOtherwise",
+    "Device", "Function", "Functions", "Guest", "Hit", "Host", "ImageFault", "Interrupt", "Limits", "Machine",
+    "Message", "Moved", "Msi", "Msix", "Power", "Problem", "ReadableSpace", "ReadableWide", "Readiness",
+    "Refusal", "Region", "Register", "Space", "Structure", "Vendor", "Wide", "Window", "Windows", "check",
+    "limits", "report", "report_json", "strerror", "version",
 ]
 __version__ = VERSION

@@ -30,6 +30,8 @@ class Touch(NamedTuple):
     offset: int
     width: int
     value: int
+    #: Command before a write that touches it
+    command: Optional[int] = None
 
     def within(self, register: Register) -> Tuple[int, int]:
         """The bits of a register that it touches, and what they are written."""
@@ -53,6 +55,20 @@ def told_by(touched: List[Touch]) -> List[Tuple[Device, Register, int]]:
             if mask:
                 told.append((device, register, device._read(register) & ~mask | bits))
     return told
+
+
+def config_writes(touched: List[Touch]) -> List[Tuple[Device, int, int, int]]:
+    """The bytes of configuration space that an access writes, each run with its device, its first offset, its width and what
+    was written."""
+    runs: List[Tuple[Device, int, int, int]] = []
+    for touch in (each for each in touched if each.bar is None):
+        bits = touch.value & (1 << 8 * touch.width) - 1
+        device, first, width, value = runs[-1] if runs else (None, 0, 0, 0)
+        if device is touch.device and first + width == touch.offset:
+            runs[-1] = touch.device, first, width + touch.width, value | bits << 8 * width
+        else:
+            runs.append((touch.device, touch.offset, touch.width, bits))
+    return runs
 
 
 class Attaching(SavedMachine):
@@ -128,7 +144,7 @@ class Attaching(SavedMachine):
         self._call("locate", guest, space, 0, place, byref(told))
         return Hit(told.slot, None if told.part == PART_CONFIG else told.part, told.offset) if told.found else None
 
-    def _touch(self, access: Access, value: int = 0) -> List[Touch]:
+    def _touch(self, access: Access, value: Optional[int] = None) -> List[Touch]:
         """What a cycle of the bus touches of a device, if it touches one. Asked before a write, which may move the function."""
         if not self._devices or (access.space, access.place, access.width) == (IO, 0xCF8, 4):
             return []
@@ -140,7 +156,16 @@ class Attaching(SavedMachine):
         except Refusal:
             return []
         device = None if hit is None else self._device_at((access.guest, hit.slot))
-        return [] if hit is None or device is None else [Touch(device, hit.region, hit.offset, access.width, value)]
+        if hit is None or device is None:
+            return []
+        is_command = value is not None and hit.region is None and hit.offset < 6 and hit.offset + access.width > 4
+        command = self._command_of(device) if is_command else None
+        return [Touch(device, hit.region, hit.offset, access.width, value or 0, command)]
+
+    def _command_of(self, device: Device) -> int:
+        """Command as the guest of a device has it."""
+        guest, slot = device._taken()
+        return guest._command(slot)
 
     def _tell_read(self, touched: List[Touch]) -> bool:
         """Tells devices of a read that isn't refused, each once for each of its registers, and whether there was one to
@@ -152,7 +177,15 @@ class Attaching(SavedMachine):
 
     def _tell_written(self, touched: List[Touch]) -> None:
         """Tells devices of an access that was done, each once for each of its registers."""
-        for device, register, value in told_by(touched):
+        told, writes = told_by(touched), config_writes(touched)
+        commands = {id(each.device): each for each in reversed(touched) if each.command is not None}
+        changed = [(each.device, each.command, self._command_of(each.device)) for each in commands.values()]
+        for device, old, new in changed:
+            if old is not None and old != new:
+                device.on_command(old, new)
+        for device, offset, width, value in writes:
+            device.on_config_write(offset, width, value)
+        for device, register, value in told:
             device.on_write(register, value)
 
     def _tell(self, stands: Callable[[Seat], bool], acts: Callable[[Device], None]) -> None:

@@ -20,6 +20,8 @@ KINDS: Dict[str, Tuple[str, bool, bool]] = {
 
 # the patterns of a block in a board file
 PATTERNS = ("reset", "rw", "w1c")
+# where a function's own registers of configuration space begin and end, and those of a region end
+FIRST, LAST, REGION_END = 0x40, 0x100, 0x1000
 
 
 class Register:
@@ -36,6 +38,13 @@ class Register:
         self.reset, self.rw, self.w1c = (number(name, value, 8 * width) for name, value in patterns)
         if not width or rw & w1c:
             raise ValueError("a register has a byte, and no bit is both in rw and in w1c")
+
+    def moved(self, by: int, name: str) -> Register:
+        """The same register in configuration space, so many bytes further on, with a name."""
+        words = {"reset": self.reset, "rw": self.rw, "w1c": self.w1c}
+        moved = Register(self.offset + by, self.width, bar=None, **words)
+        moved.name = name
+        return moved
 
     def __set_name__(self, owner: Type[Device], name: str) -> None:
         self.name = name
@@ -56,17 +65,27 @@ class Register:
         device._write(self, value)
 
 
-def declared(cls: Type[Device]) -> Tuple[Register, ...]:
-    """The registers that a class and those above it declare, in the order of their places. ValueError: one stands outside
-    its region, or two overlap."""
+def own_registers(cls: Type[Device]) -> List[Register]:
+    """The registers that a class and those above it name, without those of structures."""
     named: Dict[str, Any] = {}
     for each in reversed(cls.__mro__):
         named.update(vars(each))
-    found = sorted(_registers(named), key=lambda one: (-1 if one.bar is None else one.bar, one.offset))
+    structures = [each for above in cls.__mro__ for each in vars(above).get("_structures", ())]
+    of_structures = {id(register) for each in structures for register in each.registers}
+    return [each for each in _registers(named) if id(each) not in of_structures]
+
+
+def declared(cls: Type[Device], all_registers: List[Register]) -> Tuple[Register, ...]:
+    """The registers of a class in the order of their places. ValueError: one stands outside its region, or two overlap."""
+    found = sorted(all_registers, key=lambda one: (-1 if one.bar is None else one.bar, one.offset))
     for one in found:
-        first, last = (0x40, 0x100) if one.bar is None else (0, min(cls.bars.get(one.bar, ("", 0))[1], 4096))
+        size = 0 if one.bar is None else cls.bars.get(one.bar, ("", 0))[1]
+        first, last = (FIRST, LAST) if one.bar is None else (0, min(size, REGION_END))
         if one.offset < first or one.offset + one.width > last:
-            raise ValueError(f"{one.name} stands outside {'40h to FFh' if one.bar is None else f'region {one.bar}'}")
+            where = "40h to FFh" if one.bar is None else f"region {one.bar}"
+            if REGION_END < one.offset + one.width <= size:
+                where = f"the first {REGION_END:#x} bytes of {where}, where alone registers can be"
+            raise ValueError(f"{one.name} stands outside {where}")
     for one, other in zip(found, found[1:]):
         if one.bar == other.bar and one.offset + one.width > other.offset:
             raise ValueError(f"{one.name} and {other.name} overlap")
@@ -92,7 +111,7 @@ def endpoint(cls: Type[Device], at: str) -> str:
         "bar = [",
         *(f"  {{ {_bar(cls, index)} }}," for index in sorted(cls.bars)),
         "]",
-        f"config = [{_config(cls)}]",
+        f"config = [{', '.join(_config(cls))}]",
     ]
     return "\n".join(lines) + "\n"
 
@@ -100,17 +119,27 @@ def endpoint(cls: Type[Device], at: str) -> str:
 def _bar(cls: Type[Device], index: int) -> str:
     kind, size = cls.bars[index]
     here = [each for each in cls.registers if each.bar == index]
-    return ", ".join([f'index = {index}, kind = "{kind}", size = {size:#x}', *_block(here, 0)])
+    return ", ".join([f'index = {index}, kind = "{kind}", size = {size:#x}', *block(here, 0)])
 
 
-def _config(cls: Type[Device]) -> str:
-    here = [each for each in cls.registers if each.bar is None]
-    return f" {{ {', '.join([f'off = {here[0].offset:#x}', *_block(here, here[0].offset)])} }} " if here else ""
+def _config(cls: Type[Device]) -> Iterator[str]:
+    """The blocks of configuration space: one for all registers, or more where structures of the list are between them."""
+    runs: List[List[Register]] = []
+    own = (each for each in own_registers(cls) if each.bar is None)
+    for each in sorted(own, key=lambda one: one.offset):
+        last = runs[-1][-1].offset if runs else 0
+        is_cut = any(last < structure.offset < each.offset for structure in cls._structures)
+        if runs and not is_cut:
+            runs[-1].append(each)
+        else:
+            runs.append([each])
+    for run in runs:
+        yield f" {{ {', '.join([f'off = {run[0].offset:#x}', *block(run, run[0].offset)])} }} "
 
 
-def _block(registers: List[Register], first: int) -> Iterator[str]:
-    """The length of a block of cells from an offset on, and its patterns, where one has a bit."""
-    length = max((each.offset + each.width for each in registers), default=first) - first
+def block(registers: List[Register], first: int, length: int = 0) -> Iterator[str]:
+    """The length of a block of cells from an offset on, which is at least this, and its patterns, where one has a bit."""
+    length = max([length, *(each.offset + each.width - first for each in registers)])
     if not length:
         return
     yield f"block = {length}"

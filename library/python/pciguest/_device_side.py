@@ -23,15 +23,16 @@ class Capability(NamedTuple):
 
 
 class Message(NamedTuple):
-    """The message (a 4-byte write to memory) that a function sends for a vector of its MSI-X table,
-    and whether the function may send it now. `Guest.msix_message` returns it. If `is_enabled` is
-    True and `can_be_sent` is False, the function keeps the message pending."""
+    """The message (a 4-byte write to memory) that a function sends for an MSI-X or MSI vector, and
+    whether the function may send it now. `Guest.msix_message` and `Guest.msi_message` return it. If
+    `is_enabled` is True and `can_be_sent` is False, the function keeps the message pending. A
+    function may use its interrupt pin only while both MSI Enable and MSI-X Enable are clear."""
 
     #: where the message is written
     address: int
     #: what is written
     data: int
-    #: whether MSI-X Enable is set; if it isn't, the function uses its interrupt pin
+    #: whether MSI-X Enable (or, for MSI, MSI Enable) is set
     is_enabled: bool
     #: whether Function Mask or the vector's own mask bit is set
     is_masked: bool
@@ -143,11 +144,15 @@ class DeviceSide:
         >>> a.bus_master(0), a.bus_master(1)
         (True, False)
         """
+        return bool(self._command(slot) & 4)
+
+    def _command(self, slot: int) -> int:
+        """The guest's own Command of the function in a slot."""
         place = number("slot", slot, 64), 4, 2
         command = self.machine._number(c_uint32, "read", self.index, CONFIG, *place)
         if command == 0xFFFF:  # all ones: nothing responds, since Command has fewer bits
             raise Refusal(EMPTY_SLOT)
-        return bool(command & 4)
+        return command
 
     def msix_message(self, slot: int, vector: int) -> Message:
         """Returns the message that the function in a slot sends for an MSI-X vector, and whether
@@ -208,3 +213,56 @@ class DeviceSide:
         is_enabled, is_masked = bool(control & 0x8000), bool(control & 0x4000 or data >> 32 & 1)
         can_be_sent = is_master and is_enabled and not is_masked
         return Message(address, data & 0xFFFFFFFF, is_enabled, is_masked, can_be_sent)
+
+    def msi_message(self, slot: int, vector: int) -> Message:
+        """Returns the message that the function in a slot sends for an MSI vector, and whether the
+        function may send it now (PCI Local Bus 3.0, 6.8.1). Vectors are counted from 0. The low
+        bits of the data are the vector, as many bits as Multiple Message Enable says. `is_masked`
+        can be True only if the structure has mask bits. If the function has no MSI structure, all
+        fields are 0 or False. A device model repeats the call when the guest has written Command or
+        the structure. Changes nothing.
+
+        303: the slot is above 31, the driver hasn't allocated the vector (vector 0 is always
+        allocated), or the structure extends past FFh. 601: the slot is empty.
+        """
+        nth = number("vector", vector, 32)
+        with self.machine._lock:
+            is_master, at = self.bus_master(slot), self.find_capability(slot, 0x05)
+            if at is None:
+                return Message(0, 0, False, False, False)
+            control = self.device_read(slot, at + 2, width=2)
+            allocated = 1 << min(control >> 4 & 7, 5)  # Multiple Message Enable; 6 and 7 are reserved
+            if nth >= allocated:
+                raise Refusal(OUT_OF_RANGE)
+            half = 4 if control & 0x80 else 0  # an address of 64 bits moves what follows it
+            address = self.device_read(slot, at + 4, width=4 + half)
+            data = self.device_read(slot, at + 8 + half, width=2)
+            masks = self.device_read(slot, at + 12 + half, width=4) if control & 0x100 else 0
+        is_enabled, is_masked = bool(control & 1), bool(masks >> nth & 1)
+        can_be_sent = is_master and is_enabled and not is_masked
+        return Message(address, data & ~(allocated - 1) | nth, is_enabled, is_masked, can_be_sent)
+
+    def set_interrupt(self, slot: int, is_requested: bool) -> bool:
+        """Sets or clears Interrupt Status, bit 3 of Status, of the function in a slot, and returns
+        whether the function asserts its interrupt pin now (PCI Local Bus 3.0, 6.2.2, 6.2.3 and
+        6.8.1.3): the bit is set, the function has a pin, the guest's own Command doesn't set
+        Interrupt Disable, and both MSI Enable and MSI-X Enable are clear. A device model sets the
+        bit while it requests an interrupt, and repeats the call with the same value after a guest
+        write to Command or to the capability list, and after a load.
+
+        303: the slot is above 31, or a structure of the capability list extends past FFh. 601: the
+        slot is empty.
+
+        >>> a = Machine(BOARD.replace("pin = 0", "pin = 1")).guest("a")
+        >>> a.set_interrupt(0, True), hex(a.config[0][6:2] & 8)
+        (True, '0x8')
+        """
+        with self.machine._lock:
+            command = self._command(slot)
+            status = self.device_read(slot, 0x06)
+            enables = ((0x05, 2, 0x01), (0x11, 3, 0x80))  # the bytes of Message Control of MSI and MSI-X
+            found = ((self.find_capability(slot, id), at, bit) for id, at, bit in enables)
+            is_enabled = any([self.device_read(slot, first + at) & bit for first, at, bit in found if first])
+            pin = self.machine._number(c_uint32, "read", self.index, CONFIG, number("slot", slot, 64), 0x3D, 1)
+            self.device_write(slot, 0x06, status & ~8 | (8 if is_requested else 0))
+        return bool(is_requested and pin and not command & 0x400 and not is_enabled)

@@ -3,11 +3,12 @@
 from __future__ import annotations
 
 from ctypes import byref, c_uint64
-from typing import TYPE_CHECKING, Any, ClassVar, Dict, Iterator, Optional, Tuple
+from typing import TYPE_CHECKING, Any, ClassVar, Dict, Iterator, Optional, Sequence, Tuple
 
 from ._calls import PART_CONFIG
-from ._declared import Register, declared, endpoint
+from ._declared import Register, declared, endpoint, own_registers
 from ._library import number
+from ._structures import Placed, Structure, placed, tables
 
 if TYPE_CHECKING:
     from ._attached import Attaching
@@ -58,8 +59,11 @@ class Device:
     interrupt_pin: ClassVar[int] = 0
     #: by the first base address register: the kind, as board files have it, and the size in bytes
     bars: ClassVar[Dict[int, Tuple[str, int]]] = {}
-    #: in the order of their places
+    #: in the order of the list: `Msix`, `Msi`, `Power`, `Vendor`, or any other `Structure`
+    capabilities: ClassVar[Sequence[Structure]] = ()
+    #: in the order of their places, with those of the capabilities
     registers: ClassVar[Tuple[Register, ...]] = ()
+    _structures: ClassVar[Tuple[Placed, ...]] = ()
 
     _machine: Optional[Attaching] = None
     _index: int = 0
@@ -67,13 +71,21 @@ class Device:
 
     def __init_subclass__(cls, **words: Any) -> None:
         super().__init_subclass__(**words)
-        cls.registers = declared(cls)
+        own = own_registers(cls)
+        cls._structures = placed(cls, own)
+        within = [register for each in cls._structures for register in each.registers]
+        for register in within:
+            setattr(cls, register.name, register)
+        cls.registers = declared(cls, own + within)
 
     @classmethod
     def endpoint(cls, at: str) -> str:
-        """The endpoint of a board file that has this declaration, at a path: its identity, its regions, and the patterns
-        of their cells."""
-        return endpoint(cls, at)
+        """The endpoint of a board file that has this declaration, at a path: its identity, its regions, its capability list,
+        and the patterns of their cells."""
+        text = endpoint(cls, at)
+        if cls._structures:
+            text += "capability = [\n" + "".join(f"  {{ {each} }},\n" for each in tables(cls._structures)) + "]\n"
+        return text
 
     def on_write(self, register: Register, value: int) -> None:
         """Its driver wrote a register. `value` is what it wrote, also where the register keeps none of it; bytes that it
@@ -81,6 +93,14 @@ class Device:
 
     def before_read(self, register: Register) -> None:
         """Its driver is about to read a register, and is told what it holds then."""
+
+    def on_command(self, old: int, new: int) -> None:
+        """Its guest changed Command by a write. Bit 0 enables I/O space, bit 1 memory space, bit 2 is Bus Master, and bit 10
+        Interrupt Disable. A reset, a move and a load may change Command too; they have calls of their own."""
+
+    def on_config_write(self, offset: int, width: int, value: int) -> None:
+        """Its guest wrote bytes of its configuration space, whichever registers these are. Called after `on_command`, and
+        before `on_write`."""
 
     def on_reset(self) -> None:
         """Its function was reset where it is, by `Guest.reset` or `reset_guest`."""
@@ -129,6 +149,21 @@ class Device:
         """
         guest, slot = self._taken()
         return guest.msix_message(slot, vector)
+
+    def msi_message(self, vector: int) -> Message:
+        """Returns the message for an MSI vector, and whether the device may send it now, like
+        `Guest.msi_message`.
+
+        303: the driver hasn't allocated the vector.
+        """
+        guest, slot = self._taken()
+        return guest.msi_message(slot, vector)
+
+    def set_interrupt(self, is_requested: bool) -> bool:
+        """Sets or clears Interrupt Status, and returns whether the device asserts its interrupt pin
+        now, like `Guest.set_interrupt`."""
+        guest, slot = self._taken()
+        return guest.set_interrupt(slot, is_requested)
 
     def _attached(self) -> Tuple[Attaching, Tuple[int, int]]:
         """Returns the machine and the seat. ValueError: the device has no machine or no seat."""

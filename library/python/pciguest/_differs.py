@@ -43,6 +43,15 @@ class Found(NamedTuple):
     #: by region, or None for configuration space, and by offset
     cells: Dict[Tuple[Optional[int], int], Cell]
 
+    def capabilities(self) -> List[Tuple[int, int]]:
+        """The Capability IDs and offsets of the declared list."""
+        found: List[Tuple[int, int]] = []
+        at = self.cells.get((None, 0x34), (0, 0, 0))[0]
+        while at >= 0x40 and len(found) < 48:
+            found.append((self.cells.get((None, at), (0, 0, 0))[0], at))
+            at = self.cells.get((None, at + 1), (0, 0, 0))[0]
+        return found
+
 
 def first_difference(cls: Type[Device], image: bytes, slot: int) -> Optional[Difference]:
     """The first field in which the function in a slot differs, by the image of its guest."""
@@ -55,8 +64,15 @@ def _fields(cls: Type[Device], found: Found) -> Iterator[Difference]:
         yield Difference(name, f"{getattr(cls, name):#x}", f"{value:#x}")
     for bar in range(6):
         yield Difference(f"bars[{bar}]", _bar(cls.bars.get(bar)), _bar(found.bars.get(bar)))
+    if cls._structures:
+        declared = [(each.structure.id, each.offset) for each in cls._structures]
+        yield Difference("capabilities", _list(declared), _list(found.capabilities()))
     for register in cls.registers:
         yield from _patterns(register, found)
+
+
+def _list(structures: List[Tuple[int, int]]) -> str:
+    return ", ".join(f"{id:02X}h at {offset:02X}h" for id, offset in structures) or "none"
 
 
 def _bar(bar: Optional[Tuple[str, int]]) -> str:

@@ -175,6 +175,38 @@ class Acting(Case):
         told = [("bell", 7), ("rings", "read"), ("far", "read"), ("own", 0xFF), ("port", 1)]
         self.assertEqual(self.device.told, told)
 
+    def test_what_happens_to_command_and_configuration_space(self):
+        told = []
+
+        class Listening(Doorbell):
+            def on_command(self, old, new):
+                told.append(("command", old, new, self.bus_master))
+
+            def on_config_write(self, offset, width, value):
+                told.append(("config", offset, width, value))
+
+            def on_write(self, register, value):
+                told.append((register.name, value))
+
+        with Machine(board(Listening)) as machine:
+            a = machine.guest("a")
+            machine.attach(a, 0, Listening())
+            a.config[0][4:2] = 0x0406
+            a.config[0][4:2] = 0x0406  # as it is
+            a.config[0].wide[2:8] = 0x112200021111  # Command becomes 2
+            a.io[0xCF8:4] = 0x80000004
+            a.io[0xCFC:1] = 0
+            a.config[0][0x40:4] = 0x12345678
+            a.config[0][0x10:4]
+            machine.run_line("a cw 0 5 1 4")
+            machine.run_line("a cw 1 4 2 4")
+            a.reset(0)
+        wanted = [("command", 0, 0x0406, True), ("config", 4, 2, 0x0406), ("config", 4, 2, 0x0406)]
+        wanted += [("command", 0x0406, 2, False), ("config", 2, 8, 0x112200021111)]
+        wanted += [("command", 2, 0, False), ("config", 4, 1, 0)]
+        wanted += [("config", 0x40, 4, 0x12345678), ("own", 0x12345678), ("command", 0, 0x0400, False), ("config", 5, 1, 4)]
+        self.assertEqual(told, wanted)
+
     def test_what_tells_nothing(self):
         quiet = ("a mw 0xe0000009 4 1", "a mr 0xe0000008 3", "a mw 0xe0000008 4", "a cw 32 0x40 1 1", "host ir 0x2010 2",
                  "a mr 0xe0000800 4", "a raise 0 bar0 0 1", "b mr 0xe0000008 4", "a cr 1 0x40 4", "x mr 0xe0000008 4",

@@ -1,6 +1,6 @@
-"""Tests whether a device may access its guest's memory, and the messages for MSI-X vectors, in each
-state of the four bits that decide and with arguments out of range. `tests/library/messages.c` tests
-the same in C."""
+"""Tests whether a device may access its guest's memory, the messages for MSI-X and MSI vectors, in
+each state of the bits that decide and with arguments out of range, and whether a function asserts
+its pin. `tests/library/messages.c` tests the same in C."""
 
 from boards import TOP, Case
 from pciguest import Device, Machine, Message, Register
@@ -75,8 +75,45 @@ class Messages(Case):
         self.refused(303, a.msix_message, 0, 0)
         a.device_write(0, 0x34, 0)  # no structure
         self.assertEqual(a.msix_message(0, 0), NONE)
-        self.refused(601, a.msix_message, 3, 0)
+        self.refused(601, a.msix_message, 5, 0)
         self.refused(303, a.msix_message, 32, 0)
+
+    def test_messages_of_msi(self):
+        a, both, plain = self.a, self.a.config[3], self.a.config[4]
+        self.assertEqual([a.msi_message(slot, 0) for slot in (0, 2, 3)], [NONE] * 3)
+        both[0x54:4], both[0x58:4], both[0x5C:2] = 0xFEE01003, 1, 0x4327
+        plain[0x54:4], plain[0x58:2] = 0xFEE02000, 0x4327
+        for bits in range(32):
+            enabled, masked, master, exponent = bits & 1, bool(bits & 2), bits & 4, bits >> 3
+            for config in both, plain:
+                config[0x52:2], config[COMMAND:2] = exponent << 4 | enabled, master
+            count = 1 << exponent
+            a.device_write(3, 0x60, masked << count - 1, width=4)
+            data = (0x4327 & ~(count - 1)) + count - 1
+            wanted = Message(0x1FEE01000, data, bool(enabled), masked, bool(enabled and master and not masked))
+            self.assertEqual(a.msi_message(3, count - 1), wanted, bin(bits))
+            wanted = Message(0xFEE02000, data, bool(enabled), False, bool(enabled and master))
+            self.assertEqual(a.msi_message(4, count - 1), wanted, bin(bits))
+            self.refused(303, a.msi_message, 3, count)
+        plain[0x52:1] = 0x71  # a reserved number of vectors
+        self.assertEqual(a.msi_message(4, 31).data, 0x433F)
+        self.refused(303, a.msi_message, 4, 32)
+        a.device_write(4, 0x34, 0xF8)
+        a.device_write(4, 0xF8, 5)
+        self.refused(303, a.msi_message, 4, 0)  # it extends past FFh
+        self.refused(601, a.msi_message, 5, 0)
+        self.refused(303, a.msi_message, 32, 0)
+        self.assertRaises(ValueError, a.msi_message, 0, -1)
+
+    def test_the_pin_is_asserted_in_one_of_sixteen_states(self):
+        a, config = self.a, self.a.config[3]
+        for bits in range(16):
+            requested, disabled, msi, msix = (bool(bits & bit) for bit in (1, 2, 4, 8))
+            config[COMMAND:2], config[0x52:1], config[0x72:2] = disabled << 10, msi, msix << 15
+            self.assertEqual((a.set_interrupt(3, requested), config[6:2]), (bits == 1, 0x10 | requested << 3), bits)
+        self.assertIs(a.set_interrupt(1, True), False)  # no pin
+        self.refused(601, a.set_interrupt, 5, True)
+        self.refused(303, a.set_interrupt, 32, True)
 
     def test_a_device_asks_for_itself(self):
         device = Sender()

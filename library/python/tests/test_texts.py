@@ -5,13 +5,14 @@ import json
 import unittest
 
 from boards import BOARDS, MAIN
-from pciguest import Machine, Refusal, Register, check, report, report_json, strerror
+from pciguest import Device, Machine, Msix, Power, Refusal, Register, check, report, report_json, strerror
 
 
 def load_tests(loader, tests, pattern):
     extra = {"BOARD": MAIN, "Machine": Machine, "Refusal": Refusal, "Register": Register}
+    extra |= {"Device": Device, "Msix": Msix, "Power": Power}
     for name in ("", "._board", "._device_side", "._devices", "._held", "._images", "._library", "._machine", "._recording",
-                 "._refusal", "._spaces", "._texts"):
+                 "._refusal", "._spaces", "._structures", "._texts"):
         tests.addTests(doctest.DocTestSuite("pciguest" + name, extraglobs=extra))
     return tests
 

@@ -2,11 +2,15 @@
 
 use crate::place::Part;
 use crate::prelude::*;
+use crate::structure::Structure;
 use core::fmt::Write;
 
 /// The patterns of a block in a board file, each with the bits that a register has in it.
 pub(crate) const PATTERNS: [(&str, BitsOf); 3] =
     [("reset", |it| it.reset), ("rw", |it| it.rw), ("w1c", |it| it.w1c)];
+
+/// Where the registers of a region end at the latest.
+const REGION_END: u64 = 0x1000;
 
 pub(crate) type BitsOf = fn(&Register) -> u64;
 
@@ -144,6 +148,8 @@ pub struct Declaration {
     interrupt_pin: u8,
     pub(crate) regions: [Option<(Kind, u64)>; 6],
     pub(crate) registers: Vec<Register>,
+    /// Those of the capability list, in its order.
+    pub(crate) structures: Vec<Structure>,
 }
 
 impl Declaration {
@@ -158,6 +164,7 @@ impl Declaration {
             interrupt_pin: 0,
             regions: [None; 6],
             registers: Vec::new(),
+            structures: Vec::new(),
         }
     }
 
@@ -193,19 +200,47 @@ impl Declaration {
     ///
     /// It stands outside of its region, its first 4096 bytes, or 40h to FFh, has a byte of another register, or a bit
     /// that is too high or both in `rw` and in `w1c`. A declaration never changes, so the first use of it finds that.
-    pub fn register(mut self, register: Register) -> Declaration {
-        let (first, end) = match register.part {
-            Part::Config => (0x40, 0x100),
+    pub fn register(self, register: Register) -> Declaration {
+        let met = self.structures.iter().find(|it| it.meets(register.offset, register.width));
+        let structure = met.filter(|_| register.part == Part::Config);
+        assert!(structure.is_none(), "{register:x?} meets {structure:x?}");
+        self.with(register)
+    }
+
+    /// The same with a structure of the capability list, after those that come before it in the list, and with its registers.
+    ///
+    /// # Panics
+    ///
+    /// It has a byte of another structure or of another register.
+    pub fn structure(mut self, structure: Structure) -> Declaration {
+        let Structure { offset, length, .. } = structure;
+        let is_free = !self.structures.iter().any(|it| it.meets(offset, length))
+            && !self.registers.iter().any(|it| it.is_touched(Part::Config, offset, length));
+        assert!(is_free, "{structure:x?} meets another structure or register");
+        self.structures.push(structure);
+        structure.registers().fold(self, Declaration::with)
+    }
+
+    /// The same with a register that may be one of a structure.
+    fn with(mut self, register: Register) -> Declaration {
+        let (first, end, size) = match register.part {
+            Part::Config => (0x40, 0x100, 0x100),
             Part::Region(at) => {
-                let size = self.regions.get(usize::from(at)).copied().flatten();
-                (0, size.map_or(0, |(_, size)| size.min(4096)))
+                let region = self.regions.get(usize::from(at)).copied().flatten();
+                let size = region.map_or(0, |(_, size)| size);
+                (0, size.min(REGION_END), size)
             }
         };
-        let stands_within = first <= register.offset && register.offset <= end;
+        let fits = |end| {
+            first <= register.offset
+                && register.offset <= end
+                && register.width <= end - register.offset
+        };
         assert!(
-            stands_within && register.width <= end - register.offset,
-            "{register:x?} stands outside of its part"
+            fits(end) || !fits(size),
+            "{register:x?} stands outside of the first {REGION_END:#x} bytes of its region, where alone registers can be"
         );
+        assert!(fits(end), "{register:x?} stands outside of its part");
         let bits = register.reset | register.rw | register.w1c;
         assert!(
             bits <= register.all_ones() && register.rw & register.w1c == 0,
@@ -243,38 +278,77 @@ impl Declaration {
         for (index, region) in self.regions.iter().enumerate() {
             if let Some((kind, size)) = region {
                 let head = format!("index = {index}, kind = \"{}\", size = {size:#x}", kind.word());
-                let block = self.block(Part::Region(index as u8), 0);
+                let part = Part::Region(index as u8);
+                let here: Vec<Register> =
+                    self.registers.iter().filter(|it| it.part == part).copied().collect();
+                let block = block(&here, 0, 0);
                 text += &format!("  {{ {head}{block} }},\n");
             }
         }
         text += "]\nconfig = [";
-        let own = self.registers.iter().filter(|it| it.part == Part::Config);
-        if let Some(first) = own.map(|it| it.offset).min() {
-            text += &format!(" {{ off = {first:#x}{} }} ", self.block(Part::Config, first));
-        }
-        text + "]\n"
-    }
-
-    /// The length of a block of cells of a part, from an offset on, and its patterns, where one has a bit.
-    fn block(&self, part: Part, first: u64) -> String {
-        let here = || self.registers.iter().filter(move |it| it.part == part);
-        let Some(end) = here().map(|it| it.offset + it.width).max() else {
-            return String::new();
-        };
-        let mut text = format!(", block = {}", end - first);
-        for (name, bits) in PATTERNS {
-            let mut cells = vec![0; (end - first) as usize];
-            for it in here() {
-                let at = (it.offset - first) as usize;
-                let width = it.width as usize;
-                cells[at..at + width].copy_from_slice(&bits(it).to_le_bytes()[..width]);
+        let blocks: Vec<String> = self.config_runs().iter().map(|run| config_block(run)).collect();
+        text += &blocks.join(",");
+        text += "]\n";
+        if !self.structures.is_empty() {
+            text += "capability = [\n";
+            for it in &self.structures {
+                let registers: Vec<Register> = it.registers().collect();
+                let block = block(&registers, it.offset + 2, it.offset + it.length);
+                text += &format!("  {{ id = {:#04x}, off = {:#x}{block} }},\n", it.id, it.offset);
             }
-            if cells.iter().any(|&cell| cell != 0) {
-                text += &format!(", {name} = \"{}\"", in_hex(period(&cells)));
-            }
+            text += "]\n";
         }
         text
     }
+
+    /// The registers of configuration space that belong to no structure, by their offsets: in one run, or in more where
+    /// structures are between them.
+    fn config_runs(&self) -> Vec<Vec<Register>> {
+        let is_own = |it: &&Register| {
+            let within = |structure: &Structure| structure.meets(it.offset, it.width);
+            it.part == Part::Config && !self.structures.iter().any(within)
+        };
+        let mut own: Vec<Register> = self.registers.iter().filter(is_own).copied().collect();
+        own.sort_by_key(Register::place);
+        let mut runs: Vec<Vec<Register>> = Vec::new();
+        for it in own {
+            let last = runs.last_mut().filter(|run| {
+                let from = run[0].offset;
+                !self.structures.iter().any(|other| other.meets(from, it.offset - from))
+            });
+            match last {
+                Some(run) => run.push(it),
+                None => runs.push(vec![it]),
+            }
+        }
+        runs
+    }
+}
+
+fn config_block(run: &[Register]) -> String {
+    let first = run[0].offset;
+    format!(" {{ off = {first:#x}{} }} ", block(run, first, first))
+}
+
+/// The length of a block of cells from an offset on, up to `end` at least, and its patterns, where one has a bit.
+fn block(registers: &[Register], first: u64, end: u64) -> String {
+    let end = registers.iter().map(|it| it.offset + it.width).max().unwrap_or(end).max(end);
+    if end == first {
+        return String::new();
+    }
+    let mut text = format!(", block = {}", end - first);
+    for (name, bits) in PATTERNS {
+        let mut cells = vec![0; (end - first) as usize];
+        for it in registers {
+            let at = (it.offset - first) as usize;
+            let width = it.width as usize;
+            cells[at..at + width].copy_from_slice(&bits(it).to_le_bytes()[..width]);
+        }
+        if cells.iter().any(|&cell| cell != 0) {
+            text += &format!(", {name} = \"{}\"", in_hex(period(&cells)));
+        }
+    }
+    text
 }
 
 /// The shortest beginning that, repeated, makes the cells: what stands before the longest end that they begin with too.

@@ -77,6 +77,20 @@ pub trait DeviceModel: Send {
         let _ = (registers, register);
     }
 
+    /// Its guest changed Command by a write. Bit 0 enables I/O space, bit 1 memory space, bit 2 is Bus Master, and bit 10
+    /// Interrupt Disable. A reset, a move and a load may change Command too; they have calls of their own.
+    fn on_command(&mut self, registers: &mut Registers<'_>, old: u16, new: u16) {
+        let _ = (registers, old, new);
+    }
+
+    /// Its guest wrote bytes of its configuration space, whichever registers these are. Called after
+    /// [`on_command`](DeviceModel::on_command), and before [`on_write`](DeviceModel::on_write).
+    fn on_config_write(
+        &mut self, registers: &mut Registers<'_>, offset: u64, width: u32, value: u64,
+    ) {
+        let _ = (registers, offset, width, value);
+    }
+
     /// Its function was reset where it is, by [`Machine::reset`](crate::Machine::reset) or
     /// [`reset_guest`](crate::Machine::reset_guest).
     fn on_reset(&mut self, registers: &mut Registers<'_>) {
@@ -137,6 +151,18 @@ macro_rules! device_behind {
             fn before_read(&mut self, registers: &mut Registers<'_>, register: Register) {
                 let $it = self;
                 $device.before_read(registers, register)
+            }
+
+            fn on_command(&mut self, registers: &mut Registers<'_>, old: u16, new: u16) {
+                let $it = self;
+                $device.on_command(registers, old, new)
+            }
+
+            fn on_config_write(
+                &mut self, registers: &mut Registers<'_>, offset: u64, width: u32, value: u64,
+            ) {
+                let $it = self;
+                $device.on_config_write(registers, offset, width, value)
             }
 
             fn on_reset(&mut self, registers: &mut Registers<'_>) {

@@ -18,16 +18,18 @@ pub struct Capability {
     pub offset: u64,
 }
 
-/// The message (a 4-byte write to memory) that a function sends for a vector of its MSI-X table,
-/// and whether the function may send it now. [`Machine::msix_message`] returns it. If `is_enabled`
-/// is true and `can_be_sent` is false, the function keeps the message pending.
+/// The message (a 4-byte write to memory) that a function sends for an MSI-X or MSI vector, and
+/// whether the function may send it now. [`Machine::msix_message`] and [`Machine::msi_message`]
+/// return it. If `is_enabled` is true and `can_be_sent` is false, the function keeps the message
+/// pending. A function may use its interrupt pin only while both MSI Enable and MSI-X Enable are
+/// clear.
 #[derive(Clone, Copy, Debug, Default, PartialEq, Eq)]
 pub struct Message {
     /// Where the message is written.
     pub address: u64,
     /// What is written.
     pub data: u32,
-    /// Whether MSI-X Enable is set. If it isn't, the function uses its interrupt pin.
+    /// Whether MSI-X Enable (or, for MSI, MSI Enable) is set.
     pub is_enabled: bool,
     /// Whether Function Mask or the vector's own mask bit is set.
     pub is_masked: bool,
@@ -35,7 +37,8 @@ pub struct Message {
     pub can_be_sent: bool,
 }
 
-/// The Capability ID of MSI-X.
+/// The Capability IDs of MSI and MSI-X.
+const MSI: u8 = 0x05;
 const MSIX: u8 = 0x11;
 
 /// The function in a guest's slot, as its device reads it.
@@ -103,16 +106,64 @@ impl DeviceSide<'_> {
         Ok(None)
     }
 
-    fn bus_master(&mut self) -> Result<bool, Error> {
+    /// Reads configuration space as the guest does.
+    fn config(&mut self, offset: u64, width: u32) -> Result<u32, Error> {
         let (guest, slot) = (self.guest, self.slot);
         // SAFETY: `value` is a place of its own.
-        let command = valued(|value| unsafe {
-            raw::pciguest_read(self.handle, guest, raw::CONFIG, slot, 0x04, 2, value)
-        })?;
+        valued(|value| unsafe {
+            raw::pciguest_read(self.handle, guest, raw::CONFIG, slot, offset, width, value)
+        })
+    }
+
+    fn command(&mut self) -> Result<u32, Error> {
+        let command = self.config(0x04, 2)?;
         if command == 0xffff {
             answered(raw::EMPTY_SLOT)?; // nothing responds, since Command has fewer bits
         }
-        Ok(command & 0x4 != 0)
+        Ok(command)
+    }
+
+    fn bus_master(&mut self) -> Result<bool, Error> {
+        Ok(self.command()? & 0x4 != 0)
+    }
+
+    fn msi_message(&mut self, vector: u32) -> Result<Message, Error> {
+        let is_master = self.bus_master()?;
+        let Some(offset) = self.find(MSI)? else {
+            return Ok(Message::default());
+        };
+        let control = self.read(Part::Config, offset + 2, 2)?;
+        let allocated = 1 << (control >> 4 & 7).min(5); // 6 and 7 are reserved
+        if vector >= allocated {
+            answered(raw::OUT_OF_RANGE)?;
+        }
+        // an address of 64 bits moves what follows it
+        let half = if control & 0x80 != 0 { 4 } else { 0 };
+        let address = self.read(Part::Config, offset + 4, 4 + half)?;
+        let half = u64::from(half);
+        let data = self.read(Part::Config, offset + 8 + half, 2)? as u32;
+        let has_masks = control & 0x100 != 0;
+        let masks = if has_masks { self.read(Part::Config, offset + 12 + half, 4)? } else { 0 };
+        let (is_enabled, is_masked) = (control & 1 != 0, masks >> vector & 1 != 0);
+        let can_be_sent = is_master && is_enabled && !is_masked;
+        let data = data & !(allocated - 1) | vector;
+        Ok(Message { address, data, is_enabled, is_masked, can_be_sent })
+    }
+
+    /// Whether a bit of a byte of a structure is set, if the function has the structure.
+    fn has_bit(&mut self, id: u8, at: u64, bit: u64) -> Result<bool, Error> {
+        Ok(match self.find(id)? {
+            Some(offset) => self.read(Part::Config, offset + at, 1)? & bit != 0,
+            None => false,
+        })
+    }
+
+    fn set_interrupt(&mut self, is_requested: bool) -> Result<bool, Error> {
+        let (command, pin) = (self.command()?, self.config(0x3d, 1)?);
+        let status = self.read(Part::Config, 0x06, 1)? & !0x08;
+        let is_enabled = self.has_bit(MSI, 2, 0x01)? | self.has_bit(MSIX, 3, 0x80)?;
+        self.write(Part::Config, 0x06, 1, status | u64::from(is_requested) << 3)?;
+        Ok(is_requested && pin != 0 && command & 0x400 == 0 && !is_enabled)
     }
 
     fn msix_message(&mut self, vector: u32) -> Result<Message, Error> {
@@ -199,6 +250,50 @@ impl Machine {
     pub fn msix_message(&mut self, guest: Guest, slot: u64, vector: u32) -> Result<Message, Error> {
         DeviceSide::of(&mut self.handle, guest, slot).msix_message(vector)
     }
+
+    /// Returns the message that the function in a guest's slot sends for an MSI vector, and whether
+    /// the function may send it now (PCI Local Bus 3.0, 6.8.1). Vectors are counted from 0. The low
+    /// bits of the data are the vector, as many bits as Multiple Message Enable says. `is_masked`
+    /// can be true only if the structure has mask bits. If the function has no MSI structure, all
+    /// fields are 0 or false. A device model repeats the call when the guest has written Command or
+    /// the structure. Changes nothing.
+    ///
+    /// # Errors
+    ///
+    /// 303: the slot is above 31, the driver hasn't allocated the vector (vector 0 is always
+    /// allocated), or the structure extends past FFh. 601: the slot is empty. 902: there is no such
+    /// guest.
+    pub fn msi_message(&mut self, guest: Guest, slot: u64, vector: u32) -> Result<Message, Error> {
+        DeviceSide::of(&mut self.handle, guest, slot).msi_message(vector)
+    }
+
+    /// Sets or clears Interrupt Status, bit 3 of Status, of the function in a guest's slot, and
+    /// returns whether the function asserts its interrupt pin now (PCI Local Bus 3.0, 6.2.2, 6.2.3
+    /// and 6.8.1.3): the bit is set, the function has a pin, the guest's own Command doesn't set
+    /// Interrupt Disable, and both MSI Enable and MSI-X Enable are clear. A device model sets the
+    /// bit while it requests an interrupt, and repeats the call with the same value after a guest
+    /// write to Command or to the capability list, and after a load.
+    ///
+    /// # Errors
+    ///
+    /// 303: the slot is above 31, or a structure of the capability list extends past FFh. 601: the
+    /// slot is empty. 902: there is no such guest.
+    ///
+    /// ```
+    /// # const BOARD: &str = include_str!("board.toml");
+    /// use pciguest::{At, Machine};
+    ///
+    /// let mut machine = Machine::new(BOARD)?;
+    /// let a = machine.guest("a")?;
+    /// assert!(!machine.set_interrupt(a, 0, true)?); // the function has no pin
+    /// assert_eq!(machine.read(a, At::Config { slot: 0, offset: 6 }, 2)? & 8, 8);
+    /// # Ok::<(), pciguest::Error>(())
+    /// ```
+    pub fn set_interrupt(
+        &mut self, guest: Guest, slot: u64, is_requested: bool,
+    ) -> Result<bool, Error> {
+        DeviceSide::of(&mut self.handle, guest, slot).set_interrupt(is_requested)
+    }
 }
 
 impl Registers<'_> {
@@ -217,5 +312,31 @@ impl Registers<'_> {
     /// 303: the MSI-X table has no such vector, or isn't in a region of the function.
     pub fn msix_message(&mut self, vector: u32) -> Result<Message, Error> {
         DeviceSide::of(self.handle, self.guest, self.slot).msix_message(vector)
+    }
+
+    /// Returns the message for an MSI vector, and whether the device may send it now, as
+    /// [`Machine::msi_message`] does.
+    ///
+    /// # Errors
+    ///
+    /// 303: the driver hasn't allocated the vector, or the structure extends past FFh.
+    pub fn msi_message(&mut self, vector: u32) -> Result<Message, Error> {
+        DeviceSide::of(self.handle, self.guest, self.slot).msi_message(vector)
+    }
+
+    /// Sets or clears Interrupt Status, and returns whether the device asserts its interrupt pin
+    /// now, as [`Machine::set_interrupt`] does.
+    ///
+    /// # Errors
+    ///
+    /// 303: a structure of the capability list extends past FFh.
+    pub fn set_interrupt(&mut self, is_requested: bool) -> Result<bool, Error> {
+        DeviceSide::of(self.handle, self.guest, self.slot).set_interrupt(is_requested)
+    }
+
+    /// Command as the guest has it.
+    pub(crate) fn command(&mut self) -> Result<u16, Error> {
+        let command = DeviceSide::of(self.handle, self.guest, self.slot).command();
+        command.map(|command| command as u16)
     }
 }

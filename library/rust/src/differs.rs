@@ -62,7 +62,9 @@ pub(crate) fn first_difference(
     let regions = (0..6).find_map(|at| region(device, &function, at));
     let mut registers: Vec<&Register> = device.registers.iter().collect();
     registers.sort_by_key(|it| it.place());
-    regions.or_else(|| registers.into_iter().find_map(|it| register(it, &function)))
+    regions
+        .or_else(|| capabilities(device, &function))
+        .or_else(|| registers.into_iter().find_map(|it| register(it, &function)))
 }
 
 fn differs(field: &str, declared: String, found: String) -> Option<Difference> {
@@ -78,6 +80,24 @@ fn region(device: &Declaration, function: &Declared, at: usize) -> Option<Differ
     let declared = device.regions[at].map(|(kind, size)| (kind.word(), size));
     let found = function.regions[at].map(|(kind, size)| (Kind::word_of(kind), size));
     differs(&format!("region {at}"), told(declared), told(found))
+}
+
+/// In what the capability list differs, if the device declares one.
+fn capabilities(device: &Declaration, function: &Declared) -> Option<Difference> {
+    let told = |list: Vec<(u8, u64)>| {
+        let texts: Vec<String> =
+            list.iter().map(|(id, offset)| format!("{id:02X}h at {offset:02X}h")).collect();
+        if texts.is_empty() {
+            "none".into()
+        } else {
+            texts.join(", ")
+        }
+    };
+    let declared: Vec<(u8, u64)> = device.structures.iter().map(|it| (it.id, it.offset)).collect();
+    if declared.is_empty() {
+        return None;
+    }
+    differs("capabilities", told(declared), told(function.capabilities()))
 }
 
 /// In what a register differs: a byte of it has no cell, or a pattern is another one.
@@ -101,6 +121,17 @@ fn register(it: &Register, function: &Declared) -> Option<Difference> {
 }
 
 impl Declared {
+    /// The Capability IDs and offsets of the declared list.
+    fn capabilities(&self) -> Vec<(u8, u64)> {
+        let byte = |offset| self.cell(Part::Config, offset).map_or(0, |cell| cell[0]);
+        let (mut list, mut at) = (Vec::new(), u64::from(byte(0x34)));
+        while at >= 0x40 && list.len() < 48 {
+            list.push((byte(at), at));
+            at = byte(at + 1).into();
+        }
+        list
+    }
+
     fn cell(&self, part: Part, offset: u64) -> Option<Cell> {
         self.blocks.iter().find_map(|(of, first, cells)| {
             let at = (*of == part).then(|| offset.checked_sub(*first))??;

@@ -80,6 +80,7 @@ mod machine;
 mod moved;
 mod place;
 mod region;
+mod structure;
 mod text;
 mod touch;
 mod wide;
@@ -99,6 +100,7 @@ pub use limits::{limits, Limits};
 pub use machine::Machine;
 pub use moved::{Moved, Places};
 pub use place::{At, Guest, Hit, HostAt, Part, Region, Space};
+pub use structure::Structure;
 pub use text::{check, report, report_json, strerror, version, Check};
 
 #[cfg(feature = "std")]

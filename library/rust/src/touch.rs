@@ -13,6 +13,8 @@ pub(crate) struct Touch {
     hit: Hit,
     width: u64,
     value: u64,
+    /// Command before the access, where it touches that.
+    command: Option<u16>,
 }
 
 impl Machine {
@@ -58,7 +60,14 @@ impl Machine {
         let hit = self.locate(guest, at).ok()??;
         let device = self.device_at(guest, hit.slot)?;
         let (width, value) = (u64::from(width), u64::from(value));
-        Some(Touch { device, hit, width, value })
+        let is_command = hit.part == Part::Config && hit.offset < 6 && hit.offset + width > 4;
+        let command = if is_command { self.command_of(device) } else { None };
+        Some(Touch { device, hit, width, value, command })
+    }
+
+    /// Command as the guest of a device has it.
+    fn command_of(&mut self, device: usize) -> Option<u16> {
+        self.lent(device)?.command().ok()
     }
 
     /// What an access of a region that isn't refused touches of a device, if the region is open and one is there.
@@ -71,14 +80,31 @@ impl Machine {
         };
         let region = self.region(guest, hit.slot, u32::from(register)).ok()?;
         let width = u64::from(width);
-        region.is_open.then_some(Touch { device, hit, width, value })
+        region.is_open.then_some(Touch { device, hit, width, value, command: None })
     }
 
     /// Tells devices of an access that was done, each once for each of its registers.
     pub(crate) fn tell_written(&mut self, touched: impl IntoIterator<Item = Touch>) {
         let touched: Vec<Touch> = touched.into_iter().collect();
-        for (device, register, value) in self.told_by(&touched) {
+        let told = self.told_by(&touched);
+        self.tell_command(&touched);
+        for (device, offset, width, value) in config_writes(&touched) {
+            self.act(device, |model, registers| {
+                model.on_config_write(registers, offset, width, value);
+            });
+        }
+        for (device, register, value) in told {
             self.act(device, |model, registers| model.on_write(registers, register, value));
+        }
+    }
+
+    /// Tells devices whose Command an access changed: what it was before the first write to it, and what it is.
+    fn tell_command(&mut self, touched: &[Touch]) {
+        for device in 0..self.devices.len() {
+            let before = touched.iter().filter(|it| it.device == device).find_map(|it| it.command);
+            let Some(old) = before else { continue };
+            let Some(new) = self.command_of(device).filter(|&new| new != old) else { continue };
+            self.act(device, |model, registers| model.on_command(registers, old, new));
         }
     }
 
@@ -103,6 +129,25 @@ impl Machine {
         }
         told
     }
+}
+
+/// The bytes of configuration space that an access writes: each run with its device, its first offset, its width and what
+/// was written.
+fn config_writes(touched: &[Touch]) -> Vec<(usize, u64, u32, u64)> {
+    let mut runs: Vec<(usize, u64, u32, u64)> = Vec::new();
+    for it in touched.iter().filter(|it| it.hit.part == Part::Config) {
+        let bits = it.value & (u64::MAX >> (64 - 8 * it.width));
+        match runs.last_mut() {
+            Some((device, first, width, value))
+                if *device == it.device && *first + u64::from(*width) == it.hit.offset =>
+            {
+                *value |= bits << (8 * *width);
+                *width += it.width as u32;
+            }
+            _ => runs.push((it.device, it.hit.offset, it.width as u32, bits)),
+        }
+    }
+    runs
 }
 
 impl Touch {

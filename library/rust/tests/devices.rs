@@ -2,9 +2,10 @@
 
 mod doorbell;
 
-use doorbell::{memory, Case, BELL, FAR, LONG, MORE, OWN, PORT, RINGS, STATUS};
-use pciguest::{At, Declaration, Error, Kind, Register};
+use doorbell::{memory, Case, Doorbell, BELL, FAR, LONG, MORE, OWN, PORT, RINGS, STATUS};
+use pciguest::{At, Declaration, DeviceModel, Error, Kind, Register, Registers};
 use std::panic::{catch_unwind, set_hook, take_hook};
+use std::sync::{Arc, Mutex};
 
 fn config(offset: u64) -> At {
     At::Config { slot: 0, offset }
@@ -219,5 +220,60 @@ fn a_device_goes_with_its_function() -> Result<(), Error> {
     case.machine.give("1.0", a, 9)?;
     assert_eq!(case.machine.registers(a, 9)?.get(RINGS), 0);
     assert_eq!(case.machine.registers(a, 1).unwrap_err().number(), 902); // no device
+    Ok(())
+}
+
+/// Keeps what happens to Command and to configuration space.
+#[derive(Default)]
+struct Listening(Vec<String>);
+
+impl DeviceModel for Listening {
+    fn declaration(&self) -> Declaration {
+        Doorbell::default().declaration()
+    }
+
+    fn on_command(&mut self, registers: &mut Registers<'_>, old: u16, new: u16) {
+        self.0.push(format!("command {old:x} {new:x} {}", registers.bus_master()));
+    }
+
+    fn on_config_write(&mut self, _: &mut Registers<'_>, offset: u64, width: u32, value: u64) {
+        self.0.push(format!("config {offset:x} {width} {value:x}"));
+    }
+
+    fn on_write(&mut self, _: &mut Registers<'_>, _: Register, value: u64) {
+        self.0.push(format!("register {value:x}"));
+    }
+}
+
+#[test]
+fn commands_and_configuration_writes_are_told() -> Result<(), Error> {
+    let mut case = Case::new();
+    let (a, device) = (case.a, Arc::<Mutex<Listening>>::default());
+    case.machine.attach(a, 1, Arc::clone(&device)).expect("a device");
+    let at = |offset| At::Config { slot: 1, offset };
+    case.write(at(4), 2, 0x0406);
+    case.write(at(4), 2, 0x0406); // as it is
+    case.machine.write_wide(a, at(2), 8, 0x1122_0002_1111)?; // Command becomes 2
+    case.write(At::Io { port: 0xcf8 }, 4, 0x8000_0804);
+    case.write(At::Io { port: 0xcfc }, 1, 0);
+    case.write(at(0x40), 4, 0x1234_5678);
+    case.read(at(0x10), 4);
+    case.machine.run_line("a cw 1 5 1 4")?;
+    case.machine.run_line("a cw 0 4 2 4")?; // another's
+    case.machine.reset(a, 1)?;
+    let wanted = [
+        "command 0 406 true",
+        "config 4 2 406",
+        "config 4 2 406",
+        "command 406 2 false",
+        "config 2 8 112200021111",
+        "command 2 0 false",
+        "config 4 1 0",
+        "config 40 4 12345678",
+        "register 12345678",
+        "command 0 400 false",
+        "config 5 1 4",
+    ];
+    assert_eq!(device.lock().unwrap().0, wanted);
     Ok(())
 }

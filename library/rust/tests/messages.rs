@@ -88,9 +88,70 @@ fn vectors_out_of_range() -> Result<(), Error> {
     machine.device_write(a, 0, Part::Config, 0xfc, 0x09)?;
     machine.device_write(a, 0, Part::Config, 0xfd, 0xfc)?; // a loop
     assert_eq!(machine.msix_message(a, 0, 0)?, Message::default());
-    assert_eq!(number(machine.msix_message(a, 3, 0)), 601);
+    assert_eq!(number(machine.msix_message(a, 5, 0)), 601);
     assert_eq!(number(machine.msix_message(a, 32, 0)), 303);
     assert_eq!(number(machine.msix_message(Guest::of_index(2), 0, 0)), 902);
+    Ok(())
+}
+
+#[test]
+fn messages_of_msi() -> Result<(), Error> {
+    let (mut machine, a, _) = start(BOARD)?;
+    let at = |slot, offset| At::Config { slot, offset };
+    for (slot, offset, width, value) in [
+        (3, 0x54, 4, 0xfee0_1003),
+        (3, 0x58, 4, 1),
+        (3, 0x5c, 2, 0x4327),
+        (4, 0x54, 4, 0xfee0_2000),
+        (4, 0x58, 2, 0x4327),
+    ] {
+        assert_eq!(machine.msi_message(a, slot - 3, 0)?, Message::default());
+        machine.write(a, at(slot, offset), width, value)?;
+    }
+    for bits in 0..32u32 {
+        let [is_enabled, is_masked, is_master] = [1, 2, 4].map(|bit| bits & bit != 0);
+        let (exponent, count) = (bits >> 3, 1 << (bits >> 3));
+        for slot in [3, 4] {
+            machine.write(a, at(slot, 0x52), 2, exponent << 4 | u32::from(is_enabled))?;
+            machine.write(a, at(slot, COMMAND), 2, u32::from(is_master) << 2)?;
+        }
+        let mask = u64::from(is_masked) << (count - 1);
+        machine.device_write_wide(a, 3, Part::Config, 0x60, 4, mask)?;
+        let data = (0x4327 & !(count - 1)) + count - 1;
+        let can_be_sent = is_enabled && is_master;
+        let plain =
+            Message { address: 0xfee0_2000, data, is_enabled, is_masked: false, can_be_sent };
+        assert_eq!(machine.msi_message(a, 4, count - 1)?, plain, "{bits:05b}");
+        let can_be_sent = can_be_sent && !is_masked;
+        let both = Message { address: 0x1_fee0_1000, is_masked, can_be_sent, ..plain };
+        assert_eq!(machine.msi_message(a, 3, count - 1)?, both, "{bits:05b}");
+        assert_eq!(number(machine.msi_message(a, 3, count)), 303);
+    }
+    machine.write(a, at(4, 0x52), 1, 0x71)?; // a reserved number of vectors
+    assert_eq!(machine.msi_message(a, 4, 31)?.data, 0x433f);
+    assert_eq!(number(machine.msi_message(a, 4, 32)), 303);
+    assert_eq!(number(machine.msi_message(a, 5, 0)), 601);
+    assert_eq!(number(machine.msi_message(a, 32, 0)), 303);
+    assert_eq!(number(machine.msi_message(Guest::of_index(2), 0, 0)), 902);
+    Ok(())
+}
+
+#[test]
+fn the_pin_is_asserted_in_one_of_sixteen_states() -> Result<(), Error> {
+    let (mut machine, a, _) = start(BOARD)?;
+    let at = |offset| At::Config { slot: 3, offset };
+    for bits in 0..16u32 {
+        let [is_requested, disabled, msi, msix] = [1, 2, 4, 8].map(|bit| bits & bit != 0);
+        machine.write(a, at(COMMAND), 2, u32::from(disabled) << 10)?;
+        machine.write(a, at(0x52), 1, u32::from(msi))?;
+        machine.write(a, at(0x72), 2, u32::from(msix) << 15)?;
+        assert_eq!(machine.set_interrupt(a, 3, is_requested)?, bits == 1, "{bits:04b}");
+        assert_eq!(machine.read(a, at(6), 2)?, 0x10 | u32::from(is_requested) << 3);
+    }
+    assert!(!machine.set_interrupt(a, 1, true)?); // no pin
+    assert_eq!(number(machine.set_interrupt(a, 5, true)), 601);
+    assert_eq!(number(machine.set_interrupt(a, 32, true)), 303);
+    assert_eq!(number(machine.set_interrupt(Guest::of_index(2), 0, true)), 902);
     Ok(())
 }
 

@@ -18,8 +18,13 @@ const LENGTH: Register = Register::in_region(0, 0x08, 4).rw(0xffff);
 const PRINT: Register = Register::in_region(0, 0x0c, 4);
 const PRINTED: Register = Register::in_region(0, 0x10, 4);
 
-/// A printer, which reaches RAM as a device that masters the bus does: pciguest itself has no part in that.
-struct Printer(GuestMemoryMmap);
+/// The RAM of each guest, by the guest's index.
+type Memories = Arc<Vec<GuestMemoryMmap>>;
+
+/// A printer, which reaches RAM as a device that masters the bus does: pciguest itself has no part in that. Its function can
+/// move to another guest, so it looks for the RAM of the guest that has it each time, and only while that guest has set Bus
+/// Master.
+struct Printer(Memories);
 
 impl DeviceModel for Printer {
     fn declaration(&self) -> Declaration {
@@ -28,12 +33,13 @@ impl DeviceModel for Printer {
     }
 
     fn on_write(&mut self, registers: &mut Registers<'_>, register: Register, _: u64) {
-        if register != PRINT {
+        if register != PRINT || !registers.bus_master() {
             return;
         }
+        let ram = &self.0[registers.guest().index()];
         let mut message = vec![0; registers.get(LENGTH) as usize];
         let address = GuestAddress(registers.get(ADDRESS));
-        if self.0.read_slice(&mut message, address).is_ok() {
+        if ram.read_slice(&mut message, address).is_ok() {
             println!("printer: {}", String::from_utf8_lossy(&message));
             let printed = registers.get(PRINTED);
             registers.set(PRINTED, printed + 1);
@@ -136,24 +142,35 @@ fn nobody(access: Access<'_>) {
     }
 }
 
+fn configure(buses: &mut Buses, register: u32, value: u32) {
+    buses.port(0xcf8, Access::Write(&(0x8000_0000 | register).to_le_bytes()));
+    buses.port(0xcfc, Access::Write(&value.to_le_bytes()));
+}
+
 /// The driver: it finds the printer and places its region, leaves a message in RAM, has it printed, and tells by the serial
-/// port how many were.
+/// port how many were. The printer does nothing as long as the driver hasn't set Bus Master.
 fn drive(buses: &mut Buses, ram: &GuestMemoryMmap) -> Result<(), vm_memory::GuestMemoryError> {
+    const MEMORY: u32 = 2;
+    const MASTER: u32 = 4;
     let message = b"read from RAM by the device";
     ram.write_slice(message, GuestAddress(0x1000))?;
-    for (register, value) in [(0x10, 0xe000_0000), (0x04, 2)] {
-        buses.port(0xcf8, Access::Write(&(0x8000_0000u32 | register).to_le_bytes()));
-        buses.port(0xcfc, Access::Write(&u32::to_le_bytes(value)));
+    configure(buses, 0x10, 0xe000_0000);
+    for command in [MEMORY, MEMORY | MASTER] {
+        configure(buses, 0x04, command);
+        print(buses, message.len() as u32);
     }
+    Ok(())
+}
+
+fn print(buses: &mut Buses, length: u32) {
     buses.mmio(0xe000_0000, Access::Write(&0x1000u64.to_le_bytes()));
-    buses.mmio(0xe000_0008, Access::Write(&(message.len() as u32).to_le_bytes()));
+    buses.mmio(0xe000_0008, Access::Write(&length.to_le_bytes()));
     buses.mmio(0xe000_000c, Access::Write(&[1, 0, 0, 0]));
     let mut printed = [0; 4];
     buses.mmio(0xe000_0010, Access::Read(&mut printed));
     for byte in format!("serial: {} printed\n", u32::from_le_bytes(printed)).bytes() {
         buses.port(0x3f8, Access::Write(&[byte]));
     }
-    Ok(())
 }
 
 /// The board of the printer's own declaration, with guest a.
@@ -171,7 +188,7 @@ fn board(printer: Printer) -> Result<(Machine, Guest), Error> {
 fn main() -> Result<(), Box<dyn std::error::Error>> {
     let ram = GuestMemoryMmap::<()>::from_ranges(&[(GuestAddress(0), 1 << 20)])
         .map_err(|error| error.to_string())?;
-    let (machine, a) = board(Printer(ram.clone()))?;
+    let (machine, a) = board(Printer(Arc::new(vec![ram.clone()])))?;
     drive(&mut Buses::new(machine, a), &ram)?;
     Ok(())
 }
