@@ -95,7 +95,7 @@ export class Console {
       this.mark_word(row.firstChild, line, bad?.word);
     }
     this.follow_line(line, reply);
-    this.heard(reply);
+    this.heard(line, reply);
     return reply;
   }
 

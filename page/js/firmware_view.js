@@ -100,7 +100,7 @@ export class Firmware {
 
   // The first device that answers on bus 0, of a board without a report.
   first_place() {
-    const places = Array.from({ length: 16 }, (_, device) => `00:${two_digits(device)}.0`);
+    const places = Array.from({ length: 32 }, (_, device) => `00:${two_digits(device)}.0`);
     return places.find(place => this.driven.number(`host cr ${place} 0 4`) !== 0xffffffffn) ?? places[0];
   }
 }

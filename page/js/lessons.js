@@ -1,4 +1,4 @@
-// Tasks: each a board, a state and a goal. Eight stand in the page, and a link may bring another one.
+// Tasks: each a board, a state and a goal. The lessons are in the page, and a link may bring another one.
 
 import { Goals } from './goals.js';
 import { LessonView } from './lesson_view.js';
@@ -34,7 +34,8 @@ class Progress {
 
 export class Lessons {
   // `tasks` are those of the page. `page` has `open`, which shows a board as somebody from a beginning on; `held`, which
-  // gives what answers lines; `guests`, their names; `move_live`, which loads a guest of another board; and `lacks`, the problems and the lacks of the board's registers.
+  // gives what answers lines; `guests`, their names; `move_live`, which loads a guest of another board; `lacks`, the problems and the lacks of the board's registers;
+  // and `functions`, with their numbers as they are now.
   constructor(parts, tasks, page) {
     Object.assign(this, { tasks, page, progress: new Progress(), task: null, part: 0, goals: null, key: '', opening: false });
     this.view = new LessonView(parts, tasks, {
@@ -85,7 +86,13 @@ export class Lessons {
     this.view.close(told);
   }
 
-  hear(reply) { if (!this.opening) this.goals?.hear(reply, this.page.held(), () => this.page.lacks()); }
+  // Whether a goal of somebody's holds on the board as it is.
+  is_met(goal, as) {
+    const held = this.page.held();
+    return held !== null && new Goals(goal, as).look(held, () => this.page.lacks()).every(one => one.met);
+  }
+
+  hear(line, reply) { if (!this.opening) this.goals?.hear(line, reply, this.page.held(), { lacks: () => this.page.lacks(), functions: this.page.functions() }); }
 
   // After lines that ran: what is done of the goal.
   look() {

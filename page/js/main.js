@@ -63,13 +63,13 @@ const guest_registers = new GuestRegisters(part, registers, board, give);
 const firmware = new Firmware(part, board, addresses, registers, light, give);
 const box = new ScriptBox(part, known, follow_register);
 const script_console = new Console(part, box,
-  { machine: answers, whose, moved, heard: reply => lessons.hear(reply), begins, ran, question });
+  { machine: answers, whose, moved, heard: (line, reply) => lessons.hear(line, reply), begins, ran, question });
 const lacks = () => (firmware.now === null ? ['only firmware can ask'] : [...firmware.now.problems, ...firmware.now.lacks].map(one => with_numbers(one.text, functions_now())));
-const lessons = new Lessons(part, TASKS, { open: open_task, move_live, held: answers, guests, left: set_up, lacks });
+const lessons = new Lessons(part, TASKS, { open: open_task, move_live, held: answers, guests, left: set_up, lacks, functions: () => functions_now() });
 const shown = () => ({ board: part.board.value, as });
 const file_view = new FileView(part, { changed: set_up, tell: (...words) => keeper.tell(...words) });
 const keeper = new Keeper(part, { held, as_it_is, is_refused: () => answers() === null, open: open_beginning, begin_task: task => lessons.take_up(task), run: text => scripts.run(text) });
-new TaskForm(part, { shown: () => ({ ...whose(), ...shown() }), with_lines, as_it_is, save: made => keeper.save(made) });
+new TaskForm(part, { shown: () => ({ ...whose(), ...shown() }), is_met: goal => lessons.is_met(goal, as), with_lines, as_it_is, save: made => keeper.save(made) });
 // The width up to which guests' registers begin folded, and what a file is refused by that is no TOML.
 const NARROW = 640, NOT_TOML = 101;
 let following = false, unseen = false, has_moved = false, has_marks = false, wired = null, sent = null;

@@ -3,6 +3,7 @@ import shutil
 import tomllib
 
 import browse_boards
+import browse_conditions
 import browse_firmware
 import browse_lecture
 import browse_names
@@ -141,7 +142,8 @@ def a_teacher_hands_out(browser, page):
     browser.type_line('host cw 00:02.0 0x18 4 0x00010100')
     browser.run("document.getElementById('own').open = true")
     for wrong, why in [('host cr 01:00.0 0 -> host: 0x1', "missing width (expected 'cr FUNCTION OFFSET WIDTH')"), ('host cw 01:00.0 4 2 2 -> host: ok', 'has to be a read'),
-                       ('everything', 'write ready'), ('', 'a goal has at least one condition')]:
+                       ('everything', 'write ready'), ('', 'a goal has at least one condition'),
+                       ('host cr 01:00.0 0 2 -> host: 0x00000001', 'no read of 2 bytes returns this'), ('host cr 00:02.0 0 4 -> host: 0x00021234', 'holds on the board as it is now')]:
         browser.write('own_goal', wrong)
         contains(f'the goal {wrong!r} is refused', browser.text_of('goal_wrong'), why)
     link = browser.task_link('Place it', 'Give `01:00.0` a base.', 'host cr 01:00.0 0x10 4 -> host: 0xc0000000  # It has a base\naudit: ok')
@@ -319,6 +321,8 @@ def in_browser(browser, page, folder, shot=''):
     for check in [*browse_boards.ALL, *browse_firmware.ALL, *ALL, *browse_lecture.ALL, *browse_newcomer.ALL, *browse_ready.ALL, *browse_robust.ONCE, *browse_state.ALL, *browse_why.ALL]:
         check(browser, page)
     lessons = [(name, SOLUTIONS[name]) for task in TASKS for name, _ in parts_of(task)]
+    for check in browse_conditions.checks_of([(name, link, SOLUTIONS[name]) for task in TASKS for name, link in parts_of(task)], TASKS):
+        check(browser, page)
     at_each_size(browser, page, [*browse_names.ALL, *browse_robust.ALL, *browse_scripts.ALL, *browse_sight.checks_of(lessons)])
     browse_state.the_state_looks_well(browser, page, folder, shot)
     browse_why.questions_look_well(browser, page, folder, shot)
