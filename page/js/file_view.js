@@ -12,16 +12,27 @@ export const too_large = bytes => `${(bytes / LARGEST_FILE).toFixed(1)} MB is to
 const TYPED = 200, NUMBERED = 1000;
 
 export class FileView {
-  // `parts` are the elements `board`, `numbers` and `check`; `changed` is called once the file is another one, and `tell` says what is refused.
+  // `parts` are the elements `editor`, `board`, `numbers`, `check` and `unfold`; `changed` is called once the file is another one, and `tell` says what is refused.
   constructor(parts, { changed, tell }) {
     Object.assign(this, { parts, changed, timer: null, wrong: new Set(), warned: new Set(), count: 0, first: 0 });
     parts.board.addEventListener('scroll', () => this.show_numbers());
     parts.board.addEventListener('input', () => { clearTimeout(this.timer); this.timer = setTimeout(() => this.settle(), TYPED); });
     parts.board.addEventListener('blur', () => this.settle());
+    parts.board.addEventListener('focus', () => this.fold(false));
+    parts.unfold.addEventListener('click', () => this.fold(parts.editor.classList.contains('unfolded')));
     parts.board.addEventListener('paste', event => {
       const length = parts.board.value.length + event.clipboardData.getData('text').length;
       if (length > LARGEST_FILE) { event.preventDefault(); tell(too_large(length), true); }
     });
+  }
+
+  // The file takes no room until one edits it, or something in it is wrong.
+  fold(is_folded) {
+    const { editor, unfold } = this.parts;
+    editor.classList.toggle('unfolded', !is_folded);
+    unfold.setAttribute('aria-expanded', !is_folded);
+    unfold.textContent = is_folded ? 'Edit the file' : 'Fold the file';
+    if (!is_folded) this.show_numbers();
   }
 
   // Sets the board up at once if it waits for more letters.

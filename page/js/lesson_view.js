@@ -21,11 +21,6 @@ export class LessonView {
     parts.again.addEventListener('click', acts.again);
     parts.leave.addEventListener('click', acts.leave);
     parts.begin.addEventListener('click', () => acts.begin(Number(parts.begin.dataset.nth)));
-    addEventListener('keydown', event => {
-      if (!event.altKey || event.code !== 'KeyN' || parts.notes.childElementCount === 0) return;
-      event.preventDefault();
-      parts.notes.hidden = !parts.notes.hidden;
-    });
     parts.next.addEventListener('click', () => acts.begin(Number(parts.next.dataset.nth), parts.next.dataset.part ? Number(parts.next.dataset.part) : undefined));
   }
 

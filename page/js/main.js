@@ -39,6 +39,7 @@ import { WayView } from './way_view.js';
 import { Wired } from './wired.js';
 import { tell_unable } from './unable.js';
 import { Scripts } from './scripts.js';
+import { Lecture } from './lecture.js';
 
 const part = Object.fromEntries([...document.querySelectorAll('[id]')].map(one => [one.id, one]));
 const still = matchMedia('(prefers-reduced-motion: reduce)').matches;
@@ -78,6 +79,7 @@ const read_only = line => (as === 'firmware' ? keeping_latch(answers(), () => as
 const moments = new Moments(part, { shown: () => ({ held: answers(), functions, owners, now: as === 'firmware' ? firmware.now : null }), show: show_moment,
   read: read_only, lines: all_lines, copy: () => copy_of_board(), choose, light, functions: () => functions_now() });
 const scripts = new Scripts(part, { console: script_console, steps: moments.steps, start_again });
+new Lecture(part, { told: () => `${part.boards.selectedOptions[0].textContent}, ${part.step_told.textContent}${moments.last.line === null ? '' : `: ${moments.last.line}`}`, tell: (...words) => keeper.tell(...words) });
 const way = new WayView(part, { still, find: sent_now, way_of: found => way_of(found, functions_now()), passed: what => { sent = what; draw(); } });
 
 // What one may type about: the functions with their numbers as they are now, and where regions stand.
@@ -300,6 +302,8 @@ function tell(wrong, text) {
   part.verdict.classList.toggle('wrong', wrong);
   part.verdict.classList.remove('doubted');
   part.figures.classList.toggle('stale', wrong);
+  document.body.toggleAttribute('data-refused', wrong);
+  if (wrong) file_view.fold(false);
   part.figures.hidden = wrong && functions.length === 0;
 }
 

@@ -60,9 +60,10 @@ export class Steps {
 
   // The line that ran last, its reply, and what it changed, with the problems that came and went.
   draw({ line, reply, changes, came, gone }) {
-    const { last, changes: list } = this.parts, { choose, light } = this.page;
+    const { last, last_reply, changes: list } = this.parts, { choose, light } = this.page;
     last.replaceChildren(...(line === null ? [] : [line, make('span', 'unit', ' → '), reply.split('\n')[0]]));
     last.title = last.textContent;
+    put_text(last_reply, line === null ? '' : `Last reply: ${reply.split('\n')[0]}`);
     const functions = this.page.functions(), all = [...changes.map(one => item_of(one, choose, light)), ...noted('came', '+', came, functions), ...noted('gone', '−', gone, functions)];
     const more = all.length > SHOWN ? [make('li', '', `${all.length - SHOWN} more`)] : [];
     list.replaceChildren(...all.slice(0, SHOWN), ...more, ...(all.length === 0 && line !== null ? [make('li', 'unit', 'It changed no register.')] : []));

@@ -83,7 +83,8 @@ def bars_can_be_read(browser, page):
     browser.open(f'{page}#board=server', 1400)
     texts = browser.texts_of('[data-space=mem] text')
     contains('bars have addresses', texts, '0xc0000000', '0xc28fffff', '0xc1400000')
-    holds('no address is told twice', len(texts) == len(set(texts)), texts)
+    told = [one for one in texts if one.startswith('0x')]
+    holds('no address is told twice', len(told) == len(set(told)), texts)
     contains('bars have names', texts, 'mem window of 00:04.0', 'C 04:00.0 bar0')
     equals('the legend has all guests and none', browser.texts_of('#guests .one'), ['Aguest web', 'Bguest store', 'Cguest desk', '–no guest'])
     marks = browser.run("[...document.querySelectorAll('#guests .badge')].map(one => getComputedStyle(one).backgroundImage)")

@@ -20,7 +20,7 @@ TINY = """[...document.querySelectorAll('body *:not(script, style, option)')].fi
 
 
 def all_is_in_one_view(browser, page):
-    for width, height in SIZES[:2]:
+    for width, height in SIZES[:4]:
         for lesson in ['window', 'size', 'number', 'ready']:
             browser.open(f'{page}#lesson={lesson}', width, height)
             browser.type_lines(WINDOW)

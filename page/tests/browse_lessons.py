@@ -10,6 +10,7 @@ import browse_names
 import browse_newcomer
 import browse_ready
 import browse_robust
+import browse_screens
 import browse_scripts
 import browse_sight
 import browse_state
@@ -60,6 +61,11 @@ def parts_of(task):
     if 'parts' not in task:
         return [(name, f'lesson={name}')]
     return [(f'{name}/{part}', f'lesson={name}&part={nth}') for nth, part in enumerate(task['parts'], 1)]
+
+
+def links_with_lines():
+    """Each lesson, or each part of one: its name, its link, and lines that do it."""
+    return [(name, link, SOLUTIONS[name]) for task in TASKS for name, link in parts_of(task)]
 
 
 def lessons_are_done(browser, page):
@@ -318,10 +324,10 @@ ALL = [lessons_are_done, a_reply_counts_in_its_place, a_lesson_leads_on, a_teach
 
 
 def in_browser(browser, page, folder, shot=''):
-    for check in [*browse_boards.ALL, *browse_firmware.ALL, *ALL, *browse_lecture.ALL, *browse_newcomer.ALL, *browse_ready.ALL, *browse_robust.ONCE, *browse_state.ALL, *browse_why.ALL]:
+    for check in [*browse_boards.ALL, *browse_firmware.ALL, *ALL, *browse_lecture.ALL, *browse_newcomer.ALL, *browse_ready.ALL, *browse_robust.ONCE, *browse_screens.ALL, *browse_state.ALL, *browse_why.ALL]:
         check(browser, page)
     lessons = [(name, SOLUTIONS[name]) for task in TASKS for name, _ in parts_of(task)]
-    for check in browse_conditions.checks_of([(name, link, SOLUTIONS[name]) for task in TASKS for name, link in parts_of(task)], TASKS):
+    for check in browse_conditions.checks_of(links_with_lines(), TASKS):
         check(browser, page)
     at_each_size(browser, page, [*browse_names.ALL, *browse_robust.ALL, *browse_scripts.ALL, *browse_sight.checks_of(lessons)])
     browse_state.the_state_looks_well(browser, page, folder, shot)

@@ -76,12 +76,6 @@ def there_is_a_way_in(browser, page, size):
     browser.click('#begin')
     equals('it begins lesson 1', browser.text_of('task_title'), 'Lesson 1: Read a board')
     equals("the lecturer's notes are not shown", browser.is_shown('notes'), False)
-    press = "dispatchEvent(new KeyboardEvent('keydown', { altKey: true, code: 'KeyN', cancelable: true }))"
-    browser.run(press)
-    notes = browser.run("document.getElementById('notes').innerText")
-    holds('a key shows them', notes.startswith('Show') and 'Ask' in notes and 'mistake' in notes, notes)
-    browser.run(press)
-    equals('and hides them', browser.is_shown('notes'), False)
 
 
 # For Chromium alone, which can be told what to run before the page.
