@@ -67,7 +67,7 @@ const script_console = new Console(part, box,
   { machine: answers, whose, moved, heard: (line, reply) => lessons.hear(line, reply), begins, ran, question });
 const lacks = () => (firmware.now === null ? ['only firmware can ask'] : [...firmware.now.problems, ...firmware.now.lacks].map(one => with_numbers(one.text, functions_now())));
 const lessons = new Lessons(part, TASKS, { open: open_task, move_live, held: answers, guests, left: set_up, lacks, functions: () => functions_now() });
-const shown = () => ({ board: part.board.value, as });
+const shown = () => ({ board: file_view.text(), as });
 const file_view = new FileView(part, { changed: set_up, tell: (...words) => keeper.tell(...words) });
 const keeper = new Keeper(part, { held, as_it_is, is_refused: () => answers() === null, open: open_beginning, begin_task: task => lessons.take_up(task), run: text => scripts.run(text) });
 new TaskForm(part, { shown: () => ({ ...whose(), ...shown() }), is_met: goal => lessons.is_met(goal, as), with_lines, as_it_is, save: made => keeper.save(made) });
@@ -99,7 +99,7 @@ function moved(from, to) {
 function held() {
   file_view.settle();
   const task = lessons.kept();
-  return { ...shown(), ...(task ? { task } : beginning), script: script_console.script() };
+  return { ...shown(), ...(task ? { task, of_link: lessons.of_link || undefined } : beginning), script: script_console.script() };
 }
 
 // The board with all lines that lead here, where no state stands between them.
@@ -183,6 +183,7 @@ function show_moment({ held: answering, owners: those, now }, count) {
   way.forget();
   registers.forget();
   script_console.mark(count);
+  lessons.stand(moments.is_past());
   question.doubt();
   look_at_question();
   draw();
@@ -266,7 +267,7 @@ function take(text, file) {
   owners = new Map(read.slots.map(({ guest, slot, path }) => [path, { guest, slot }]));
   first_owners = new Map(owners);
   marks = marks_of(machine.guests());
-  apertures = apertures_in(part.board.value);
+  apertures = apertures_in(file_view.text());
   part.report.textContent = decoder.decode(text);
   tell(false, as === 'firmware' ? `Driven by firmware: ${counts_in_words(functions, null)}` : `Set up: ${counts_in_words(functions, marks.size)}`);
 }
@@ -319,7 +320,7 @@ function show_text(text, whom = as) {
   be(whom);
   part.boards.value = Object.keys(BOARDS).find(name => BOARDS[name] === text) ?? '';
   part.boards.options[0].textContent = lessons.opening ? "the lesson's own" : 'a file of your own';
-  part.board.value = text;
+  file_view.put(text);
   set_up();
 }
 
@@ -393,6 +394,7 @@ function wire() {
 }
 
 try {
+  part.unable.hidden = true;
   engine = await Engine.of(Uint8Array.from(atob(MODULE), one => one.charCodeAt(0)));
   wire();
   await new Opening(part, { still, show: show_text, open: open_beginning, play: (script, at_once) => script_console.play(script, at_once), lessons, tell: (...words) => keeper.tell(...words) }).begin();

@@ -51,8 +51,11 @@ export class Steps {
   tell() {
     const { step, step_back, step_on, step_told } = this.parts, ran = this.at, all = this.stops.length - 1;
     Object.assign(step, { max: all, value: ran, disabled: all === 0 });
-    step_back.disabled = ran === 0;
-    step_on.disabled = ran === all;
+    for (const [button, is_end] of [[step_back, ran === 0], [step_on, ran === all]]) {
+      // one that has the keys keeps them
+      button.disabled = is_end && document.activeElement !== button;
+      button.setAttribute('aria-disabled', is_end);
+    }
     put_text(step_told, all === 0 ? 'no line has run' : ran === all ? `${count_in_words(all, 'line')} ran` : `as after ${ran} of ${count_in_words(all, 'line')}`);
     this.parts.go_on.hidden = ran === all;
     document.body.classList.toggle('past', ran < all);

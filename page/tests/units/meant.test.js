@@ -2,7 +2,7 @@
 
 import assert from 'node:assert/strict';
 import test from 'node:test';
-import { checked, meant_by } from '../../js/meant.js';
+import { checked, explained, meant_by, told_of_slip } from '../../js/meant.js';
 
 test('a number that is written as documents do is one with 0x', () => {
   assert.equal(meant_by({ word: { word: '20h' }, name: 'the offset', is_number: true }, []), '0x20');
@@ -22,4 +22,21 @@ test('widths, places and values are checked', () => {
     ['a mr 0x1001 2', "the address, 0x1001, isn't a multiple of the width, 2"]]) {
     assert.equal(checked(line, ['a'], 'guests'), why, line);
   }
+});
+
+test('bare hexadecimal digits are a number with 0x, unless they may begin a name', () => {
+  const meant = word => meant_by({ word: { word }, name: 'the address', is_number: true }, []);
+  assert.deepEqual(['c0000000', 'deadbeef', '1c', 'ca', 'bar0', '10'].map(meant), ['0xc0000000', '0xdeadbeef', '0x1c', null, null, null]);
+});
+
+test('an offset in decimal digits may be a slip', () => {
+  assert.equal(checked('host cr 00:02.0 18 4', [], 'firmware'), "the offset, 0x12, isn't a multiple of the width, 4; 18 is decimal: did you mean 0x18?");
+  assert.equal(told_of_slip('host cr 00:02.0 20 4'), '20 is decimal, so the offset is 0x14: did you mean 0x20?');
+  assert.deepEqual(['host cr 00:02.0 0x20 4', 'host cr 00:02.0 4 4', 'host mr 20 4', ''].map(told_of_slip), ['', '', '', '']);
+});
+
+test('a width of 8 is blamed, and not its value', () => {
+  const bad = { word: { word: '0x1122334455667788' }, name: 'the value', is_number: true, width: '8', verb: 'mw', why: 'invalid value' };
+  assert.equal(explained(bad, []), 'the width is 1, 2 or 4 bytes, not 8');
+  assert.equal(explained({ ...bad, width: '4' }, []), 'invalid value');
 });
