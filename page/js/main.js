@@ -394,7 +394,7 @@ function wire() {
 }
 
 try {
-  part.unable.hidden = true;
+  part.unstarted.remove();
   engine = await Engine.of(Uint8Array.from(atob(MODULE), one => one.charCodeAt(0)));
   wire();
   await new Opening(part, { still, show: show_text, open: open_beginning, play: (script, at_once) => script_console.play(script, at_once), lessons, tell: (...words) => keeper.tell(...words) }).begin();

@@ -11,7 +11,6 @@ const why_unable = wrong => (has_memory64() ? `This page has stopped: ${wrong}.`
 // Says so at the top, in place of everything else.
 export function tell_unable(into, wrong) {
   into.textContent = why_unable(wrong);
-  into.classList.add('told');
   into.hidden = false;
   document.body.classList.add('is-unable');
 }

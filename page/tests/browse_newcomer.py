@@ -107,7 +107,7 @@ def an_address_above_4_gb(browser, words, hint):
         reads(browser, f'host cr {words[0]} {offset} 4')
     writes(browser, '2.0/0.0', ('bar2', 'base', words[2]))
     writes(browser, '2.0', ('Prefetchable', 'first', words[2]), ('Prefetchable', 'last', hex(int(words[2], 16) + 0xffffff)))
-    browser.type_line(f'host cw {number_of(browser, "bridge")} {words[-1]} 4 0x0000fff0')
+    browser.type_line(f'host cw {number_of(browser, "bridge")} 0x20 4 0x0000fff0')
     switches(browser, '2.0', 'Memory space')
     switches(browser, '2.0/0.0', 'Memory space')
 

@@ -54,9 +54,9 @@ def policies_are_met_or_told(browser, page):
     with served("default-src 'self'") as address:
         browser.go(address, 1280, 720, 'light')
         browser.until("document.readyState === 'complete'")
-        told = browser.text_of('unable')
-        holds("under 'self' it says why it doesn't start", "doesn't start" in told and "'wasm-unsafe-eval'" in told and browser.run("getComputedStyle(document.getElementById('unable')).visibility") == 'visible'
-              and browser.seen('#unable'), told)
+        told = browser.text_of('unstarted')
+        holds("under 'self' it says why it doesn't start", "doesn't start" in told and "'wasm-unsafe-eval'" in told and browser.run("getComputedStyle(document.getElementById('unstarted')).visibility") == 'visible'
+              and browser.seen('#unstarted'), told)
 
 
 def the_page_says_what_it_is(browser, page):
