@@ -5,6 +5,7 @@ import { AtReset, decodes_of } from './at_reset.js';
 import { Engine } from './engine.js';
 import { Goals } from './goals.js';
 import { kept_in } from './keep.js';
+import { bring_guest } from './replay.js';
 import { report_in, read_json } from './report.js';
 import { read_task } from './task.js';
 
@@ -21,19 +22,13 @@ function board_of(engine, { board, as, elsewhere }) {
   return { held, look: () => now.look(), functions: () => (now.functions.length > 0 ? now.functions : functions), lacks: () => [...now.problems, ...now.lacks ?? []] };
 }
 
-function move_here(engine, held, { board, guest, lines }) {
-  const other = engine.open(to_bytes(board)).made;
-  for (const line of lines_of_script(lines)) asked_of(other, line);
-  held.load_guest(guest, other.save_guest(guest));
-}
-
 // Runs all lines, and gives the conditions with whether they are met.
 function conditions_after(engine, task, lines, before) {
   const board = board_of(engine, task), goals = new Goals(task.goal, task.as);
   if (board.held === null) return [];
   for (const line of lines_of_script(before)) asked_of(board.held, line);
   if (task.state?.image) board.held.load(task.state.image);
-  if (task.elsewhere) move_here(engine, board.held, task.elsewhere);
+  if (task.elsewhere) bring_guest(engine, board.held, task.elsewhere);
   board.look();
   for (const line of lines) {
     const reply = asked_of(board.held, line);

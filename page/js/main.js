@@ -30,7 +30,7 @@ import { texts_by_path } from './findings.js';
 import { with_numbers } from './names.js';
 import { asked_of, keeping_latch } from './asked.js';
 import { texts_of_changes } from './changes.js';
-import { HANDS_OVER, owners_in, path_in } from './replay.js';
+import { bring_guest, HANDS_OVER, owners_in, path_in } from './replay.js';
 import { reveal } from './reveal.js';
 import { Moments } from './moments.js';
 import { FileView } from './file_view.js';
@@ -283,9 +283,7 @@ function set_up() {
   machine = null;
   firmware.close();
   const file = file_view.bytes(), report = engine.report(file), line = file_view.tell_check(new TextDecoder().decode(engine.check(file).text), as);
-  board.forget();
-  addresses.forget();
-  question.forget();
+  for (const one of [board, addresses, question]) one.forget();
   if (report.number === 0) take(report.text, file);
   else tell(true, `${report.number} ${WORDS[report.number] ?? ''}${report.number === NOT_TOML && line !== null ? `; it can't be parsed from line ${line} on` : ''}`);
   if (as === 'firmware') firmware.open(engine.open_at_reset(file).made, machine, machine === null ? [] : functions);
@@ -360,12 +358,9 @@ function load(state) {
 }
 
 // A guest that ran lines on another board is saved there and loaded into this machine. From there on one can go through lines.
-function move_live({ board: text, guest, lines }) {
-  const other = engine.open(new TextEncoder().encode(text)).made;
-  for (const line of lines.split('\n')) asked_of(other, line);
-  const number = machine.load_guest(guest, other.save_guest(guest));
-  other.close();
-  script_console.put('before', number === 0 ? `Guest ${guest} came from another board, with all that it held there` : `The guest can't be loaded (${number})`);
+function move_live(one) {
+  const number = bring_guest(engine, machine, one);
+  script_console.put('before', number === 0 ? `Guest ${one.guest} came from another board, with all that it held there` : `The guest can't be loaded (${number})`);
   beginning = { ...beginning, state: new State('', machine.save()) };
   registers.forget();
   moments.forget();
