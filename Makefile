@@ -39,7 +39,7 @@ pciguest:
 # that the documents print, each growth of memory refused in turn on the main board, and some board files with mistakes; and
 # beside all these the edits, each crate's once it is proved. Parts between brackets run side by side. At the end stands how
 # long each took.
-FIRST := [ tests/documents.sh tests/kit.sh tests/tools.sh tests/bench.sh ]
+FIRST := [ page/tests/unit tests/documents.sh tests/kit.sh tests/tools.sh tests/bench.sh ]
 PROGRAM := 'tests/try.sh test_streams' tests/program.sh tests/commands.sh \
   'python3 tests/hostile/growths.py crates/pciguest/out/pciguest --quick --arrays crates/test_arrays/out/test_arrays' \
   'python3 tests/fuzz/mistakes.py crates/pciguest/out/pciguest --files 200'

@@ -191,7 +191,7 @@ export class Addresses {
     const names = span.region ? [`${one} ${span.name}`, one, span.name] : [`${span.name} of ${one}`, `of ${one}`];
     if (!span.open) return [ghost_box(from, to - from, y, span.region ? ROW - 1 : tall, names, ROW, state)];
     if (span.region) return [region_box(from, to - from, y, ROW - 1, mark_of(owners.get(span.of.path), marks), names.slice(0, 2), state, marks.size > 0)];
-    return [svg('rect', { x: from, width: Math.max(to - from, 2), y, height: tall, class: `window${state}` }), ...name_in(names, from, to - from, y + ROW / 2 + 4, 'of')];
+    return [svg('rect', { x: from + 0.5, width: Math.max(to - from - 1, 2), y, height: tall, class: `window${state}` }), ...name_in(names, from, to - from, y + ROW / 2 + 4, 'of')];
   }
 
   // Edges around what was elsewhere before the last line, and around what a cause names.

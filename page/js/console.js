@@ -11,9 +11,12 @@ import { HANDS_OVER, move_in } from './replay.js';
 
 const PAUSE = 650;
 const NOTED = 4;
+// Milliseconds for which lines run before the browser may draw and be stopped, and how many lines with their replies the transcript shows.
+const SLICE = 200, MOST_ROWS = 2000;
+const in_thousands = count => count.toLocaleString('en');
 
 // The lines that were prepared, the reader's, and all by which firmware handed its board over.
-const nothing_run = () => ({ prepared: [], said: [], handed: '' });
+const nothing_run = () => ({ prepared: [], said: [], handed: '', dropped: 0 });
 
 export class Console {
   // `parts` are its elements, and `box` the one in which lines are typed; `machine` gives what answers lines, or null; `whose` tells
@@ -25,11 +28,12 @@ export class Console {
     Object.assign(this, nothing_run());
     parts.entry.addEventListener('submit', event => { event.preventDefault(); this.enter(); });
     parts.line.addEventListener('keydown', event => this.recall(event));
+    parts.stop.addEventListener('click', () => this.end_playing());
   }
 
   // Begins anew, with a line to begin with.
   clear(marks, first) {
-    this.playing += 1;
+    this.end_playing();
     cancelAnimationFrame(this.scrolls);
     this.marks = marks;
     Object.assign(this, nothing_run());
@@ -41,8 +45,21 @@ export class Console {
   put(name, text) {
     const one = make('div', name, text);
     this.parts.transcript.append(one);
+    if (name === 'row' || name === 'remark') this.drop_rows();
     if (name !== 'before') this.show(() => this.parts.transcript.lastElementChild);
     return one;
+  }
+
+  // Of a long script the transcript shows the last lines.
+  drop_rows() {
+    if (this.said.length - this.dropped <= MOST_ROWS) return;
+    const { transcript } = this.parts;
+    if (this.dropped === 0) transcript.prepend(make('div', 'before dropped'));
+    const told = transcript.firstChild;
+    while (!told.nextSibling.matches('.row, .remark')) told.nextSibling.remove();
+    told.nextSibling.remove();
+    this.dropped += 1;
+    told.textContent = `${in_thousands(this.dropped)} lines before these aren't shown`;
   }
 
   // Shows a row, once for all that is put and drawn at once: in the transcript, or in a lesson in the column that scrolls, above the line box.
@@ -65,7 +82,7 @@ export class Console {
 
   // Shows the lines behind the first ones as not run yet, and leads to the last that ran.
   mark(count) {
-    const rows = [...this.parts.transcript.querySelectorAll('.row, .remark')], at = count - this.prepared.length;
+    const rows = [...this.parts.transcript.querySelectorAll('.row, .remark')], at = count - this.prepared.length - this.dropped;
     rows.forEach((row, nth) => { row.classList.toggle('later', nth >= at); row.toggleAttribute('aria-current', nth === at - 1 && at < rows.length); });
     this.show(() => rows[at - 1] ?? this.parts.transcript.firstElementChild);
   }
@@ -73,7 +90,7 @@ export class Console {
   run(line) {
     if (this.machine() === null) { this.put('refused', 'The board is refused, so there is nothing to run.'); return; }
     this.begins(line, true);
-    this.said = [...this.said, line];
+    this.said.push(line);
     if (line.trimStart().startsWith('#')) { this.put('remark', line.trimStart().slice(1).trim()); this.ran(line, ''); return; }
     const row = this.put('row', make('span', 'said', line));
     this.ran(line, this.tell(line, this.machine(), row));
@@ -95,7 +112,7 @@ export class Console {
       this.mark_word(row.firstChild, line, bad?.word);
     }
     this.follow_line(line, reply);
-    this.heard(reply);
+    this.heard(line, reply);
     return reply;
   }
 
@@ -147,7 +164,7 @@ export class Console {
 
   // Runs a line of the reader's, which ends a story.
   give(line) {
-    this.playing += 1;
+    this.end_playing();
     this.run(line);
   }
 
@@ -169,13 +186,28 @@ export class Console {
     this.parts.line.value = this.back === 0 ? '' : this.before[this.before.length - this.back];
   }
 
-  // Plays the lines of a script, one after the other, or at once; another story or a typed line ends it.
+  // Plays the lines of a script, one after the other, or at once; another story or a typed line ends it. While a long one runs it tells how far it is.
   async play(script, at_once) {
-    const mine = ++this.playing;
-    for (const line of script.split('\n').filter(line => line.trim() !== '')) {
-      if (mine !== this.playing) return;
+    const mine = ++this.playing, lines = script.split('\n').filter(line => line.trim() !== '');
+    let began = performance.now();
+    for (const [nth, line] of lines.entries()) {
+      if (mine !== this.playing) break;
       this.run(line);
-      if (!at_once) await new Promise(done => setTimeout(done, PAUSE));
+      if (at_once && performance.now() - began < SLICE) continue;
+      if (at_once) this.tell_running(nth + 1, lines.length);
+      await new Promise(done => setTimeout(done, at_once ? 0 : PAUSE));
+      began = performance.now();
     }
+    if (mine === this.playing) this.end_playing();
+  }
+
+  end_playing() {
+    this.playing += 1;
+    this.parts.running.hidden = true;
+  }
+
+  tell_running(count, all) {
+    this.parts.running.hidden = false;
+    this.parts.running_told.textContent = `${in_thousands(count)} of ${in_thousands(all)} lines ran`;
   }
 }

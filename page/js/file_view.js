@@ -10,18 +10,34 @@ export const too_large = bytes => `${(bytes / LARGEST_FILE).toFixed(1)} MB is to
 // Milliseconds without a letter after which one has stopped typing, and how many lines are numbered at once: of a longer file those around what
 // is shown, as all of them take the browser seconds.
 const TYPED = 200, NUMBERED = 1000;
+// How many lines a file may have that is edited here: the browser takes half a minute to lay out a million.
+const EDITED = 10000;
+const lines_of = text => { let count = 1; for (let at = text.indexOf('\n'); at >= 0; at = text.indexOf('\n', at + 1)) count += 1; return count; };
 
 export class FileView {
-  // `parts` are the elements `board`, `numbers` and `check`; `changed` is called once the file is another one, and `tell` says what is refused.
+  // `parts` are the elements `editor`, `board`, `numbers`, `check` and `unfold`; `changed` is called once the file is another one, and `tell` says what is refused.
   constructor(parts, { changed, tell }) {
-    Object.assign(this, { parts, changed, timer: null, wrong: new Set(), warned: new Set(), count: 0, first: 0 });
+    Object.assign(this, { parts, changed, timer: null, wrong: new Set(), warned: new Set(), count: 0, first: 0, plain: null });
     parts.board.addEventListener('scroll', () => this.show_numbers());
     parts.board.addEventListener('input', () => { clearTimeout(this.timer); this.timer = setTimeout(() => this.settle(), TYPED); });
     parts.board.addEventListener('blur', () => this.settle());
+    parts.board.addEventListener('focus', () => this.fold(false));
+    parts.unfold.addEventListener('click', () => this.fold(parts.editor.classList.contains('unfolded')));
     parts.board.addEventListener('paste', event => {
-      const length = parts.board.value.length + event.clipboardData.getData('text').length;
-      if (length > LARGEST_FILE) { event.preventDefault(); tell(too_large(length), true); }
+      const pasted = event.clipboardData.getData('text'), { value, selectionStart: from, selectionEnd: to } = parts.board, length = value.length + pasted.length;
+      if (length > LARGEST_FILE || lines_of(pasted) > EDITED) event.preventDefault();
+      if (length > LARGEST_FILE) tell(too_large(length), true);
+      else if (event.defaultPrevented) { this.put(value.slice(0, from) + pasted + value.slice(to)); this.changed(); }
     });
+  }
+
+  // The file takes no room until one edits it, or something in it is wrong.
+  fold(is_folded) {
+    const { editor, unfold } = this.parts;
+    editor.classList.toggle('unfolded', !is_folded);
+    unfold.setAttribute('aria-expanded', !is_folded);
+    unfold.textContent = is_folded ? 'Edit the file' : 'Fold the file';
+    if (!is_folded) this.show_numbers();
   }
 
   // Sets the board up at once if it waits for more letters.
@@ -32,7 +48,18 @@ export class FileView {
     this.changed();
   }
 
-  bytes() { return new TextEncoder().encode(this.parts.board.value); }
+  // Shows a file; of one with too many lines to edit, the first ones.
+  put(text) {
+    const { board, plain } = this.parts, count = lines_of(text), is_plain = count > EDITED;
+    this.plain = is_plain ? text : null;
+    Object.assign(board, { value: is_plain ? text.split('\n', NUMBERED).join('\n') : text, readOnly: is_plain });
+    plain.hidden = !is_plain;
+    plain.textContent = `This file has ${count.toLocaleString('en')} lines. The page uses all of them, shows the first ${NUMBERED.toLocaleString('en')}, and doesn't edit it.`;
+  }
+
+  text() { return this.plain ?? this.parts.board.value; }
+
+  bytes() { return new TextEncoder().encode(this.text()); }
 
   // Numbers the lines of the file, and marks those of which a check tells: what is wrong, and what it warns of.
   number_lines(wrong, warned) {
@@ -54,7 +81,9 @@ export class FileView {
 
   // Puts the cursor into a line of the file, and shows it.
   go_to(line) {
-    const { board } = this.parts, lines = board.value.split('\n'), start = lines.slice(0, line - 1).reduce((at, one) => at + one.length + 1, 0);
+    const { board } = this.parts, lines = board.value.split('\n');
+    if (line > lines.length) return;
+    const start = lines.slice(0, line - 1).reduce((at, one) => at + one.length + 1, 0);
     board.focus();
     board.setSelectionRange(start, start + lines[line - 1].length);
     board.scrollTop = (line - 1) * parseFloat(getComputedStyle(board).lineHeight) - board.clientHeight / 2;

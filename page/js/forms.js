@@ -53,7 +53,7 @@ function wrong_word(line, at, { as, guests }) {
   const words = words_in(line), [who, verb, third] = words.map(one => one.word), names = as === 'firmware' ? [] : guests;
   const forms = forms_of(who, names, as, third) ?? {}, firsts = [among('the name', [...names, 'host']), among('the command', Object.keys(forms))];
   const word = words[at] ?? null, kind = firsts[at] ?? forms[verb]?.[at - 2], is_last = at === words.length - 1 && !/\s$/.test(line);
-  return { word, verb, name: kind?.name, is_number: word !== null && Boolean(kind?.is_number) && number_of(word.word) === null,
+  return { word, verb, name: kind?.name, width: words[at - 1]?.word, is_number: word !== null && Boolean(kind?.is_number) && number_of(word.word) === null,
     begun: word === null || (is_last && Boolean(kind?.begun(word.word))) };
 }
 

@@ -6,12 +6,13 @@ import { State } from './state.js';
 const KEY = 'pciguest';
 const state_in = async text => (typeof text === 'string' ? State.read(text) : null);
 
-// What was kept: a board file, what stood before the reader's lines, those lines, whom they are of, and the task that was begun, if there is one.
+// What was kept: a board file, what stood before the reader's lines, those lines, whom they are of, and the task that was begun, if there is one; in a
+// link the name of whoever hands it in, and in the browser whether the lines came by a link.
 async function read_kept(text) {
-  const { board, script, as, task, lines, state } = JSON.parse(text);
+  const { board, script, as, task, lines, state, by, of_link } = JSON.parse(text);
   if (typeof board !== 'string' || typeof script !== 'string') return null;
   const from = { lines: typeof lines === 'string' ? lines : '', state: await state_in(state) };
-  return { board, script, as: as === 'firmware' ? as : 'guests', from, task: await task_of(task) };
+  return { board, script, as: as === 'firmware' ? as : 'guests', from, task: await task_of(task), by: typeof by === 'string' ? by : '', of_link: of_link === true };
 }
 
 const task_of = async task => task && { ...task, state: await state_in(task.state) };
@@ -34,8 +35,9 @@ export function save_as(name, text, type) {
 
 // What is handed out of a link: of a page from a disk the fragment alone, since its place is none elsewhere. It can be pasted into any page.
 export const LINK = /^\S*(#(?:kept|task)=[\w.-]+)$/;
-export const link_of = fragment => (location.protocol === 'file:' ? `#${fragment}` : location.href);
-export const PASTE = location.protocol === 'file:' ? ' It goes behind the address of any copy of this page, or is pasted into one.' : '';
+const is_on_disk = globalThis.location?.protocol === 'file:';
+export const link_of = fragment => (is_on_disk ? `#${fragment}` : location.href);
+export const PASTE = is_on_disk ? ' It goes behind the address of any copy of this page, or is pasted into one.' : '';
 
 // The fragment of a link that holds something, under a name.
 export async function fragment_of(held, name = 'kept') { return `${name}=${await packed(new TextEncoder().encode(JSON.stringify(held)))}`; }

@@ -6,7 +6,7 @@ import { is_script } from './scripts.js';
 import { count_in_words } from './report.js';
 import { reveal } from './reveal.js';
 import { State } from './state.js';
-import { file_of, parts_of } from './state_file.js';
+import { file_of, parts_of, why_no_task } from './state_file.js';
 
 const FILE_NAME = 'board_with_state.toml', TASK_NAME = 'task.toml';
 // What the image of a machine begins with.
@@ -28,7 +28,7 @@ export class Keeper {
   // `open`, which shows a board from a beginning on; `begin_task`; and `run`, which runs a script.
   constructor(parts, page) {
     Object.assign(this, { parts, told: parts.kept_told, page });
-    parts.link.addEventListener('click', () => this.copy(page.held()));
+    parts.link.addEventListener('click', () => this.copy({ ...page.held(), of_link: undefined, by: parts.by.value.trim() || undefined }));
     parts.state_link.addEventListener('click', async () => this.copy(await page.as_it_is()));
     parts.state_file.addEventListener('click', async () => this.save(await page.as_it_is()));
     parts.open.addEventListener('change', async () => {
@@ -75,7 +75,8 @@ export class Keeper {
 
   // A board file, one with a state, or the image of a machine, which is one of the board that is shown.
   async open(bytes) {
-    const text = new TextDecoder().decode(bytes);
+    const text = new TextDecoder().decode(bytes), wrong = why_no_task(text);
+    if (wrong !== null) { this.tell(wrong, true); return; }
     if (text.startsWith(MAGIC)) {
       const { board, as, lines } = await this.page.as_it_is();
       this.page.open(board, as, { lines, state: await State.of(bytes) });

@@ -1,9 +1,12 @@
 // The lessons as a row of numbers, and the task that one is at: its words, and what is done of its goal.
 
+import { pictures_of_headers } from './header_view.js';
 import { count_in_words } from './report.js';
 import { make, make_button, put_text, sign } from './marks.js';
 
 const LACKS_SHOWN = 4;
+// How high a window is in which a lesson begins with its picture open.
+const TALL = 800;
 const NOTES = ['Show', 'Ask', 'The mistake that students make'];
 
 // A text with code between backticks, and an empty line between paragraphs.
@@ -21,11 +24,6 @@ export class LessonView {
     parts.again.addEventListener('click', acts.again);
     parts.leave.addEventListener('click', acts.leave);
     parts.begin.addEventListener('click', () => acts.begin(Number(parts.begin.dataset.nth)));
-    addEventListener('keydown', event => {
-      if (!event.altKey || event.code !== 'KeyN' || parts.notes.childElementCount === 0) return;
-      event.preventDefault();
-      parts.notes.hidden = !parts.notes.hidden;
-    });
     parts.next.addEventListener('click', () => acts.begin(Number(parts.next.dataset.nth), parts.next.dataset.part ? Number(parts.next.dataset.part) : undefined));
   }
 
@@ -72,6 +70,11 @@ export class LessonView {
     const { task, part } = lessons, nth = this.tasks.indexOf(task);
     this.parts.task_title.textContent = `${nth < 0 ? 'Task' : `Lesson ${nth + 1}`}: ${task.title}${task.parts ? `, ${task.parts[part].title}` : ''}`;
     this.parts.task_text.replaceChildren(...paragraphs_of(task.text));
+    const { headers } = this.parts, has_headers = task.headers === true;
+    headers.hidden = !has_headers;
+    for (const one of headers.querySelectorAll('table')) one.remove();
+    if (has_headers) headers.append(...pictures_of_headers());
+    headers.open = innerHeight > TALL;
     this.parts.hint.hidden = task.hint === '';
     this.parts.hint.open = false;
     this.parts.hint_text.replaceChildren(...(task.hint ? paragraphs_of(task.hint) : []));
@@ -87,10 +90,16 @@ export class LessonView {
     this.parts.lacks.hidden = !lessons.goals.wants_ready;
     this.draw_marks(rows);
     const state = done ? 'Done.' : `${rows.filter(one => one.met).length} of ${count_in_words(rows.length, 'condition')} met`;
-    put_text(this.parts.task_state, state);
-    for (const one of [this.parts.task, this.parts.dock]) one.classList.toggle('done', done);
+    Object.assign(this, { state, done });
+    this.tell_state(false);
     if (done) this.draw_steps(lessons);
     this.offer_next(lessons, done);
+  }
+
+  // How far the lesson is, which isn't said of an earlier moment that is shown.
+  tell_state(is_past) {
+    put_text(this.parts.task_state, is_past ? 'An earlier moment' : this.state);
+    for (const one of [this.parts.task, this.parts.dock]) one.classList.toggle('done', this.done && !is_past);
   }
 
   // Beside the line box, once a condition is met: a mark for each one in the order of the list, and the first that isn't met.

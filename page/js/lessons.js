@@ -1,15 +1,8 @@
-// Tasks: each a board, a state and a goal. Eight stand in the page, and a link may bring another one.
+// Tasks: each a board, a state and a goal. The lessons are in the page, and a link may bring another one.
 
 import { Goals } from './goals.js';
 import { LessonView } from './lesson_view.js';
-
-// A task of a link or of what was kept, or null: { title, text, board, as, lines, goal }, all of them texts, and a state or null.
-export function read_task(found) {
-  const names = ['title', 'text', 'board', 'as', 'lines', 'goal'];
-  if (typeof found !== 'object' || found === null || names.some(name => typeof found[name] !== 'string')) return null;
-  const { as, state } = found;
-  return { ...Object.fromEntries(names.map(name => [name, found[name]])), as: as === 'firmware' ? as : 'guests', state: state ?? null, hint: '' };
-}
+import { read_task } from './task.js';
 
 // Which tasks are done, kept in the browser; where it keeps nothing, as some do for files, as long as the page is open.
 const PROGRESS_KEY = 'pciguest-lessons';
@@ -34,9 +27,10 @@ class Progress {
 
 export class Lessons {
   // `tasks` are those of the page. `page` has `open`, which shows a board as somebody from a beginning on; `held`, which
-  // gives what answers lines; `guests`, their names; `move_live`, which loads a guest of another board; and `lacks`, the problems and the lacks of the board's registers.
+  // gives what answers lines; `guests`, their names; `move_live`, which loads a guest of another board; `lacks`, the problems and the lacks of the board's registers;
+  // and `functions`, with their numbers as they are now.
   constructor(parts, tasks, page) {
-    Object.assign(this, { tasks, page, progress: new Progress(), task: null, part: 0, goals: null, key: '', opening: false });
+    Object.assign(this, { tasks, page, progress: new Progress(), task: null, part: 0, goals: null, key: '', opening: false, of_link: false });
     this.view = new LessonView(parts, tasks, {
       begin: (nth, part) => this.begin_lesson(nth, part), again: () => this.begin(this.task, this.part), leave: () => { this.leave(''); page.left(); },
     });
@@ -64,15 +58,15 @@ export class Lessons {
     return nth >= 0;
   }
 
-  // A task from its beginning. One of a link has no name, and its being done isn't kept.
-  begin(task, part = 0) {
+  // A task from its beginning. One of a link has no name, and its being done isn't kept; nor is that of a lesson whose lines came by a link, of somebody else.
+  begin(task, part = 0, of_link = false) {
     const of = task.parts?.[part] ?? task;
     this.opening = true;
     this.view.enter(true);
     this.page.open(task.board, task.as, { lines: of.lines, state: task.state ?? null }, task.parts === undefined);
     if (task.elsewhere) this.page.move_live(task.elsewhere);
     this.opening = false;
-    Object.assign(this, { task, part, key: task.name ? this.key_of(task, part) : '', goals: new Goals(task.goal, task.as) });
+    Object.assign(this, { task, part, of_link, key: task.name ? this.key_of(task, part) : '', goals: new Goals(task.goal, task.as) });
     this.view.draw_task(this);
     this.look();
   }
@@ -85,16 +79,25 @@ export class Lessons {
     this.view.close(told);
   }
 
-  hear(reply) { if (!this.opening) this.goals?.hear(reply, this.page.held(), () => this.page.lacks()); }
+  // Whether a goal of somebody's holds on the board as it is.
+  is_met(goal, as) {
+    const held = this.page.held();
+    return held !== null && new Goals(goal, as).look(held, () => this.page.lacks()).every(one => one.met);
+  }
+
+  hear(line, reply) { if (!this.opening) this.goals?.hear(line, reply, this.page.held(), { lacks: () => this.page.lacks(), functions: this.page.functions() }); }
 
   // After lines that ran: what is done of the goal.
   look() {
     const held = this.page.held();
     if (this.goals === null || held === null) return;
     const rows = this.goals.look(held, () => this.page.lacks()), done = rows.length > 0 && rows.every(one => one.met);
-    if (done && this.key !== '' && !this.progress.has(this.key)) this.progress.add(this.key);
+    if (done && this.key !== '' && !this.of_link && !this.progress.has(this.key)) this.progress.add(this.key);
     this.view.draw_goal(this, rows, done);
   }
+
+  // An earlier moment is shown, or the present one again.
+  stand(is_past) { if (this.goals !== null) this.view.tell_state(is_past); }
 
   // What is kept with the board and the script: the name of a lesson and its part, or a task of a link.
   kept() {
@@ -103,10 +106,10 @@ export class Lessons {
   }
 
   // Takes up what was kept; whether it was a task.
-  take_up(found) {
+  take_up(found, of_link = false) {
     const nth = this.tasks.findIndex(one => one.name === found?.name), task = nth >= 0 ? this.tasks[nth] : read_task(found);
     if (task === null) return false;
-    this.begin(task, task.parts?.[found.part] ? found.part : 0);
+    this.begin(task, task.parts?.[found.part] ? found.part : 0, of_link);
     return true;
   }
 }

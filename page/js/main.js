@@ -30,7 +30,7 @@ import { texts_by_path } from './findings.js';
 import { with_numbers } from './names.js';
 import { asked_of, keeping_latch } from './asked.js';
 import { texts_of_changes } from './changes.js';
-import { HANDS_OVER, owners_in, path_in } from './replay.js';
+import { bring_guest, HANDS_OVER, owners_in, path_in } from './replay.js';
 import { reveal } from './reveal.js';
 import { Moments } from './moments.js';
 import { FileView } from './file_view.js';
@@ -39,6 +39,7 @@ import { WayView } from './way_view.js';
 import { Wired } from './wired.js';
 import { tell_unable } from './unable.js';
 import { Scripts } from './scripts.js';
+import { Lecture } from './lecture.js';
 
 const part = Object.fromEntries([...document.querySelectorAll('[id]')].map(one => [one.id, one]));
 const still = matchMedia('(prefers-reduced-motion: reduce)').matches;
@@ -63,13 +64,13 @@ const guest_registers = new GuestRegisters(part, registers, board, give);
 const firmware = new Firmware(part, board, addresses, registers, light, give);
 const box = new ScriptBox(part, known, follow_register);
 const script_console = new Console(part, box,
-  { machine: answers, whose, moved, heard: reply => lessons.hear(reply), begins, ran, question });
+  { machine: answers, whose, moved, heard: (line, reply) => lessons.hear(line, reply), begins, ran, question });
 const lacks = () => (firmware.now === null ? ['only firmware can ask'] : [...firmware.now.problems, ...firmware.now.lacks].map(one => with_numbers(one.text, functions_now())));
-const lessons = new Lessons(part, TASKS, { open: open_task, move_live, held: answers, guests, left: set_up, lacks });
-const shown = () => ({ board: part.board.value, as });
+const lessons = new Lessons(part, TASKS, { open: open_task, move_live, held: answers, guests, left: set_up, lacks, functions: () => functions_now() });
+const shown = () => ({ board: file_view.text(), as });
 const file_view = new FileView(part, { changed: set_up, tell: (...words) => keeper.tell(...words) });
 const keeper = new Keeper(part, { held, as_it_is, is_refused: () => answers() === null, open: open_beginning, begin_task: task => lessons.take_up(task), run: text => scripts.run(text) });
-new TaskForm(part, { shown: () => ({ ...whose(), ...shown() }), with_lines, as_it_is, save: made => keeper.save(made) });
+new TaskForm(part, { shown: () => ({ ...whose(), ...shown() }), is_met: goal => lessons.is_met(goal, as), with_lines, as_it_is, save: made => keeper.save(made) });
 // The width up to which guests' registers begin folded, and what a file is refused by that is no TOML.
 const NARROW = 640, NOT_TOML = 101;
 let following = false, unseen = false, has_moved = false, has_marks = false, wired = null, sent = null;
@@ -78,6 +79,7 @@ const read_only = line => (as === 'firmware' ? keeping_latch(answers(), () => as
 const moments = new Moments(part, { shown: () => ({ held: answers(), functions, owners, now: as === 'firmware' ? firmware.now : null }), show: show_moment,
   read: read_only, lines: all_lines, copy: () => copy_of_board(), choose, light, functions: () => functions_now() });
 const scripts = new Scripts(part, { console: script_console, steps: moments.steps, start_again });
+new Lecture(part, { told: () => `${part.boards.selectedOptions[0].textContent}, ${part.step_told.textContent}${moments.last.line === null ? '' : `: ${moments.last.line}`}`, tell: (...words) => keeper.tell(...words) });
 const way = new WayView(part, { still, find: sent_now, way_of: found => way_of(found, functions_now()), passed: what => { sent = what; draw(); } });
 
 // What one may type about: the functions with their numbers as they are now, and where regions stand.
@@ -97,7 +99,7 @@ function moved(from, to) {
 function held() {
   file_view.settle();
   const task = lessons.kept();
-  return { ...shown(), ...(task ? { task } : beginning), script: script_console.script() };
+  return { ...shown(), ...(task ? { task, of_link: lessons.of_link || undefined } : beginning), script: script_console.script() };
 }
 
 // The board with all lines that lead here, where no state stands between them.
@@ -181,6 +183,7 @@ function show_moment({ held: answering, owners: those, now }, count) {
   way.forget();
   registers.forget();
   script_console.mark(count);
+  lessons.stand(moments.is_past());
   question.doubt();
   look_at_question();
   draw();
@@ -264,7 +267,7 @@ function take(text, file) {
   owners = new Map(read.slots.map(({ guest, slot, path }) => [path, { guest, slot }]));
   first_owners = new Map(owners);
   marks = marks_of(machine.guests());
-  apertures = apertures_in(part.board.value);
+  apertures = apertures_in(file_view.text());
   part.report.textContent = decoder.decode(text);
   tell(false, as === 'firmware' ? `Driven by firmware: ${counts_in_words(functions, null)}` : `Set up: ${counts_in_words(functions, marks.size)}`);
 }
@@ -280,9 +283,7 @@ function set_up() {
   machine = null;
   firmware.close();
   const file = file_view.bytes(), report = engine.report(file), line = file_view.tell_check(new TextDecoder().decode(engine.check(file).text), as);
-  board.forget();
-  addresses.forget();
-  question.forget();
+  for (const one of [board, addresses, question]) one.forget();
   if (report.number === 0) take(report.text, file);
   else tell(true, `${report.number} ${WORDS[report.number] ?? ''}${report.number === NOT_TOML && line !== null ? `; it can't be parsed from line ${line} on` : ''}`);
   if (as === 'firmware') firmware.open(engine.open_at_reset(file).made, machine, machine === null ? [] : functions);
@@ -300,6 +301,8 @@ function tell(wrong, text) {
   part.verdict.classList.toggle('wrong', wrong);
   part.verdict.classList.remove('doubted');
   part.figures.classList.toggle('stale', wrong);
+  document.body.toggleAttribute('data-refused', wrong);
+  if (wrong) file_view.fold(false);
   part.figures.hidden = wrong && functions.length === 0;
 }
 
@@ -315,7 +318,7 @@ function show_text(text, whom = as) {
   be(whom);
   part.boards.value = Object.keys(BOARDS).find(name => BOARDS[name] === text) ?? '';
   part.boards.options[0].textContent = lessons.opening ? "the lesson's own" : 'a file of your own';
-  part.board.value = text;
+  file_view.put(text);
   set_up();
 }
 
@@ -355,12 +358,9 @@ function load(state) {
 }
 
 // A guest that ran lines on another board is saved there and loaded into this machine. From there on one can go through lines.
-function move_live({ board: text, guest, lines }) {
-  const other = engine.open(new TextEncoder().encode(text)).made;
-  for (const line of lines.split('\n')) asked_of(other, line);
-  const number = machine.load_guest(guest, other.save_guest(guest));
-  other.close();
-  script_console.put('before', number === 0 ? `Guest ${guest} came from another board, with all that it held there` : `The guest can't be loaded (${number})`);
+function move_live(one) {
+  const number = bring_guest(engine, machine, one);
+  script_console.put('before', number === 0 ? `Guest ${one.guest} came from another board, with all that it held there` : `The guest can't be loaded (${number})`);
   beginning = { ...beginning, state: new State('', machine.save()) };
   registers.forget();
   moments.forget();
@@ -389,6 +389,7 @@ function wire() {
 }
 
 try {
+  part.unstarted.remove();
   engine = await Engine.of(Uint8Array.from(atob(MODULE), one => one.charCodeAt(0)));
   wire();
   await new Opening(part, { still, show: show_text, open: open_beginning, play: (script, at_once) => script_console.play(script, at_once), lessons, tell: (...words) => keeper.tell(...words) }).begin();

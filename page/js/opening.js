@@ -44,8 +44,13 @@ export class Opening {
     if (asked.has('story')) { this.tell_story(STORIES.find(one => one.title === asked.get('story'))); return; }
     if (asked.has('lesson') && lessons.begin_by_name(asked.get('lesson'), Number(asked.get('part')) - 1)) return;
     if (asked.has('task') && lessons.take_up(await task_in(asked.get('task')))) return;
-    if (before?.task && lessons.take_up(before.task)) { play(before.script, true); return; }
-    if (before) { open(before.board, before.as, before.from); play(before.script, true); return; }
+    if (before) {
+      const of_link = asked.has('kept') || before.of_link;
+      if (!before.task || !lessons.take_up(before.task, of_link)) open(before.board, before.as, before.from);
+      play(before.script, true);
+      if (asked.has('kept')) tell(`These are the lines of ${before.by || 'a link'}.${before.task ? " Your own progress stays as it is." : ''}`);
+      return;
+    }
     show(BOARDS[asked.get('board') ?? Object.keys(BOARDS)[0]] ?? '', asked.get('as'));
     if (asked.has('kept') || asked.has('task')) tell('The link is cut off, or was changed on its way, so it can\'t be opened. The board below is another one.', true);
   }

@@ -19,6 +19,15 @@ export const path_in = (owners, { guest, slot }) => [...owners].find(([, owner])
 // Who has which function, as a machine tells it.
 export const owners_in = (held, functions) => new Map(held.seats().flatMap((owner, nth) => (owner === null ? [] : [[functions[nth].path, owner]])));
 
+// Brings a guest that ran lines on another board into a machine, with all that it held there; the number of a refusal, or 0.
+export function bring_guest(engine, machine, { board, guest, lines }) {
+  const other = engine.open(new TextEncoder().encode(board)).made;
+  for (const line of lines.split('\n')) asked_of(other, line);
+  const number = machine.load_guest(guest, other.save_guest(guest));
+  other.close();
+  return number;
+}
+
 // How a board stands that answers lines: `now` is what firmware sees of it, or null.
 export function moment_of({ held, functions, owners, now }) {
   const given = now === null || now.given;

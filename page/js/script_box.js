@@ -2,7 +2,7 @@
 
 import { make } from './marks.js';
 import { why_bad } from './forms.js';
-import { checked, explained, meant_by } from './meant.js';
+import { checked, explained, meant_by, told_of_slip } from './meant.js';
 import { completions } from './completion.js';
 
 const OFFERS_SHOWN = 60;
@@ -27,7 +27,7 @@ export class ScriptBox {
     if (check !== null) this.tell(check, true);
     else if (bad !== null && (bad.is_number || !is_name) && meant_by(bad, board.functions) !== null) this.tell(explained(bad, board.functions), true);
     else if (is_name) this.tell(bad.is_number ? `${bad.name}: choose what '${bad.word.word}' means from the list` : '', false);
-    else this.tell(bad === null ? '' : explained(bad, board.functions), bad !== null && !bad.begun);
+    else this.tell(bad === null ? told_of_slip(text) : explained(bad, board.functions), bad !== null && !bad.begun);
     Object.assign(this, { from, at: -1 });
     this.show(offers.slice(0, OFFERS_SHOWN));
   }

@@ -2,6 +2,7 @@
 
 const BEGINS = '#pciguest-state', LINE = '#line ', IMAGE = '#image ', ENDS = '#end';
 const TASK_ROWS = ['title', 'text', 'goal'];
+const FRAME = /^#pciguest-state (guests|firmware)$/;
 const LETTERS_IN_A_LINE = /.{1,100}/g;
 
 export function file_of({ board, as, lines, state, task }) {
@@ -9,6 +10,14 @@ export function file_of({ board, as, lines, state, task }) {
   const before = lines === '' ? [] : lines.split('\n').map(line => LINE + line);
   const image = (state?.text.match(LETTERS_IN_A_LINE) ?? []).map(letters => IMAGE + letters);
   return [board.replace(/\n$/, ''), `${BEGINS} ${as}`, ...told, ...before, ...image, ENDS, ''].join('\n');
+}
+
+// Why a file that has lines of a task is none, or null: it was written by hand, or cut.
+export function why_no_task(file) {
+  const lines = file.split(/\r?\n/), begins = lines.findLastIndex(line => FRAME.test(line)), goal = lines.findLastIndex(line => line.startsWith('#goal '));
+  if (goal < 0) return null;
+  if (begins < 0 || goal < begins) return `The file has a goal, but before its lines there is no line "${BEGINS} guests" or "${BEGINS} firmware", so it isn't opened as a task.`;
+  return lines.indexOf(ENDS, begins) < goal ? `The file has a goal, but no line "${ENDS}" after it, so it isn't opened as a task.` : null;
 }
 
 // The board of a file and whose lines stand with it, those lines, its task or null, and the letters of its state, which are null where it has

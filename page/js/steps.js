@@ -51,8 +51,11 @@ export class Steps {
   tell() {
     const { step, step_back, step_on, step_told } = this.parts, ran = this.at, all = this.stops.length - 1;
     Object.assign(step, { max: all, value: ran, disabled: all === 0 });
-    step_back.disabled = ran === 0;
-    step_on.disabled = ran === all;
+    for (const [button, is_end] of [[step_back, ran === 0], [step_on, ran === all]]) {
+      // one that has the keys keeps them
+      button.disabled = is_end && document.activeElement !== button;
+      button.setAttribute('aria-disabled', is_end);
+    }
     put_text(step_told, all === 0 ? 'no line has run' : ran === all ? `${count_in_words(all, 'line')} ran` : `as after ${ran} of ${count_in_words(all, 'line')}`);
     this.parts.go_on.hidden = ran === all;
     document.body.classList.toggle('past', ran < all);
@@ -60,9 +63,10 @@ export class Steps {
 
   // The line that ran last, its reply, and what it changed, with the problems that came and went.
   draw({ line, reply, changes, came, gone }) {
-    const { last, changes: list } = this.parts, { choose, light } = this.page;
+    const { last, last_reply, changes: list } = this.parts, { choose, light } = this.page;
     last.replaceChildren(...(line === null ? [] : [line, make('span', 'unit', ' → '), reply.split('\n')[0]]));
     last.title = last.textContent;
+    put_text(last_reply, line === null ? '' : `Last reply: ${reply.split('\n')[0]}`);
     const functions = this.page.functions(), all = [...changes.map(one => item_of(one, choose, light)), ...noted('came', '+', came, functions), ...noted('gone', '−', gone, functions)];
     const more = all.length > SHOWN ? [make('li', '', `${all.length - SHOWN} more`)] : [];
     list.replaceChildren(...all.slice(0, SHOWN), ...more, ...(all.length === 0 && line !== null ? [make('li', 'unit', 'It changed no register.')] : []));

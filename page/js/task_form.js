@@ -4,9 +4,11 @@ import { make } from './marks.js';
 import { wrong_in_goal } from './goals.js';
 import { fragment_of, is_too_long, kilobytes, link_of, PASTE, TOO_LONG } from './keep.js';
 
+const MET_ALREADY = 'This goal holds on the board as it is now, so the task is done before anybody writes a line.';
+
 export class TaskForm {
   // `parts` are its elements. `page` has `shown`, the board, whose lines one writes, the guests' names and what explains a line; and two beginnings: `with_lines`,
-  // all lines that were run, and `as_it_is`, the state that they left; and `save`, which keeps a file.
+  // all lines that were run, and `as_it_is`, the state that they left; `is_met`, whether a goal holds now; and `save`, which keeps a file.
   constructor(parts, page) {
     Object.assign(this, { parts, page });
     parts.task_form.addEventListener('submit', event => { event.preventDefault(); this.hand_out(); });
@@ -19,10 +21,10 @@ export class TaskForm {
     });
   }
 
-  // Tells what is wrong with the goal; whether it is fine.
+  // Tells what is wrong with the goal, or that it holds on the board that is shown, from which the task begins; whether it is fine.
   look() {
-    const wrong = wrong_in_goal(this.parts.own_goal.value, this.page.shown());
-    this.parts.goal_wrong.replaceChildren(...wrong.map(one => make('li', '', one)));
+    const goal = this.parts.own_goal.value, wrong = wrong_in_goal(goal, this.page.shown()), told = wrong.length === 0 && this.page.is_met(goal) ? [MET_ALREADY] : wrong;
+    this.parts.goal_wrong.replaceChildren(...told.map(one => make('li', '', one)));
     this.parts.own_goal.setAttribute('aria-invalid', wrong.length > 0);
     return wrong.length === 0;
   }

@@ -78,6 +78,8 @@ export function way_of(sent, functions) {
     const met_by = one => (sent.space === 'cfg' ? met_by_number(one, sent, number) : one.kind === 'bridge' ? met_by_window(one, sent) : met_by_region(one, sent));
     const met = here.map(one => ({ one, ...met_by(one) }));
     const takers = met.filter(each => each.takes), told = met.filter(each => each.text !== '');
+    // of several that claim a configuration cycle the first on its bus gets it
+    if (sent.space === 'cfg') for (const each of takers.slice(1)) Object.assign(each, { takes: false, text: `${each.text.replace('forwards it', 'claims it too')}; but ${called(takers[0].one)} comes first, and gets it` });
     const name = bus === null ? 'a bus without a number' : `bus ${two_digits(bus)}`;
     stops.push({ name, path: takers[0]?.one.path ?? (parent || null), met: told.map(({ one, takes, text }) => ({ path: one.path, called: called(one), takes, text })) });
     if (takers.length === 0) return { sent, stops, ends: [], told: `Nothing on ${name} responds: a read returns all ones` };

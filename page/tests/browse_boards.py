@@ -83,8 +83,9 @@ def bars_can_be_read(browser, page):
     browser.open(f'{page}#board=server', 1400)
     texts = browser.texts_of('[data-space=mem] text')
     contains('bars have addresses', texts, '0xc0000000', '0xc28fffff', '0xc1400000')
-    holds('no address is told twice', len(texts) == len(set(texts)), texts)
-    contains('bars have names', texts, 'mem window of 00:04.0', 'C 04:00.0 bar0')
+    told = [one for one in texts if one.startswith('0x')]
+    holds('no address is told twice', len(told) == len(set(told)), texts)
+    holds('bars have names', any(one.endswith('of 00:04.0') for one in texts) and 'C 04:00.0 bar0' in texts, texts)
     equals('the legend has all guests and none', browser.texts_of('#guests .one'), ['Aguest web', 'Bguest store', 'Cguest desk', '–no guest'])
     marks = browser.run("[...document.querySelectorAll('#guests .badge')].map(one => getComputedStyle(one).backgroundImage)")
     holds('each guest has a pattern of its own', len(set(marks[:3])) == 3, marks)

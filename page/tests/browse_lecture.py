@@ -20,7 +20,7 @@ TINY = """[...document.querySelectorAll('body *:not(script, style, option)')].fi
 
 
 def all_is_in_one_view(browser, page):
-    for width, height in SIZES[:2]:
+    for width, height in SIZES[:4]:
         for lesson in ['window', 'size', 'number', 'ready']:
             browser.open(f'{page}#lesson={lesson}', width, height)
             browser.type_lines(WINDOW)
@@ -63,7 +63,7 @@ def lines_can_be_gone_through(browser, page):
     holds('what a line changed is told before and after', found[:3] == wanted and len(found) == 6 and found[3].startswith('− 01:00.0 (2.0/0.0) bar0'), found)
     equals('and marked in the tree', browser.signs_of('.change'), ['2.0 Δ 3'])
     equals('and in the bars', browser.counts_of(*BARS), [0, 0, 2])
-    audit, state = browser.text_of('total'), browser.text_of('task_state')
+    audit = browser.text_of('total')
     browser.press('F8')
     equals('a key goes back by a line', browser.text_of('step_told'), 'as after 8 of 9 lines')
     begins('to what it changed', browser.text_of('last'), WINDOW[1])
@@ -72,7 +72,7 @@ def lines_can_be_gone_through(browser, page):
     equals('so are registers, which nobody writes then', browser.run(f"[{command}.checked, {command}.disabled]"), [False, True])
     equals('what that line changed is told', browser.texts_of('#changes li')[0], '00:02.0 I/O Base, I/O Limit: 0x0000 → 0x1010')
     equals('its bytes are marked', browser.run("[...document.querySelectorAll('#bytes .changed')].map(one => one.title)"), ['0x1c: I/O Base', '0x1d: I/O Limit'])
-    equals('the task stands', browser.text_of('task_state'), state)
+    equals('and is not said to be done', browser.text_of('task_state'), 'An earlier moment')
     browser.click('#step_back')
     browser.write('step', 2)
     equals('a slider goes anywhere', browser.text_of('step_told'), 'as after 2 of 9 lines')

@@ -3,12 +3,16 @@ import shutil
 import tomllib
 
 import browse_boards
+import browse_conditions
 import browse_firmware
+import browse_hand_in
 import browse_lecture
 import browse_names
 import browse_newcomer
+import browse_page
 import browse_ready
 import browse_robust
+import browse_screens
 import browse_scripts
 import browse_sight
 import browse_state
@@ -38,7 +42,7 @@ SOLUTIONS = {
               'host cw 01:00.0 4 2 3', 'host cw 01:01.0 4 2 2', 'host cw 00:01.0 4 2 1'],
     'neighbour': ['host guests', 'web cw 0 0x10 4 0x80000000', 'web cw 0 4 2 2', 'web mw 0x80000010 4 0x600d600d', 'store mr 0x80000010 4', 'store cw 0 0x24 4 0x80000000', 'store cw 0 4 2 2', 'store mw 0x80000010 4 0x0bad0bad'],
     'wide': ['host cw 01:00.0 0x18 4 0xffffffff', 'host cw 01:00.0 0x1c 4 0xffffffff', 'host cr 01:00.0 0x18 4', 'host cr 01:00.0 0x1c 4', 'host cw 01:00.0 0x18 4 0',
-             'host cw 01:00.0 0x1c 4 4', 'host cw 00:02.0 0x24 4 0x00f00000', 'host cw 00:02.0 0x28 4 4', 'host cw 00:02.0 0x2c 4 4', 'host cw 00:02.0 4 2 2', 'host cw 01:00.0 4 2 2'],
+             'host cw 01:00.0 0x1c 4 4', 'host cw 00:02.0 0x20 4 0x0000fff0', 'host cw 00:02.0 0x24 4 0x00f00000', 'host cw 00:02.0 0x28 4 4', 'host cw 00:02.0 0x2c 4 4', 'host cw 00:02.0 4 2 2', 'host cw 01:00.0 4 2 2'],
     'twins': ['host cr 01:00.0 0 4', 'host cw 00:03.0 0x18 4 0x00020200', 'host cr 02:00.0 0 4'],
     'live': ['web cr 0 0x10 4', 'web cr 0 4 2', 'web mr 0x80000010 4', 'host mr 0xc0000010 4', 'host move web 0 store 2', 'store cr 2 0x10 4'],
     'capabilities': ['host cr 01:00.0 6 2', 'host cr 01:00.0 0x34 1', 'host cr 01:00.0 0xc8 2', 'host cr 01:00.0 0xd0 2', 'host cr 01:00.0 0xa0 2', 'host cr 01:00.0 0xa4 4', 'host mr 0xc002000c 4'],
@@ -59,6 +63,11 @@ def parts_of(task):
     if 'parts' not in task:
         return [(name, f'lesson={name}')]
     return [(f'{name}/{part}', f'lesson={name}&part={nth}') for nth, part in enumerate(task['parts'], 1)]
+
+
+def links_with_lines():
+    """Each lesson, or each part of one: its name, its link, and lines that do it."""
+    return [(name, link, SOLUTIONS[name]) for task in TASKS for name, link in parts_of(task)]
 
 
 def lessons_are_done(browser, page):
@@ -141,7 +150,8 @@ def a_teacher_hands_out(browser, page):
     browser.type_line('host cw 00:02.0 0x18 4 0x00010100')
     browser.run("document.getElementById('own').open = true")
     for wrong, why in [('host cr 01:00.0 0 -> host: 0x1', "missing width (expected 'cr FUNCTION OFFSET WIDTH')"), ('host cw 01:00.0 4 2 2 -> host: ok', 'has to be a read'),
-                       ('everything', 'write ready'), ('', 'a goal has at least one condition')]:
+                       ('everything', 'write ready'), ('', 'a goal has at least one condition'),
+                       ('host cr 01:00.0 0 2 -> host: 0x00000001', 'no read of 2 bytes returns this'), ('host cr 00:02.0 0 4 -> host: 0x00021234', 'holds on the board as it is now')]:
         browser.write('own_goal', wrong)
         contains(f'the goal {wrong!r} is refused', browser.text_of('goal_wrong'), why)
     link = browser.task_link('Place it', 'Give `01:00.0` a base.', 'host cr 01:00.0 0x10 4 -> host: 0xc0000000  # It has a base\naudit: ok')
@@ -316,9 +326,11 @@ ALL = [lessons_are_done, a_reply_counts_in_its_place, a_lesson_leads_on, a_teach
 
 
 def in_browser(browser, page, folder, shot=''):
-    for check in [*browse_boards.ALL, *browse_firmware.ALL, *ALL, *browse_lecture.ALL, *browse_newcomer.ALL, *browse_ready.ALL, *browse_robust.ONCE, *browse_state.ALL, *browse_why.ALL]:
+    for check in [*browse_boards.ALL, *browse_firmware.ALL, *browse_hand_in.ALL, *ALL, *browse_lecture.ALL, *browse_newcomer.ALL, *browse_page.ALL, *browse_ready.ALL, *browse_robust.ONCE, *browse_screens.ALL, *browse_state.ALL, *browse_why.ALL]:
         check(browser, page)
     lessons = [(name, SOLUTIONS[name]) for task in TASKS for name, _ in parts_of(task)]
+    for check in browse_conditions.checks_of(links_with_lines(), TASKS):
+        check(browser, page)
     at_each_size(browser, page, [*browse_names.ALL, *browse_robust.ALL, *browse_scripts.ALL, *browse_sight.checks_of(lessons)])
     browse_state.the_state_looks_well(browser, page, folder, shot)
     browse_why.questions_look_well(browser, page, folder, shot)

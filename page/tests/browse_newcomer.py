@@ -2,7 +2,7 @@
 those that words and hints give, with another number or offset in them, and what is wrong is mended in the fields."""
 from itertools import product
 
-from tried import begins, contains, holds
+from tried import begins, contains, equals, holds
 
 # The number of a function, as its chip says it.
 NUMBER = """(() => { const chip = [...document.querySelectorAll('#tree .chip')].find(one => one.textContent.includes('%s'));
@@ -107,6 +107,7 @@ def an_address_above_4_gb(browser, words, hint):
         reads(browser, f'host cr {words[0]} {offset} 4')
     writes(browser, '2.0/0.0', ('bar2', 'base', words[2]))
     writes(browser, '2.0', ('Prefetchable', 'first', words[2]), ('Prefetchable', 'last', hex(int(words[2], 16) + 0xffffff)))
+    browser.type_line(f'host cw {number_of(browser, "bridge")} 0x20 4 0x0000fff0')
     switches(browser, '2.0', 'Memory space')
     switches(browser, '2.0/0.0', 'Memory space')
 
@@ -155,10 +156,34 @@ def all_lessons_are_done(browser, page):
 NEEDED = [['0x18', '0x20', '0x10'], ['0x19', '0x1a'], ['0x10', '0x14', '0x24'], ['0x20', '0x22', '0x1c', '0x1d', 'offset 4', 'bit 0 enables I/O', 'upper bits']]
 
 
+# The words of the page, each explained where it is first read.
+WORDS = [('read', 'A region is'), ('read', 'A window is'), ('ready', 'The apertures are'), ('neighbour', 'A slot is')]
+
+
+def words_are_explained(browser, page):
+    for name, words in WORDS:
+        browser.open(f'{page}#lesson={name}', 1280, 720)
+        contains(f'the text of {name} explains a word', browser.text_of('task_text'), words)
+    browser.open(f'{page}#board=server', 1280, 720)
+    browser.run("document.getElementById('legend').open = true")
+    contains('so does the legend', browser.text_of('legend'), 'region', 'window', 'aperture', 'slot')
+    contains('what the page has of PCI Express is said at its top', browser.run("document.querySelector('header p').textContent"), 'PCI Express', 'ECAM')
+
+
+def lesson_1_shows_both_headers(browser, page):
+    browser.open(f'{page}#lesson=read', 1440, 900)
+    found = browser.run("[...document.querySelectorAll('#headers table')].map(table => [...table.rows].map(row => [...row.cells].map(one => one.textContent).join('|')))")
+    holds('lesson 1 shows the headers of an endpoint and of a bridge', len(found) == 2 and found[0][0] == '0x00|Device ID|Vendor ID' and found[0][4] == '0x10|Base Address Register 0'
+          and found[1][6] == '0x18|Secondary Latency Timer|Subordinate Bus Number|Secondary Bus Number|Primary Bus Number', found)
+    holds('each of 64 bytes', all(len(table) == 16 for table in found), [len(table) for table in found])
+    browser.open(f'{page}#lesson=window', 1440, 900)
+    equals('and no other lesson', browser.count_of('#headers table'), 0)
+
+
 def texts_say_what_lines_need(browser, page):
     for name, needed in zip(['read', 'number', 'size', 'window'], NEEDED):
         browser.open(f'{page}#lesson={name}', 1280, 720)
         contains(f'the text of {name} says what its lines need', browser.text_of('task_text'), *needed)
 
 
-ALL = [all_lessons_are_done, texts_say_what_lines_need]
+ALL = [all_lessons_are_done, texts_say_what_lines_need, words_are_explained, lesson_1_shows_both_headers]

@@ -22,14 +22,50 @@ def large_files_are_refused(browser, page, size):
     holds('a text that is too large is not pasted', pasted is False and 'too large' in browser.text_of('kept_told'), browser.text_of('kept_told'))
 
 
-def a_file_of_comments_is_opened(browser, page):
+def a_file_of_many_lines_is_plain(browser, page):
+    for what, more, count in [('comments', COMMENTS % 24000, '24,'), ('empty lines', "'\\n'.repeat(1000000)", '1,000,')]:
+        browser.open(f'{page}#board=main')
+        browser.run("document.getElementById('verdict').textContent = ''")
+        began = browser.run('performance.now()')
+        browser.open_file(f"document.getElementById('board').value + {more}")
+        browser.until("document.getElementById('verdict').textContent !== ''")
+        browser.run('new Promise(done => requestAnimationFrame(() => requestAnimationFrame(() => done(0))))')
+        took = browser.run('performance.now()') - began
+        begins(f'a file of nearly 1 MB of {what} is opened', browser.text_of('verdict'), 'Set up: 3 endpoints')
+        holds(f'in less than 5 seconds with {what}', took < 5000, took)
+        begins(f'its first lines are shown of {what}', browser.text_of('plain'), f'This file has {count}')
+        equals('and are not edited', browser.run("[document.getElementById('board').readOnly, document.getElementById('board').value.split('\\n').length]"), [True, 1000])
+        print(f'a file of nearly 1 MB of {what} is opened in {took:.0f} ms')
+        browser.choose('boards', 'server')
+        equals('another board is edited', [browser.run("document.getElementById('board').readOnly"), browser.is_shown('plain')], [False, False])
+    browser.run('localStorage.clear()')
+
+
+SCRIPT = "'a cr 0 0 4\\n'.repeat(%d)"
+TOLD_RUNNING = "document.getElementById('running').checkVisibility() && / of 80,000 lines ran$/.test(document.getElementById('running_told').textContent)"
+
+
+def a_long_script_can_be_stopped(browser, page):
+    browser.open(f'{page}#board=main')
+    took = browser.open_file(SCRIPT % 80000, 'long.script')
+    holds('the page tells how far a long script is', took < 1000 and browser.until(TOLD_RUNNING), [took, browser.text_of('running_told')])
+    browser.click('#stop')
+    browser.run('new Promise(done => setTimeout(done, 300))')
+    ran = [browser.text_of('step_told') for _ in range(2) if browser.run('new Promise(done => setTimeout(() => done(1), 200))')]
+    holds('and can be stopped', ran[0] == ran[1] and not browser.is_shown('running') and int(ran[0].split()[0]) < 80000, ran)
+    holds('the transcript shows the last lines', 0 < browser.count_of('#transcript .row') <= 2000, browser.count_of('#transcript .row'))
+    browser.type_line('host cr 00:02.0 0 4')
+    equals('and the page goes on', browser.said_last(), 'host cr 00:02.0 0 4')
+    browser.press('F8')
+    contains('one can go back through them', browser.text_of('step_told'), 'as after')
     browser.open(f'{page}#board=main')
     began = browser.run('performance.now()')
-    browser.open_file(f"document.getElementById('board').value + {COMMENTS % 24000}")
-    browser.until("document.getElementById('board').value.length > 900000 && document.querySelectorAll('#numbers').length === 1")
-    took = browser.run('performance.now()') - began
-    begins('a file of nearly 1 MB of comments is opened', browser.text_of('verdict'), 'Set up: 3 endpoints')
-    print(f'a file of nearly 1 MB of comments is opened in {took:.0f} ms')
+    browser.open_file(SCRIPT % 10000, 'long.script')
+    browser.until("document.getElementById('step_told').textContent === '10000 lines ran'", 2000)
+    print(f"a script of 10,000 lines runs in {browser.run('performance.now()') - began:.0f} ms")
+    begins('all lines of a long script run', browser.text_of('step_told'), '10000 lines')
+    equals('and are saved', browser.run("(() => { let saved; const create = URL.createObjectURL; URL.createObjectURL = blob => { saved = blob.size; return create(blob); }; "
+                                       "HTMLAnchorElement.prototype.click = () => {}; document.getElementById('save_lines').click(); return saved; })()"), 10000 * 11)
     browser.run('localStorage.clear()')
 
 
@@ -76,12 +112,6 @@ def there_is_a_way_in(browser, page, size):
     browser.click('#begin')
     equals('it begins lesson 1', browser.text_of('task_title'), 'Lesson 1: Read a board')
     equals("the lecturer's notes are not shown", browser.is_shown('notes'), False)
-    press = "dispatchEvent(new KeyboardEvent('keydown', { altKey: true, code: 'KeyN', cancelable: true }))"
-    browser.run(press)
-    notes = browser.run("document.getElementById('notes').innerText")
-    holds('a key shows them', notes.startswith('Show') and 'Ask' in notes and 'mistake' in notes, notes)
-    browser.run(press)
-    equals('and hides them', browser.is_shown('notes'), False)
 
 
 # For Chromium alone, which can be told what to run before the page.
@@ -100,5 +130,5 @@ def a_browser_may_be_unable(browser, page):
     browser.ask('Page.removeScriptToEvaluateOnNewDocument', identifier=script)
 
 
-ONCE = [a_file_of_comments_is_opened]
+ONCE = [a_file_of_many_lines_is_plain, a_long_script_can_be_stopped]
 ALL = [large_files_are_refused, typing_waits, unknown_addresses_are_explained, there_is_a_way_in]

@@ -234,7 +234,7 @@ def guests_of_a_given_board_are_asked(browser, page):
     browser.type_lines([*set_up(primary=5), 'host guests'])
     equals('a board that is given is asked no more', [browser.run(ASKED), browser.run(f'{LAST}.disabled')], [None, True])
     whole = browser.run(RANGE)
-    browser.run(CLICK % 0.85)
+    browser.run(CLICK % 0.7)
     holds('a click zooms there', browser.run(RANGE) != whole and browser.run(ASKED) is None, browser.run(RANGE))
     browser.type_lines(['a cw 0 0x14 4 0x80000000', 'a cw 0 4 2 0', 'a mr 0x80000010 4'])
     ask_last(browser)

@@ -51,11 +51,16 @@ class Browser(Reader):
         text, self.rest = rest[:int(length)], rest[int(length):]
         return json.loads(text)
 
-    def ask(self, name, **parameters):
+    def told(self, name, **parameters):
+        """What an answer says, and what is wrong or None."""
         self.count += 1
         text = json.dumps([0, self.count, name, parameters]).encode()
         self.socket.sendall(str(len(text)).encode() + b':' + text)
         _, _, wrong, answer = self.message()
+        return answer, wrong
+
+    def ask(self, name, **parameters):
+        answer, wrong = self.told(name, **parameters)
         if wrong:
             sys.exit(f'{name}: {wrong["message"]}')
         return answer
@@ -64,8 +69,13 @@ class Browser(Reader):
         self.ask('Marionette:Quit', flags=['eForceQuit'])
 
     def run(self, script):
-        """What an expression is, in the page."""
-        return self.ask('WebDriver:ExecuteScript', script=f'return window.eval({json.dumps(script)});', args=[])['value']
+        """What an expression is, in the page, whose policy forbids eval; of statements, nothing."""
+        answer, wrong = self.told('WebDriver:ExecuteScript', script=f'return (\n{script}\n);', args=[])
+        if wrong and 'SyntaxError' in wrong['message']:
+            return self.ask('WebDriver:ExecuteScript', script=script, args=[])['value']
+        if wrong:
+            sys.exit(f'{script}: {wrong["message"]}')
+        return answer['value']
 
     def go(self, address, width, height, scheme):
         self.ask('Marionette:SetContext', value='chrome')

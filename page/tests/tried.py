@@ -8,7 +8,7 @@ sys.path.insert(0, str(PAGE / 'build'))
 
 counts = {'passed': 0, 'failed': 0}
 # The sizes of the window, and the one of them that is tried.
-SIZES = [(1440, 900), (1280, 720), (390, 844)]
+SIZES = [(1440, 900), (1280, 720), (1280, 600), (1024, 480), (390, 844), (720, 450)]
 tried_at = []
 # The widths at which nothing may be cut, and the looks of which a screenshot is left: each with its size and theme.
 WIDTHS = [1400, 1100, 700, 400]
@@ -21,7 +21,7 @@ LAST = "[...document.querySelectorAll('#transcript button.reply')].at(-1)"
 RANGE = "document.querySelector('[data-space=mem] .title span:nth-child(2)').textContent"
 # Elements that reach past the right edge, outside those that scroll or draw themselves.
 CUT = """[...document.querySelectorAll('body *')].filter(one => { const box = one.getBoundingClientRect();
-  return box.width > 0 && box.right > document.documentElement.clientWidth + 0.5 && !one.closest('.text, svg, #last'); }).map(one => `${one.tagName} ${one.className} ${one.id}`)"""
+  return box.width > 0 && box.right > document.documentElement.clientWidth + 0.5 && !one.closest('.text, svg, #last') && !(innerWidth > 960 && one.closest('#tree')); }).map(one => `${one.tagName} ${one.className} ${one.id}`)"""
 # The least contrast of the texts of the page, as the browser paints them, and of the fill of regions with the page.
 PAINTED = """(() => {
   const pen = Object.assign(document.createElement('canvas'), { width: 1, height: 1 }).getContext('2d', { willReadFrequently: true });
