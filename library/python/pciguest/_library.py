@@ -5,6 +5,7 @@ from __future__ import annotations
 import ctypes
 import operator
 import os
+import sys
 from ctypes import c_size_t
 from pathlib import Path
 from typing import Callable, Dict, SupportsIndex, Tuple
@@ -15,14 +16,18 @@ NAME = "libpciguest.so.0"
 
 
 def _place() -> str:
-    """Where the shared library is: a path, or its name alone for one that the system finds."""
+    """Where the shared library is: a path, or only its name if the system has to find it."""
     folder = os.environ.get("PCIGUEST_LIBRARY_DIR")
     if folder:
         return str(Path(folder).resolve() / NAME)
     here = Path(__file__).resolve().parents
-    # a wheel has it beside this module; in the repository it stands above, and in a tarball, or where that was installed, in lib
+    # in a wheel, next to this module; in the repository, above it; in a tarball, or where that was installed, in lib
     usual = (here[0] / NAME, here[2] / NAME, here[min(4, len(here) - 1)] / "lib" / NAME)
-    return next((str(place) for place in usual if place.exists()), NAME)
+    unproved = here[2] / "unproved" / NAME
+    place = next((place for place in (*usual, unproved) if place.exists()), NAME)
+    if place == unproved:
+        print(f"pciguest: this library is not proved: {place}. `make library` proves it", file=sys.stderr)
+    return str(place)
 
 
 def _load() -> Dict[str, Callable[..., int]]:
@@ -31,8 +36,8 @@ def _load() -> Dict[str, Callable[..., int]]:
         library = ctypes.CDLL(place)
     except OSError as error:
         raise ImportError(
-            f"{error}. `make library` at the top of the repository leaves {NAME} in library/, and PCIGUEST_LIBRARY_DIR "
-            "names the folder of one that stands elsewhere"
+            f"{error}. At the top of the repository, `make try` compiles {NAME} without proofs, and `make library` proves it. "
+            "If it is elsewhere, set PCIGUEST_LIBRARY_DIR to its directory"
         ) from error
     calls: Dict[str, Callable[..., int]] = {}
     for name, (answer, parameters) in DECLARED.items():
