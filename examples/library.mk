@@ -1,4 +1,4 @@
-# Where the examples in C find the library: INCLUDE is the directory of pciguest.h, and LIBRARY that of libpciguest.a. `make try`
+# Where the examples find the library: INCLUDE is the directory of pciguest.h, and LIBRARY that of libpciguest.a. `make try`
 # leaves an unproved library, which is used only if there is no proved one.
 INCLUDE := $(firstword $(wildcard ../../library ../../include))
 LIBRARY := $(patsubst %/libpciguest.a,%,$(firstword $(wildcard $(addsuffix /libpciguest.a,../../library ../../lib ../../library/unproved)) $(INCLUDE)))

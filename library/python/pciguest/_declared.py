@@ -1,4 +1,4 @@
-"""What a class of a device declares, and the endpoint of a board file that says the same."""
+"""What a device's class declares, and the table of a board file with the same declaration."""
 
 from __future__ import annotations
 
@@ -9,7 +9,7 @@ from ._library import number
 if TYPE_CHECKING:
     from ._devices import Device
 
-#: of each kind of region: its space, whether it is prefetchable, and whether it has 64 bits
+#: for each kind of region: its space, whether it is prefetchable, and whether it is 64-bit
 KINDS: Dict[str, Tuple[str, bool, bool]] = {
     "io": ("io", False, False),
     "mem32": ("memory", False, False),
@@ -23,9 +23,9 @@ PATTERNS = ("reset", "rw", "w1c")
 
 
 class Register:
-    """A register of a device: bytes at an offset of the region of a base address register, or, where `bar` is None, of
-    configuration space, from 40h on. `reset` is its value at reset, `rw` the bits that its driver's writes set, and `w1c`
-    those that it clears by writing ones."""
+    """A register of a device: bytes at an offset in the region of a base address register or, if `bar` is None,
+    in configuration space at 40h or above. `reset` is its reset value, `rw` are the bits that the driver can
+    write, and `w1c` are the bits that the driver clears by writing ones."""
 
     def __init__(self, offset: int, width: int, *, bar: Optional[int] = 0, reset: int = 0, rw: int = 0,
                  w1c: int = 0) -> None:
@@ -57,8 +57,8 @@ class Register:
 
 
 def declared(cls: Type[Device]) -> Tuple[Register, ...]:
-    """The registers that a class and those above it declare, in the order of their places. ValueError: one stands outside
-    its region, or two overlap."""
+    """The registers that a class and its base classes declare, sorted by part and offset. ValueError: a
+    register is outside its region, or two overlap."""
     named: Dict[str, Any] = {}
     for each in reversed(cls.__mro__):
         named.update(vars(each))
@@ -78,7 +78,7 @@ def _registers(named: Dict[str, Any]) -> List[Register]:
 
 
 def endpoint(cls: Type[Device], at: str) -> str:
-    """The endpoint of a board file, at a path."""
+    """The `[[endpoint]]` table of a board file, at a path."""
     lines = [
         "[[endpoint]]",
         f'at = "{at}"',
@@ -109,7 +109,7 @@ def _config(cls: Type[Device]) -> str:
 
 
 def _block(registers: List[Register], first: int) -> Iterator[str]:
-    """The length of a block of cells from an offset on, and its patterns, where one has a bit."""
+    """The length of the block from an offset on, and its patterns that aren't all zeros."""
     length = max((each.offset + each.width for each in registers), default=first) - first
     if not length:
         return
@@ -124,7 +124,7 @@ def _block(registers: List[Register], first: int) -> Iterator[str]:
 
 
 def _period(cells: bytes) -> bytes:
-    """The shortest beginning that, repeated, makes the cells."""
+    """The shortest prefix that, repeated, yields the bytes."""
     return next(
         cells[:length]
         for length in range(1, len(cells) + 1)

@@ -1,4 +1,4 @@
-"""The calls of the shared library, which is found and loaded when the first is asked for; `_calls` declares them."""
+"""The calls of the shared library, which is loaded when the first of them is used. `_calls` declares them."""
 
 from __future__ import annotations
 
@@ -48,7 +48,7 @@ def _load() -> Dict[str, Callable[..., int]]:
 
 
 class _Calls(Dict[str, Callable[..., int]]):
-    """The calls by their names. The library is loaded when the first of them is asked for."""
+    """The calls by name. The library is loaded when the first of them is used."""
 
     def __missing__(self, name: str) -> Callable[..., int]:
         self.update(_load())
@@ -59,8 +59,9 @@ CALLS = _Calls()
 
 
 def version() -> int:
-    """The version of the library that is loaded, as a number that grows: 10000 times the major version, 100 times the
-    minor one, and the patch. `__version__` is that of the module, as a text.
+    """Returns the version of the library that is loaded, as a number that increases from version to version:
+    10000 times the major version, 100 times the minor one, and the patch. `__version__` is the version of
+    the module, as a text.
 
     >>> version() // 10000
     0
@@ -69,7 +70,8 @@ def version() -> int:
 
 
 def number(name: str, value: SupportsIndex, bits: int) -> int:
-    """The number that a value is, if it has no more than so many bits. ctypes would drop the others."""
+    """Checks that a value is a number of at most so many bits, and returns it. (ctypes would drop the other
+    bits.)"""
     found = operator.index(value)
     if not 0 <= found < 1 << bits:
         raise ValueError(f"{name}: {found:#x} is not from 0 to {(1 << bits) - 1:#x}")
@@ -77,8 +79,8 @@ def number(name: str, value: SupportsIndex, bits: int) -> int:
 
 
 def told(room: int, call: Callable[..., int]) -> Tuple[int, str]:
-    """Calls with room for a text; where that is too little, once more with what the text needs. Gives the number that
-    the call answers, and the text."""
+    """Makes a call that writes a text, with so much room; if that is too little, again with enough. Returns the
+    number that the call returns, and the text."""
     needed = c_size_t(0)
     text = ctypes.create_string_buffer(room)
     answer = call(text, room, ctypes.byref(needed))
