@@ -114,15 +114,15 @@ def speak(rom: bytes, options: argparse.Namespace) -> int:
 
 def parser() -> argparse.ArgumentParser:
     words = argparse.ArgumentParser(prog="python3 -m pciguest.rom_test", description=(__doc__ or "").split("\n\n")[0])
-    words.add_argument("rom", type=Path)
-    words.add_argument("--board", type=Path, action="append")
-    words.add_argument("--ending")
-    words.add_argument("--time", type=float, default=30)
-    words.add_argument("--old", action="store_true")
-    words.add_argument("--lines", action="store_true")
+    words.add_argument("rom", type=Path, help="the ROM, a file")
+    words.add_argument("--board", type=Path, action="append", help="run the ROM on this board file")
+    words.add_argument("--ending", help="the text that the console prints last")
+    words.add_argument("--time", type=float, default=30, help="longest time for a boot, in seconds (30)")
+    words.add_argument("--old", action="store_true", help="a processor without a time stamp counter and without an APIC")
+    words.add_argument("--lines", action="store_true", help="make the accesses through standard input and output")
     for name, value in PLAIN._asdict().items():
-        words.add_argument(f"--{name}", type=aperture, default=value)
-    words.add_argument("--program")
+        words.add_argument(f"--{name}", type=aperture, default=value, help="addresses that the ROM may assign")
+    words.add_argument("--program", help="use this pciguest program instead of the library")
     return words
 
 

@@ -52,7 +52,7 @@ impl DeviceSide<'_> {
 
     pub(crate) fn read(&mut self, part: Part, offset: u64, width: u32) -> Result<u64, Error> {
         let (guest, slot, part) = (self.guest, self.slot, part.number());
-        // SAFETY: `value` is a place of its own.
+        // SAFETY: `value` is a separate variable.
         valued(|value| unsafe {
             raw::pciguest_device_read_wide(self.handle, guest, slot, part, offset, width, value)
         })
@@ -62,7 +62,7 @@ impl DeviceSide<'_> {
         &mut self, part: Part, offset: u64, width: u32, value: u64,
     ) -> Result<(), Error> {
         let (guest, slot, part) = (self.guest, self.slot, part.number());
-        // SAFETY: no pointer but the handle is passed.
+        // SAFETY: no pointer except the handle is passed.
         answered(unsafe {
             raw::pciguest_device_write_wide(self.handle, guest, slot, part, offset, width, value)
         })
@@ -105,7 +105,7 @@ impl DeviceSide<'_> {
 
     fn bus_master(&mut self) -> Result<bool, Error> {
         let (guest, slot) = (self.guest, self.slot);
-        // SAFETY: `value` is a place of its own.
+        // SAFETY: `value` is a separate variable.
         let command = valued(|value| unsafe {
             raw::pciguest_read(self.handle, guest, raw::CONFIG, slot, 0x04, 2, value)
         })?;
