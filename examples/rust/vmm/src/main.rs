@@ -1,6 +1,6 @@
-//! The buses of a hypervisor in Rust: RAM of rust-vmm's crate vm-memory, a serial port of its vm-superio, and a function of a
-//! board, whose device reads what its driver left in RAM. In place of a processor a driver makes the accesses that a
-//! hypervisor would trap.
+//! The buses of a hypervisor in Rust: RAM from rust-vmm's crate vm-memory, a serial port from its
+//! vm-superio, and a function of a board, whose device reads what its driver put into RAM. Instead
+//! of a processor, a driver makes the accesses that a hypervisor would trap.
 
 use pciguest::{
     At, Declaration, DeviceModel, Error, Guest, GuestBus, Kind, Machine, Places, Region, Register,
@@ -12,13 +12,14 @@ use vm_memory::{Bytes, GuestAddress, GuestMemoryMmap};
 use vm_superio::serial::NoEvents;
 use vm_superio::{Serial, Trigger};
 
-/// Where the message of the driver stands in RAM, how long it is, and the bell; the device tells how many it printed.
+/// The address and the length of the driver's message in RAM, the doorbell, and the number of
+/// messages that the device has printed.
 const ADDRESS: Register = Register::in_region(0, 0x00, 8).rw(u64::MAX);
 const LENGTH: Register = Register::in_region(0, 0x08, 4).rw(0xffff);
 const PRINT: Register = Register::in_region(0, 0x0c, 4);
 const PRINTED: Register = Register::in_region(0, 0x10, 4);
 
-/// A printer, which reaches RAM as a device that masters the bus does: pciguest itself has no part in that.
+/// A printer, which reads RAM as a bus master does. pciguest isn't involved in these reads.
 struct Printer(GuestMemoryMmap);
 
 impl DeviceModel for Printer {
@@ -41,7 +42,7 @@ impl DeviceModel for Printer {
     }
 }
 
-/// An interrupt line to which nobody listens: the driver here polls.
+/// An interrupt line that isn't connected, because the driver polls.
 struct NoLine;
 
 impl Trigger for NoLine {
@@ -52,20 +53,20 @@ impl Trigger for NoLine {
     }
 }
 
-/// What a processor asks of a bus: bytes to be read, or written.
+/// A processor's access to a bus: bytes to be read or written.
 enum Access<'a> {
     Read(&'a mut [u8]),
     Write(&'a [u8]),
 }
 
-/// A guest's machine: what stands on its buses beside RAM.
+/// A guest's machine: what is on its buses besides RAM.
 struct Buses {
     serial: Serial<NoLine, NoEvents, Stdout>,
     board: Arc<Mutex<Machine>>,
     guest: Guest,
     ports: GuestBus,
     memory: GuestBus,
-    /// The regions of the board that are open, and where all were told to stand.
+    /// The enabled regions on the board, and where all regions were last reported.
     open: Vec<Region>,
     places: Places,
 }
@@ -84,7 +85,7 @@ impl Buses {
         }
     }
 
-    /// A port: of the serial port, CONFIG_ADDRESS and CONFIG_DATA, or of an open region.
+    /// A port: that of the serial port, CONFIG_ADDRESS, CONFIG_DATA, or one in an enabled region.
     fn port(&mut self, port: u64, access: Access<'_>) {
         match (port, access) {
             (0x3f8..=0x3ff, Access::Read(data)) => {
@@ -114,7 +115,7 @@ impl Buses {
         open.any(|it| it.space == space && (it.first..=it.first + (it.size - 1)).contains(&place))
     }
 
-    /// Regions that stand elsewhere since.
+    /// Handles regions that moved.
     fn see_moves(&mut self) {
         let moved =
             self.board.lock().unwrap().moved(self.guest, &mut self.places).unwrap_or_default();
@@ -136,8 +137,8 @@ fn nobody(access: Access<'_>) {
     }
 }
 
-/// The driver: it finds the printer and places its region, leaves a message in RAM, has it printed, and tells by the serial
-/// port how many were.
+/// The driver: it finds the printer, places its region, puts a message into RAM, has it printed,
+/// and reports through the serial port how many were printed.
 fn drive(buses: &mut Buses, ram: &GuestMemoryMmap) -> Result<(), vm_memory::GuestMemoryError> {
     let message = b"read from RAM by the device";
     ram.write_slice(message, GuestAddress(0x1000))?;
@@ -156,7 +157,7 @@ fn drive(buses: &mut Buses, ram: &GuestMemoryMmap) -> Result<(), vm_memory::Gues
     Ok(())
 }
 
-/// The board of the printer's own declaration, with guest a.
+/// The board, with the printer as it declares itself, and guest a.
 fn board(printer: Printer) -> Result<(Machine, Guest), Error> {
     let host = "host = { io = [0x1000, 0xffff], mem = [0xc0000000, 0xdfffffff] }\n";
     let guest = "[[guest]]\nname = \"a\"\nslots = [\"1.0\"]\n";
