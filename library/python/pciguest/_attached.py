@@ -74,7 +74,7 @@ class Attaching(SavedMachine):
     def _check(self, *guests: Guest) -> None:
         """Raises an error unless these are guests of this machine."""
         if any(guest.machine is not self for guest in guests):
-            raise ValueError("a guest of another machine")
+            raise ValueError("the guest belongs to another machine")
 
     def attach(self, guest: Guest, slot: int, device: Device) -> None:
         """Attaches a device to the function in a guest's slot. From now on, the device is notified of the
@@ -92,9 +92,9 @@ class Attaching(SavedMachine):
         with self._lock:
             path = guest.function(slot).path
             if self._device_at((guest.index, slot)) is not None:
-                raise ValueError(f"{path} has a device already")
+                raise ValueError(f"{path} already has a device")
             if device._machine is not None:
-                raise ValueError("the device is attached already")
+                raise ValueError("the device is already attached")
             difference = first_difference(type(device), guest.save(), slot)
             if difference is not None:
                 raise DeclaredOtherwise(path, difference)

@@ -35,7 +35,7 @@ class Register:
         patterns = zip(PATTERNS, (reset, rw, w1c))
         self.reset, self.rw, self.w1c = (number(name, value, 8 * width) for name, value in patterns)
         if not width or rw & w1c:
-            raise ValueError("a register has a byte, and no bit is both in rw and in w1c")
+            raise ValueError("a register needs at least one byte, and no bit may be in both rw and w1c")
 
     def __set_name__(self, owner: Type[Device], name: str) -> None:
         self.name = name
@@ -66,7 +66,7 @@ def declared(cls: Type[Device]) -> Tuple[Register, ...]:
     for one in found:
         first, last = (0x40, 0x100) if one.bar is None else (0, min(cls.bars.get(one.bar, ("", 0))[1], 4096))
         if one.offset < first or one.offset + one.width > last:
-            raise ValueError(f"{one.name} stands outside {'40h to FFh' if one.bar is None else f'region {one.bar}'}")
+            raise ValueError(f"{one.name} is outside {'40h to FFh' if one.bar is None else f'region {one.bar}'}")
     for one, other in zip(found, found[1:]):
         if one.bar == other.bar and one.offset + one.width > other.offset:
             raise ValueError(f"{one.name} and {other.name} overlap")

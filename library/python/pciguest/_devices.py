@@ -113,7 +113,7 @@ class Device:
         """Restores a state that `save_state` returned, after the image was loaded. ValueError: the bytes aren't
         such a state; then nothing changes."""
         if state:
-            raise ValueError("the device keeps nothing beside its registers")
+            raise ValueError("the device keeps no state outside its registers")
 
     @property
     def seat(self) -> Optional[Tuple[int, int]]:
@@ -139,9 +139,9 @@ class Device:
     def _attached(self) -> Tuple[Attaching, Tuple[int, int]]:
         """Returns the machine and the seat. ValueError: the device has no machine or no seat."""
         if self._machine is None:
-            raise ValueError("the device is attached to no machine")
+            raise ValueError("the device isn't attached to a machine")
         if self._seat is None:
-            raise ValueError("no guest has the function of the device")
+            raise ValueError("no guest has the device's function")
         return self._machine, self._seat
 
     def _taken(self) -> Tuple[Guest, int]:

@@ -74,7 +74,7 @@ def number(name: str, value: SupportsIndex, bits: int) -> int:
     bits.)"""
     found = operator.index(value)
     if not 0 <= found < 1 << bits:
-        raise ValueError(f"{name}: {found:#x} is not from 0 to {(1 << bits) - 1:#x}")
+        raise ValueError(f"{name}: {found:#x} is out of range (0 to {(1 << bits) - 1:#x})")
     return found
 
 

@@ -322,7 +322,7 @@ class Guest(Saved, DeviceSide):
         are 4 bytes at port CF8h, which are the guest's CONFIG_ADDRESS. Changes nothing. 303: the port is out
         of range."""
         if space not in ("io", "memory"):
-            raise ValueError(f"space: {space!r} is neither 'io' nor 'memory'")
+            raise ValueError(f"space: {space!r} isn't 'io' or 'memory'")
         return self.machine._locate(self.index, IO if space == "io" else MEMORY, number("place", place, 64))
 
     def why(self, space: str, place: int, slot: int = 0) -> str:

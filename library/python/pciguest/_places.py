@@ -38,7 +38,7 @@ def line_of(text: str, machine: Machine) -> Line:
     """The line for a place: a write if a value follows, otherwise a read."""
     found = _PLACE.fullmatch(text.strip())
     if found is None:
-        raise WrongPlace("write a guest or a path, and then a register or a part, as a.command or a.bar0[8:4]")
+        raise WrongPlace("write a guest or a path, and then a register or a part, as in a.command or a.bar0[8:4]")
     return _Place(found, machine).line()
 
 
@@ -47,7 +47,7 @@ def function_at(path: str, machine: Machine) -> Function:
     for each in machine.functions():
         if each.path == path:
             return each
-    raise WrongPlace(f"no function at {path}: tree tells which there are")
+    raise WrongPlace(f"no function at {path}: 'tree' lists the functions")
 
 
 class _Place:
@@ -80,7 +80,7 @@ class _Place:
         if self.value is None:
             return Line(f"{self.who} {letter}r {where}", note)
         if self.who == "host":
-            raise WrongPlace("the host only reads: a guest writes, as a.command = 2")
+            raise WrongPlace("the host only reads; write as a guest, as in a.command = 2")
         return Line(f"{self.who} {letter}w {where} {self.value}", note)
 
     def _spaces(self) -> Optional[Line]:
@@ -92,7 +92,7 @@ class _Place:
         self._bytes()
         offset = number_of(self.place.strip().encode())
         if offset is None:
-            raise WrongPlace(f"'{self.place}' is no number")
+            raise WrongPlace(f"'{self.place}' isn't a number")
         return f"{first + offset:#x} {self.width.strip()}"
 
     def _of_guest(self) -> Line:

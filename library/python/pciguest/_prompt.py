@@ -138,7 +138,7 @@ class Prompt:
             name, _, slot = who.partition(".")
             space, names = self.machine.guest(name).config[int(slot or 0)], ENDPOINT
         else:
-            raise WrongPlace("write the path of a function, or a guest, as regs 2.0 or regs a.1")
+            raise WrongPlace("write the path of a function, or a guest, as in regs 2.0 or regs a.1")
         for name, (offset, width) in sorted(names.items(), key=lambda row: row[1]):
             self._write(f"{offset:02x} {name:17} {space[offset:width]:#0{2 + 2 * width}x}")
 
@@ -147,7 +147,7 @@ class Prompt:
         found = [number_of(word.encode(errors="surrogateescape")) for word in words[2:]]
         numbers = [value for value in found if value is not None]
         if not numbers or not len(found) == len(numbers) == count:
-            raise WrongPlace("write a guest and a place, as why a mem 0x80000000, why a io 0xcfc or why a cfg 1 0x10")
+            raise WrongPlace("write a guest and a place, as in why a mem 0x80000000, why a io 0xcfc or why a cfg 1 0x10")
         text = self.machine.guest(words[0]).why(space, numbers[-1], numbers[0] if count == 2 else 0)
         self._tell(iter(text.splitlines()))
 

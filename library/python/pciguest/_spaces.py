@@ -18,7 +18,7 @@ def number_of_space(name: str) -> int:
     """The number of a space with this name."""
     spaces = {"config": CONFIG, "io": IO, "memory": MEMORY}
     if name not in spaces:
-        raise ValueError(f"space: {name!r} is none of 'config', 'io' and 'memory'")
+        raise ValueError(f"space: {name!r} isn't 'config', 'io' or 'memory'")
     return spaces[name]
 
 

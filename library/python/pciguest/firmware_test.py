@@ -59,13 +59,13 @@ def aperture(word: str) -> Tuple[int, int]:
     try:
         return int(first, 0), int(last, 0)
     except ValueError:
-        raise argparse.ArgumentTypeError(f"{word} is no range as 0x1000-0xffff") from None
+        raise argparse.ArgumentTypeError(f"{word} isn't a range such as 0x1000-0xffff") from None
 
 
 def natural(word: str) -> int:
     """A number, 0 or higher."""
     if not word.isdecimal():
-        raise argparse.ArgumentTypeError(f"{word} is no number from 0 on")
+        raise argparse.ArgumentTypeError(f"{word} isn't a number (0 or higher)")
     return int(word)
 
 

@@ -129,7 +129,7 @@ def parser() -> argparse.ArgumentParser:
 def read_rom(file: Path) -> bytes:
     rom = file.read_bytes()
     if not 0 < len(rom) <= 16 << 20 or len(rom) % 4096:
-        raise ValueError(f"{file}: {len(rom)} bytes; a ROM has whole pages of 4 KB, and 16 MB at most")
+        raise ValueError(f"{file}: {len(rom)} bytes; the size of a ROM must be a multiple of 4 KB, at most 16 MB")
     return rom
 
 

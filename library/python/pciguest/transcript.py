@@ -164,12 +164,12 @@ def read(text: str) -> List[Section]:
             head, _, title = line[3:].partition(": ")
             mode, _, board = head.partition(" ")
             if mode not in ("run", "firmware") or not board:
-                raise ValueError(f"line {count}: no section of a transcript: {line}")
+                raise ValueError(f"line {count}: not a section of a transcript: {line}")
             found.append(Section(mode, board, title, []))
         elif has_reply(line):
             asked, arrow, reply = line.partition(ARROW)
             if not arrow or not found:
-                raise ValueError(f"line {count}: no row of a transcript: {line}")
+                raise ValueError(f"line {count}: not a row of a transcript: {line}")
             found[-1].rows.append((asked.rstrip(" "), reply))
     return found
 

@@ -206,10 +206,10 @@ impl Declaration {
                 (0, size.map_or(0, |(_, size)| size.min(4096)))
             }
         };
-        let stands_within = first <= register.offset && register.offset <= end;
+        let is_within = first <= register.offset && register.offset <= end;
         assert!(
-            stands_within && register.width <= end - register.offset,
-            "{register:x?} stands outside of its part"
+            is_within && register.width <= end - register.offset,
+            "{register:x?} is outside its part"
         );
         let bits = register.reset | register.rw | register.w1c;
         assert!(
