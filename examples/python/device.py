@@ -40,9 +40,9 @@ def find(guest: Guest, trap: Trap) -> Tuple[bool, Optional[Hit]]:
 
 def serve(guest: Guest, trap: Trap, hit: Optional[Hit]) -> int:
     """Makes one access, and returns the value that is read or written. Accesses to regions are made
-    by slot, register and offset, which `find` returned. Accesses to configuration space are made
-    through its ports, and those that extend past a region's end, where another region may begin,
-    by address. A bus can't refuse anything, so if nothing responds, a write is lost."""
+    by slot, register and offset, which `find` returned. All others are made by port or address:
+    accesses to configuration space, and those that extend past a region's end, where another region
+    may begin. A bus can't refuse anything, so if nothing responds, a write is lost."""
     try:
         if hit is not None and hit.region is not None:
             if trap.written is None:

@@ -41,9 +41,10 @@ impl Board {
     }
 
     /// Makes one access, and returns the value that is read or written. Accesses to regions are
-    /// made by slot, register and offset, which `find` returned. Accesses to configuration space
-    /// are made through its ports, and those that extend past a region's end, where another region
-    /// may begin, by address. A bus can't refuse anything, so if nothing responds, a write is lost.
+    /// made by slot, register and offset, which `find` returned. All others are made by port or
+    /// address: accesses to configuration space, and those that extend past a region's end, where
+    /// another region may begin. A bus can't refuse anything, so if nothing responds, a write is
+    /// lost.
     fn serve(&mut self, trap: Trap, hit: Option<Hit>) -> u64 {
         let (machine, guest, Trap { at, width, written }) = (&mut self.machine, self.guest, trap);
         let by_region = match (hit, written) {

@@ -53,7 +53,7 @@ class Lines:
         return self.choices.one_of([self.choices.one_of(VALUES), self.choices.number(0, 0xFFFFFFFF)])
 
     def base(self, is_io: bool) -> int:
-        """A base to be written: an address at which something begins, or that of another region."""
+        """A value for a base address register: an address at which something begins, or the base of another region."""
         host = self.document["host"]
         known = [*BASES, *self.recent[is_io], *(host[key][0] for key in host)]
         base: int = self.choices.one_of(known) + self.choices.one_of([0, 0, 0x1000, 0x100000, 0x20])

@@ -39,7 +39,7 @@ class Halted(BootError):
 
 
 class Board(Protocol):
-    """What a PC needs of a board."""
+    """The calls of a board that a PC makes."""
 
     def port_read(self, port: int, width: int) -> int: ...
     def port_write(self, port: int, width: int, value: int) -> None: ...

@@ -84,8 +84,8 @@ def at_lower_places(document: Document) -> Iterator[Document]:
 
 
 def with_simpler_tables(document: Document) -> Iterator[Document]:
-    """The board with a simpler table: without a region, with a smaller one or one at a lower register, with a
-    simple value, or without an optional key. Or without the prefetchable aperture."""
+    """The board with a simpler table: one with fewer or smaller regions, a lower register, a simpler value, or
+    fewer optional keys. Or the board without its prefetchable aperture."""
     for kind in ("endpoint", "bridge"):
         for place, table in enumerate(document.get(kind, [])):
             for simpler in simpler_tables(table):
@@ -143,7 +143,7 @@ SIMPLER: List[Callable[[Document], Iterator[Document]]] = [
 
 
 def shrunk(document: Document, holds: Callable[[Document], bool], seconds: float) -> Document:
-    """The smallest board that is found in the time and of which the same is true. Each board is tried once.
+    """Looks for the smallest board of which the same is true, until time runs out. Each board is tried once.
     Each way of making a board smaller is repeated until it fails."""
     deadline, asked = time.monotonic() + seconds, set()  # type: float, Set[str]
 

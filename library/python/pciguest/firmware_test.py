@@ -309,9 +309,9 @@ class Test:
         return [f"set-up finds room for all regions: `pciguest list` shows where{words}"]
 
     def told_since(self, document: Document, run: Run, finding: str) -> List[str]:
-        """For a problem, the line at which it appeared, and why it exists at the end, or after that line if it
-        has gone; or why its function was never found. Before that, the lines that wrote the registers that
-        this problem, or all problems at the end, name."""
+        """The report of a problem: the line at which it appeared, and why it exists at the end, or after that
+        line if it has gone; or why its function was never found. Before this, the report lists the lines
+        that wrote the registers which this problem names, or which all problems at the end name."""
         count, text = len(run.lines), text_of(document)
         place = run.since.get(finding) or since(self.maker, document, run.lines, finding)
         told = f"reset: none of the {count} lines changed it"

@@ -238,7 +238,7 @@ def takes_part(section: Section, guest: str) -> bool:
 
 
 class Raised:
-    """Bytes that raises have set. A back end that doesn't answer raises can't know them."""
+    """Bytes that were set by raises. A back end that doesn't answer raises can't know their values."""
 
     def __init__(self) -> None:
         self.cells: Set[Tuple[str, int, int]] = set()
