@@ -152,5 +152,13 @@ if [ -n "$tried" ]; then
   done
 fi
 
+# what the commands leave in a clone
+if [ -d .git ]; then
+  for left in "$room"/*; do
+    name=${left##*/}
+    [ -e "$name" ] || [[ $name =~ ^(told|out|bin|include|lib|share)$ ]] || holds "git ignores $name" git check-ignore -q "$name"
+  done
+fi
+
 [ "$passed" -gt 0 ] || holds 'a document was read' false
 counted
