@@ -43,6 +43,7 @@ else has_library='' && skips 'commands that use the library' 'no library/libpcig
 commands='(\./pciguest|PYTHONPATH=[^ ]+ python3|python3|cc|cargo|make -C|library/python/pciguest-firmware-test) '
 not_run='my\.rom|mine|BOARD|corpus|--open|http\.server|package|pkg-config|-Iinclude|boards/refused'
 ls -d /usr/share/cargo/registry/vm-{memory,superio}-* > /dev/null 2>&1 || not_run+='|examples/rust vmm'
+command -v cargo > /dev/null || not_run+='|examples/rust'
 for tool in cc cargo make python3; do command -v $tool > /dev/null || { not_run+="|^$tool "; skips "commands with $tool" 'it is missing'; }; done
 
 # tell NAME WANTED CAME
