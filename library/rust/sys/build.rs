@@ -27,7 +27,10 @@ fn main() {
             archive.display()
         );
     } else if folder.ends_with(UNPROVED) {
-        println!("cargo:warning=this library is not proved: {}. `make library` proves it", archive.display());
+        println!(
+            "cargo:warning=this library is not proved: {}. `make library` proves it",
+            archive.display()
+        );
         println!("cargo:rerun-if-changed={}", folder.with_file_name(ARCHIVE).display());
     }
     match folder.canonicalize() {
