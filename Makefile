@@ -166,6 +166,7 @@ firmware: has-firmware bindings library/libpciguest.so.0
 	@PYTHONPATH=library/python /usr/bin/python3 -B -m pciguest.rom_test $(ROM) $(OPTIONS)
 else
 firmware: has-firmware bindings pciguest library/libpciguest.so.0 ### boots SeaBIOS and U-Boot on boards, and compares with QEMU
+	@tests/firmware/recorded.py
 	@tests/firmware/firmware.py ./pciguest
 	@tests/firmware/edits.py ./pciguest
 	@tests/firmware/broken.py ./pciguest
