@@ -244,4 +244,4 @@ clean: ## removes everything that was built
 	rm -f $(shell tools/bindings --list)
 	rm -rf crates/*/out page/out library/rust/target corpus pciguest pciguest.html library/libpciguest.a library/libpciguest.so.0
 	rm -rf site packages pciguest-*-x86_64-linux.tar.gz pciguest-unproved library/unproved
-	@for example in qemu kvm; do $(MAKE) --no-print-directory -C examples/$$example clean; done
+	@for example in c driver qemu kvm; do $(MAKE) --no-print-directory -C examples/$$example clean; done

@@ -262,6 +262,8 @@ static inline void *free_irq(unsigned irq, void *data)
     return NULL;
 }
 
+/* calls the handlers of an interrupt. For a device without MSI-X, the interrupt is PG_PIN + its slot; it mustn't request one while
+ * Interrupt Disable is set (pciguest_slot). */
 static inline int pg_interrupt(unsigned irq)
 {
     int handled = IRQ_NONE;
