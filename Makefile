@@ -1,4 +1,4 @@
-# What a newcomer needs: `make quick` and `make demo`, which take the kit alone, and `make test`, which also takes cc.
+# `make` lists the targets. A comment `##` after a target is its line there, and `###` one in the second list.
 SHELL := bash
 .SHELLFLAGS := -eu -o pipefail -c
 PROVE := tools/prove
@@ -12,20 +12,28 @@ INSTALL := PREFIX='$(PREFIX)' DESTDIR='$(DESTDIR)' LIBDIR='$(LIBDIR)' tools/inst
 # the board of `make list` and `make lspci`, unless they are given one
 BOARD := boards/main.toml
 
-.PHONY: demo list lspci has-lspci has-qemu has-kvm has-firmware has-kit has-peers gate test edits build library install \
+.PHONY: help demo list lspci has-lspci has-qemu has-kvm has-firmware has-kit has-peers gate test edits build library install \
   uninstall bindings dist wheel cargo deb deb-test bench bench-peers hostile fuzz qemu kvm firmware kit corpus peers page browse site outside try try-page quick clean
 
-# Proves and builds the program, and runs a script over the demo board.
-demo: build
+LISTED = awk -F ':[^\#]*$(1) ' '/^[a-z-]+:[^\#]*$(1) / { printf "  make %-12s %s\n", $$1, $$2 }' Makefile
+help:
+	@echo 'To use pciguest:'; $(call LISTED,\#\#); echo; echo 'To change and test it (CONTRIBUTING.md, tests/README.md):'; $(call LISTED,\#\#\#)
+
+try: ## compiles ./pciguest-unproved and library/unproved in two minutes, without proofs, and runs the demo
+	@echo 'This proves nothing: it only compiles the program and the library. `make build` and `make library` prove them first.'
+	@if tools/unproved; then ./pciguest-unproved demo < boards/demo.script; \
+	  echo; echo 'Not proved: ./pciguest-unproved and library/unproved. So that compilers, cargo and Python find the library: . ./env.sh'; \
+	else echo 'With this version of the toolchain, only the demo can be compiled without proofs:'; \
+	  cd crates/pciguest && rt try -- demo < ../../boards/demo.script; fi
+
+demo: build ## does the same as make build, and runs a script on the demo board
 	@echo; echo '$$ cat boards/demo.script'; cat boards/demo.script
 	@echo; echo '$$ ./pciguest demo < boards/demo.script'; ./pciguest demo < boards/demo.script
 
-# The report of a board file: make list BOARD=boards/main.toml
-list: pciguest
+list: pciguest ## sets up a board and lists what is on it: make list BOARD=boards/main.toml
 	@./pciguest list $(BOARD)
 
-# The board of a file after set-up, shown by the real lspci: make lspci BOARD=.. OPTIONS=-tv
-lspci: has-lspci pciguest
+lspci: has-lspci pciguest ## sets up a board and shows it with the real lspci: make lspci BOARD=.. OPTIONS=-tv
 	@tools/lspci ./pciguest $(BOARD) $(OPTIONS)
 
 has-lspci:
@@ -34,85 +42,74 @@ has-lspci:
 pciguest:
 	@$(MAKE) --no-print-directory build
 
-# The gate: what the documents say of files and what runs tests and proofs, which takes a moment; then the proofs of all that
-# users get, from nothing, and after them the tests that no contract has, the proved program as its user runs it, the commands
-# that the documents print, each growth of memory refused in turn on the main board, and some board files with mistakes; and
-# beside all these the edits, each crate's once it is proved. Parts between brackets run side by side. At the end stands how
-# long each took.
+# First come the tests that need no proof. Then everything that users get is proved from scratch, and the other tests run. The
+# mutants of each crate are tried once the crate is proved. Parts between brackets run in parallel. At the end, it prints how long
+# each part took.
 FIRST := [ page/tests/unit tests/documents.sh tests/kit.sh tests/tools.sh tests/bench.sh ]
 PROGRAM := 'tests/try.sh test_streams' tests/program.sh tests/commands.sh \
   'python3 tests/hostile/growths.py crates/pciguest/out/pciguest --quick --arrays crates/test_arrays/out/test_arrays' \
   'python3 tests/fuzz/mistakes.py crates/pciguest/out/pciguest --files 200'
 EDITS := 'tests/edits.py --gate --behind'
-gate:
+gate: ### does what make test does, except for the library
 	@tests/parts.py $(FIRST) [ "tests/parts.py '$(PROVE) --gate' [ $(PROGRAM) ]" $(EDITS) ]
 
-# The gate with the library for C as its user links it, what is installed and packed, and boards and files at every limit.
+# This also tests the library as a user links it, installed files and packages, and boards and files at every limit.
 PLACE := install -m 755 crates/pciguest/out/pciguest pciguest
-USERS := tests/library.sh tests/install.sh 'tests/schema.py ./pciguest' 'tests/limits/limits.py ./pciguest'
-test:
+USERS := tests/library.sh 'tests/commands.sh --tried' tests/install.sh 'tests/schema.py ./pciguest' 'tests/limits/limits.py ./pciguest'
+test: ### proves the program and the library from scratch, checks that mutants are refused, and runs the tests
 	@tests/parts.py $(FIRST) [ "tests/parts.py '$(PROVE) --gate --library' '$(PLACE)' [ $(PROGRAM) $(USERS) ]" $(EDITS) ]
 
-# All that stands outside the gate, whole. A part whose packages are missing here is skipped, and they are named.
-outside: pciguest library/libpciguest.a
+# It skips the tests whose packages aren't installed, and names the packages.
+outside: pciguest library/libpciguest.a ### runs the tests that need other programs or much time
 	@tests/parts.py --outside hostile fuzz firmware kit peers qemu kvm page browse site bench
 
-# Wrong bodies beside those of the gate, each of which the check of its crate must refuse: all, or those of some crates,
-# as in make edits CRATES='monitor headers'. A large crate takes minutes.
+# A large crate takes minutes.
 CRATES :=
-edits:
+edits: ### checks that more mutants are refused: make edits CRATES='monitor headers'
 	@tests/edits.py $(CRATES)
 
-# Leaves the proved program as ./pciguest. Proved is what it stands on, and nothing else.
-build:
+# It proves only the crates that the program depends on.
+build: ## proves the program and builds ./pciguest
 	@$(PROVE) pciguest
 	@install -m 755 crates/pciguest/out/pciguest pciguest
 	@echo 'pciguest: proved and built'
 
-# Leaves the proved library for C as library/libpciguest.a and library/libpciguest.so.0, beside library/pciguest.h.
-library:
+library: ## proves the library for C and builds library/libpciguest.a and .so.0
 	@$(PROVE) --library
 
-# What is generated from library/pciguest.h: the calls in C, the declarations in Rust and Python, and the manual. Every target and
-# tool that needs these files makes them first.
-bindings:
+# Every target and tool that needs these files makes them first.
+bindings: ### generates the calls in C, the declarations in Rust and Python, and the manuals, from library/pciguest.h
 	@tools/bindings
 
-# Puts the program, the library for C, Rust and Python, examples, manual, documents and completions below PREFIX, once they
-# are built:
-# make install PREFIX=/usr DESTDIR=package
-install:
+# The program and the library must have been built.
+install: ## installs the program, the library, the examples, the documents and the manuals: make install PREFIX=/usr
 	@$(INSTALL)
 
-uninstall:
+uninstall: ## removes what make install installed
 	@$(INSTALL) --remove
 
-# A tarball for those without the kit, with the transcripts: pciguest-VERSION-x86_64-linux.tar.gz. It takes Python 3.11.
-# It has the page too, which `page/tests/offline TARBALL` opens without a network.
-dist: build library corpus
+# It requires Python 3.11. The tarball also contains the transcripts and the page.
+dist: build library corpus ## builds the tarball, pciguest-VERSION-x86_64-linux.tar.gz
 	@$(MAKE) --no-print-directory page
 	@tools/dist
 
-# A wheel for Python, in packages, with the library in it. It takes pip, setuptools and wheel.
-wheel: library
+# It requires pip, setuptools and wheel.
+wheel: library ## builds a Python wheel that contains the library, in packages
 	@tools/wheel packages
 
-# The crates for Rust as cargo packs them, in packages, with the library in them.
-cargo: library
+cargo: library ## packages the Rust crates with the library, in packages
 	@tools/cargo packages
 
-# Packages for Debian, in packages; and whether they can be installed, used and removed in a root of their own. It takes
-# dpkg-deb, and the test root's rights, lintian and debootstrap too.
-deb: build library
+# They require dpkg-deb; the test also requires lintian, debootstrap and root.
+deb: build library ## builds the Debian packages, in packages
 	@tools/deb packages
 
-deb-test: deb
+deb-test: deb ### installs, uses and removes the Debian packages in a separate root
 	@tests/deb.sh packages
 
-# What an access, an event of a guest, a line of a script and a call from C cost, in nanoseconds, on boards of 1, 4, 1003 and
-# 1024 functions, and in instructions, where valgrind is there; and what an audit, `ready` and `why` cost. It takes Python
-# 3. Two outputs are compared by bench/compare OLD NEW.
-bench: build
+# The boards have 1, 4, 1003 and 1024 functions. If valgrind is installed, instructions are counted, too. bench/compare OLD NEW
+# compares two outputs.
+bench: build ### measures accesses, events, script lines, calls from C, images and reports
 	@bench/boards crates/bench_accesses/out/boards
 	@$(PROVE) bench_accesses
 	@bench/run crates/bench_accesses/out/bench_accesses crates/bench_accesses/out/boards
@@ -124,26 +121,21 @@ bench: build
 	@echo; $(CC) -O2 -Ilibrary -o crates/pciguest_c/out/images bench/images.c library/libpciguest.a
 	@bench/images crates/pciguest_c/out/images crates/bench_accesses/out/boards
 
-# What a read of configuration space takes by lines of firmware, and by QEMU's qtest protocol. It takes Debian's
-# qemu-system-x86.
-bench-peers: pciguest
+# It requires Debian's qemu-system-x86.
+bench-peers: pciguest ### measures a configuration read here and in QEMU
 	@bench/peers ./pciguest
 
-# The proved program as it is used by one who means harm: memory refused, streams that fail, by its calls and as it runs, odd
-# files and great sizes; and the library given images that were changed. It takes cc and Python 3, and some minutes.
-hostile: bindings pciguest library/libpciguest.a
+# It requires cc, and takes some minutes.
+hostile: bindings pciguest library/libpciguest.a ### runs the program and the library with failing memory and streams, and bad files
 	@$(PROVE) test_arrays
 	@python3 tests/hostile/growths.py ./pciguest --arrays crates/test_arrays/out/test_arrays
 	@for part in streams surroundings sizes; do python3 tests/hostile/$$part.py ./pciguest; done
 	@python3 tests/hostile/images.py
 
-# The rows of tests/rows, answered by the lone guests too; and random boards and scripts, answered by the program, by the
-# lone guests and by a second hand in Python: about a million lines. Then board files with mistakes, and what a check says
-# of them; random register states, what an audit says of them, whether they are ready, and why things find what they find;
-# and ten thousand guests and a thousand machines that the library saves and loads elsewhere. make fuzz SEED=.. begins with
-# another board.
+# The reference models answer tests/rows and about a million random lines. Then they check board files with mistakes, the reports on
+# random register states, and ten thousand guests and a thousand machines that are saved and loaded. SEED selects other boards.
 SEED := 1
-fuzz: bindings pciguest library/libpciguest.so.0
+fuzz: bindings pciguest library/libpciguest.so.0 ### compares random boards, lines and images with the reference models: make fuzz SEED=2
 	@$(PROVE) test_lone_guest
 	@tests/cases.py ./pciguest crates/test_lone_guest/out/test_lone_guest
 	@python3 tests/fuzz/fuzz.py ./pciguest --lone crates/test_lone_guest/out/test_lone_guest --boards 850 --seed $(SEED)
@@ -154,34 +146,27 @@ fuzz: bindings pciguest library/libpciguest.so.0
 	@python3 tests/fuzz/images.py --guests 10000 --lines 40 --changed 4 --seed $(SEED)
 	@python3 tests/fuzz/machines.py --machines 1000 --lines 40 --changed 4 --seed $(SEED)
 
-# Functions of two guests in two machines of QEMU at once, under Linux; a machine that goes on over another board; and
-# strangers at the sockets. It takes QEMU 7.2 and Debian's packages, which it names where they are missing, and some minutes
-# beyond the proofs.
-qemu: has-qemu pciguest library/libpciguest.a
+# It requires QEMU 7.2 and other Debian packages; if any are missing, it names them. So do the targets below.
+qemu: has-qemu pciguest library/libpciguest.a ### tests examples/qemu: Linux in two QEMU machines on one board
 	@$(MAKE) --no-print-directory -C examples/qemu check PROGRAM=$(CURDIR)/pciguest
 
 has-qemu:
 	@examples/qemu/needs
 
-# Two machines of KVM under Linux over one board, with virtio disks and network cards, which go on over another; how fast they
-# read from a disk, beside QEMU; and whether what they say tells of each mistake that is made in the hypervisor or in the board.
-# It takes /dev/kvm or QEMU and Debian's packages, which it names where they are missing.
-kvm: has-kvm library/libpciguest.a
+# It requires /dev/kvm, or QEMU.
+kvm: has-kvm library/libpciguest.a ### tests examples/kvm: Linux in two KVM machines on one board, with virtio disks and network cards
 	@$(MAKE) --no-print-directory -C examples/kvm check
 
 has-kvm:
 	@examples/qemu/needs kvm
 
-# Debian's SeaBIOS and U-Boot, unmodified, on boards of the library; and on random trees, where each byte that they leave
-# is compared with what they leave in QEMU; an audit and `ready` say what is wrong and what is lacking. Then whether that
-# comparison notices an edited board, and these two a SeaBIOS that is broken on purpose. It takes Debian's packages, which it
-# names where they are missing, and some minutes.
-# make firmware ROM=my.rom OPTIONS=..: a ROM of one's own in that PC, and what it leaves; OPTIONS=--help tells the options.
+# With a ROM, it runs only this ROM: make firmware ROM=my.rom OPTIONS=.. (OPTIONS=--help lists the options.)
 ifdef ROM
 firmware: has-firmware bindings library/libpciguest.so.0
 	@PYTHONPATH=library/python /usr/bin/python3 -B -m pciguest.rom_test $(ROM) $(OPTIONS)
 else
-firmware: has-firmware bindings pciguest library/libpciguest.so.0
+firmware: has-firmware bindings pciguest library/libpciguest.so.0 ### boots SeaBIOS and U-Boot on boards, and compares with QEMU
+	@tests/firmware/recorded.py
 	@tests/firmware/firmware.py ./pciguest
 	@tests/firmware/edits.py ./pciguest
 	@tests/firmware/broken.py ./pciguest
@@ -190,22 +175,17 @@ endif
 has-firmware:
 	@tests/needs firmware
 
-# The kit that tests firmware and hypervisors of others, over the library: the enumerator of examples/firmware is right on
-# many boards, and each of its mistakes is found. It takes Debian's packages, which it names where they are missing, and
-# some minutes.
-kit: has-kit bindings library/libpciguest.so.0
+kit: has-kit bindings library/libpciguest.so.0 ### tests pciguest-firmware-test with examples/firmware and its mistakes
 	@/usr/bin/python3 -B -m unittest discover -s tests/kit
 	@/usr/bin/python3 -B -m pytest -q -p no:cacheprovider tests/kit/strategies_test.py
 	@tests/kit/mistakes.py
 
-# Transcripts for those who test a virtual PCI of their own: corpus/; and which writes they notice where they are lost.
-corpus: bindings library/libpciguest.so.0
+# It also checks that the transcripts detect lost writes.
+corpus: bindings library/libpciguest.so.0 ### writes transcripts for testing other virtual PCI buses, in corpus
 	@tests/kit/corpus.py corpus
 
-# QEMU's devices on random trees: random accesses, each reply of which is as the board's or differs by a rule; and EDK2 and
-# Linux on such trees, with all that is wrong in the registers that each leaves. It takes Debian's packages, and a quarter of
-# an hour.
-peers: has-peers bindings library/libpciguest.so.0
+# This takes a quarter of an hour.
+peers: has-peers bindings library/libpciguest.so.0 ### compares replies with QEMU's devices, and audits what EDK2 and Linux leave
 	@tests/kit/peers.py
 	@tests/kit/edk2.py
 	@tests/kit/edk2.py --tight --trees 5
@@ -220,28 +200,25 @@ has-peers:
 library/libpciguest.a library/libpciguest.so.0:
 	@$(MAKE) --no-print-directory library
 
-# A page that runs the proved code in a browser: pciguest.html. Node or Chromium compares what the page answers with the
-# program and the library for C; where neither is there, that is said, and not compared.
+# Node or Chromium compares the page's answers with those of the program and the library. If neither is installed, it says so.
 PROVED := $(addprefix pciguest_raw_,new free guest guest_count guest_name count function slot region why_in report_in check \
   run_line explain_line host_read save load give take board_new board_free board_anew board_guests board_write board_run_line board_survey \
   board_why_json board_function)
-# what JavaScript calls: the proved calls, and those of library/machines.c over them
+# what JavaScript calls: the proved calls, and those in library/machines.c, which are built on them
 EXPORTS := $(PROVED) pciguest_raw_save_all pciguest_raw_load_all
-page: pciguest
+page: pciguest ## builds the page, pciguest.html, which runs the proved code in a browser
 	@$(MAKE) --no-print-directory library
 	@$(MAKE) --no-print-directory page/out/pciguest.wasm
 	@page/tests/compare page/out/pciguest.wasm ./pciguest library/libpciguest.so.0
 	@page/build/assemble page/out/pciguest.wasm pciguest.html
 	@echo 'pciguest.html: open it in a browser'
 
-# The module is made once for each library that is built, of the LLVM module that its build leaves.
+# The module is made from the LLVM module that the build of the library leaves.
 page/out/pciguest.wasm: crates/pciguest_c/out/libpciguest_c.a page/build/wasm page/build/heap.c library/machines.c Makefile
 	@mkdir -p page/out
 	@page/build/wasm crates/pciguest_c/out/pciguest_c.bc $@ $(EXPORTS)
 
-# The page over a module for which nothing was proved, in some minutes, for who works on the page: page/out/unproved.html,
-# which says so at its top. `make page` makes the one to hand out.
-try-page:
+try-page: ### compiles the page without proofs, as page/out/unproved.html
 	@echo 'This run proves nothing: it only compiles the library for the page. `make page` proves it first.'
 	@mkdir -p page/out
 	@tools/unproved page/out/unproved.ll $(PROVED)
@@ -249,38 +226,22 @@ try-page:
 	@page/build/assemble page/out/unproved.wasm page/out/unproved.html 'Nothing here is proved: this page was built by make try-page.'
 	@echo 'page/out/unproved.html: open it in a browser'
 
-# The page as it was built, and as it stands in each tarball that `make dist` left here, opened where no network is. Then the
-# page as a reader uses it, in headless Chromium, and in Firefox where it is; screenshots are left in page/out.
-browse: page
+# It opens the page, and the one in each tarball here, without a network, and then uses it as a reader does. Screenshots go to page/out.
+browse: page ### tests the page in headless Chromium and, if installed, in Firefox
 	@page/tests/contrast
 	@page/tests/offline pciguest.html $(wildcard pciguest-*-x86_64-linux.tar.gz)
 	@page/tests/browse pciguest.html page/out
 
-# A folder that a web server can serve as it is: site, with the page that is built, the documents with a search, the manuals, and the
-# references of the library for C, Rust and Python. Nothing is proved for it. It takes Debian's packages, which it names where they are
-# missing; what can't be made is left out.
-site:
+# It leaves out what it can't make because a package is missing, and names the package.
+site: ### builds a web site with the page, the documents, the manuals and the library references, in site
 	@made=0; tools/site site || made=$$?; [ ! -d site ] || tests/site.py site; exit $$made
 
-# The program compiled once, with checks, and asked what the tests ask: a minute, and nothing is proved.
-# make quick ONLY=moves.rows asks only that in whose name these words stand.
 ONLY :=
-quick:
+quick: ### compiles the program without proofs, and compares its output with the expected output: make quick ONLY=moves.rows
 	@tests/quick.py $(ONLY)
 
-# The program and the library for C in about two minutes, unproved, and the demo: ./pciguest-unproved and library/unproved.
-try:
-	@echo 'This proves nothing: it only compiles the program and the library. `make build` and `make library` prove them first.'
-	@if tools/unproved; then ./pciguest-unproved demo < boards/demo.script; \
-	  echo; echo 'Not proved: ./pciguest-unproved, and the library in library/unproved, which these programs use:'; \
-	  echo '  cc -Ilibrary -o device examples/c/device.c library/unproved/libpciguest.a && ./device examples/device.toml'; \
-	  echo "  PCIGUEST_LIBRARY_DIR=\$$PWD/library/unproved make -C examples/rust"; \
-	  echo '  PCIGUEST_LIBRARY_DIR=library/unproved PYTHONPATH=library/python python3 examples/python/device.py examples/device.toml'; \
-	else echo 'This kit works otherwise, so that only the demo can be compiled without proofs:'; \
-	  cd crates/pciguest && rt try -- demo < ../../boards/demo.script; fi
-
-clean:
+clean: ## removes everything that was built
 	rm -f $(shell tools/bindings --list)
 	rm -rf crates/*/out page/out library/rust/target corpus pciguest pciguest.html library/libpciguest.a library/libpciguest.so.0
 	rm -rf site packages pciguest-*-x86_64-linux.tar.gz pciguest-unproved library/unproved
-	@for example in qemu kvm; do $(MAKE) --no-print-directory -C examples/$$example clean; done
+	@for example in c driver qemu kvm; do $(MAKE) --no-print-directory -C examples/$$example clean; done

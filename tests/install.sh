@@ -18,7 +18,7 @@ for file in bin/pciguest include/pciguest.h lib/x86_64-linux-gnu/libpciguest.a l
   share/fish/vendor_completions.d/pciguest.fish share/doc/pciguest/docs/errors.md share/doc/pciguest/docs/RESULTS.md share/pciguest/board.schema.json \
   share/pciguest/rust/Cargo.toml share/pciguest/rust/src/lib.rs share/pciguest/rust/sys/Cargo.toml share/pciguest/rust/sys/src/raw.rs share/pciguest/python/pyproject.toml \
   share/pciguest/python/pciguest/py.typed share/doc/pciguest/examples/session/session.stdout share/doc/pciguest/boards/main.toml \
-  include/pciguest_{ops,declare}.h bin/pciguest-firmware-test share/pciguest/python/pciguest/{firmware,rom}_test.py share/pciguest/own.toml \
+  include/pciguest_{ops,declare,driver}.h bin/pciguest-firmware-test share/pciguest/python/pciguest/{firmware,rom}_test.py share/pciguest/own.toml \
   share/pciguest/python/README.md; do
   holds "$file is installed" test -e "$at/$file"
 done

@@ -69,6 +69,7 @@ done_by 'who writes firmware'
 device=$top/tests/library/device.stdout entropy=$top/tests/library/entropy.stdout
 if has cc && has make; then
   holds 'make -C examples/c' outside make -s -C examples/c
+  holds 'the test of a driver written for Linux' outside make -s -C examples/driver
   holds 'the program in C' same "$device" outside make -s -C examples/c
   if has pkg-config; then
     holds 'cc and pkg-config' outside sh -c 'cc -Wall -Werror -o shared examples/c/device.c $(pkg-config --cflags --libs pciguest)'
@@ -105,6 +106,7 @@ done_by 'who writes a hypervisor'
 
 # ---- a driver or a device: the module for Python
 if has python3; then
+  holds 'env.sh' outside env -u PYTHONPATH sh -c '. ./env.sh && python3 -c "import pciguest; pciguest.version()"'
   outside python3 examples/python/doorbell.py > rings
   holds 'the device in Python' grep -qx 'driver: 2 rings, status 1' rings
   holds 'the device model in Python' same "$device" outside python3 examples/python/device.py examples/device.toml

@@ -1,21 +1,19 @@
-/* A device model over pciguest: what a hypervisor does with the accesses that it traps, and what the device does when
- * its driver rings.
+/* A hypervisor's accesses and a device model, with pciguest.
  *
- * A hypervisor that runs a guest stops at each access to a port, to configuration space or to memory of a device, and
- * asks who emulates it. Here that is `serve`, and `act` is the device. In place of a processor a table of accesses is
- * run: firmware that finds the device by the ports CF8h and CFCh, asks for the size of its region and places it, and a
- * driver that rings, sees what came of it, and clears that.
+ * When a guest accesses a port, configuration space or memory that belongs to a device, its processor stops, and the
+ * hypervisor must emulate the access. Here, `serve` does this, and `act` is the device. Instead of a processor, there
+ * is a table of accesses: firmware finds the device through ports CF8h and CFCh, sizes its region and places it; then
+ * a driver rings the device, reads the result, and clears it.
  *
  *     device BOARD      examples/device.toml, whose guest `a` has this device
  *
- * The device has one region of memory:
+ * The device has one memory region:
  *
- *     00h  STATUS    1 byte, bit 0: a ring was served. Writing a one clears it
- *     04h  COUNT     4 bytes: how many rings were served. A driver only reads it
- *     08h  DOORBELL  4 bytes: a write rings, and what was written stays
+ *     00h  STATUS    1 byte, bit 0: the device was rung. Writing a one clears the bit
+ *     04h  COUNT     4 bytes: how often the device was rung. The driver can only read it
+ *     08h  DOORBELL  4 bytes: a write rings the device, and the value is kept
  *
- * The board file says what a driver's writes change. The device writes its registers whatever that says.
- */
+ * The board file says which bits the driver can change. The device can change all of them. */
 #include "pciguest.h"
 
 #include <inttypes.h>
@@ -23,7 +21,7 @@
 
 enum { STATUS = 0x00, COUNT = 0x04, DOORBELL = 0x08, SERVED = 1 };
 
-/* What the processor tells of an access that it trapped: 1 to 8 bytes, at any place. */
+/* A trapped access of 1 to 8 bytes at any address. */
 struct trap {
     bool is_write;
     enum pciguest_space space;
@@ -32,8 +30,9 @@ struct trap {
     uint64_t value;
 };
 
-/* Whether an access of a guest hits anything here, and what. Where it doesn't, the hypervisor's own UART or RAM is meant,
- * or nobody. Four bytes at CF8h are CONFIG_ADDRESS, which is always here. */
+/* Returns whether an access reaches anything on the board, and stores what it reaches. If it reaches nothing, it is
+ * meant for the hypervisor's own UART or RAM, or for nothing at all. A 4-byte access to CF8h is always for the
+ * board's CONFIG_ADDRESS. */
 static bool find(struct pciguest *machine, size_t guest, struct trap trap, struct pciguest_hit *hit)
 {
     bool is_selection = trap.space == PCIGUEST_IO && trap.place == 0xcf8 && trap.width == 4;
@@ -41,9 +40,10 @@ static bool find(struct pciguest *machine, size_t guest, struct trap trap, struc
     return pciguest_locate(machine, guest, trap.space, 0, trap.place, hit) == 0 && (hit->found || is_selection);
 }
 
-/* Serves one access, and answers what is read or written: of a region of memory by its slot, its register and the offset, as
- * `find` told them. Ports are served by their address, and so is what goes on past a region's end, where another may begin. A
- * real bus has no refusal: a write that no one takes is lost. */
+/* Makes one access, and returns the value that is read or written. Accesses to memory regions are made by slot,
+ * register and offset, which `find` stored. Accesses to ports are made by address, and so are those that extend past
+ * a region's end, where another region may begin. A bus can't refuse anything, so if nothing responds, a write is
+ * lost. */
 static uint64_t serve(struct pciguest *machine, size_t guest, struct trap trap, const struct pciguest_hit *hit)
 {
     uint64_t value = trap.is_write ? trap.value : UINT64_MAX;
@@ -62,7 +62,8 @@ static uint64_t serve(struct pciguest *machine, size_t guest, struct trap trap, 
     return value;
 }
 
-/* The device serves a ring: it counts it, sets the bit of STATUS, and drives its pin if its driver lets it. */
+/* The device is rung: it counts the ring, sets the bit of STATUS, and drives its pin unless the driver has disabled
+ * interrupts. */
 static void ring(struct pciguest *machine, size_t guest, const struct pciguest_hit *hit)
 {
     struct pciguest_function function = {0};
@@ -75,7 +76,7 @@ static void ring(struct pciguest *machine, size_t guest, const struct pciguest_h
     printf("ring, INT%c# %s\n", "-ABCD"[function.interrupt.pin], function.interrupt.is_disabled ? "off" : "on");
 }
 
-/* Tells which addresses have to be trapped from here on. */
+/* Prints which addresses must be trapped from now on. */
 static void tell_traps(struct pciguest *machine, size_t guest)
 {
     static struct pciguest_place places[PCIGUEST_PLACES];
@@ -88,8 +89,8 @@ static void tell_traps(struct pciguest *machine, size_t guest)
                    it->now.first, it->now.first + it->now.size - 1);
 }
 
-/* After a write: regions may stand elsewhere where configuration space was hit, and the device acts where its doorbell was.
- * An access that begins before the doorbell may ring it too. */
+/* Acts after a write. If it reached configuration space, regions may have moved. If it reached the doorbell, the
+ * device acts. The access may also begin before the doorbell and extend into it. */
 static void act(struct pciguest *machine, size_t guest, struct trap trap, const struct pciguest_hit *hit)
 {
     if (!trap.is_write || !hit->found)
@@ -100,18 +101,18 @@ static void act(struct pciguest *machine, size_t guest, struct trap trap, const 
         ring(machine, guest, hit);
 }
 
-/* What CONFIG_ADDRESS holds for a register of a device of bus 0. */
+/* The value of CONFIG_ADDRESS that selects a register of a device on bus 0. */
 #define REGISTER(device, offset) (0x80000000u | (device) << 11 | (offset))
 
 static const struct trap accesses[] = {
-    {true, PCIGUEST_IO, 0xcf8, 4, REGISTER(0, 0x00)}, /* firmware: who is device 0? */
+    {true, PCIGUEST_IO, 0xcf8, 4, REGISTER(0, 0x00)}, /* firmware: what is device 0? */
     {false, PCIGUEST_IO, 0xcfc, 4, 0},
     {true, PCIGUEST_IO, 0xcf8, 4, REGISTER(7, 0x00)}, /* and device 7? */
     {false, PCIGUEST_IO, 0xcfc, 4, 0},
     {true, PCIGUEST_IO, 0xcf8, 4, REGISTER(0, 0x10)}, /* the size of its region */
     {true, PCIGUEST_IO, 0xcfc, 4, 0xffffffff},
     {false, PCIGUEST_IO, 0xcfc, 4, 0},
-    {true, PCIGUEST_IO, 0xcfc, 4, 0xe0000000}, /* a place for it */
+    {true, PCIGUEST_IO, 0xcfc, 4, 0xe0000000}, /* its address */
     {true, PCIGUEST_IO, 0xcf8, 4, REGISTER(0, 0x04)},
     {true, PCIGUEST_IO, 0xcfc, 2, 0x0002}, /* memory on */
     {true, PCIGUEST_MEMORY, 0xe0000008, 4, 0x12345678}, /* the driver rings */
@@ -119,14 +120,14 @@ static const struct trap accesses[] = {
     {false, PCIGUEST_MEMORY, 0xe0000008, 4, 0},
     {true, PCIGUEST_MEMORY, 0xe000000a, 1, 0xff}, /* and again, by one byte of it */
     {false, PCIGUEST_MEMORY, 0xe0000000, 8, 0}, /* STATUS and COUNT at once */
-    {true, PCIGUEST_MEMORY, 0xe0000000, 1, SERVED}, /* it clears STATUS, and leaves COUNT */
+    {true, PCIGUEST_MEMORY, 0xe0000000, 1, SERVED}, /* the driver clears STATUS; COUNT stays */
     {true, PCIGUEST_MEMORY, 0xe0000004, 4, 1},
     {true, PCIGUEST_IO, 0xcf8, 4, REGISTER(0, 0x04)},
-    {true, PCIGUEST_IO, 0xcfc, 2, 0x0402}, /* no interrupts any more; where its region stands isn't told again */
-    {true, PCIGUEST_MEMORY, 0xe0000006, 8, 0}, /* across alignment, and over the doorbell */
+    {true, PCIGUEST_IO, 0xcfc, 2, 0x0402}, /* no more interrupts; the region's address isn't printed again */
+    {true, PCIGUEST_MEMORY, 0xe0000006, 8, 0}, /* unaligned, and across the doorbell */
     {false, PCIGUEST_MEMORY, 0xe0000000, 8, 0},
     {false, PCIGUEST_MEMORY, 0xe0000ffc, 8, 0}, /* past the region's end */
-    {false, PCIGUEST_MEMORY, 0xd0000000, 4, 0}, /* nobody there */
+    {false, PCIGUEST_MEMORY, 0xd0000000, 4, 0}, /* nothing responds */
 };
 
 static void run(struct pciguest *machine, size_t guest)

@@ -1,4 +1,5 @@
-/* Saves a machine of two guests and loads it into another one. Its board comes from standard input; it writes 0x0b. */
+/* Saves a machine with two guests, and loads it into another machine. Reads the board from standard input, and prints
+ * 0x0b. */
 #include "pciguest.h"
 #include <stdio.h>
 
@@ -10,9 +11,10 @@ int main(void)
     size_t length = fread(text, 1, sizeof text, stdin), size = 0;
     uint32_t value = 0;
 
-    if (pciguest_new(&machine, text, length) || pciguest_new(&other, text, length)) /* equal boards, set up alike */
+    if (pciguest_new(&machine, text, length) || pciguest_new(&other, text, length)) /* equal boards, set up in the
+                                                                                     * same way */
         return 1;
-    pciguest_move(&machine, 0, 0, 1, 5); /* a function comes to the second guest, whose driver writes Interrupt Line */
+    pciguest_move(&machine, 0, 0, 1, 5); /* a function moves to the second guest, whose driver writes Interrupt Line */
     pciguest_write(&machine, 1, PCIGUEST_CONFIG, 5, 0x3c, 1, 0x0b);
     if (pciguest_save_all(&machine, image, sizeof image, &size) || pciguest_load_all(&other, image, size))
         return 1;

@@ -1,16 +1,17 @@
-/* Firmware in the manner of coreboot: it scans the buses, reads what each function needs, computes the windows of bridges
- * from the last bus up, allocates addresses from bus 0 down, and then enables functions. What finds no room is left closed
- * and told on standard error, all else is set up, and the status is 1 then. Its accesses are those of libpayload, by the
- * ports CF8h and CFCh. Build it, and test it:
+/* Firmware that works like coreboot: it scans the buses, reads what each function needs, computes the windows of
+ * bridges from the last bus up, allocates addresses from bus 0 down, and then enables the functions. If there is no
+ * room for a resource, the resource stays disabled, a message is written to standard error, everything else is set
+ * up, and the status is 1. The accesses are those of libpayload, through ports CF8h and CFCh. To build and test it:
  *
  *     cc -Ilibrary -o allocator examples/firmware/allocator.c
  *     python3 -m pciguest.firmware_test -- ./allocator
  *
- * A board leaves these to firmware, and here they are otherwise than in enumerator.c, where both can be: where in an
- * aperture something stands, and in which order; whether gaps of alignment are used; how much longer than what is behind
- * it a window is; whether functions that fit are set up where others don't. Left to it are also whether prefetchable
- * regions stand in prefetchable windows, whether what isn't there is opened in Command too, and all registers by which
- * nothing is routed: Interrupt Line, Cache Line Size, Latency Timer and the other bits of Command. */
+ * A board leaves some choices to firmware, and this firmware makes other choices than enumerator.c: where in an
+ * aperture a resource is placed, and in which order; whether alignment gaps are used; how much larger a window is
+ * than what is behind it; and whether functions that fit are set up if others don't fit. It also makes its own
+ * choices for whether prefetchable regions are placed in prefetchable windows, whether Command enables spaces that a
+ * function doesn't use, and all registers that don't affect routing: Interrupt Line, Cache Line Size, Latency Timer
+ * and the other bits of Command. */
 #include <stdbool.h>
 #include "pciguest_ops.h"
 
@@ -18,7 +19,7 @@ enum space { IO, MEM, PREF, SPACES };
 
 struct bus;
 
-/* What is to get addresses: a region, or a window of a bridge, which has another bus behind it. */
+/* A resource that needs addresses: a region, or a bridge's window for the bus behind it. */
 struct resource {
     enum space space;
     uint32_t device, offset;
@@ -27,7 +28,7 @@ struct resource {
     struct bus *behind;
 };
 
-/* A function that was found, with its resources: up to six regions, or three windows. */
+/* A function that was found, with its resources: up to six regions or three windows. */
 struct function {
     uint32_t device;
     bool is_bridge;
@@ -36,13 +37,13 @@ struct function {
     unsigned count;
 };
 
-/* A bus, and how many bits of prefetchable addresses all bridges above it forward. */
+/* A bus, and how many address bits the prefetchable windows of all bridges above it decode. */
 struct bus {
     unsigned number, prefetchable_bits, count;
     struct function *functions[32 * 8];
 };
 
-/* Addresses that are free, in order. */
+/* Free ranges of addresses, in order. */
 struct ranges {
     unsigned count;
     struct { uint64_t first, last; } free[32 * 8 * 6 + 1];
@@ -58,7 +59,7 @@ static unsigned function_count, last_number, left_out;
 
 static void scan(struct bus *bus);
 
-/* libpayload's number of a function */
+/* libpayload's number for a function */
 static uint32_t device_of(unsigned bus, unsigned device, unsigned function)
 {
     return UINT32_C(0x80000000) | PG_BDF(bus, device, function) << 8;
@@ -84,7 +85,7 @@ static uint32_t ones_of(uint32_t device, uint16_t offset)
     return ones;
 }
 
-/* Prefetchable memory has its own addresses where all bridges above can forward those. */
+/* Prefetchable memory gets separate addresses if all bridges above can forward them. */
 static bool can_prefetch(const struct bus *bus, uint32_t type)
 {
     bool is_high = first[PREF] >> 32 != 0;
@@ -116,7 +117,7 @@ static void read_regions(const struct bus *bus, struct function *function)
     }
 }
 
-/* Numbers what is behind a bridge, and finds which windows it has. */
+/* Numbers the buses behind a bridge, and finds out which windows it has. */
 static void scan_bridge(const struct bus *bus, struct function *bridge)
 {
     uint32_t prefetchable = ones_of(bridge->device, 0x24);
@@ -139,7 +140,7 @@ static void scan_bridge(const struct bus *bus, struct function *bridge)
         add(bridge, PREF, 0x24)->behind = behind;
 }
 
-/* Firmware that ran before may have left a function open, and bridges with numbers that others are about to get. */
+/* Earlier firmware may have left functions enabled, and bridges with bus numbers that are about to be assigned again. */
 static void found(struct bus *bus, uint32_t device)
 {
     struct function *function = &functions[function_count++];
@@ -173,7 +174,7 @@ static void scan(struct bus *bus)
 
 /* ---- addresses */
 
-/* Takes the lowest free addresses that suit a resource. */
+/* Allocates the lowest free addresses that suit a resource. */
 static bool take(struct ranges *ranges, struct resource *resource)
 {
     for (unsigned n = 0; n < ranges->count; n++) {
@@ -184,7 +185,7 @@ static bool take(struct ranges *ranges, struct resource *resource)
             continue;
         resource->base = base;
         ranges->free[n].first = base + resource->size;
-        if (base > from) { /* the gap stays free */
+        if (base > from) { /* the gap remains free */
             memmove(&ranges->free[n + 1], &ranges->free[n], (ranges->count++ - n) * sizeof ranges->free[0]);
             ranges->free[n].first = from;
             ranges->free[n].last = base - 1;
@@ -194,7 +195,7 @@ static bool take(struct ranges *ranges, struct resource *resource)
     return false;
 }
 
-/* The next resource of a bus in a space: by alignment, the greatest first, and then as they were found. */
+/* The next resource of a bus in a space: largest alignment first, then in the order in which they were found. */
 static struct resource *next_of(struct bus *bus, enum space space, const struct resource *before)
 {
     struct resource *best = NULL;
@@ -213,7 +214,7 @@ static struct resource *next_of(struct bus *bus, enum space space, const struct 
 
 static void compute(struct bus *bus, enum space space);
 
-/* The size of a window, and its alignment: those of what is behind it, in whole units. */
+/* The size and alignment of a window: those of everything behind it, in whole units. */
 static void compute_window(struct resource *window)
 {
     static struct ranges ranges;
@@ -266,7 +267,7 @@ static void write_base(const struct resource *region)
         pg_write_config32(region->device, (uint16_t)region->offset + 4, (uint32_t)(region->base >> 32));
 }
 
-/* Gives all of a bus its addresses, and what is behind its bridges. */
+/* Assigns addresses to everything on a bus and behind its bridges. */
 static void allocate(struct bus *bus, enum space space, uint64_t from, uint64_t to)
 {
     struct ranges ranges = { 1, { { from, to } } };
@@ -290,7 +291,7 @@ static void allocate(struct bus *bus, enum space space, uint64_t from, uint64_t 
 
 static void enable(struct bus *bus);
 
-/* A space is opened where each region in it has its place; a window without one is shut first. */
+/* Enables a space if all regions in it have been placed. A window that wasn't placed is disabled first. */
 static void enable_function(struct function *function)
 {
     uint16_t opened = function->behind ? 3 : 0, missing = 0;

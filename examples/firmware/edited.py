@@ -5,7 +5,7 @@ from pathlib import Path
 
 
 def edited(edit):
-    """The text of the file that an edit names, in the folder above its own, with one change. The old text stands there once."""
+    """The text of the file that an edit names, in the directory above the edit's, with one change. The old text occurs once."""
     said = dict(line.split(": ", 1) for line in Path(edit).read_text().splitlines())
     text = (Path(edit).resolve().parents[1] / said["file"]).read_text()
     if text.count(said["old"]) != 1:

@@ -1,9 +1,8 @@
-/* Firmware that sets a board up: it numbers the buses, sizes and places all regions, opens the windows of bridges, and
- * then the functions. The accesses are those of pciguest_ops.h. Build it, and test it:
+/* Firmware that sets a board up: it numbers the buses, sizes and places all regions, and enables the windows of
+ * bridges and then the functions. Its accesses are those of pciguest_ops.h. To build and test it:
  *
  *     cc -Ilibrary -o enumerator examples/firmware/enumerator.c
- *     python3 -m pciguest.firmware_test -- ./enumerator
- */
+ *     python3 -m pciguest.firmware_test -- ./enumerator */
 #include <stdbool.h>
 #include "pciguest_ops.h"
 
@@ -11,7 +10,7 @@ enum space { IO, MEM, PREF, SPACES };
 
 static const uint64_t unit[SPACES] = { 0x1000, 0x100000, 0x100000 };
 
-/* A region or a window that is to be placed on a bus. A window has another bus behind it. */
+/* A region or a window that must be placed on a bus. A window has another bus behind it. */
 struct item {
     enum space space;
     uint64_t size, alignment;
@@ -20,7 +19,7 @@ struct item {
     struct bus *behind;
 };
 
-/* A bus, and how many bits of prefetchable addresses all bridges above it forward. */
+/* A bus, and how many address bits the prefetchable windows of all bridges above it decode. */
 struct bus {
     unsigned number, prefetchable_bits, count;
     struct item items[32 * 8 * 6];
@@ -41,7 +40,7 @@ static struct item *add(struct bus *bus, enum space space, uint64_t size, uint32
     return item;
 }
 
-/* What reads back after all ones. The register gets its old value again. */
+/* Returns what a register reads back after all ones were written. Then restores its value. */
 static uint32_t probe(uint32_t function, uint32_t offset)
 {
     uint32_t old = pg_config_read(function, offset, 4), ones;
@@ -52,7 +51,7 @@ static uint32_t probe(uint32_t function, uint32_t offset)
     return ones;
 }
 
-/* Prefetchable memory goes to its own addresses where every bridge above can forward those. */
+/* Prefetchable memory gets separate addresses if all bridges above can forward them. */
 static enum space memory_space(const struct bus *bus, bool is_prefetchable, bool is_wide)
 {
     bool is_high = first[PREF] >> 32 != 0;
@@ -79,7 +78,7 @@ static void size_regions(struct bus *bus, uint32_t function)
     }
 }
 
-/* Finds all that is behind a bridge, and what each of its windows has to forward. */
+/* Finds everything behind a bridge, and what each of its windows must forward. */
 static void scan_bridge(struct bus *bus, uint32_t bridge)
 {
     uint32_t io = probe(bridge, 0x1C) & 0xF0F0, prefetchable = probe(bridge, 0x24);
@@ -119,7 +118,7 @@ static void each_function(struct bus *bus, void (*visit)(struct bus *, uint32_t)
     }
 }
 
-/* Firmware that ran before may have left a function open, and bridges with numbers that others are about to get. */
+/* Earlier firmware may have left functions enabled, and bridges with bus numbers that are about to be assigned again. */
 static void quiet(struct bus *bus, uint32_t function)
 {
     (void)bus;
@@ -142,7 +141,7 @@ static void scan(struct bus *bus)
     each_function(bus, examine);
 }
 
-/* The place of each item of a space behind the first address of its bus: the greatest alignment first. Gives the end. */
+/* Places the items of a space relative to the first address of their bus, largest alignment first. Returns the end. */
 static uint64_t pack(struct bus *bus, enum space space, uint64_t *alignment, void (*put)(struct item *, uint64_t),
                      uint64_t base)
 {
@@ -165,7 +164,7 @@ static uint64_t pack(struct bus *bus, enum space space, uint64_t *alignment, voi
     return end;
 }
 
-/* Windows, from the last bus up: as long as what stands behind them, in whole units. */
+/* Sizes the windows, from the last bus up: as large as everything behind them, in whole units. */
 static void measure(struct bus *bus, enum space space)
 {
     for (unsigned n = 0; n < bus->count; n++) {
@@ -208,7 +207,7 @@ static void put(struct item *item, uint64_t at)
         pg_config_write(item->function, item->offset + 4, 4, (uint32_t)(at >> 32));
 }
 
-/* Shuts the windows of a bus's bridges that have nothing behind them. */
+/* Disables the windows of a bus's bridges that have nothing behind them. */
 static void shut_windows(struct bus *bus)
 {
     for (unsigned n = 0; n < bus->count; n++) {
@@ -218,7 +217,7 @@ static void shut_windows(struct bus *bus)
     }
 }
 
-/* Opens each function's spaces: all is placed by now. */
+/* Enables each function's spaces, after everything was placed. */
 static void open_all(struct bus *bus)
 {
     shut_windows(bus);

@@ -1,5 +1,5 @@
-/* Linux at its entry for 64 bits (Documentation/arch/x86/boot.rst of its source), from the ELF file that is packed in its
- * image. */
+/* Starts Linux at its 64-bit entry point (Documentation/arch/x86/boot.rst in its source), from the
+ * ELF file that is packed in its image. */
 #include "machine.h"
 
 #include <asm/bootparam.h>
@@ -8,11 +8,11 @@
 #include <string.h>
 #include <sys/ioctl.h>
 
-/* Where things stand in the low memory, and what they hold. */
+/* Where things are in low memory, and their contents. */
 enum { PARAMETERS = 0x10000, WORDS = 0x20000, TABLES = 0x30000, LOW_END = 0x9fc00, HIGH = 0x100000, PAGE = 4096,
        USABLE = 1, WRITABLE = 3, LARGE = 0x80, LARGE_BITS = 21, LINUX_HEADER = 0x53726448 };
 
-/* Puts bytes into the machine's memory; their address there. */
+/* Copies bytes into the machine's memory, and returns their address there. */
 static uint32_t put(struct machine *machine, const void *bytes, size_t length, size_t at)
 {
     needed(at <= MEMORY && length <= MEMORY - at ? 0 : -1, "what a machine begins with is too large for its memory");
@@ -20,7 +20,7 @@ static uint32_t put(struct machine *machine, const void *bytes, size_t length, s
     return (uint32_t)at;
 }
 
-/* A table of each level, which lead the first 1 GB to itself in pages of 2 MB. */
+/* Page tables, one of each level, which map the first 1 GB to itself in pages of 2 MB. */
 static void put_tables(struct machine *machine)
 {
     uint64_t tables[3][512] = {{TABLES + PAGE + WRITABLE}, {TABLES + 2 * PAGE + WRITABLE}};
@@ -30,14 +30,14 @@ static void put_tables(struct machine *machine)
     put(machine, tables, sizeof tables, TABLES);
 }
 
-/* A segment of all addresses. */
+/* A segment that contains all addresses. */
 static struct kvm_segment segment(uint16_t selector, uint8_t type, bool is_code)
 {
     return (struct kvm_segment){.limit = UINT32_MAX, .selector = selector, .type = type, .present = 1, .s = 1, .g = 1,
                                 .l = is_code, .db = !is_code};
 }
 
-/* The processor begins in long mode, and RSI has the address of the parameters. */
+/* Sets the processor up to begin in long mode, with the address of the parameters in RSI. */
 static void begin(struct machine *machine, uint64_t entry)
 {
     enum { CODE = 0xb, DATA_TYPE = 0x3, PROTECTED = 1, PAGED = 1u << 31, LONG_ADDRESSES = 1 << 5, LONG_MODE = 0x500 };
@@ -55,7 +55,7 @@ static void begin(struct machine *machine, uint64_t entry)
     needed(ioctl(machine->processor, KVM_SET_REGS, &registers), "KVM_SET_REGS");
 }
 
-/* Puts the kernel's segments where they belong; its entry. */
+/* Copies the kernel's segments to their addresses, and returns the entry point. */
 static uint64_t put_kernel(struct machine *machine, const char *path)
 {
     size_t length;

@@ -1,4 +1,4 @@
-# Makes another board of board.toml for the machines, which have the same functions in the same slots, in other places: a's below
+# Makes another board of board.toml, on which the machines have the same functions in the same slots, but elsewhere: a's behind
 # two bridges, and b's on bus 0.
 1,2c #:schema ../board.schema.json
 s/0x1000, 0xffff/0x4000, 0xffff/
@@ -11,7 +11,7 @@ vendor = 0x1234\
 device = 0x0002\
 io = "16"\
 pref = "none"
-# a's functions and b's, which would be mistaken for each other if they came to their places at once
+# a's functions, then b's; in a single step, they would be mistaken for each other
 s|"([1245])\.0"|"a\1"|g
 s|"3\.0/([123])\.0"|"b\1"|g
 s|"3\.0"|"5.0/7.0"|

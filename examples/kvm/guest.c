@@ -1,5 +1,5 @@
-/* A machine's PCI: which of its accesses the board serves, what its devices do then, and their interrupts. All of it is
- * called under the board's lock. */
+/* A machine's PCI: which of its accesses go to the board, what its devices then do, and their
+ * interrupts. All functions are called under the board's lock. */
 #include "machine.h"
 
 #include <stdio.h>
@@ -11,10 +11,10 @@
 enum { INTERRUPT_LINE = 0x3c, CONFIG_ADDRESS = 0xcf8, BELL_STATUS = 0, BELL_COUNT = 4,
        BELL_RING = 8, WIRES = 4, NETWORK_CARD = 0x1041 };
 
-/* The interrupt lines to which the wires of the machine's bus lead. */
+/* The interrupt lines to which the pins on the machine's bus are connected. */
 static const unsigned lines[WIRES] = {5, 9, 10, 11};
 
-/* A number of the library that a machine can't go on with. The others do. */
+/* Ends a machine because of an error number from which it can't recover. The other machines continue. */
 void expect(struct machine *machine, uint32_t number, const char *what)
 {
     if (number && !machine->has_failed)
@@ -102,15 +102,17 @@ void machine_find_guest(struct machine *machine)
     machine_find_devices(machine);
 }
 
-/* The interrupt line to which a function's pin is wired; 0 where it has none. To a guest a function stands on bus 0 as the
- * device of its slot, with no bridge above: its pin arrives there as it is, and the four wires go round as on a PC. */
+/* Returns the interrupt line of a function's pin, or 0 if it has no pin. For a guest, a function is
+ * the device with its slot's number on bus 0, without a bridge above it, so its pin isn't swizzled.
+ * As on a PC, the four lines are used in rotation. */
 static unsigned line_of(struct machine *machine, uint64_t slot, struct pciguest_function *function)
 {
     expect(machine, pciguest_slot(&machine->board->guests, machine->guest, slot, function), "a function");
     return function->interrupt.pin ? lines[(function->interrupt.pin - 1 + slot) % WIRES] : 0;
 }
 
-/* Drives the line of a function's pin, which others may share, as its device asks and as its driver lets it. */
+/* Drives the line of a function's pin, which others may share, if its device requests an interrupt
+ * and its driver allows it. */
 static void drive_line(struct machine *machine, uint64_t slot)
 {
     struct pciguest_function function;
@@ -130,7 +132,7 @@ void machine_interrupt(struct machine *machine, uint64_t slot, bool is_asking)
     drive_line(machine, slot);
 }
 
-/* Tells a function's driver in Interrupt Line where its pin arrives. */
+/* Writes the interrupt line of a function's pin to Interrupt Line, for its driver. */
 static void write_line(struct machine *machine, uint64_t slot)
 {
     struct pciguest_function function;
@@ -142,8 +144,8 @@ static void write_line(struct machine *machine, uint64_t slot)
                "Interrupt Line");
 }
 
-/* What the firmware of a PC does, but for regions, which Linux places itself: it tells in Interrupt Line where pins arrive,
- * and that these lines are driven by level. */
+/* Does what the firmware of a PC does, except for regions, which Linux places itself: it writes
+ * Interrupt Line, and makes these lines level-triggered. */
 void machine_wire(struct machine *machine)
 {
     struct kvm_irqchip chips[2] = {{.chip_id = KVM_IRQCHIP_PIC_MASTER}, {.chip_id = KVM_IRQCHIP_PIC_SLAVE}};
@@ -158,7 +160,8 @@ void machine_wire(struct machine *machine)
         write_line(machine, slot);
 }
 
-/* Finds out which regions are open, and where, if the library's count says that this may have changed. */
+/* Finds out which regions are enabled, and where, if the library's count says that this may have
+ * changed. */
 static void follow_regions(struct machine *machine)
 {
     uint64_t changed = machine->changed;
@@ -183,8 +186,9 @@ static bool is_of_configuration(const struct access *access)
            access->place + access->width > CONFIG_ADDRESS;
 }
 
-/* Whether an access is the board's, and the byte that it hits: at the ports of configuration space what CONFIG_ADDRESS selects,
- * and else one of an open region. */
+/* Returns whether an access goes to the board, and stores the byte that it reaches: in the ports of
+ * configuration space, the register that CONFIG_ADDRESS selects; otherwise, a byte of an enabled
+ * region. */
 static bool find(struct machine *machine, const struct access *access, struct pciguest_hit *hit)
 {
     if (is_of_configuration(access))
@@ -199,7 +203,7 @@ static bool find(struct machine *machine, const struct access *access, struct pc
     return hit->found;
 }
 
-/* The bell counts that it was rung, and says so in the bit that its driver clears. */
+/* The doorbell counts the ring, and sets the bit that its driver clears. */
 static void ring(struct machine *machine, const struct pciguest_hit *hit)
 {
     struct pciguest *guests = &machine->board->guests;
@@ -210,8 +214,8 @@ static void ring(struct machine *machine, const struct pciguest_hit *hit)
     expect(machine, pciguest_raise(guests, machine->guest, hit->slot, hit->part, BELL_STATUS, 1), "a bell");
 }
 
-/* What the device of a function does after the access that hit it. In configuration space a driver may have moved a region, or
- * written Command. */
+/* Lets a function's device act after an access that reached it. If the access was to configuration
+ * space, the driver may have moved a region or written Command. */
 static void act(struct machine *machine, const struct access *access, const struct pciguest_hit *hit)
 {
     enum device device = machine->devices[hit->slot];
@@ -242,8 +246,9 @@ uint64_t now(void)
     return (uint64_t)time.tv_sec * 1000000000 + (uint64_t)time.tv_nsec;
 }
 
-/* Makes an access: of a region by its slot, its register and the offset; by the address if it is of configuration space, by the
- * ports, or if it goes on past the region's end, where another may begin. */
+/* Makes an access. An access to a region is made by slot, register and offset. An access to
+ * configuration space through the ports is made by address, and so is one that extends past the
+ * region's end, where another may begin. */
 static void make(struct machine *machine, struct access *access, const struct pciguest_hit *hit)
 {
     struct pciguest *guests = &machine->board->guests;
@@ -262,7 +267,7 @@ static void make(struct machine *machine, struct access *access, const struct pc
         (void)pciguest_read_wide(guests, machine->guest, access->space, 0, access->place, access->width, &access->value);
 }
 
-/* Serves an access by what its first byte hits. */
+/* Makes an access, as decided by what its first byte reaches. */
 static bool serve(struct machine *machine, struct access *access)
 {
     struct pciguest_hit hit = {0};
@@ -295,7 +300,8 @@ static void serve_configuration(struct machine *machine, struct access *access)
         access->value = all;
 }
 
-/* Serves an access if it is the board's. What nobody answers there reads all ones, and what is written is lost. */
+/* Makes an access if it goes to the board. If nothing responds there, a read returns all ones, and
+ * a write is lost. */
 bool machine_board_access(struct machine *machine, struct access *access)
 {
     uint64_t began = now();

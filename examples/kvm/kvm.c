@@ -1,13 +1,14 @@
-/* Machines of KVM over one board: the PCI of each is a guest of the board, and there is no other.
+/* KVM machines that share one board. The PCI of each machine is a guest of the board.
  *
  *     kvm BOARD KERNEL INITIAL [PATH=FILE] .. GUEST[=FILE] ..
  *
- * The function at a path of the board is a disk, whose contents are the file. The machine of a guest
- * boots Linux, or goes on where it was saved to a file. A line on standard input is typed at the
- * console of the machine whose name stands first (`a ls`), or is one of the host: `host save a FILE`
- * stops a machine and saves it, `host move a SLOT b SLOT` moves a function from one machine to
- * another, and `host count` tells what was counted since the last such line. The lines of a console
- * come on standard output, after the machine's name. The program ends when its machines have. */
+ * The function at a path of the board is a disk, whose contents are the file. The machine of a
+ * guest boots Linux or, with a file, continues where it was saved. A line on standard input is
+ * typed at the console of the machine whose name it begins with (`a ls`), or it is a host command:
+ * `host save a FILE` stops a machine and saves it, `host move a SLOT b SLOT` moves a function from
+ * one machine to another, and `host count` prints what was counted since the previous `host count`.
+ * Console output is written to standard output, after the machine's name. The program ends when all
+ * its machines have ended. */
 #include "machine.h"
 
 #include <ctype.h>
@@ -19,8 +20,8 @@
 
 enum { MACHINES = 8, MOMENT = 1000 /* microseconds */ };
 
-/* Linux finds its console at a port, asks for PCI by CF8h and CFCh alone, looks for no clock that isn't there, and restarts by
- * a fault, which ends the machine. */
+/* Linux finds its console at a port, uses only CF8h and CFCh for PCI, doesn't look for clocks that
+ * aren't there, and restarts by a fault, which ends the machine. */
 static const char words[] = "console=ttyS0 loglevel=1 nowatchdog acpi=off pci=conf1,noearly initcall_blacklist=add_rtc_cmos "
                             "cryptomgr.notests reboot=t panic=-1";
 
@@ -71,7 +72,7 @@ static struct machine *machine_of(const char *name, size_t length)
     return NULL;
 }
 
-/* What was counted of a machine since it was told last. */
+/* What was counted for a machine since it was last printed. */
 static void tell_counts(struct machine *machine)
 {
     double seconds;
@@ -135,7 +136,7 @@ static void host_line(char *line)
     }
 }
 
-/* A line with its line feed, but for the last of a file. */
+/* A line with its line feed, except for the last line of a file. */
 static void take_line(char *line)
 {
     size_t length = strcspn(line, " \n");
@@ -161,7 +162,7 @@ static void *take_lines(void *argument)
     return argument;
 }
 
-/* Makes the machine of a word: GUEST boots, and GUEST=FILE goes on, unless the file can't be. */
+/* Makes the machine for an argument: GUEST boots, and GUEST=FILE continues, if the file can be loaded. */
 static void make_machine(struct machine *machine, char *word, const char *kernel, const char *initial)
 {
     char *file = strchr(word, '=');
@@ -180,7 +181,7 @@ static void make_machine(struct machine *machine, char *word, const char *kernel
     }
 }
 
-/* Opens the disks of the words PATH=FILE, which come first. Returns how many there are. */
+/* Opens the disks in the arguments PATH=FILE, which come first. Returns how many there are. */
 static int open_disks(char **words)
 {
     int count = 0;

@@ -1,4 +1,4 @@
-/* A machine of KVM: its memory, KVM's interrupt controllers and timer, a processor, and what it stops at. */
+/* A KVM machine: its memory, KVM's interrupt controllers and timer, and a processor with its exits. */
 #define _GNU_SOURCE
 #include "machine.h"
 
@@ -12,8 +12,8 @@
 #include <sys/mman.h>
 #include <unistd.h>
 
-/* The processor is what KVM says that it can be, its number is 0 in all places that tell it, and it knows that it is none of
- * its own: so Linux asks KVM for the time. */
+/* Sets up CPUID: everything that KVM supports, with processor number 0 everywhere. The hypervisor
+ * bit is set, so that Linux gets the time from KVM. */
 static void describe_processor(struct machine *machine)
 {
     enum { ENTRIES = 256, IS_VIRTUAL = 1u << 31 };
@@ -58,7 +58,7 @@ void machine_new(struct machine *machine, struct board *board, const char *name)
     int size;
 
     *machine = (struct machine){.board = board, .name = name, .console = {.machine = machine, .is_console = true}};
-    machine->console.own[MODEM_STATUS] = 0xb0; /* who is at the console is there, and ready */
+    machine->console.own[MODEM_STATUS] = 0xb0; /* the terminal at the console is present and ready */
     machine->system = needed(open("/dev/kvm", O_RDWR | O_CLOEXEC), "/dev/kvm");
     machine->file = needed(ioctl(machine->system, KVM_CREATE_VM, 0), "KVM_CREATE_VM");
     needed(ioctl(machine->file, KVM_SET_TSS_ADDR, 0xfffbd000), "KVM_SET_TSS_ADDR");
@@ -124,7 +124,8 @@ static bool console_access(struct machine *machine, struct access *access)
     return true;
 }
 
-/* Serves an access at which KVM stopped, of bytes in its own memory. What is nobody's reads all ones. */
+/* Makes an access at which KVM stopped, whose bytes are in KVM's memory. If nothing responds, a
+ * read returns all ones. */
 static void serve(struct machine *machine, struct access access, void *bytes)
 {
     access.value = UINT64_MAX;
@@ -139,7 +140,7 @@ static void serve(struct machine *machine, struct access access, void *bytes)
         memcpy(bytes, &access.value, access.width);
 }
 
-/* One instruction may ask for several accesses of one port. */
+/* one instruction can make several accesses to one port */
 static void serve_ports(struct machine *machine)
 {
     struct kvm_run *run = machine->run;
@@ -158,8 +159,9 @@ static void serve_memory(struct machine *machine)
     serve(machine, access, run->mmio.data);
 }
 
-/* Runs the processor up to where it stops next, and serves that; false where it ended. Where a signal stops it, KVM has
- * done what the access before it asks for, so that only then all of the processor's state is there to be saved. */
+/* Runs the processor until it stops, and handles the exit. Returns false if the machine has ended.
+ * If a signal stopped it, KVM has completed the previous access; only then is the processor's state
+ * complete and can be saved. */
 static bool run_on(struct machine *machine)
 {
     if (ioctl(machine->processor, KVM_RUN, 0) < 0) {
@@ -212,7 +214,7 @@ void machine_start(struct machine *machine)
     needed(-pthread_create(&machine->thread, NULL, run, machine), "a thread");
 }
 
-/* A signal that comes before KVM_RUN is too early to stop it; `immediate_exit` isn't. */
+/* A signal that arrives before KVM_RUN is too early to stop it, but `immediate_exit` isn't. */
 void machine_stop(struct machine *machine, const char *save_path)
 {
     machine->save_path = save_path;

@@ -1,5 +1,5 @@
-/* A machine that is stopped, as a file: what KVM tells of it, its console, its guest's image and its memory. It is read by
- * the same program alone, on a processor of the same kind. */
+/* A stopped machine, as a file: its KVM state, its console, its guest's image and its memory. Only
+ * the same program can load it, on a processor of the same kind. */
 #include "machine.h"
 
 #include <stdio.h>
@@ -28,7 +28,7 @@ struct state {
     uint64_t image_length;
 };
 
-/* What KVM tells of a machine and of its processor, in the order in which it is told back. */
+/* KVM's state of a machine and its processor, in the order in which it is restored. */
 static const struct part {
     const char *name;
     unsigned long get, set;
@@ -62,7 +62,8 @@ static const char *for_parts(struct machine *machine, struct state *state, bool 
     return NULL;
 }
 
-/* Registers of the processor's model are asked for one by one: KVM lists some that a processor has not. */
+/* Model-specific registers are read one by one, because KVM lists some that the processor doesn't
+ * have. */
 static bool ask_model(struct machine *machine, unsigned long call, struct kvm_msr_entry *entry)
 {
     struct {
@@ -112,9 +113,9 @@ void machine_save(struct machine *machine, const char *path)
         state->controllers[i].chip_id = i;
     needed(for_parts(machine, state, true) ? -1 : 0, "the processor's state");
     get_model(machine, state);
-    state->clock.flags = 0; /* the machine's clock stood still meanwhile */
+    state->clock.flags = 0; /* the machine's clock was stopped in the meantime */
     memcpy(state->console, machine->console.own, CELLS);
-    (void)pciguest_save(guests, machine->guest, NULL, 0, &length); /* how long the image is */
+    (void)pciguest_save(guests, machine->guest, NULL, 0, &length); /* the size of the image */
     image = malloc(length);
     needed(pciguest_save(guests, machine->guest, image, length, &length) ? -1 : 0, "an image");
     state->image_length = length;
@@ -152,7 +153,7 @@ static const char *set_state(struct machine *machine, struct state *state, const
     if (!fault)
         fault = for_parts(machine, state, false);
     for (uint32_t i = 0; i < state->model_count && !fault; i++)
-        (void)ask_model(machine, KVM_SET_MSRS, &state->model[i]); /* some are only read */
+        (void)ask_model(machine, KVM_SET_MSRS, &state->model[i]); /* some are read-only */
     if (!fault)
         machine_settle(machine);
     return fault;

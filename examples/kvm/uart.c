@@ -1,11 +1,12 @@
-/* A 16450 over cells. Whoever serves the driver's accesses changes the registers, and calls this after each. */
+/* A 16450 whose registers are cells. The code that makes the driver's accesses changes the
+ * registers, and calls this file after each. */
 #include "uart.h"
 #include "machine.h"
 
 enum { DIVISOR_ACCESS = 0x80, ON_DATA = 1, ON_EMPTY = 2, HAS_DATA = 1, IS_EMPTY = 0x60, NO_CAUSE = 1, EMPTY_CAUSE = 2,
        DATA_CAUSE = 4 };
 
-/* The part of the function that has a cell. */
+/* The part of the function that contains a cell. */
 static uint32_t part_of(unsigned cell)
 {
     return cell < HIDDEN ? 0 : PCIGUEST_PART_CONFIG;
@@ -38,7 +39,8 @@ uint8_t uart_read(const struct uart *uart, unsigned offset)
     return uart->own[offset];
 }
 
-/* The driver may have chosen to see the divisor in cells 0 and 1, or not to: then they and what is hidden change places. */
+/* If the driver has switched between the divisor and the other contents of cells 0 and 1, swaps
+ * them with what is hidden. */
 static void choose_cells(struct uart *uart)
 {
     uint8_t chosen = get(uart, LINE_CONTROL) & DIVISOR_ACCESS;
@@ -54,7 +56,8 @@ static void choose_cells(struct uart *uart)
     }
 }
 
-/* Tells in the registers what came in and what may be sent, and asks for an interrupt where the driver wants that. */
+/* Shows in the registers what was received and what may be sent, and requests an interrupt if the
+ * driver wants one. */
 void uart_settle(struct uart *uart)
 {
     unsigned hidden = get(uart, IS_DIVISOR) ? HIDDEN : 0;
@@ -97,7 +100,7 @@ bool uart_receive(struct uart *uart, uint8_t byte)
     return has_room;
 }
 
-/* What a function sends comes back to it, as if its plug led it there. */
+/* What a function sends is received again, as if its plug were looped back. */
 static void send(struct uart *uart, uint8_t byte)
 {
     if (uart->is_console)

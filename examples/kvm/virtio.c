@@ -50,7 +50,7 @@ static struct pciguest_message message_of(struct virtio *device, uint32_t vector
     return message;
 }
 
-/* A message goes to the processor by KVM. One that can't be sent yet stays pending. */
+/* Sends a message to the processor, through KVM. A message that can't be sent yet stays pending. */
 static void send(struct virtio *device, uint32_t vector, const struct pciguest_message *message)
 {
     uint64_t pending = get(device, VIRTIO_OWN, OWN_PENDING, 8), bit = 1ull << vector;
@@ -178,8 +178,8 @@ void virtio_reset(struct virtio *device)
     virtio_settle(device);
 }
 
-/* The driver wrote the device status. The device accepts features if it offers all of them, and if
- * they include VIRTIO_F_VERSION_1. */
+/* Acts after the driver wrote the device status. The device accepts features if it offers all of
+ * them, and if they include VIRTIO_F_VERSION_1. */
 static void take_status(struct virtio *device)
 {
     uint64_t status = get(device, VIRTIO_COMMON, VIRTIO_PCI_COMMON_STATUS, 1);
@@ -192,7 +192,7 @@ static void take_status(struct virtio *device)
         set(device, VIRTIO_COMMON, VIRTIO_PCI_COMMON_STATUS, 1, status & ~VIRTIO_CONFIG_S_FEATURES_OK);
 }
 
-/* The driver wrote to the common configuration, the bytes from `offset` up to `end`. */
+/* Acts after the driver wrote to the common configuration, the bytes from `offset` up to `end`. */
 static void take_common(struct virtio *device, uint64_t offset, uint64_t end)
 {
     uint64_t vector = get(device, VIRTIO_COMMON, VIRTIO_PCI_COMMON_MSIX, 2);

@@ -1,8 +1,11 @@
 #!/usr/bin/env python3
-"""A device model over pciguest: what a hypervisor does with the accesses that it traps (`serve`), and what the device does
-when its driver rings (`act`). It is examples/c/device.c over the module of library/python, and prints the same.
-    PYTHONPATH=library/python examples/python/device.py BOARD
-BOARD is examples/device.toml, whose guest `a` has this device."""
+"""A hypervisor's accesses (`serve`) and a device model (`act`), with pciguest. This is
+examples/c/device.c with the module in library/python, and prints the same.
+
+    PYTHONPATH=library/python python3 examples/python/device.py BOARD
+
+BOARD is examples/device.toml, whose guest `a` has this device.
+"""
 import sys
 from contextlib import suppress
 from dataclasses import dataclass
@@ -10,16 +13,16 @@ from typing import Optional, Tuple
 
 from pciguest import Guest, Hit, Machine, Refusal
 
-# The registers of the device's region: bit 0 of STATUS says that a ring was served, and writing a one clears it; COUNT says
-# how many were, and a driver only reads it; a write of DOORBELL rings.
+# The registers of the device's region. Bit 0 of STATUS is set when the device was rung, and is cleared by writing a one. COUNT
+# says how often the device was rung; the driver can only read it. A write to DOORBELL rings the device.
 STATUS, COUNT, DOORBELL, SERVED = 0x00, 0x04, 0x08, 1
-# The number by which an access past a region's end is refused.
+# The number with which an access past a region's end is refused.
 OUT_OF_RANGE = 303
 
 
 @dataclass(frozen=True)
 class Trap:
-    """What the processor tells of an access that it trapped: 1 to 8 bytes, at any place."""
+    """A trapped access of 1 to 8 bytes at any address."""
 
     space: str
     place: int
@@ -28,16 +31,18 @@ class Trap:
 
 
 def find(guest: Guest, trap: Trap) -> Tuple[bool, Optional[Hit]]:
-    """Whether an access hits anything here, and what. Where it doesn't, the hypervisor's own UART or RAM is meant, or
-    nobody. Four bytes at CF8h are CONFIG_ADDRESS, which is always here."""
+    """Returns whether an access reaches anything on the board, and what. If it reaches nothing, it
+    is meant for the hypervisor's own UART or RAM, or for nothing at all. A 4-byte access to CF8h
+    is always for the board's CONFIG_ADDRESS."""
     hit = guest.locate(trap.space, trap.place)
     return hit is not None or (trap.space, trap.place, trap.width) == ("io", 0xCF8, 4), hit
 
 
 def serve(guest: Guest, trap: Trap, hit: Optional[Hit]) -> int:
-    """Serves one access, and gives what is read or written: of a region by its slot, its register and the offset, as `find`
-    told them. Configuration space is served by its ports, and what goes on past a region's end, where another may begin, by
-    the address. A real bus has no refusal: a write that no one takes is lost."""
+    """Makes one access, and returns the value that is read or written. Accesses to regions are made
+    by slot, register and offset, which `find` returned. All others are made by port or address:
+    accesses to configuration space, and those that extend past a region's end, where another region
+    may begin. A bus can't refuse anything, so if nothing responds, a write is lost."""
     try:
         if hit is not None and hit.region is not None:
             if trap.written is None:
@@ -56,7 +61,8 @@ def serve(guest: Guest, trap: Trap, hit: Optional[Hit]) -> int:
 
 
 def ring(guest: Guest, hit: Hit) -> None:
-    """The device serves a ring: it counts it, sets the bit of STATUS, and drives its pin if its driver lets it."""
+    """The device is rung: it counts the ring, sets the bit of STATUS, and drives its pin unless the
+    driver has disabled interrupts."""
     rings = guest.device_read(hit.slot, COUNT, region=hit.region, width=4)
     guest.device_write(hit.slot, COUNT, rings + 1 & 0xFFFFFFFF, region=hit.region, width=4)
     guest.raise_bits(hit.slot, STATUS, SERVED, region=hit.region)
@@ -65,7 +71,7 @@ def ring(guest: Guest, hit: Hit) -> None:
 
 
 def tell_traps(guest: Guest) -> None:
-    """Tells which addresses have to be trapped from here on."""
+    """Prints which addresses must be trapped from now on."""
     for region in (moved.now for moved in guest.moved()):
         if region is not None and region.is_open:
             name = "port" if region.space == "io" else "memory"
@@ -73,8 +79,9 @@ def tell_traps(guest: Guest) -> None:
 
 
 def act(guest: Guest, trap: Trap, hit: Hit) -> None:
-    """After a write: regions may stand elsewhere where configuration space was hit, and the device acts where its doorbell
-    was. An access that begins before the doorbell may ring it too."""
+    """Acts after a write. If it reached configuration space, regions may have moved. If it reached
+    the doorbell, the device acts. The access may also begin before the doorbell and extend into
+    it."""
     if hit.region is None:
         tell_traps(guest)
     elif hit.offset < DOORBELL + 4 and hit.offset + trap.width > DOORBELL:
@@ -82,7 +89,7 @@ def act(guest: Guest, trap: Trap, hit: Hit) -> None:
 
 
 def step(guest: Guest, trap: Trap) -> None:
-    """Serves an access, prints it, and lets the device act."""
+    """Makes an access, prints it, and lets the device act."""
     name = "read " if trap.written is None else "write"
     space = "port" if trap.space == "io" else trap.space
     is_here, hit = find(guest, trap)
@@ -93,7 +100,7 @@ def step(guest: Guest, trap: Trap) -> None:
 
 
 def select(device: int, offset: int) -> Trap:
-    """Selects a register of a device of bus 0 by CONFIG_ADDRESS."""
+    """Selects a register of a device on bus 0, with CONFIG_ADDRESS."""
     return Trap("io", 0xCF8, 4, 0x80000000 | device << 11 | offset)
 
 
@@ -105,17 +112,17 @@ def register(offset: int, width: int, written: Optional[int] = None) -> Trap:
     return Trap("memory", 0xE0000000 + offset, width, written)
 
 
-# Firmware that finds the device by the ports CF8h and CFCh, asks for the size of its region and places it; and a driver
-# that rings, sees what came of it, and clears that.
+# Firmware finds the device through ports CF8h and CFCh, sizes its region and places it. Then a driver rings the device,
+# reads the result, and clears it.
 ACCESSES = (
-    select(0, 0x00),  # firmware: who is device 0?
+    select(0, 0x00),  # firmware: what is device 0?
     data(4),
     select(7, 0x00),  # and device 7?
     data(4),
     select(0, 0x10),  # the size of its region
     data(4, 0xFFFFFFFF),
     data(4),
-    data(4, 0xE0000000),  # a place for it
+    data(4, 0xE0000000),  # its address
     select(0, 0x04),
     data(2, 0x0002),  # memory on
     register(DOORBELL, 4, 0x12345678),  # the driver rings
@@ -123,14 +130,14 @@ ACCESSES = (
     register(DOORBELL, 4),
     register(DOORBELL + 2, 1, 0xFF),  # and again, by one byte of it
     register(STATUS, 8),  # STATUS and COUNT at once
-    register(STATUS, 1, SERVED),  # it clears STATUS, and leaves COUNT
+    register(STATUS, 1, SERVED),  # the driver clears STATUS; COUNT stays
     register(COUNT, 4, 1),
     select(0, 0x04),
-    data(2, 0x0402),  # no interrupts any more; where its region stands isn't told again
-    register(COUNT + 2, 8, 0),  # across alignment, and over the doorbell
+    data(2, 0x0402),  # no more interrupts; the region's address isn't printed again
+    register(COUNT + 2, 8, 0),  # unaligned, and across the doorbell
     register(STATUS, 8),
     register(0xFFC, 8),  # past the region's end
-    Trap("memory", 0xD0000000, 4),  # nobody there
+    Trap("memory", 0xD0000000, 4),  # nothing responds
 )
 
 

@@ -1,7 +1,11 @@
 #!/usr/bin/env python3
-"""A device that counts the rings of its driver, and a driver that rings.
+"""A device that counts the rings of its driver, and a driver that rings it.
+
     PYTHONPATH=library/python python3 examples/python/doorbell.py
-The class declares the function; the board file is made of it, and `on_write` says what the device does."""
+
+The class declares the function and generates its table in the board file; `on_write` says what the
+device does.
+"""
 from pciguest import Device, Machine, Register
 
 BOARD = """\
@@ -19,8 +23,8 @@ slots = ["1.0"]
 class Doorbell(Device):
     vendor_id, device_id, class_code = 0x1234, 0x0001, 0xFF0000
     bars = {0: ("mem32", 0x1000)}
-    status = Register(0x00, width=1, w1c=0x01)  # its driver clears the bit by writing a one
-    rings = Register(0x04, width=4)  # its driver only reads it
+    status = Register(0x00, width=1, w1c=0x01)  # the driver clears the bit by writing a one
+    rings = Register(0x04, width=4)  # the driver can only read it
     bell = Register(0x08, width=4, rw=0xFFFFFFFF)
 
     def on_write(self, register, value):
@@ -36,7 +40,7 @@ def main():
     with Machine(board) as machine:
         a = machine.guest("a")
         machine.attach(a, 0, Doorbell())
-        a.config[0][0x10:4] = 0xE0000000  # where its region is to stand
+        a.config[0][0x10:4] = 0xE0000000  # the address of its region
         a.config[0][0x04:2] = 2  # memory on
         for told in (0x11, 0x22):
             a.memory[0xE0000008:4] = told

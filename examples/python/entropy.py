@@ -1,10 +1,13 @@
 #!/usr/bin/env python3
 """A virtio entropy device and a driver for it, tested without a virtual machine: the driver finds
-the device's structures by the capability list, sets up a queue, and gets an MSI-X message.
+the device's structures through the capability list, sets up a queue, and gets an MSI-X message.
+
     PYTHONPATH=library/python python3 examples/python/entropy.py BOARD
-BOARD is examples/entropy.toml. examples/rust/entropy.rs is the same in Rust, and prints the same.
-Section numbers are those of virtio 1.2. Left out are interrupts without MSI-X, queues of other
-sizes, and access to the BARs through configuration space (4.1.4.9)."""
+
+BOARD is examples/entropy.toml. examples/rust/entropy.rs is the same program in Rust. Section
+numbers are those of virtio 1.2. Not implemented: interrupts without MSI-X, queues of other sizes,
+and access to the BARs through configuration space (4.1.4.9).
+"""
 import struct
 import sys
 
@@ -22,7 +25,7 @@ class BadAddress(Exception):
 
 
 class Memory:
-    """The memory of a guest, which its device reaches by DMA."""
+    """The memory of a guest, which its device accesses by DMA."""
 
     def __init__(self, size):
         self.bytes = bytearray(size)
@@ -40,14 +43,15 @@ class Memory:
 
 
 def noise(count, state=1):
-    """Bytes that can be checked, from a linear congruential generator."""
+    """Bytes that the driver can check, from a linear congruential generator."""
     for _ in range(count):
         state = (state * 1103515245 + 12345) % 2**31
         yield state >> 16 & 0xFF
 
 
 class Entropy(Device):
-    """The device (5.4). `memories` has the memory of each guest, and `send` delivers a message."""
+    """The device (5.4). `memories` contains the memory of each guest, and `send` delivers a
+    message."""
 
     vendor_id, device_id, revision_id, class_code = 0x1AF4, 0x1044, 1, 0x00FF00
     subsystem_vendor_id, subsystem_id = 0x1AF4, 0x1100
@@ -68,7 +72,7 @@ class Entropy(Device):
     queue_driver = Register(0x28, 8, rw=2**64 - 1)
     queue_device = Register(0x30, 8, rw=2**64 - 1)
     notify = Register(0x38, 2, rw=0xFFFF)
-    # what the device keeps: since it is a register that no driver can write, images contain it
+    # the device's own state: because no driver can write this register, images contain it
     accepted = Register(0x40, 8)
     # MSI-X: Message Control, Vector Control of both vectors, and the pending bits
     control = Register(0x82, 2, bar=None, reset=VECTORS - 1, rw=0xC000)
@@ -99,13 +103,13 @@ class Entropy(Device):
             self.send_pending()
 
     def restart(self):
-        """A reset by the driver: of virtio's registers, and not of the function's other ones."""
+        """A reset by the driver, of virtio's registers but not of the function's other ones."""
         for register in Entropy.registers:
             if register.bar == 0:
                 setattr(self, register.name, register.reset)
 
     def serve(self):
-        """Fills the buffers that are available. The device reaches the memory of the guest that has
+        """Fills the available buffers. The device may access only the memory of the guest that has
         its function, and only while that guest has set Bus Master."""
         if not self.status & DRIVER_OK or not self.queue_enable or not self.bus_master:
             return
@@ -116,7 +120,7 @@ class Entropy(Device):
             self.status |= NEEDS_RESET
 
     def fill_available(self, memory):
-        """Fills buffers in their order. How many were filled so far is in the used ring."""
+        """Fills buffers in order. The used ring says how many were filled before."""
         (available,) = memory.read(INDEX, self.queue_driver + 2)
         (used,) = memory.read(INDEX, self.queue_device + 2)
         while used != available:
@@ -147,7 +151,8 @@ class Entropy(Device):
             self.send_pending()
 
     def send_pending(self):
-        """Sends what is pending and may be sent now; a masked vector's message stays pending."""
+        """Sends pending messages that may be sent now. The message of a masked vector stays
+        pending."""
         for vector in range(VECTORS):
             message = self.msix_message(vector)
             if self.pending >> vector & 1 and message.can_be_sent:

@@ -1,4 +1,5 @@
-"""Saves guest a of a board, restores it, and lets it go on over another board: migrate.py BOARD OTHER"""
+"""Saves guest a of a board, restores it, and lets it continue on another board: migrate.py BOARD
+OTHER"""
 import sys
 from pciguest import Machine
 
@@ -9,7 +10,7 @@ a.config[0][4:2] = 2
 a.memory[0x80000010:4] = 0x12345678
 
 image = a.save()
-a.reset_guest()  # nothing of it is left ..
+a.reset_guest()  # everything is lost ..
 print(f"{a.memory[0x80000010:4]:#010x}")
 a.load(image)  # .. restore
 there.guest("a").load(image)  # migrate

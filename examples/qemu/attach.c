@@ -1,7 +1,7 @@
-/* Runs a program with descriptors that are connected to sockets, as QEMU wants a function that another process serves:
+/* Runs a program with descriptors that are connected to sockets. QEMU uses such descriptors for functions that
+ * another process provides:
  *
- *     attach 5=a0.socket [6=a1.socket ..] qemu-system-x86_64 .. -device x-pci-proxy-dev,id=p,fd=5
- */
+ *     attach 5=a0.socket [6=a1.socket ..] qemu-system-x86_64 .. -device x-pci-proxy-dev,id=p,fd=5 */
 #define _GNU_SOURCE
 #include <errno.h>
 #include <fcntl.h>
@@ -14,7 +14,7 @@
 
 enum { FEWEST = 3, MOST = 64 };
 
-/* The descriptor of FD=SOCKET, and the socket's name; 0 where a word has another form. */
+/* Returns the descriptor in FD=SOCKET, and stores the socket's name. Returns 0 if the argument has another form. */
 static int read_word(const char *word, const char **path)
 {
     char *end;
@@ -24,7 +24,7 @@ static int read_word(const char *word, const char **path)
     return end != word && *end == '=' && number >= FEWEST && number < MOST ? (int)number : 0;
 }
 
-/* Connects to a socket by a descriptor above all that may be asked for, or answers -1. */
+/* Connects to a socket, with a descriptor above all that the arguments may name. Returns -1 on failure. */
 static int connect_above(const char *path)
 {
     struct sockaddr_un address = {.sun_family = AF_UNIX};

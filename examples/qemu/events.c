@@ -1,4 +1,4 @@
-/* Events over the library: one call each, and its line in the log. */
+/* Events: each makes one library call, and writes one line to the log. */
 #include "events.h"
 #include "images.h"
 
@@ -35,7 +35,7 @@ static void log_line(struct board *board, const char *line, uint32_t number, con
         fprintf(board->log, "# %.*s", (int)written, reply);
 }
 
-/* An access as a line of a script has it, but for the guest's name and a written value. */
+/* An access as in a script line, without the guest's name and the written value. */
 static void write_words(char words[WORDS], const struct seat *seat, const struct access *access)
 {
     static const char spaces[] = {'c', 'i', 'm'};
@@ -61,7 +61,8 @@ static void log_access(struct board *board, const struct seat *seat, const struc
     log_line(board, line, number, seat->guest, answer);
 }
 
-/* One access, and what is read. A real bus has no refusal: what no one takes reads all ones, and a write is lost. */
+/* Makes one access, and returns what is read. A bus can't refuse anything, so if nothing responds, a read returns all
+ * ones and a write is lost. */
 static uint32_t perform(struct board *board, const struct seat *seat, struct access access)
 {
     uint32_t number, read = UINT32_MAX;
@@ -100,7 +101,7 @@ void log_regions(struct board *board, struct seat *seat)
             log_region(board->log, seat, bar, &places[bar].now);
 }
 
-/* An empty slot of a seat's guest; false where none is. */
+/* Finds an empty slot of a seat's guest. Returns false if there is none. */
 static bool find_empty(struct board *board, const struct seat *seat, struct seat *empty)
 {
     struct pciguest_region region = {0};
@@ -112,7 +113,7 @@ static bool find_empty(struct board *board, const struct seat *seat, struct seat
     return false;
 }
 
-/* An empty slot of this guest or, where it has none, of another of whom functions are given away. */
+/* Finds an empty slot of this guest or, if there is none, of another guest whose functions are given away. */
 static bool find_spare(struct board *board, const struct seat *seat, struct seat *spare)
 {
     bool is_found = find_empty(board, seat, spare);
@@ -130,8 +131,8 @@ static void log_move(struct board *board, const struct seat *from, const struct 
     log_line(board, line, number, "host", "ok");
 }
 
-/* No line of a script says a reset, and two moves do the same: to an empty slot, and back. Where none is empty, a
- * comment stands in their place, and the log can't be run again. */
+/* No script line resets a function, but two moves have the same effect: to an empty slot, and back. If no slot is
+ * empty, the log contains a comment instead, and can't be replayed. */
 static void log_reset(struct board *board, const struct seat *seat, uint32_t number)
 {
     struct seat spare;
@@ -164,7 +165,7 @@ static uint32_t config_event(struct board *board, struct seat *seat, const struc
     return read;
 }
 
-/* Whether an access hits a region of the function in the seat's slot, and where. */
+/* Returns whether an access reaches a region of the function in the seat's slot, and where. */
 static bool find_hit(struct board *board, const struct seat *seat, const struct access *access,
                      struct pciguest_hit *hit)
 {
@@ -175,7 +176,7 @@ static bool find_hit(struct board *board, const struct seat *seat, const struct 
            hit->found && hit->slot == seat->slot && hit->part < PCIGUEST_BARS;
 }
 
-/* An access that a machine sends to a region of this function, and no other: elsewhere it hits nothing. */
+/* Makes an access that a machine sends to a region of this function. It reaches no other function. */
 static uint32_t perform_at_region(struct board *board, const struct seat *seat, struct access access)
 {
     struct pciguest_hit hit = {0};
@@ -194,8 +195,8 @@ static uint32_t perform_at_region(struct board *board, const struct seat *seat, 
     return read;
 }
 
-/* An access of a processor may have 8 bytes, or stand at any place: it is split as a bridge does, and each piece is an
- * event of its own, with its line in the log. */
+/* A processor access can have 8 bytes or be unaligned. It is split as a bridge does it, and each piece is a separate
+ * event with its own line in the log. */
 static uint64_t region_event(struct board *board, const struct seat *seat, const struct region_access *region,
                              bool is_write)
 {
@@ -233,7 +234,7 @@ bool message_event(struct board *board, struct seat *seat, const struct message 
     case RESET:
         reset_event(board, seat);
         return true;
-    default: /* memory for DMA and descriptors for interrupts: the board has neither */
+    default: /* memory for DMA and descriptors for interrupts: the board supports neither */
         return false;
     }
 }

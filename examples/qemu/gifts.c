@@ -1,4 +1,4 @@
-/* Sockets of the functions that are given away: who comes, who is served, who is dropped. */
+/* Sockets for the functions that are given away: connects, serves and drops peers. */
 #define _GNU_SOURCE
 #include "gifts.h"
 
@@ -42,7 +42,7 @@ bool gift_read(struct gift *gift, struct seat *seat, char *text)
     return end == equals && seat->slot < 32;
 }
 
-/* Binds a socket that this user alone may connect to, and listens there. */
+/* Binds a socket to which only this user can connect, and listens there. */
 static bool open_socket(struct gift *gift)
 {
     struct sockaddr_un address = {.sun_family = AF_UNIX};
@@ -102,7 +102,7 @@ int64_t gifts_watch(const struct gift *gifts, size_t count, struct pollfd *event
 
         if (deadline && (!first || deadline < first))
             first = deadline;
-        /* who has not taken its answer is not asked for more */
+        /* a peer that hasn't read its reply isn't read from */
         events[2 * i] = (struct pollfd){.fd = peer->socket, .events = peer->unsent ? POLLOUT : POLLIN};
         events[2 * i + 1] = (struct pollfd){.fd = gifts[i].listener, .events = POLLIN};
     }
@@ -136,7 +136,7 @@ static void serve_peer(struct gift *gift, struct board *board)
     }
 }
 
-/* Lets in who comes, if nobody stands there. */
+/* Accepts a peer, if no other is connected. */
 static bool welcome(const struct board *board, struct gift *gift)
 {
     int socket = accept4(gift->listener, NULL, NULL, SOCK_NONBLOCK | SOCK_CLOEXEC);

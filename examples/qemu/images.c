@@ -5,9 +5,9 @@
 #include <stdlib.h>
 #include <string.h>
 
-enum { LONGEST_LINE = 255, MOST = 4 << 20 /* bytes, which is more than any image has */ };
+enum { LONGEST_LINE = 255, MOST = 4 << 20 /* in bytes, more than the size of any image */ };
 
-/* What a reply says of a number, or of a file. */
+/* The text of a reply about an error number or a file. */
 static void reply_by_number(FILE *replies, uint32_t number)
 {
     fputs(number ? "host: refused " : "host: ok", replies);
@@ -21,7 +21,7 @@ static void reply_by_error(FILE *replies, const char *path)
     fprintf(replies, "host: %s: %s\n", path, strerror(errno));
 }
 
-/* Writes bytes to a file. Where that fails, what is left there is too short to be loaded. */
+/* Writes bytes to a file. If this fails, the file is too short to be loaded. */
 static bool write_file(const char *path, const uint8_t *bytes, size_t size)
 {
     FILE *file = fopen(path, "wb");
@@ -43,7 +43,7 @@ static bool read_file(const char *path, uint8_t *bytes, size_t room, size_t *siz
     return is_read;
 }
 
-/* Saves a guest; whether it is saved. */
+/* Saves a guest. Returns whether it was saved. */
 static bool save(struct board *board, size_t guest, const char *path, uint8_t *image, FILE *replies)
 {
     size_t size = 0;

@@ -1,4 +1,4 @@
-# What QEMU and its firmware choose for a machine is named in place of its value: `sed -E -f normalise.sed`.
+# Replaces values that QEMU and its firmware choose by names: `sed -E -f normalise.sed`.
 s/I\/O ports at [0-9a-f]+/I\/O ports at PORT/
 s/Memory at [0-9a-f]+/Memory at ADDRESS/
 s/routed to IRQ [0-9]+/routed to IRQ NUMBER/

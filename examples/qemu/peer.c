@@ -1,4 +1,4 @@
-/* Messages of one peer: their framing, what they may be, and the descriptors that come with them. */
+/* Messages of one peer: their framing, their allowed contents, and their descriptors. */
 #define _GNU_SOURCE
 #include "peer.h"
 
@@ -8,7 +8,7 @@
 #include <time.h>
 #include <unistd.h>
 
-/* What each command may carry: just so many bytes, and at most so many descriptors. */
+/* The size of each command's body, and the largest number of descriptors. */
 static const struct {
     bool is_sent;
     uint64_t length;
@@ -50,7 +50,7 @@ int64_t peer_deadline(const struct peer *peer)
     return peer->come > 0 ? peer->since + PATIENCE : 0;
 }
 
-/* Closes the descriptors that came, and counts them: neither a machine's memory nor its interrupts are used. */
+/* Closes and counts the descriptors that arrived, because neither the machine's memory nor its interrupts are used. */
 static size_t close_descriptors(struct msghdr *header)
 {
     size_t count = 0;
@@ -69,7 +69,8 @@ static size_t close_descriptors(struct msghdr *header)
     return count;
 }
 
-/* Receives at most so many bytes: their count, 0 at the end, -1 where none are there, -2 where the socket fails. */
+/* Receives at most so many bytes. Returns their number, 0 at the end, -1 if there are none yet, or -2 if the socket
+ * fails. */
 static ssize_t receive(struct peer *peer, size_t most, bool *is_cut)
 {
     union {
@@ -88,7 +89,7 @@ static ssize_t receive(struct peer *peer, size_t most, bool *is_cut)
     return count;
 }
 
-/* What is wrong with a head that has come, or null. */
+/* Returns what is wrong with a head that arrived, or null. */
 static const char *wrong_head(const struct head *head)
 {
     if (head->command < 0 || head->command >= COMMANDS || !form[head->command].is_sent)

@@ -1,10 +1,11 @@
-/* Serves functions of a board's guests to machines of QEMU, each at a socket of its own.
+/* Provides functions of a board's guests to QEMU machines, each at a separate socket.
  *
  *     serve [--log FILE] --give GUEST:SLOT=SOCKET [--give ..] BOARD
  *
- * Lines of a script on standard input are run as they come, each answered on standard output: so the host reads the
- * board, moves functions, and lets devices raise bits; and two lines more save a guest to a file and load it (images.h). The server ends as standard input does, or by SIGINT or SIGTERM.
- * Who comes, goes and is dropped is told on standard error, and in the log. */
+ * Script lines on standard input are run as they arrive, and the replies are written to standard output. In this way,
+ * the host reads the board, moves functions, and lets devices set status bits. Two more lines save a guest to a file
+ * and load it (images.h). The server ends when its standard input does, or on SIGINT or SIGTERM. When a peer
+ * connects, disconnects or is dropped, this is reported on standard error and in the log. */
 #define _GNU_SOURCE
 #include "gifts.h"
 
@@ -16,7 +17,8 @@
 #include <string.h>
 #include <unistd.h>
 
-/* What has come of a line of standard input. Of a longer one the beginning is kept, and refused as a long line. */
+/* The part of a line that arrived on standard input. Only the beginning of a longer line is kept, which is refused as
+ * a long line. */
 struct console {
     char line[256];
     size_t length;
@@ -42,7 +44,7 @@ static void take_bytes(struct console *console, struct board *board, const char 
     }
 }
 
-/* Takes what standard input has; false at its end. */
+/* Reads standard input. Returns false at its end. */
 static bool take_lines(struct console *console, struct board *board)
 {
     char bytes[4096];
@@ -58,12 +60,12 @@ static bool take_lines(struct console *console, struct board *board)
 
 struct server {
     struct board board;
-    struct gift *gifts;    /* as many as the board has seats */
-    struct pollfd *events; /* two of each gift, and standard input */
+    struct gift *gifts;    /* the number of seats on the board */
+    struct pollfd *events; /* two for each gift, and standard input */
     struct console console;
 };
 
-/* Waits for what comes next, and serves it. False at the end of standard input, or where nothing can be waited for. */
+/* Waits for the next events, and handles them. Returns false at the end of standard input, or if waiting fails. */
 static bool serve_next(struct server *server, const sigset_t *unblocked)
 {
     size_t count = server->board.count, last = 2 * count;
@@ -82,7 +84,7 @@ static bool serve_next(struct server *server, const sigset_t *unblocked)
     return goes_on;
 }
 
-/* Serves until standard input ends or a signal comes; false where replies or the log can't be written. */
+/* Runs until standard input ends or a signal arrives. Returns false if replies or the log can't be written. */
 static bool serve(struct server *server, const sigset_t *unblocked)
 {
     bool is_written = true;
@@ -95,7 +97,7 @@ static bool serve(struct server *server, const sigset_t *unblocked)
     return is_written;
 }
 
-/* Sets up the board of a file; tells why where it can't. */
+/* Sets up the board of a file, or reports why it can't. */
 static bool set_up(struct pciguest *machine, const char *path)
 {
     static uint8_t bytes[1 << 20];
@@ -119,7 +121,7 @@ static bool set_up(struct pciguest *machine, const char *path)
     return false;
 }
 
-/* From here on signals come only while the server waits; what was unblocked before is told. */
+/* From now on, signals arrive only while the server waits. Returns what was unblocked before. */
 static void catch_signals(sigset_t *unblocked)
 {
     struct sigaction action = {.sa_handler = stop};
@@ -134,7 +136,7 @@ static void catch_signals(sigset_t *unblocked)
     signal(SIGPIPE, SIG_IGN);
 }
 
-/* Opens what was asked for, serves, and closes it. */
+/* Opens what the arguments name, runs the server, and closes everything. */
 static bool run(struct server *server, const char *path, const char *log)
 {
     struct board *board = &server->board;
@@ -151,7 +153,7 @@ static bool run(struct server *server, const char *path, const char *log)
     return !(board->log && fclose(board->log) != 0) && is_well;
 }
 
-/* The board's file follows the options; null where there is another word, or no function to give. */
+/* Returns the board file, which follows the options, or null if there is another argument or no function to give. */
 static const char *read_words(struct server *server, const char **log, int argc, char **argv)
 {
     static const struct option options[] = {

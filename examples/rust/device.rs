@@ -1,22 +1,23 @@
-//! A device model over pciguest: what a hypervisor does with the accesses that it traps (`serve`), and what the device
-//! does when its driver rings (`act`). It is `examples/c/device.c` over the crate in `library/rust`, and prints the same.
-//! Then it asks the same of the machine by a line of a script.
+//! A hypervisor's accesses (`serve`) and a device model (`act`), with pciguest. This is
+//! `examples/c/device.c` with the crate in `library/rust`, and prints the same. It then runs a
+//! script line on the same machine.
 //!
 //!     device BOARD      examples/device.toml, whose guest `a` has this device
 
 use pciguest::{At, Error, Guest, Hit, Machine, Part, Places, Space};
 
-/// The registers of the device's region: bit 0 of STATUS says that a ring was served, and writing a one clears it; COUNT
-/// says how many were, and a driver only reads it; a write of DOORBELL rings.
+/// The registers of the device's region. Bit 0 of STATUS is set when the device was rung, and is
+/// cleared by writing a one. COUNT says how often the device was rung; the driver can only read it.
+/// A write to DOORBELL rings the device.
 const STATUS: u64 = 0x00;
 const COUNT: u64 = 0x04;
 const DOORBELL: u64 = 0x08;
 const SERVED: u8 = 1;
 
-/// The number by which an access past a region's end is refused.
+/// The number with which an access past a region's end is refused.
 const OUT_OF_RANGE: u32 = 303;
 
-/// What the processor tells of an access that it trapped: where, how wide (1 to 8 bytes), and what a write wrote.
+/// A trapped access: its address, its width (1 to 8 bytes), and the value of a write.
 #[derive(Clone, Copy)]
 struct Trap {
     at: At,
@@ -24,7 +25,8 @@ struct Trap {
     written: Option<u64>,
 }
 
-/// The machine of the board, the guest whose processor it is, and where its regions were told to stand.
+/// The machine of the board, the guest whose processor this is, and where its regions were last
+/// reported.
 struct Board {
     machine: Machine,
     guest: Guest,
@@ -32,14 +34,17 @@ struct Board {
 }
 
 impl Board {
-    /// What an access hits. Where nothing is hit, the hypervisor's own UART or RAM is meant, or nobody.
+    /// Returns what an access reaches. If it reaches nothing, it is meant for the hypervisor's own
+    /// UART or RAM, or for nothing at all.
     fn find(&mut self, trap: Trap) -> Option<Hit> {
         self.machine.locate(self.guest, trap.at).ok().flatten()
     }
 
-    /// Serves one access, and gives what is read or written: of a region by its slot, its register and the offset, as `find`
-    /// told them. Configuration space is served by its ports, and what goes on past a region's end, where another may begin,
-    /// by the address. A real bus has no refusal: a write that no one takes is lost.
+    /// Makes one access, and returns the value that is read or written. Accesses to regions are
+    /// made by slot, register and offset, which `find` returned. All others are made by port or
+    /// address: accesses to configuration space, and those that extend past a region's end, where
+    /// another region may begin. A bus can't refuse anything, so if nothing responds, a write is
+    /// lost.
     fn serve(&mut self, trap: Trap, hit: Option<Hit>) -> u64 {
         let (machine, guest, Trap { at, width, written }) = (&mut self.machine, self.guest, trap);
         let by_region = match (hit, written) {
@@ -59,7 +64,8 @@ impl Board {
         served.unwrap_or(written.unwrap_or(u64::MAX))
     }
 
-    /// The device serves a ring: it counts it, sets the bit of STATUS, and drives its pin if its driver lets it.
+    /// The device is rung: it counts the ring, sets the bit of STATUS, and drives its pin unless
+    /// the driver has disabled interrupts.
     fn ring(&mut self, Hit { slot, part, .. }: Hit) -> Result<(), Error> {
         let (machine, guest) = (&mut self.machine, self.guest);
         let rings = machine.device_read_wide(guest, slot, part, COUNT, 4)?;
@@ -71,7 +77,7 @@ impl Board {
         Ok(())
     }
 
-    /// Tells which addresses have to be trapped from here on.
+    /// Prints which addresses must be trapped from now on.
     fn tell_traps(&mut self) -> Result<(), Error> {
         let moved = self.machine.moved(self.guest, &mut self.places)?;
         for region in moved.iter().filter_map(|it| it.now).filter(|now| now.is_open) {
@@ -81,8 +87,9 @@ impl Board {
         Ok(())
     }
 
-    /// After a write: regions may stand elsewhere where configuration space was hit, and the device acts where its doorbell
-    /// was. An access that begins before the doorbell may ring it too.
+    /// Acts after a write. If it reached configuration space, regions may have moved. If it reached
+    /// the doorbell, the device acts. The access may also begin before the doorbell and extend into
+    /// it.
     fn act(&mut self, trap: Trap, hit: Hit) -> Result<(), Error> {
         let rings = hit.offset < DOORBELL + 4 && hit.offset + u64::from(trap.width) > DOORBELL;
         match hit.part {
@@ -92,7 +99,7 @@ impl Board {
         }
     }
 
-    /// Serves an access, prints it, and lets the device act.
+    /// Makes an access, prints it, and lets the device act.
     fn step(&mut self, trap: Trap) -> Result<(), Error> {
         let (space, place) = match trap.at {
             At::Config { offset, .. } => ("config", offset),
@@ -101,7 +108,7 @@ impl Board {
         };
         let name = if trap.written.is_some() { "write" } else { "read " };
         print!("{name} {space} {place:#x} {}: ", trap.width);
-        // four bytes at CF8h are CONFIG_ADDRESS, which is always here
+        // a 4-byte access to CF8h is always for CONFIG_ADDRESS
         let is_selection = (trap.at, trap.width) == (At::Io { port: 0xcf8 }, 4);
         let hit = self.find(trap);
         if hit.is_none() && !is_selection {
@@ -126,26 +133,26 @@ fn write(at: At, width: u32, value: u64) -> Trap {
     Trap { at, width, written }
 }
 
-/// Selects a register of a device of bus 0 by CONFIG_ADDRESS.
+/// Selects a register of a device on bus 0, with CONFIG_ADDRESS.
 fn select(device: u64, offset: u64) -> Trap {
     write(At::Io { port: 0xcf8 }, 4, 0x8000_0000 | device << 11 | offset)
 }
 
 const DATA: At = At::Io { port: 0xcfc };
 
-/// Firmware that finds the device by the ports CF8h and CFCh, asks for the size of its region and places it; and a driver
-/// that rings, sees what came of it, and clears that.
+/// Firmware finds the device through ports CF8h and CFCh, sizes its region and places it. Then a
+/// driver rings the device, reads the result, and clears it.
 fn accesses() -> Vec<Trap> {
     let register = |offset| At::Memory { address: 0xe000_0000 + offset };
     vec![
-        select(0, 0x00), // firmware: who is device 0?
+        select(0, 0x00), // firmware: what is device 0?
         read(DATA, 4),
         select(7, 0x00), // and device 7?
         read(DATA, 4),
         select(0, 0x10), // the size of its region
         write(DATA, 4, 0xffff_ffff),
         read(DATA, 4),
-        write(DATA, 4, 0xe000_0000), // a place for it
+        write(DATA, 4, 0xe000_0000), // its address
         select(0, 0x04),
         write(DATA, 2, 0x0002),                    // memory on
         write(register(DOORBELL), 4, 0x1234_5678), // the driver rings
@@ -153,18 +160,18 @@ fn accesses() -> Vec<Trap> {
         read(register(DOORBELL), 4),
         write(register(DOORBELL + 2), 1, 0xff),    // and again, by one byte of it
         read(register(STATUS), 8),                 // STATUS and COUNT at once
-        write(register(STATUS), 1, SERVED.into()), // it clears STATUS, and leaves COUNT
+        write(register(STATUS), 1, SERVED.into()), // the driver clears STATUS; COUNT stays
         write(register(COUNT), 4, 1),
         select(0, 0x04),
-        write(DATA, 2, 0x0402), // no interrupts any more; where its region stands isn't told again
-        write(register(COUNT + 2), 8, 0), // across alignment, and over the doorbell
+        write(DATA, 2, 0x0402), // no more interrupts; the region's address isn't printed again
+        write(register(COUNT + 2), 8, 0), // unaligned, and across the doorbell
         read(register(STATUS), 8),
         read(register(0xffc), 8),                     // past the region's end
-        read(At::Memory { address: 0xd000_0000 }, 4), // nobody there
+        read(At::Memory { address: 0xd000_0000 }, 4), // nothing responds
     ]
 }
 
-/// Runs the accesses, and asks by a line of a script what the last ring left.
+/// Makes the accesses, and runs a script line that shows what the last ring left.
 fn main() -> Result<(), Box<dyn std::error::Error>> {
     let mut machine = Machine::load(std::env::args().nth(1).ok_or("device BOARD")?)?;
     let (guest, places) = (machine.guest("a")?, Places::new());

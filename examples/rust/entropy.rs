@@ -1,11 +1,11 @@
 //! A virtio entropy device and a driver for it, tested without a virtual machine: the driver finds
-//! the device's structures by the capability list, sets up a queue, and gets an MSI-X message. This
-//! is `examples/python/entropy.py` over the crate in `library/rust`, and it prints the same.
+//! the device's structures through the capability list, sets up a queue, and gets an MSI-X message.
+//! This is `examples/python/entropy.py` with the crate in `library/rust`, and prints the same.
 //!
 //!     entropy BOARD     examples/entropy.toml
 //!
-//! Section numbers are those of virtio 1.2. Left out are interrupts without MSI-X, queues of other
-//! sizes, and access to the BARs through configuration space (4.1.4.9).
+//! Section numbers are those of virtio 1.2. Not implemented: interrupts without MSI-X, queues of
+//! other sizes, and access to the BARs through configuration space (4.1.4.9).
 
 use pciguest::{
     At, Declaration, DeviceModel, Error, Guest, Kind, Machine, Message, Register, Registers,
@@ -44,9 +44,9 @@ const QUEUE_DESC: Register = Register::in_region(0, 0x20, 8).rw(u64::MAX);
 const QUEUE_DRIVER: Register = Register::in_region(0, 0x28, 8).rw(u64::MAX);
 const QUEUE_DEVICE: Register = Register::in_region(0, 0x30, 8).rw(u64::MAX);
 const NOTIFY: Register = Register::in_region(0, 0x38, 2).rw(0xffff);
-/// What the device keeps: since it is a register that no driver can write, images contain it.
+/// The device's own state. Because no driver can write this register, images contain it.
 const ACCEPTED: Register = Register::in_region(0, 0x40, 8);
-/// All of these with their values at reset, which the driver's reset restores.
+/// All of these with their reset values, which the driver's reset restores.
 const VIRTIO: [(Register, u64); 16] = [
     (FEATURE_SELECT, 0),
     (FEATURE, 0),
@@ -73,7 +73,8 @@ const MASKS: [Register; 2] = [
 ];
 const PENDING: Register = Register::in_region(1, 0x20, 8);
 
-/// The memory of a guest, which its device reaches by DMA. An address past its end gives `None`.
+/// The memory of a guest, which its device accesses by DMA. For an address past its end, methods
+/// return `None`.
 struct Memory(Vec<u8>);
 
 impl Memory {
@@ -94,13 +95,13 @@ impl Memory {
     }
 }
 
-/// Bytes that can be checked, from a linear congruential generator.
+/// Bytes that the driver can check, from a linear congruential generator.
 fn noise() -> impl Iterator<Item = u8> {
     let next = |state: &u64| Some((state * 1_103_515_245 + 12345) % (1 << 31));
     std::iter::successors(Some(1), next).skip(1).map(|state| (state >> 16) as u8)
 }
 
-/// The device (5.4): it has the memory of each guest, and delivers messages to a channel.
+/// The device (5.4). It has the memory of each guest, and sends messages to a channel.
 struct Entropy {
     memories: [Arc<Mutex<Memory>>; 2],
     messages: Sender<(Guest, Message)>,
@@ -153,8 +154,8 @@ fn accept(registers: &mut Registers<'_>, value: u64) {
 }
 
 impl Entropy {
-    /// Fills the buffers that are available. The device reaches the memory of the guest that has
-    /// its function, and only while that guest has set Bus Master.
+    /// Fills the available buffers. The device may access only the memory of the guest that has its
+    /// function, and only while that guest has set Bus Master.
     fn serve(&mut self, registers: &mut Registers<'_>) {
         let is_ready = registers.get(STATUS) & DRIVER_OK != 0 && registers.get(QUEUE_ENABLE) != 0;
         if !is_ready || !registers.bus_master() {
@@ -178,7 +179,7 @@ impl Entropy {
         }
     }
 
-    /// Sends what is pending and may be sent now; a masked vector's message stays pending.
+    /// Sends pending messages that may be sent now. The message of a masked vector stays pending.
     fn send_pending(&mut self, registers: &mut Registers<'_>) {
         for vector in 0..VECTORS {
             let pending = registers.get(PENDING);
@@ -193,7 +194,7 @@ impl Entropy {
     }
 }
 
-/// Fills buffers in their order. How many were filled so far is in the used ring.
+/// Fills buffers in order. The used ring says how many were filled before.
 fn fill_available(registers: &mut Registers<'_>, memory: &mut Memory) -> Option<()> {
     let [desc, driver, device] =
         [QUEUE_DESC, QUEUE_DRIVER, QUEUE_DEVICE].map(|register| registers.get(register));
@@ -243,7 +244,7 @@ struct EntropyDriver {
     vector: u64,
 }
 
-/// Where the driver has the queue and the buffer, in the guest's memory.
+/// Where the queue and the buffer are, in the guest's memory.
 const DESC: u64 = 0x1000;
 const AVAILABLE: u64 = 0x2000;
 const USED: u64 = 0x3000;
@@ -358,7 +359,7 @@ impl EntropyDriver {
     }
 }
 
-/// Prints what came of an event, and checks the bytes.
+/// Prints the result of an event, and checks the bytes.
 fn show(event: &str, driver: &EntropyDriver, messages: &Receiver<(Guest, Message)>) {
     let answer = driver.answer();
     assert!(answer.iter().copied().eq(noise().take(answer.len())));

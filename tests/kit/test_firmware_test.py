@@ -378,7 +378,7 @@ class FirmwareTest(unittest.TestCase):
             with self.assertRaises(SystemExit) as ended, contextlib.redirect_stderr(io.StringIO()) as errors:
                 firmware_test.main([f"{option}=-5", "--", "true"], SecondHand())
             self.assertEqual(ended.exception.code, 2)
-            self.assertIn("-5 is no number from 0 on", errors.getvalue())
+            self.assertIn("-5 isn't a number (0 or higher)", errors.getvalue())
 
     def test_words_that_cannot_be_used(self):
         self.assertEqual(self.run_command(["./no such command"])[0], 2)

@@ -1,9 +1,15 @@
-"""A PCI board, its firmware, and the monitor that gives its functions to guests, for tests of drivers and for teaching.
+"""A PCI board, its firmware, and the monitor that assigns its functions to guests, for testing drivers and for
+teaching.
 
-A machine is a board that is set up from a board file, with its guests; a `Board` is one that firmware of one's own
-drives, from reset on. An access is written [place:width], where the width is 1, 2 or 4 bytes; reading it gives a
-number, and assigning to it writes one. A `Device` acts when its driver touches its registers, and `python3 -m pciguest
-board.toml` is a prompt over a machine.
+A `Machine` is a board that was set up from a board file, with its guests. A `Board` is a board that your own
+firmware drives, from reset. An access is written as `[address:width]`, with a width of 1, 2 or 4 bytes: reading
+it returns a number, and assigning to it writes one. A `Device` acts when its driver accesses its registers.
+`python3 -m pciguest board.toml` starts a prompt for a machine.
+
+The module calls the shared library libpciguest.so.0. It looks for the library in the directory
+PCIGUEST_LIBRARY_DIR or, if that isn't set, in the usual places, which the module's README lists.
+docs/board-file.md, docs/script-language.md and docs/errors.md explain board files, lines and error numbers, and
+docs/library-c.md says what is proved about the library. This module is tested, but not proved.
 
 >>> from pciguest import Machine, Refusal
 >>> board = '''
@@ -23,7 +29,7 @@ board.toml` is a prompt over a machine.
 >>> with Machine(board) as machine:
 ...     a = machine.guest("a")
 ...     hex(a.config[0][0:4])  # 4 bytes at offset 0 of the function in slot 0
-...     a.config[0][0x10:4] = 0x80000000  # where its region is to stand
+...     a.config[0][0x10:4] = 0x80000000  # the address of its region
 ...     a.config[0][4:2] = 2  # memory on
 ...     a.memory[0x80000010:4] = 0x12345678
 ...     hex(a.memory[0x80000010:2])
@@ -36,11 +42,6 @@ board.toml` is a prompt over a machine.
 '0x5678'
 '0xc0000000'
 address is not a multiple of the width (301)
-
-It stands over the shared library libpciguest.so.0, by ctypes: that of the folder PCIGUEST_LIBRARY_DIR, or the one that
-`make library` leaves two folders above this one, or that of the tarball, or else the one that is installed. Board files,
-lines and numbers are explained in docs/board-file.md, docs/script-language.md and docs/errors.md, and docs/library-c.md says
-what is proved of the library. This module itself is tested.
 """
 
 try:

@@ -1,4 +1,4 @@
-"""A prompt over the machine of a board file: python3 -m pciguest board.toml"""
+"""A prompt for the machine of a board file: python3 -m pciguest board.toml"""
 
 from __future__ import annotations
 
@@ -13,13 +13,13 @@ from ._prompt import Prompt
 
 
 def history() -> Path:
-    """Where lines are kept for the next time."""
+    """The file in which the prompt keeps its history."""
     state = os.environ.get("XDG_STATE_HOME") or Path.home() / ".local" / "state"
     return Path(state) / "pciguest" / "history"
 
 
 def edit_lines(prompt: Prompt) -> None:
-    """Lets lines be edited, completed and remembered, where this Python can."""
+    """Turns on editing, completion and history, if this Python supports them."""
     try:
         import atexit
         import readline
@@ -49,7 +49,7 @@ def edit_lines(prompt: Prompt) -> None:
 
 
 def main() -> int:
-    """Runs the prompt over standard input."""
+    """Runs the prompt on standard input."""
     words = argparse.ArgumentParser(prog="python3 -m pciguest", description=__doc__)
     words.add_argument("board", metavar="BOARD")
     board = words.parse_args().board
@@ -63,7 +63,7 @@ def main() -> int:
         return 1
     shown = "pciguest> " if sys.stdin.isatty() else ""
     if shown:
-        print(f"{board}: {prompt.machine.count()} functions, guests {' '.join(prompt.guests) or 'none'}. 'help' tells more.")
+        print(f"{board}: {prompt.machine.count()} functions, guests {' '.join(prompt.guests) or 'none'}. 'help' lists the commands.")
         edit_lines(prompt)
     try:
         while prompt.run(input(shown)):

@@ -1,4 +1,4 @@
-"""Devices that are attached to functions of a machine, and what they are told."""
+"""Devices that are attached to functions of a machine, and what they are notified of."""
 
 from __future__ import annotations
 
@@ -23,7 +23,8 @@ Seat = Tuple[int, int]
 
 
 class Touch(NamedTuple):
-    """What a cycle of the bus touches of a device: bytes of a region, or of configuration space, and what they are written."""
+    """The part of a device that a bus cycle accesses: bytes of a region or of configuration space, and the
+    bytes that are written."""
 
     device: Device
     bar: Optional[int]
@@ -34,7 +35,7 @@ class Touch(NamedTuple):
     command: Optional[int] = None
 
     def within(self, register: Register) -> Tuple[int, int]:
-        """The bits of a register that it touches, and what they are written."""
+        """The bits of a register that are accessed, and the value that is written to them."""
         if register.bar != self.bar:
             return 0, 0
         up, ones = 8 * (self.offset - register.offset), (1 << 8 * self.width) - 1
@@ -44,8 +45,8 @@ class Touch(NamedTuple):
 
 
 def told_by(touched: List[Touch]) -> List[Tuple[Device, Register, int]]:
-    """The registers that an access touches, each with its device and with what was written: the bytes of the access at their
-    places, and else what the register holds."""
+    """The registers that an access touches, each with its device and the value after the write: the bytes that
+    the access writes, and the register's own bytes everywhere else."""
     told = []
     for device in {id(touch.device): touch.device for touch in touched}.values():
         here = [touch for touch in touched if touch.device is device]
@@ -72,7 +73,7 @@ def config_writes(touched: List[Touch]) -> List[Tuple[Device, int, int, int]]:
 
 
 class Attaching(SavedMachine):
-    """A machine to whose functions devices are attached."""
+    """A machine to whose functions devices can be attached."""
 
     # in the order in which they were attached
     _devices: List[Device]
@@ -89,24 +90,27 @@ class Attaching(SavedMachine):
     def _check(self, *guests: Guest) -> None:
         """Raises an error unless these are guests of this machine."""
         if any(guest.machine is not self for guest in guests):
-            raise ValueError("a guest of another machine")
+            raise ValueError("the guest belongs to another machine")
 
     def attach(self, guest: Guest, slot: int, device: Device) -> None:
-        """Lets a device act behind the function in a slot of a guest, from here on and wherever the function goes: each
-        access of a guest, by its spaces or by a line, tells the device which registers it touches.
+        """Attaches a device to the function in a guest's slot. From now on, the device is notified of the
+        registers that each guest access touches, no matter whether the access is made through the guest's
+        spaces or by a line. The device follows its function to other slots and guests.
 
-        The function has to be as the class of the device declares it, in all that it declares: identity, regions, and of
-        each register its patterns; else it is a `DeclaredOtherwise`, a ValueError that names the first field that differs. Of
-        cells that belong to no register the class says nothing. ValueError: the function has a device, or the device is
-        attached already. 303: the slot is above 31. 601: the slot is empty.
+        The function must have everything that the device's class declares: its identity, its regions, and the
+        patterns of each register. Register bytes that the class doesn't declare aren't compared.
+
+        DeclaredOtherwise (a ValueError): the function differs; the error names the first field that differs.
+        ValueError: the function already has a device, or the device is already attached. 303: the slot is above
+        31. 601: the slot is empty.
         """
         self._check(guest)
         with self._lock:
             path = guest.function(slot).path
             if self._device_at((guest.index, slot)) is not None:
-                raise ValueError(f"{path} has a device already")
+                raise ValueError(f"{path} already has a device")
             if device._machine is not None:
-                raise ValueError("the device is attached already")
+                raise ValueError("the device is already attached")
             difference = first_difference(type(device), guest.save(), slot)
             if difference is not None:
                 raise DeclaredOtherwise(path, difference)
@@ -115,8 +119,8 @@ class Attaching(SavedMachine):
             self._devices.append(device)
 
     def detach(self, guest: Guest, slot: int) -> Device:
-        """Takes the device behind the function in a slot of a guest away: it is told nothing any more. The registers stay as
-        they are.
+        """Detaches the device from the function in a guest's slot, so it isn't notified any more. The registers
+        keep their contents.
 
         902: the function has no device. 303: the slot is above 31. 601: the slot is empty.
         """
@@ -130,7 +134,7 @@ class Attaching(SavedMachine):
         return next((each for each in self._devices if each._seat == seat), None)
 
     def _device_behind(self, guest: Guest, slot: int) -> Device:
-        """The device at a seat, or why there is none."""
+        """The device at a seat. Raises an error if there is none."""
         self._check(guest)
         guest.function(slot)
         device = self._device_at((guest.index, slot))
@@ -139,13 +143,14 @@ class Attaching(SavedMachine):
         return device
 
     def _locate(self, guest: int, space: int, place: int) -> Optional[Hit]:
-        """What an access of a guest at a port or an address hits."""
+        """What a guest's access to a port or an address reaches."""
         told = HitTold()
         self._call("locate", guest, space, 0, place, byref(told))
         return Hit(told.slot, None if told.part == PART_CONFIG else told.part, told.offset) if told.found else None
 
     def _touch(self, access: Access, value: Optional[int] = None) -> List[Touch]:
-        """What a cycle of the bus touches of a device, if it touches one. Asked before a write, which may move the function."""
+        """The part of a device that a bus cycle accesses, if it reaches a device. To be called before a write,
+        because the write may move the function."""
         if not self._devices or (access.space, access.place, access.width) == (IO, 0xCF8, 4):
             return []
         try:
@@ -168,15 +173,16 @@ class Attaching(SavedMachine):
         return guest._command(slot)
 
     def _tell_read(self, touched: List[Touch]) -> bool:
-        """Tells devices of a read that isn't refused, each once for each of its registers, and whether there was one to
-        tell."""
+        """Notifies devices of a read that isn't refused, once for each register that it touches. Returns
+        whether there was any."""
         told = told_by(touched)
         for device, register, _ in told:
             device.before_read(register)
         return bool(told)
 
     def _tell_written(self, touched: List[Touch]) -> None:
-        """Tells devices of an access that was done, each once for each of its registers."""
+        """Notifies devices of a completed write: first of a change of Command, then of each run of bytes in
+        configuration space, then once for each register that it touched."""
         told, writes = told_by(touched), config_writes(touched)
         commands = {id(each.device): each for each in reversed(touched) if each.command is not None}
         changed = [(each.device, each.command, self._command_of(each.device)) for each in commands.values()]
@@ -189,13 +195,14 @@ class Attaching(SavedMachine):
             device.on_write(register, value)
 
     def _tell(self, stands: Callable[[Seat], bool], acts: Callable[[Device], None]) -> None:
-        """Lets the devices act whose functions stand at some seats."""
+        """Calls the devices whose functions are at some seats."""
         for device in list(self._devices):
             if device._seat is not None and stands(device._seat):
                 acts(device)
 
     def _reseat(self) -> List[Tuple[Device, Optional[Seat]]]:
-        """Finds out who has the functions of devices now: gives each device whose seat is another one, with that before."""
+        """Updates which guests and slots have the devices' functions. Returns each device whose seat changed,
+        with the seat before."""
         changed = []
         for device in self._devices:
             before, device._seat = device._seat, self.function(device._index).seat
@@ -204,7 +211,7 @@ class Attaching(SavedMachine):
         return changed
 
     def _tell_moved(self) -> None:
-        """Tells the devices whose functions were moved, given or taken."""
+        """Notifies the devices whose functions were moved, given or taken."""
         for device, before in self._reseat():
             if before is None:
                 device.on_give()
@@ -214,7 +221,7 @@ class Attaching(SavedMachine):
                 device.on_move(self._guest_at(before[0]), before[1])
 
     def _tell_loaded(self) -> None:
-        """Tells the devices of the machine what was loaded."""
+        """Notifies the machine's devices of a load."""
         for device, _ in self._reseat():
             if device._seat is None:
                 device.on_take()

@@ -1,4 +1,4 @@
-"""A board that firmware of one's own drives, from reset on."""
+"""A board that your own firmware drives, from reset."""
 
 from __future__ import annotations
 
@@ -27,34 +27,35 @@ class Audit(NamedTuple):
 
 
 class Readiness(NamedTuple):
-    """What is wrong and what is lacking in the registers of a board."""
+    """What is wrong in the registers of a board, and what is left to do."""
 
-    #: a line for each problem and for each lack, and a last line that counts them
+    #: a line for each problem and each thing that is left to do, and a last line that counts them
     text: str
-    #: how many problems and lacks there are: the board is ready where there is none
+    #: how many problems and things that are left to do there are; if there are none, the board is ready
     lacks: int
 
 
 class Board(Held):
-    """A board that firmware of one's own drives, from reset on: it gives out the numbers of buses and the addresses of
+    """A board that your own firmware drives, from reset: the firmware assigns bus numbers, and addresses to
     regions.
 
-    `Board.load("board.toml")` is the board of a board file, at reset, and `Board(text)` that of a file's text. It is
-    refused by the first check that the file fails, as a `BoardRefusal`, or by 199 where memory is out. The guests of the
-    file are checked, and no function is given to them.
+    `Board.load("board.toml")` returns the board of a board file in its reset state, and `Board(text)` does so
+    for the text of a file. If the file is refused, this raises a `BoardRefusal` with the number of the first
+    check that fails, or a `Refusal` with 199 if memory runs out. The guests of the file are checked, but they
+    aren't assigned any functions.
 
-    `config[bus, device, function][offset:width]`, `io[port:width]` and `memory[address:width]` are its accesses, in
-    whatever state the registers are: a read gives all ones where nothing answers, and a write that nothing takes is
-    dropped. An access of `config` leaves 0 in CONFIG_ADDRESS; else a read changes nothing. 902: a device above 31, or a
-    function above 7.
+    `config[bus, device, function][offset:width]`, `io[port:width]` and `memory[address:width]` access the
+    board, whatever its registers contain. If nothing responds, a read returns all ones, and a write is dropped.
+    An access to `config` sets CONFIG_ADDRESS to 0. Apart from that, a read changes nothing. 902: the device is
+    above 31, or the function is above 7.
 
-    What it holds is freed as what a `Machine` holds.
+    The memory of a board is freed in the same way as that of a `Machine`.
 
     >>> with Board(BOARD) as board:
     ...     function = board.config[0, 1, 0]
-    ...     function[0x14:4] = 0xFFFFFFFF  # how long is its region?
+    ...     function[0x14:4] = 0xFFFFFFFF  # how large is its region?
     ...     hex((0xFFFFFFFF ^ function[0x14:4]) + 1)
-    ...     function[0x14:4] = 0xD0000000  # where it is to stand
+    ...     function[0x14:4] = 0xD0000000  # the address of its region
     ...     function[4:2] = 2  # memory on
     ...     board.memory[0xD0000010:4] = 0x12345678
     ...     hex(board.memory[0xD0000010:2])
@@ -70,13 +71,13 @@ class Board(Held):
 
     @classmethod
     def load(cls, path: Union[str, os.PathLike[str]]) -> Board:
-        """The board of the file at a path. What a refusal tells names the file so."""
+        """Returns the board of the file at a path. If the file is refused, the messages contain this path."""
         return cls(Path(path).read_bytes(), os.fspath(path))
 
     @property
     def config(self) -> Functions[Space]:
-        """Configuration space by number: `config[0, 2, 0][0:4]` is 4 bytes at offset 0 of what the bridges' numbers
-        make 00:02.0."""
+        """Configuration space: `config[0, 2, 0][0:4]` is 4 bytes at offset 0 of the function that currently has
+        the BDF 00:02.0."""
         return Functions(lambda *at: self._space(CONFIG, *at))
 
     @property
@@ -90,14 +91,14 @@ class Board(Held):
         return self._space(MEMORY, 0, 0, 0)
 
     def run_line(self, line: Union[str, bytes]) -> Optional[str]:
-        """Runs one line of a session, as `pciguest firmware` does: a line of firmware; `host audit`, whose reply is the
-        text of an audit; `host ready`, whose reply tells also what the board lacks that is to be driven; `host why ..`,
-        whose reply tells why something finds what it finds; `host guests`, which gives the board to the guests of its file
-        or says why it doesn't; and once it is given, a line of a script. The board is then that of its guests:
-        `into_guests` makes a machine of it, and its other calls are refused by 901.
+        """Runs one line, as `pciguest firmware` does, and returns the reply. The line is one of these: an
+        access by firmware; `host audit`, `host ready` or `host why ..`, which report something and change
+        nothing; or `host guests`, which hands the board over to the guests in its file, or says why it
+        can't. After `host guests`, the lines are script lines, and every other call of the board is refused
+        with 901; `into_guests` returns the machine.
 
-        Line and reply are as those of `Machine.run_line`; that of these four lines may have more than one line. 299:
-        memory is out for one of them, and nothing happened.
+        Lines and replies are like those of `Machine.run_line`, but the reply to a query or to `host guests` can
+        have several lines. 299: memory runs out; then nothing has changed.
 
         >>> board = Board(BOARD)
         >>> board.run_line("host cr 00:01.0 0 4")
@@ -109,12 +110,12 @@ class Board(Held):
         return self._reply("board_run_line", line)
 
     def count(self) -> int:
-        """How many functions the board has, endpoints and bridges."""
+        """Returns how many functions the board has, endpoints and bridges."""
         return self._number(c_size_t, "board_count")
 
     def function(self, index: int) -> BoardFunction:
-        """The function at an index, from 0 on, in the order of paths, as the registers stand. It changes nothing,
-        CONFIG_ADDRESS neither. 902: there is no such function.
+        """Returns the function at an index, in path order, according to the current registers. Changes nothing,
+        not even CONFIG_ADDRESS. 902: there is no such function.
 
         >>> board = Board(BOARD)
         >>> bridge, behind = board.function(1), board.function(2)
@@ -126,13 +127,13 @@ class Board(Held):
         return board_function_of(found)
 
     def functions(self) -> Iterator[BoardFunction]:
-        """All functions of the board, in the order of paths, each as it is when it is asked for."""
+        """Yields all functions of the board, in path order. Each is described at the time when it is reached."""
         return (self.function(index) for index in range(self.count()))
 
     def audit(self) -> Audit:
-        """What is wrong in the registers as they stand, whoever wrote them: bytes of open regions that a bridge above
-        doesn't forward, addresses that two answer on one bus, and functions that no cycle finds. The board stays as it
-        is. It is refused by 299 where memory is out.
+        """Returns what is wrong in the registers, no matter who wrote them: bytes of enabled regions that a
+        bridge above doesn't forward, addresses at which two functions on one bus respond, and functions that
+        no configuration cycle reaches. Changes nothing. 299: memory runs out.
 
         >>> print(Board(BOARD).audit().text.splitlines()[0])
         audit: 2.0/0.0: a configuration cycle to 00:00.0 reaches nothing
@@ -140,7 +141,7 @@ class Board(Held):
         return Audit(*self._counted("board_audit"))
 
     def audit_json(self) -> str:
-        """An audit as a JSON object on one line, as `pciguest audit --json` writes it.
+        """Returns an audit as a JSON object on one line, like `pciguest audit --json`.
 
         >>> import json
         >>> [each["type"] for each in json.loads(Board(BOARD).audit_json())["problems"]]
@@ -149,9 +150,10 @@ class Board(Held):
         return self._counted("board_audit_json")[0]
 
     def ready(self) -> Readiness:
-        """What is wrong and what is lacking in the registers as they stand, whoever wrote them: the lines of an audit, then
-        regions that are closed, outside the apertures or prefetched where they mustn't be, and bridges with another Primary
-        than their bus. The board stays as it is. It is refused by 299 where memory is out.
+        """Returns what is wrong in the registers and what is left to do, no matter who wrote them. The report
+        begins with the lines of an audit. Then it lists regions that are disabled, outside the apertures, or
+        prefetched although they aren't prefetchable, and bridges whose Primary Bus Number isn't the number
+        of their bus. Changes nothing. 299: memory runs out.
 
         >>> print(Board(BOARD).ready().text.splitlines()[-2])
         ready: 2.0/1.0 bar0 at 0x0 size 0x1000000: memory decode is disabled
@@ -159,7 +161,7 @@ class Board(Held):
         return Readiness(*self._counted("board_ready"))
 
     def ready_json(self) -> str:
-        """Whether the board is ready as a JSON object on one line, as `pciguest ready --json` writes it.
+        """Returns whether the board is ready, as a JSON object on one line, like `pciguest ready --json`.
 
         >>> import json
         >>> json.loads(Board(BOARD).ready_json())["lacks"][-1]["region"]["path"]
@@ -168,9 +170,10 @@ class Board(Held):
         return self._counted("board_ready_json")[0]
 
     def why_json(self, space: str, place: int = 0, bus: int = 0, device: int = 0, function: int = 0) -> str:
-        """Why a port ("io"), an address ("memory") or the number of a function ("config") finds what it finds as the
-        registers stand, or nothing, as a JSON object on one line, with all that the lines of `host why ..` tell. The board
-        stays as it is, CONFIG_ADDRESS too. 902: a device above 31, or a function above 7. 299: memory is out.
+        """Explains what an access to a port ("io"), an address ("memory") or a BDF ("config") reaches, and why,
+        or why it reaches nothing. Returns everything that `host why ..` reports, as a JSON object on one
+        line. Changes nothing, not even CONFIG_ADDRESS. 902: the device is above 31, or the function is above
+        7. 299: memory runs out.
 
         >>> import json
         >>> json.loads(Board(BOARD).why_json("config", bus=1))["found"]["missing"]
@@ -180,18 +183,21 @@ class Board(Held):
         return self._told("board_why_json", 1024, number_of_space(space), *at)
 
     def set_up(self) -> Machine:
-        """The machine that `Machine` makes of the same file: our own set-up, in place of firmware of one's own. The board
-        has to be at reset, and stays as it is. It is refused by 904 where a write was done since reset, and else as a
-        machine is by its board."""
+        """Returns the machine that `Machine` makes of the same file, with the built-in set-up instead of your
+        own firmware. The board must be in its reset state, and isn't changed. 904: there was a write since
+        the reset. Other refusals are those of `Machine`."""
         with self._lock, explained(self._file, self._name):
             return Machine._made_by(lambda machine: CALLS["set_up"](byref(self._handle), machine))
 
     def into_guests(self) -> Machine:
-        """The board with its functions given to the guests of its file, as it stands, whoever set it up. Each function
-        that is given is reset first, but for what guests have copies of. Where a line gave the board before, the machine
-        is the one that its guests are, as it is now. The board is then the machine's: each call of it is refused by 901.
-        Where it is refused, the board stays as it is: 207, its audit tells a problem; 206, a region of a function that
-        is to be given is closed; 299, memory is out.
+        """Assigns the board's functions to the guests in its file, and returns the machine. It doesn't matter
+        who set the board up. Each assigned function is first reset, except for the registers of which guests
+        have copies. If `host guests` handed the board over before, the machine consists of those guests as
+        they are now. Afterwards, the board's memory belongs to the machine, and each call of the board is
+        refused with 901.
+
+        A refusal changes nothing. 207: the audit reports a problem. 206: a region of a function that is to be
+        assigned is disabled. 299: memory runs out.
 
         >>> board = Board(BOARD)
         >>> board.config[0, 2, 0][0x18:4] = 0x00010100  # the bridge's buses: 0 above it, 1 behind it

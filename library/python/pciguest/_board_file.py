@@ -1,4 +1,5 @@
-"""Board files as documents: what `tomllib` makes of one, and the text of one. docs/board-file.md explains their keys."""
+"""Board files as documents: what `tomllib` makes of a board file, and the text for it. docs/board-file.md
+explains the keys."""
 
 from __future__ import annotations
 
@@ -59,7 +60,7 @@ def devices(document: Document) -> int:
 
 
 def path_of(text: str) -> Path:
-    """The numbers of a path as 2.0/1.0."""
+    """The text of a path, such as 2.0/1.0."""
     parts = (part.split(".") for part in text.split("/"))
     return tuple((int(device), int(function)) for device, function in parts)
 
@@ -69,7 +70,7 @@ def path_text(path: Path) -> str:
 
 
 def functions(document: Document) -> List[Function]:
-    """All functions of a board, in path order: a bridge comes before what stands behind it."""
+    """All functions of a board, in path order: a bridge comes before everything behind it."""
     found = [
         Function(table["at"], path_of(table["at"]), kind == "bridge", table)
         for kind in ("endpoint", "bridge")
@@ -79,7 +80,7 @@ def functions(document: Document) -> List[Function]:
 
 
 def bridges_above(every: List[Function]) -> Dict[str, List[Function]]:
-    """The bridges between bus 0 and each of these functions, from bus 0 on, by the path of the function."""
+    """For the path of each of these functions, the bridges between bus 0 and the function, starting at bus 0."""
     by_path = {function.path: function for function in every}
     return {one.at: [by_path[one.path[:length]] for length in range(1, len(one.path))] for one in every}
 
@@ -104,7 +105,7 @@ def _table(table: Document) -> Iterator[str]:
 
 
 def text_of(document: Document) -> str:
-    """The board file of a document, its functions in path order."""
+    """The board file of a document, with its functions in path order."""
     lines = ["[host]\n", *_table(document["host"])]
     for function in functions(document):
         lines += ["\n[[bridge]]\n" if function.is_bridge else "\n[[endpoint]]\n", *_table(function.table)]

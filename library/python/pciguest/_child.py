@@ -1,5 +1,5 @@
-"""A process that is spoken to by lines: it writes lines, and reads an answer to each. It is given so much time, and is
-ended, with all that it started, when it misbehaves or when nobody asks it any more."""
+"""A process that writes lines and reads a reply to each. Its time is limited. If it misbehaves or isn't needed
+any more, it is killed, along with every process that it started."""
 
 from __future__ import annotations
 
@@ -10,14 +10,14 @@ import subprocess
 import time
 from typing import Iterator, List, Mapping, NamedTuple, Optional
 
-#: a line has at most 200 bytes; what goes on for longer than this without a line feed isn't meant as one
+#: a line has at most 200 bytes; output that is longer than this without a line feed isn't one
 LONGEST = 4096
-#: how much of its standard error is kept
+#: how many bytes of its standard error are kept
 KEPT = 4000
 
 
 class Limits(NamedTuple):
-    """What a process may take: seconds without a line, seconds in all, and lines."""
+    """The limits of a process: seconds without a line, seconds in total, and lines."""
 
     silence: float = 10
     whole: float = 200
@@ -25,7 +25,7 @@ class Limits(NamedTuple):
 
 
 class Misbehaviour(Exception):
-    """How a process went wrong, by a word for the kind and in words for a reader."""
+    """How a process misbehaved: a word for the kind, and a message."""
 
     def __init__(self, kind: str, told: str) -> None:
         super().__init__(told)
@@ -37,19 +37,20 @@ class CannotStart(Exception):
 
 
 def in_words(status: int) -> str:
-    """How a process ended, by its status."""
+    """How a process ended, from its status."""
     return f"was ended by signal {-status} ({signal.strsignal(-status)})" if status < 0 else f"ended with status {status}"
 
 
 class Child:
-    """`lines` gives what the process writes, line by line, until it ends well; each is to be answered by `answer`, unless
-    nothing is due. The time until the next line is asked for is the caller's own, and isn't charged to the process. A
-    process that is not done in time or that ends otherwise is a `Misbehaviour`."""
+    """`lines` yields what the process writes, line by line, until the process ends with status 0. The caller
+    replies to each line with `answer`, unless no reply is due. The caller's own time between two lines
+    doesn't count against the process. If the process isn't done in time or fails, this raises a
+    `Misbehaviour`."""
 
     def __init__(self, command: List[str], limits: Limits, more: Optional[Mapping[str, str]] = None) -> None:
         pipe, environment = subprocess.PIPE, {**os.environ, **(more or {})}
         try:
-            # a session of its own, so that all that it starts can be ended with it
+            # a separate session, so that everything it starts can be killed with it
             self.process = subprocess.Popen(command, stdin=pipe, stdout=pipe, stderr=pipe, env=environment,
                                             start_new_session=True, bufsize=0)
         except OSError as error:
@@ -70,7 +71,7 @@ class Child:
         self.send()
 
     def send(self) -> None:
-        """Writes what fits into the pipe. Who doesn't read answers needn't."""
+        """Writes what fits into the pipe. A process needn't read the replies."""
         try:
             while self.outgoing:
                 self.outgoing = self.outgoing[os.write(self.writer, self.outgoing) :]
@@ -87,7 +88,7 @@ class Child:
             raise Misbehaviour("hangs", f"has not ended after {self.limits.whole:g} seconds")
 
     def wait(self, seconds: float = 0.05) -> bool:
-        """Until something can be read or written, or so long. Tells whether there was anything."""
+        """Waits until something can be read or written, or for so long. Returns whether anything can."""
         ready = self.polled.poll(seconds * 1000)
         for file, _ in ready:
             if file == self.writer:
@@ -105,7 +106,7 @@ class Child:
         return bool(ready)
 
     def take(self) -> Optional[bytes]:
-        """The next line that has come."""
+        """The next line that arrived."""
         line, feed, rest = self.pending.partition(b"\n")
         if not feed:
             if len(self.pending) > LONGEST:
@@ -128,7 +129,7 @@ class Child:
             elif not self.wait() and (self.reader not in self.open or self.process.poll() is not None):
                 break
             else:
-                # also when something came: it may write its standard error for ever
+                # also if something arrived: the process may write to standard error forever
                 self.check_time("writes no line")
         if self.pending:
             line, self.pending = self.pending, b""
@@ -136,7 +137,7 @@ class Child:
         self.end()
 
     def end(self) -> None:
-        """Waits for the end of a process that writes no more."""
+        """Waits until a process that has closed its output ends."""
         while self.process.poll() is None:
             self.wait()
             self.check_time("has closed its output, and doesn't end")
@@ -145,18 +146,18 @@ class Child:
 
     @property
     def status(self) -> Optional[int]:
-        """With which it ended, or None while it runs."""
+        """The exit status, or None while the process is running."""
         return self.process.poll()
 
     def last_words(self) -> str:
-        """The end of its standard error, as far as it was written by now: it may go on for ever."""
+        """The end of its standard error, as far as it was written by now. The process may continue forever."""
         for _ in range(16):
             if self.errors_reader not in self.open or not self.wait(0):
                 break
         return self.errors.decode("utf-8", "replace").strip()
 
     def close(self) -> None:
-        """Ends the process and all that it started in its session."""
+        """Kills the process and everything that it started in its session."""
         try:
             os.killpg(self.process.pid, signal.SIGKILL)
         except ProcessLookupError:

@@ -1,6 +1,7 @@
-"""The few devices of a PC that firmware waits for or asks: timer, clock memory, interrupt masks, consoles.
+"""The devices of a PC that firmware uses or waits for: timer, clock memory, interrupt masks, consoles.
 
-Time is told in ticks of the timer, 1193182 a second, and goes on by one with each access to a port."""
+Time is counted in timer ticks, 1193182 per second, and advances by one with each access to a port.
+"""
 
 from __future__ import annotations
 
@@ -15,7 +16,7 @@ class BoardError(Exception):
 
 
 class Counter:
-    """One counter of the 8254 timer. Its mode is 0 (counts down once) or another (counts in rounds)."""
+    """One counter of the 8254 timer. Its mode is 0 (counts down once) or another (counts repeatedly)."""
 
     def __init__(self) -> None:
         self.reload, self.start, self.mode, self.access = 0x10000, 0, 2, 3
@@ -30,7 +31,7 @@ class Counter:
         return now - self.start >= self.reload
 
     def hold(self, now: int) -> None:
-        """Keeps the count as the bytes that the next reads give."""
+        """Latches the count, whose bytes the next reads return."""
         count = self.count(now) & 0xFFFF
         self.held = {1: [count & 0xFF], 2: [count >> 8]}.get(self.access, [count & 0xFF, count >> 8])
 
@@ -55,7 +56,7 @@ class Counter:
 
 
 class InterruptController:
-    """One 8259: its mask and its first vector. Interrupts themselves are the PC's."""
+    """One 8259: its mask and its first vector. The PC delivers the interrupts."""
 
     def __init__(self, vector: int) -> None:
         self.vector, self.mask, self.step = vector, 0xFF, 0
@@ -65,7 +66,7 @@ class InterruptController:
             self.step = 1
 
     def write(self, value: int) -> None:
-        """After a first word of initialisation come three more; all other writes are masks."""
+        """The first byte of an initialization is followed by three more; all other writes are masks."""
         if self.step == 0:
             self.mask = value
             return
@@ -75,7 +76,7 @@ class InterruptController:
 
 
 class SerialPort:
-    """A 16550 whose output is told, and whose input is what `type_text` was given."""
+    """A 16550. Its output is passed on, and its input is what `type_text` was given."""
 
     def __init__(self, told: Callable[[int], None]) -> None:
         self.told, self.kept = told, bytearray(8)
@@ -97,7 +98,7 @@ class SerialPort:
 
 
 def clock_memory(ram: int) -> bytearray:
-    """The battery-backed bytes: a date, and how many bytes of memory there are."""
+    """The battery-backed bytes: a date, and the size of memory."""
     cells = bytearray(128)
     above_1, above_16 = min((ram >> 10) - 1024, 0xFFFF), (ram - (16 << 20)) >> 16
     for at, value in {0x04: 0x12, 0x06: 2, 0x07: 1, 0x08: 1, 0x09: 0x24, 0x32: 0x20, 0x0A: 0x26, 0x0B: 2, 0x0D: 0x80,
@@ -109,7 +110,8 @@ def clock_memory(ram: int) -> bytearray:
 
 
 class Chipset:
-    """The ports of these devices. `readers` and `writers` have a call for each port; all others are the board's."""
+    """The ports of these devices. `readers` and `writers` have a function for each port; all other ports belong
+    to the board."""
 
     def __init__(self, ram: int, told: Callable[[int], None]) -> None:
         self.now = 0
@@ -160,11 +162,11 @@ class Chipset:
             self.counters[value >> 6].command(value, self.now)
 
     def read_speaker(self) -> int:
-        """Bit 5 is the output of counter 2, bit 4 goes to and fro."""
+        """Bit 5 is the output of counter 2, and bit 4 toggles."""
         return self.kept[0x61] & 0x0F | self.counters[2].is_done(self.now) << 5 | self.now & 0x10
 
     def next_tick(self) -> Optional[int]:
-        """Lets time pass to the next interrupt of counter 0; its vector, or None where it is masked."""
+        """Advances time to the next interrupt of counter 0. Returns its vector, or None if it is masked."""
         counter, controller = self.counters[0], self.controllers[0x20]
         self.now += counter.reload - (self.now - counter.start) % counter.reload
         return None if controller.mask & 1 else controller.vector

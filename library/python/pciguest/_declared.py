@@ -1,4 +1,4 @@
-"""What a class of a device declares, and the endpoint of a board file that says the same."""
+"""What a device's class declares, and the table of a board file with the same declaration."""
 
 from __future__ import annotations
 
@@ -9,7 +9,7 @@ from ._library import number
 if TYPE_CHECKING:
     from ._devices import Device
 
-#: of each kind of region: its space, whether it is prefetchable, and whether it has 64 bits
+#: for each kind of region: its space, whether it is prefetchable, and whether it is 64-bit
 KINDS: Dict[str, Tuple[str, bool, bool]] = {
     "io": ("io", False, False),
     "mem32": ("memory", False, False),
@@ -25,9 +25,9 @@ FIRST, LAST, REGION_END = 0x40, 0x100, 0x1000
 
 
 class Register:
-    """A register of a device: bytes at an offset of the region of a base address register, or, where `bar` is None, of
-    configuration space, from 40h on. `reset` is its value at reset, `rw` the bits that its driver's writes set, and `w1c`
-    those that it clears by writing ones."""
+    """A register of a device: bytes at an offset in the region of a base address register or, if `bar` is None,
+    in configuration space at 40h or above. `reset` is its reset value, `rw` are the bits that the driver can
+    write, and `w1c` are the bits that the driver clears by writing ones."""
 
     def __init__(self, offset: int, width: int, *, bar: Optional[int] = 0, reset: int = 0, rw: int = 0,
                  w1c: int = 0) -> None:
@@ -37,7 +37,7 @@ class Register:
         patterns = zip(PATTERNS, (reset, rw, w1c))
         self.reset, self.rw, self.w1c = (number(name, value, 8 * width) for name, value in patterns)
         if not width or rw & w1c:
-            raise ValueError("a register has a byte, and no bit is both in rw and in w1c")
+            raise ValueError("a register needs at least one byte, and no bit may be in both rw and w1c")
 
     def moved(self, by: int, name: str) -> Register:
         """The same register in configuration space, so many bytes further on, with a name."""
@@ -66,7 +66,7 @@ class Register:
 
 
 def own_registers(cls: Type[Device]) -> List[Register]:
-    """The registers that a class and those above it name, without those of structures."""
+    """The registers that a class and its base classes declare, except those of structures."""
     named: Dict[str, Any] = {}
     for each in reversed(cls.__mro__):
         named.update(vars(each))
@@ -76,7 +76,8 @@ def own_registers(cls: Type[Device]) -> List[Register]:
 
 
 def declared(cls: Type[Device], all_registers: List[Register]) -> Tuple[Register, ...]:
-    """The registers of a class in the order of their places. ValueError: one stands outside its region, or two overlap."""
+    """The registers that a class and its base classes declare, sorted by part and offset. ValueError: a
+    register is outside its region, or two overlap."""
     found = sorted(all_registers, key=lambda one: (-1 if one.bar is None else one.bar, one.offset))
     for one in found:
         size = 0 if one.bar is None else cls.bars.get(one.bar, ("", 0))[1]
@@ -84,8 +85,8 @@ def declared(cls: Type[Device], all_registers: List[Register]) -> Tuple[Register
         if one.offset < first or one.offset + one.width > last:
             where = "40h to FFh" if one.bar is None else f"region {one.bar}"
             if REGION_END < one.offset + one.width <= size:
-                where = f"the first {REGION_END:#x} bytes of {where}, where alone registers can be"
-            raise ValueError(f"{one.name} stands outside {where}")
+                where = f"the first {REGION_END:#x} bytes of {where}, and registers can only be in these"
+            raise ValueError(f"{one.name} is outside {where}")
     for one, other in zip(found, found[1:]):
         if one.bar == other.bar and one.offset + one.width > other.offset:
             raise ValueError(f"{one.name} and {other.name} overlap")
@@ -97,7 +98,7 @@ def _registers(named: Dict[str, Any]) -> List[Register]:
 
 
 def endpoint(cls: Type[Device], at: str) -> str:
-    """The endpoint of a board file, at a path."""
+    """The `[[endpoint]]` table of a board file, at a path."""
     lines = [
         "[[endpoint]]",
         f'at = "{at}"',
@@ -138,7 +139,7 @@ def _config(cls: Type[Device]) -> Iterator[str]:
 
 
 def block(registers: List[Register], first: int, length: int = 0) -> Iterator[str]:
-    """The length of a block of cells from an offset on, which is at least this, and its patterns, where one has a bit."""
+    """The length of a block from an offset on, which is at least `length`, and its patterns that aren't all zeros."""
     length = max([length, *(each.offset + each.width - first for each in registers)])
     if not length:
         return
@@ -153,7 +154,7 @@ def block(registers: List[Register], first: int, length: int = 0) -> Iterator[st
 
 
 def _period(cells: bytes) -> bytes:
-    """The shortest beginning that, repeated, makes the cells."""
+    """The shortest prefix that, repeated, yields the bytes."""
     return next(
         cells[:length]
         for length in range(1, len(cells) + 1)

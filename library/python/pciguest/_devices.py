@@ -1,4 +1,4 @@
-"""Devices: what stands behind a function's registers, and acts when its driver writes or reads them."""
+"""Device models: the devices behind a function's registers, which act when a driver reads or writes them."""
 
 from __future__ import annotations
 
@@ -17,15 +17,22 @@ if TYPE_CHECKING:
 
 
 class Device:
-    """A device model. A class declares the function's identity, its regions and its registers, and says what happens when
-    its driver writes or reads one. `endpoint` makes the endpoint of a board file of the same declaration, and
-    `Machine.attach` lets an object of the class act.
+    """A device model. A subclass declares the function's identity, regions and registers, and defines what
+    happens when the driver reads or writes a register. `endpoint` generates the matching table for a board
+    file, and `Machine.attach` attaches an object of the class to a function.
+
+    A register of an object, such as `self.rings`, is the register's current value. The device can read and set
+    all bits, no matter which of them the driver can change. A guest's access causes one call for each register
+    that it touches, with the whole value that it writes there, even if the access takes several bus cycles.
+    When the device is notified of a reset, a move or a load, its registers already have their new values; other
+    attributes are for the device itself to clear. A device may access its own machine, and is then notified of
+    its own accesses.
 
     >>> class Doorbell(Device):
     ...     vendor_id, device_id, class_code = 0x1234, 0x0001, 0xFF0000
     ...     bars = {0: ("mem32", 0x1000)}
-    ...     status = Register(0x00, width=1, w1c=0x01)  # its driver clears the bit by writing a one
-    ...     rings = Register(0x04, width=4)  # its driver only reads it
+    ...     status = Register(0x00, width=1, w1c=0x01)  # the driver clears the bit by writing a one
+    ...     rings = Register(0x04, width=4)  # the driver can only read it
     ...     bell = Register(0x08, width=4, rw=0xFFFFFFFF)
     ...
     ...     def on_write(self, register, value):
@@ -41,12 +48,6 @@ class Device:
     ...     a.memory[0xE0000008:4] = 7
     ...     a.memory[0xE0000004:4], a.memory[0xE0000000:1]
     (1, 1)
-
-    A register of an object is what it holds now: reading and setting it is what the device does, whatever its driver may
-    change of it. One access of a guest is one call for each register that it touches, with all that it wrote there, however
-    many cycles of the bus it takes. After a reset, a move or a load the registers hold what the machine made of them when the
-    device is told; what a device keeps in its other attributes is its own to clear. A device may use its own machine as
-    others do, and is told of what it does to itself.
     """
 
     vendor_id: ClassVar[int]
@@ -57,11 +58,11 @@ class Device:
     subsystem_id: ClassVar[int] = 0
     #: 0 is none, 1 to 4 are INTA# to INTD#
     interrupt_pin: ClassVar[int] = 0
-    #: by the first base address register: the kind, as board files have it, and the size in bytes
+    #: by first base address register: the kind, as in a board file, and the size in bytes
     bars: ClassVar[Dict[int, Tuple[str, int]]] = {}
     #: in the order of the list: `Msix`, `Msi`, `Power`, `Vendor`, or any other `Structure`
     capabilities: ClassVar[Sequence[Structure]] = ()
-    #: in the order of their places, with those of the capabilities
+    #: sorted by part and offset, with those of the capabilities
     registers: ClassVar[Tuple[Register, ...]] = ()
     _structures: ClassVar[Tuple[Placed, ...]] = ()
 
@@ -80,19 +81,20 @@ class Device:
 
     @classmethod
     def endpoint(cls, at: str) -> str:
-        """The endpoint of a board file that has this declaration, at a path: its identity, its regions, its capability list,
-        and the patterns of their cells."""
+        """Returns the `[[endpoint]]` table of a board file for a function with this declaration, at a path: its
+        identity, its regions, its capability list, and the patterns of its registers."""
         text = endpoint(cls, at)
         if cls._structures:
             text += "capability = [\n" + "".join(f"  {{ {each} }},\n" for each in tables(cls._structures)) + "]\n"
         return text
 
     def on_write(self, register: Register, value: int) -> None:
-        """Its driver wrote a register. `value` is what it wrote, also where the register keeps none of it; bytes that it
-        didn't write are as the register has them."""
+        """Called after the driver wrote a register. `value` is what the driver wrote, even if the register
+        can't store it. For bytes that the driver didn't write, `value` contains the register's own."""
 
     def before_read(self, register: Register) -> None:
-        """Its driver is about to read a register, and is told what it holds then."""
+        """Called when the driver is about to read a register. The driver reads what the register contains after
+        this call."""
 
     def on_command(self, old: int, new: int) -> None:
         """Its guest changed Command by a write. Bit 0 enables I/O space, bit 1 memory space, bit 2 is Bus Master, and bit 10
@@ -103,35 +105,39 @@ class Device:
         before `on_write`."""
 
     def on_reset(self) -> None:
-        """Its function was reset where it is, by `Guest.reset` or `reset_guest`."""
+        """Called after the function was reset without a move, by `Guest.reset` or `reset_guest`."""
 
     def on_move(self, guest: Guest, slot: int) -> None:
-        """Its function came from a slot of a guest to another, by a call or a line, and is at reset: a reset, unless it is
-        said."""
+        """Called after the function was moved to another slot, by a call or a line. The move has reset the
+        function. Calls `on_reset` unless it is overridden."""
         self.on_reset()
 
     def on_give(self) -> None:
-        """Its function, which no guest had, was given to one, and is at reset: a reset, unless it is said."""
+        """Called after the function, which no guest had, was assigned to a guest. The function is in its reset
+        state. Calls `on_reset` unless it is overridden."""
         self.on_reset()
 
     def on_take(self) -> None:
-        """Its function was taken from its guest, and no guest has it."""
+        """Called after the function was taken from its guest. No guest has it now."""
 
     def on_load(self) -> None:
-        """An image was loaded, which its registers hold; its function may have another guest or slot than before."""
+        """Called after an image was loaded. The registers have the values in the image; the guest and the slot
+        may have changed."""
 
     def save_state(self) -> bytes:
-        """What it keeps beside its registers, to stand beside an image: nothing, unless it is said."""
+        """Returns the state that the device keeps outside its registers, to be saved along with an image. Empty
+        unless it is overridden."""
         return b""
 
     def load_state(self, state: bytes) -> None:
-        """Keeps what was saved so, once the image is loaded. ValueError: it can't be that; then it stays as it is."""
+        """Restores a state that `save_state` returned, after the image was loaded. ValueError: the bytes aren't
+        such a state; then nothing changes."""
         if state:
-            raise ValueError("the device keeps nothing beside its registers")
+            raise ValueError("the device keeps no state outside its registers")
 
     @property
     def seat(self) -> Optional[Tuple[int, int]]:
-        """The index of the guest that has its function, and the slot, or None where no guest has it."""
+        """The index of the guest that has the function, and its slot, or None if no guest has it."""
         return self._seat
 
     @property
@@ -168,9 +174,9 @@ class Device:
     def _attached(self) -> Tuple[Attaching, Tuple[int, int]]:
         """Returns the machine and the seat. ValueError: the device has no machine or no seat."""
         if self._machine is None:
-            raise ValueError("the device is attached to no machine")
+            raise ValueError("the device isn't attached to a machine")
         if self._seat is None:
-            raise ValueError("no guest has the function of the device")
+            raise ValueError("no guest has the device's function")
         return self._machine, self._seat
 
     def _taken(self) -> Tuple[Guest, int]:
@@ -179,7 +185,7 @@ class Device:
         return machine._guest_at(guest), slot
 
     def _place(self, register: Register) -> Tuple[int, int, int]:
-        """Guest, slot and part of a register, as the library takes them."""
+        """The guest, slot and part of a register, in the form that the library uses."""
         return (*self._attached()[1], PART_CONFIG if register.bar is None else register.bar)
 
     def _read(self, register: Register) -> int:
@@ -199,5 +205,5 @@ class Device:
 
 
 def _pieces(register: Register) -> Iterator[Tuple[int, int]]:
-    """The first byte of a register and the width of each access that reaches it: 8 bytes at most."""
+    """The offset in a register and the width of each access that reaches it: 8 bytes at most."""
     return ((first, min(8, register.width - first)) for first in range(0, register.width, 8))

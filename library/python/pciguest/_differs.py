@@ -1,4 +1,5 @@
-"""In what a function differs from what a device declares. The image of the guest that has it says what it is."""
+"""The first difference between a function and what a device declares, found in the image of the guest that has
+the function."""
 
 from __future__ import annotations
 
@@ -13,7 +14,7 @@ if TYPE_CHECKING:
 # the fields that a device declares, by their keys in a board file
 IDENTITY = {"vendor": "vendor_id", "device": "device_id", "revision": "revision_id", "class": "class_code",
             "subvendor": "subsystem_vendor_id", "subsystem": "subsystem_id", "pin": "interrupt_pin"}
-# of a cell: at reset, which bits are writable, and which are cleared by ones
+# of a register byte: its reset value, its writable bits, and its write-1-to-clear bits
 Cell = Tuple[int, int, int]
 
 
@@ -26,8 +27,8 @@ class Difference(NamedTuple):
 
 
 class DeclaredOtherwise(ValueError):
-    """A function is not as a device declares it. `field` is the first in which it differs, `declared` what the device says
-    of it, and `found` what the function has."""
+    """A function isn't as a device declares it. `field` is the first field that differs, `declared` is its
+    value in the device, and `found` is its value in the function."""
 
     def __init__(self, path: str, difference: Difference) -> None:
         self.field, self.declared, self.found = difference
@@ -35,7 +36,7 @@ class DeclaredOtherwise(ValueError):
 
 
 class Found(NamedTuple):
-    """What is declared of a function."""
+    """The declaration of a function."""
 
     identity: Dict[str, int]
     #: by base address register
@@ -54,7 +55,7 @@ class Found(NamedTuple):
 
 
 def first_difference(cls: Type[Device], image: bytes, slot: int) -> Optional[Difference]:
-    """The first field in which the function in a slot differs, by the image of its guest."""
+    """Returns the first field in which the function in a slot differs, according to its guest's image."""
     found = _Bytes(image).function(slot)
     return next((each for each in _fields(cls, found) if each.declared != each.found), None)
 
@@ -80,7 +81,7 @@ def _bar(bar: Optional[Tuple[str, int]]) -> str:
 
 
 def _patterns(register: Register, found: Found) -> Iterator[Difference]:
-    """The fields of a register: how many of its bytes have a cell, and its patterns."""
+    """The fields of a register: how many of its bytes are declared, and its patterns."""
     places = range(register.offset, register.offset + register.width)
     cells = [found.cells[register.bar, place] for place in places if (register.bar, place) in found.cells]
     yield Difference(f"{register.name}.width", f"{register.width} bytes", f"{len(cells)} bytes")
@@ -96,7 +97,7 @@ class _Bytes:
         self.image, self.at = image, 0
 
     def function(self, slot: int) -> Found:
-        self.number(12)  # the format, its version, the latch
+        self.number(12)  # the format, its version, CONFIG_ADDRESS
         for _ in range(slot):
             if self.number(1):
                 _, values = self.declared()
@@ -112,7 +113,7 @@ class _Bytes:
         return [(self.number(1), self.number(1), self.number(1)) for _ in range(count)]
 
     def declared(self) -> Tuple[Found, int]:
-        """What is declared of a function, and how many bytes of values come behind it."""
+        """The declaration of a function, and how many bytes of values follow it."""
         numbers = {key: self.number(width) for key, (_, width) in DECLARED.items()}
         numbers["pin"] &= 0x7F  # bit 7 says whether bit 7 of Header Type is clear
         found = Found({name: numbers[key] for key, name in IDENTITY.items()}, {}, {})

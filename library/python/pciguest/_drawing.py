@@ -1,5 +1,5 @@
-"""Random boards, and lines for them. They are drawn from choices: those of Python's `random` for a run by a seed, or
-those of Hypothesis, which then shrinks them."""
+"""Random boards, and lines for them. They are drawn from choices, which come from Python's `random` with a
+seed, or from Hypothesis, which can shrink them."""
 
 from __future__ import annotations
 
@@ -12,7 +12,8 @@ Item = TypeVar("Item")
 
 
 class Choices(Protocol):
-    """What a drawing asks for. Hypothesis shrinks to the least number, to the first item and to the fewest."""
+    """The choices that a drawing needs. Hypothesis shrinks them to the lowest number, the first item and the
+    fewest items."""
 
     def number(self, least: int, greatest: int) -> int: ...
     def one_of(self, items: Sequence[Item]) -> Item: ...
@@ -20,7 +21,7 @@ class Choices(Protocol):
 
 
 class RandomChoices:
-    """Choices by a seed."""
+    """Choices from a seed."""
 
     def __init__(self, seed: object) -> None:
         self.random = random.Random(str(seed))
@@ -37,7 +38,8 @@ class RandomChoices:
 
 
 class Apertures(NamedTuple):
-    """The addresses that firmware may give out: first and last of each space. Without `pref` a board has none."""
+    """The addresses that firmware may assign: the first and last of each space. Without `pref`, a board has no
+    prefetchable aperture."""
 
     io: Tuple[int, int] = (0x1000, 0xFFFF)
     mem: Tuple[int, int] = (0x80000000, 0xFEBFFFFF)
@@ -51,7 +53,7 @@ PLAIN = Apertures()
 WIDE = Apertures(pref=(0x400000000, 0x7FFFFFFFFF))
 PARTED = Apertures(mem=(0x80000000, 0xBFFFFFFF), pref=(0xC0000000, 0xFEBFFFFF))
 
-#: Vendor IDs that may be taken for those of no function, by the low byte of the Device ID, so that none is drawn beside it
+#: Vendor IDs that firmware may mistake for an absent function, by the low byte of the Device ID
 VENDORS = {1: 0x0000, 2: 0x0001, 3: 0xFFFE}
 #: as real functions have it: 66 MHz, fast back-to-back and medium DEVSEL timing, and all that may be declared
 FIXED_STATUS = [0x0200, 0x02A0, 0x0280, 0x0020, 0x06E0]
@@ -61,14 +63,15 @@ PATTERNS = ["", "ff", "f0", "0f", "55aa"]
 
 
 class Above(NamedTuple):
-    """What all bridges above a bus have: an I/O window, and the least decode of their prefetchable windows."""
+    """What all bridges above a bus have in common: whether they have I/O windows, and how many address bits
+    their prefetchable windows decode at least."""
 
     has_io: bool
-    pref: int  # bits: 64 on bus 0, 0 where a bridge has none
+    pref: int  # bits: 64 on bus 0, 0 if a bridge has none
 
 
 class BoardDrawing:
-    """Draws a board that fits its apertures with much room left, however one places it."""
+    """Draws a board that fits its apertures with much room to spare, however it is placed."""
 
     def __init__(self, choices: Choices, bridges: int, apertures: Sequence[Apertures], last_device: int) -> None:
         self.choices, self.bridges, self.most_functions = choices, bridges, 60
@@ -83,7 +86,7 @@ class BoardDrawing:
         return self.choices.number(0, 99) >= 100 - chance
 
     def bus(self, above: Path, windows: Above) -> None:
-        """The functions of one bus, and all behind it."""
+        """The functions of one bus, and everything behind it."""
         for device in self.choices.some(range(self.last_device + 1), 0 if above else 1, 4):
             others = self.choices.some(range(1, 8), 1, 2) if self.percent(25) else []
             for function in [0, *others]:
@@ -109,7 +112,7 @@ class BoardDrawing:
         return {**found, "fixed_status": self.choices.one_of(FIXED_STATUS)} if self.percent(20) else found
 
     def bridge(self, path: Path, windows: Above) -> None:
-        """A bridge. An I/O window is drawn while there is room for one more unit of ports."""
+        """A bridge. An I/O window is drawn as long as there is room for one more unit of ports."""
         io = self.choices.one_of(["16", "none", "32"]) if windows.has_io and self.io_buses > 0 else "none"
         self.io_buses -= io != "none"
         pref = self.choices.one_of(["64", "none", "32"])
@@ -135,7 +138,7 @@ class BoardDrawing:
         self.endpoint_tables.append(table)
 
     def region(self, index: int, kind: str, windows: Above) -> Document:
-        """A region. Memory is small where it counts against an aperture below 4 GB that is nearly used up."""
+        """A region. It is small if it would nearly use up an aperture below 4 GB."""
         if kind == "io":
             size = 1 << self.choices.number(2, 8)
         else:
@@ -148,7 +151,7 @@ class BoardDrawing:
         return {"index": index, "kind": kind, "size": size, "block": min(size, 64), **self.patterns()}
 
     def patterns(self) -> Document:
-        """Which bits of a block can be written, and what it holds at reset."""
+        """Which bits of a block can be written, and its reset value."""
         found = {"rw": self.choices.one_of(PATTERNS), "reset": self.choices.one_of(PATTERNS)}
         return {key: value for key, value in found.items() if value}
 
@@ -164,7 +167,7 @@ def draw_board(
     choices: Choices, bridges: int = 6, apertures: Sequence[Apertures] = (PLAIN, WIDE, PARTED), guests: bool = True,
     last_device: int = 31
 ) -> Document:
-    """A board with so many bridges at most, and no device above the last one. It can be set up, with room to spare."""
+    """A board with at most so many bridges and no device above `last_device`, which can be set up with room to spare."""
     drawing = BoardDrawing(choices, bridges, apertures, last_device)
     drawing.bus((), Above(True, 64))
     devices = {"devices": 32} if drawing.last_device > 15 else {}

@@ -1,4 +1,4 @@
-"""Boards that firmware drives by lines: by the library, or by the program `pciguest firmware` through a pipe."""
+"""Boards that firmware drives by lines: in the library, or through a pipe to `pciguest firmware`."""
 
 from __future__ import annotations
 
@@ -15,7 +15,7 @@ from ._child import Child, Limits, Misbehaviour
 from ._lines import is_question
 
 class DrivenBoard(Protocol):
-    """A board that firmware drives by lines, from reset on."""
+    """A board that firmware drives by lines, from reset."""
 
     def run_line(self, line: str) -> Optional[str]: ...
     def ready_text(self) -> str: ...
@@ -23,15 +23,15 @@ class DrivenBoard(Protocol):
 
 
 class Maker(Protocol):
-    """Who makes such boards of board files, and says by which number our own set-up refuses one: None where it finds room
-    for all, and 203 to 205 where a pool doesn't fit its aperture."""
+    """Makes such boards from board files. `refusal` returns the number with which the built-in set-up refuses a
+    board: None if there is room for everything, 203 to 205 if a pool doesn't fit its aperture."""
 
     def board(self, text: str) -> DrivenBoard: ...
     def refusal(self, text: str) -> Optional[int]: ...
 
 
 class LibraryBoard:
-    """The board of a file at reset, by calls of the library."""
+    """The board of a file in its reset state, in the library."""
 
     def __init__(self, text: str) -> None:
         self.board = _board.Board(text)
@@ -47,7 +47,7 @@ class LibraryBoard:
 
 
 class Library:
-    """Boards by the library."""
+    """Boards in the library."""
 
     def board(self, text: str) -> DrivenBoard:
         return LibraryBoard(text)
@@ -58,12 +58,12 @@ class Library:
 
 
 class ProgramFailed(Exception):
-    """The program pciguest ended in front of a line."""
+    """The program pciguest ended before it replied to a line."""
 
 
 class ProgramBoard:
-    """The board of a file at reset, by the program. Each line is answered before the next is written, but for one after a
-    question."""
+    """The board of a file in its reset state, in the program. Each line gets its reply before the next is
+    written, except for the line after a query."""
 
     LIMITS = Limits(60, math.inf, sys.maxsize)
 
@@ -91,7 +91,7 @@ class ProgramBoard:
         return "\n".join(self.told(line)) if is_question(line) else self.ask(line)
 
     def told(self, question: str) -> List[str]:
-        """The reply to a question: all lines that come before the reply to the next line, which reads the address latch."""
+        """The reply to a query: all lines before the reply to the next line, which reads CONFIG_ADDRESS."""
         self.child.answer(question)
         lines = [self.ask("host ir 0xcf8 4")]
         while not lines[-1].startswith("host: 0x"):
@@ -107,7 +107,7 @@ class ProgramBoard:
 
 
 class Program:
-    """Boards by the program of a file."""
+    """Boards in the program, which is a file."""
 
     def __init__(self, program: str) -> None:
         self.program = program

@@ -1,5 +1,5 @@
-"""Files that stand beside this module in the repository, in the tarball, where that was installed, and in Debian's packages;
-and the standard output of its programs."""
+"""Files that are next to this module in the repository, in the tarball, where that was installed, and in
+Debian's packages; and the standard output of the module's programs."""
 
 from __future__ import annotations
 
@@ -10,8 +10,9 @@ from typing import Callable
 
 
 def find(repository: str, installed: str) -> Path:
-    """Where a file or a folder is, by its name in the repository and its name below share/pciguest. The repository and
-    the tarball have this module three and two folders below theirs, and Debian's packages have it in dist-packages."""
+    """The path of a file or directory, from its name in the repository and its name below share/pciguest. In
+    the repository and in the tarball, this module is three and two directories below the top; in Debian's
+    packages, it is in dist-packages."""
     here = Path(__file__).resolve().parents
     tops = [here[3] / repository, here[2] / installed, here[min(4, len(here) - 1)] / "share/pciguest" / installed]
     for top in tops:
@@ -21,7 +22,8 @@ def find(repository: str, installed: str) -> Path:
 
 
 def told_whole(main: Callable[[], int]) -> int:
-    """Runs a program to its status, which is 2 where nobody reads all that it tells, as behind a pipe into `head`."""
+    """Runs a program and returns its status, which is 2 if its whole output can't be written, as in a pipe to
+    `head`."""
     try:
         status = main()
         sys.stdout.flush()

@@ -1,4 +1,4 @@
-"""One run of firmware on a board: its lines and their replies, and what is wrong after them."""
+"""One run of firmware on a board: its lines with their replies, and what is wrong after them."""
 
 from __future__ import annotations
 
@@ -14,15 +14,16 @@ from ._reasons import reasons
 from ._watch import Watch
 
 REFUSED = re.compile(r"\S+ refused (\d+) ")
-#: numbers of lines that are no access at all; what else is refused is an access that no board takes
+#: numbers with which a line is refused that isn't an access; other refused lines are accesses that no board accepts
 NO_ACCESS = {"401", "402", "403"}
 
 
 class Run(NamedTuple):
-    """What firmware wrote and was answered, and what is wrong, the first first; `kind` is that of the first. `since` has the
-    line of each finding that is about a line, among them the warnings, which aren't wrong. `first_lines` counts the lines of
-    the first run where there was a second one, and `gave_up` tells whether the firmware says that the board has no room.
-    For firmware that misbehaves the end of its standard error is kept, and how long it was silent."""
+    """The lines of firmware with their replies, and what is wrong, in order; `kind` is the kind of the first
+    finding. `since` contains the line of each finding about a line, including warnings, which aren't wrong.
+    If there was a second run, `first_lines` is the number of lines in the first. `gave_up` says whether the
+    firmware reported that the board has no room. If the firmware misbehaved, the end of its standard error
+    is kept, and how long it was silent."""
 
     lines: List[str]
     replies: List[Optional[str]]
@@ -37,9 +38,10 @@ class Run(NamedTuple):
 
 
 class Asked(NamedTuple):
-    """What is asked of firmware: all but what is allowed, by its kind; transients where they are no warnings; a second run
-    on the board as the first one left it; and how it says that a board has no room: by a status, 0 for any but 0, or by
-    words of its standard error. Unless one of these is given, any status but 0 says so, on boards without room alone."""
+    """What is required of firmware: everything except what is allowed, by kind; no transients, unless they are
+    warnings; a second run on the board as the first left it; and how the firmware reports that a board has
+    no room: by a status (0 means any status except 0), or by a text on standard error. If neither is given,
+    any status except 0 reports it, but only on boards without room."""
 
     allowed: FrozenSet[str] = frozenset()
     transients: bool = False
@@ -47,7 +49,7 @@ class Asked(NamedTuple):
     is_warm: bool = False
 
     def is_said(self, has_room: bool, status: Optional[int], last_words: str) -> bool:
-        """Whether firmware that ended says that there is no room."""
+        """Whether firmware that ended has reported that there is no room."""
         if isinstance(self.no_room, str):
             return self.no_room in last_words
         if status is None or has_room and self.no_room is None:
@@ -56,7 +58,8 @@ class Asked(NamedTuple):
 
 
 def environment(document: Document) -> Dict[str, str]:
-    """How firmware is told the apertures: as 'FIRST LAST', or nothing where the board has none."""
+    """The environment variables that tell firmware the apertures, as 'FIRST LAST', or empty if the board has no
+    such aperture."""
     host = document["host"]
     return {
         f"PCIGUEST_{key.upper()}": " ".join(f"{end:#x}" for end in host[key]) if key in host else ""
@@ -65,13 +68,14 @@ def environment(document: Document) -> Dict[str, str]:
 
 
 class Firmware:
-    """A command that is run on boards."""
+    """A command that runs on boards."""
 
     def __init__(self, command: List[str], maker: Maker, limits: Limits, asked: Asked = Asked()) -> None:
         self.command, self.maker, self.limits, self.asked = command, maker, limits, asked
 
     def run(self, document: Document, has_room: bool = True) -> Run:
-        """Runs it to its end on a board at reset, and if that is asked once more on what it left there."""
+        """Runs the firmware to its end on a board in its reset state and, if this is requested, again on the
+        board as the first run left it."""
         run = Run([], [], [], None, {})
         with closing(self.maker.board(text_of(document))) as board:
             watch = Watch(board, document)
@@ -81,8 +85,8 @@ class Firmware:
         return run
 
     def run_once(self, watch: Watch, document: Document, run: Run, has_room: bool) -> Run:
-        """Runs it to its end, and judges what it does and leaves. Where the board has no room for all regions, it has to say
-        so. Where it may say so, and does, closed ones are no lack."""
+        """Runs the firmware to its end, and judges its lines and the resulting board. If the board has no room
+        for all regions, the firmware must say so. If it says so and may do so, its regions may be disabled."""
         with closing(Child(self.command, self.limits, environment(document))) as child:
             wrong: Optional[Misbehaviour] = None
             try:
@@ -101,7 +105,7 @@ class Firmware:
         return self.judged(run._replace(gave_up=gave_up), left)
 
     def judged(self, run: Run, left: List[str]) -> Run:
-        """The run with what is wrong: about its lines, and then about what is left."""
+        """The run with what is wrong: first about its lines, and then about the resulting board."""
         allowed = self.asked.allowed
         about_lines = [each for each in run.since if kind_of(each) not in allowed and each.replace("overlap", "audit", 1) not in left]
         warnings = [each for each in about_lines if kind_of(each) in TRANSIENTS and not self.asked.transients]
@@ -110,7 +114,8 @@ class Firmware:
         return run._replace(wrong=wrong, warnings=warnings, kind=kind_of(wrong[0]) if wrong else None)
 
     def converse(self, child: Child, watch: Watch, run: Run) -> None:
-        """Answers each line by the board, and keeps in the run what is wrong with an access that the board did take."""
+        """Sends each line to the board and the reply to the firmware, and adds to the run what is wrong with an
+        access that the board accepted."""
         for raw in child.lines():
             line = raw.decode("utf-8", "backslashreplace")
             if line.split()[:2] == ["host", "guests"]:
@@ -130,15 +135,15 @@ class Firmware:
 
 
 def after(lines: List[str]) -> str:
-    """After which line firmware went wrong."""
+    """The line after which the firmware failed."""
     if not lines:
         return ", and wrote no line before"
     return f", after {len(lines)} line{'s' * (len(lines) != 1)}; the last was: {lines[-1]}"
 
 
 def since(maker: Maker, document: Document, lines: List[str], finding: str) -> int:
-    """The number of the line since which a finding about what is left is there: of all lines the last before which it
-    wasn't. It is 0 where it was there at reset and ever since."""
+    """The number of the line at which a finding about the resulting board appeared: the finding exists after
+    this line and all later ones. The number is 0 if it existed from the beginning."""
     wanted, place = same_problem(finding), 0
     with closing(maker.board(text_of(document))) as board:
         was = wanted in problems(board)
@@ -151,7 +156,7 @@ def since(maker: Maker, document: Document, lines: List[str], finding: str) -> i
 
 
 def reasons_after(maker: Maker, document: Document, lines: List[str], finding: str) -> List[str]:
-    """Why a finding is so once these lines have run: the line that asks it, and the board's reply."""
+    """Why a finding exists after these lines: the line that asks, and the board's reply."""
     with closing(maker.board(text_of(document))) as board:
         for line in lines:
             board.run_line(line)

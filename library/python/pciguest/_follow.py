@@ -1,4 +1,4 @@
-"""Follows the lines of firmware: which function and which register each access of configuration space is for."""
+"""Follows firmware's lines, to find out which function and register each configuration access is for."""
 
 from __future__ import annotations
 
@@ -11,7 +11,7 @@ BUS_NUMBERS = range(0x18, 0x1B)
 
 
 class Access(NamedTuple):
-    """An access of configuration space by a function's number. A read has no value."""
+    """A configuration access to a BDF. A read has no value."""
 
     number: str
     offset: int
@@ -23,28 +23,28 @@ class Access(NamedTuple):
 
     @property
     def register(self) -> int:
-        """The multiple of 4 at which the register begins that has it."""
+        """The offset of the register that contains it, a multiple of 4."""
         return self.offset & ~3
 
     def byte(self, offset: int) -> int:
-        """What a write has for a byte."""
+        """What a write writes to a byte."""
         return (self.value or 0) >> 8 * (offset - self.offset) & 0xFF
 
 
 def value_of(word: str) -> int:
-    """A number of a line, in any of its forms."""
+    """A number in a line, in any of its forms."""
     return int(word, 16 if word[:2] in ("0x", "0X") else 10)
 
 
 class Follower:
-    """Told each line once the board has answered it. What it asks of the board leaves the board as it was."""
+    """Is given each line after the board has replied to it. Its own lines leave the board unchanged."""
 
     def __init__(self, board: DrivenBoard) -> None:
         self.board, self.latch = board, 0
         self.known: Dict[str, Optional[str]] = {}
 
     def access(self, line: str) -> Optional[Access]:
-        """The access of configuration space that a line makes, if it does: by a number, or by the ports."""
+        """The configuration access that a line makes, if it makes one, by BDF or through the ports."""
         words = line.split()
         if not words or words[0] != "host" or words[1] not in ("cr", "cw", "ir", "iw"):
             return None
@@ -65,7 +65,7 @@ class Follower:
         return found
 
     def asked(self, line: str) -> str:
-        """What the board replies to a line that is not the firmware's."""
+        """The board's reply to a line that isn't the firmware's."""
         reply = self.board.run_line(line) or ""
         if self.latch:
             self.board.run_line(f"host iw {LATCH:#x} 4 {self.latch:#x}")
@@ -76,7 +76,7 @@ class Follower:
         return int(self.asked(f"host cr {number} {offset:#x} 4").split()[-1], 16)
 
     def reached(self, number: str) -> Optional[str]:
-        """The path of the function that a number reaches now, or None."""
+        """The path of the function that a BDF currently reaches, or None."""
         if number not in self.known:
             path = self.asked(f"host why cfg {number}").splitlines()[0].split()[-1]
             self.known[number] = None if path == "nothing" else path

@@ -1,4 +1,4 @@
-"""What is told of each function of the board."""
+"""Descriptions of the board's functions."""
 
 from __future__ import annotations
 
@@ -8,8 +8,9 @@ from ._calls import IO, BarTold, BoardFunctionTold, FunctionTold, WindowTold
 
 
 class Bar(NamedTuple):
-    """A region as its base address register on the board has it: `size` addresses of its space, "io" or "memory", from
-    `first` on. One of 64 bits has the high half of its address in the next register."""
+    """A region, according to its base address register on the board. It occupies `size` addresses of its space,
+    "io" or "memory", starting at `first`. If it is 64-bit, the next register contains the high half of its
+    address."""
 
     space: str
     first: int
@@ -19,14 +20,15 @@ class Bar(NamedTuple):
 
 
 class Window(NamedTuple):
-    """The addresses that a window of a bridge holds, the first and the last one, which is in it too."""
+    """The addresses that a bridge's window forwards, from `first` to `last`, inclusive."""
 
     first: int
     last: int
 
 
 class Windows(NamedTuple):
-    """The windows of a bridge: None where it has no such window, or its base is above its limit."""
+    """The windows of a bridge. A window is None if the bridge doesn't have it, or if its base is above its
+    limit."""
 
     io: Optional[Window]
     memory: Optional[Window]
@@ -45,10 +47,10 @@ class Interrupt(NamedTuple):
 
 
 class Function(NamedTuple):
-    """A function of the board as it is now. Where regions and windows stand, and by which number it is reached, is told
-    as the board's own registers have it, which no guest writes."""
+    """The current state of a function of the board. Addresses of regions, windows and the BDF come from the
+    board's own registers, which no guest writes."""
 
-    #: where it stands, as board files write it: "2.0/1.0"
+    #: the path, as in board files: "2.0/1.0"
     path: str
     #: 0 on bus 0, else the Secondary Bus Number of the bridge above
     bus: int
@@ -57,36 +59,36 @@ class Function(NamedTuple):
     vendor_id: int
     device_id: int
     revision_id: int
-    #: base class, sub-class and programming interface, 24 bits
+    #: base class, subclass and programming interface, 24 bits
     class_code: int
-    #: 0 in a bridge, as is the next
+    #: 0 in a bridge, like the next field
     subsystem_vendor_id: int
     subsystem_id: int
-    #: by base address register, 0 to 5; None where no region begins, as everywhere in a bridge
+    #: by base address register, 0 to 5; None if no region begins there; all None in a bridge
     regions: Tuple[Optional[Bar], ...]
     #: None in an endpoint
     windows: Optional[Windows]
-    #: the index of the guest that has it, and the slot, or None where no guest has it
+    #: the index of the guest that has it, and the slot, or None if no guest has it
     seat: Optional[Tuple[int, int]]
-    #: all 0 in a `BoardFunction`, of which firmware reads it
+    #: all 0 in a `BoardFunction`, because firmware reads the pin itself
     interrupt: Interrupt
 
     @property
     def is_bridge(self) -> bool:
-        """Whether it is a bridge."""
+        """Whether the function is a bridge."""
         return self.windows is not None
 
 
 class BoardFunction(NamedTuple):
-    """A function of a `Board` as the registers stand, whatever firmware did of them so far."""
+    """A function of a `Board`, according to its current registers."""
 
-    #: what is told of any function; no guest has it, and its number is the one by which it is looked for
+    #: what a `Function` describes. No guest has it, and its BDF is the one at which firmware looks for it
     function: Function
-    #: whether a configuration access by this number reaches it
+    #: whether a configuration access to this BDF reaches it
     is_found: bool
-    #: whether its Command opens I/O space
+    #: whether its Command enables I/O space
     opens_io: bool
-    #: whether its Command opens memory
+    #: whether its Command enables memory space
     opens_memory: bool
 
 
@@ -102,7 +104,7 @@ def _window(told: WindowTold) -> Optional[Window]:
 
 
 def function_of(told: FunctionTold) -> Function:
-    """The function that the library tells of."""
+    """Converts the library's description of a function."""
     return Function(
         bytes(told.path[: told.path_length]).decode("ascii"),
         told.bus, told.device, told.function,
@@ -115,6 +117,6 @@ def function_of(told: FunctionTold) -> Function:
 
 
 def board_function_of(told: BoardFunctionTold) -> BoardFunction:
-    """The function of a board that the library tells of."""
+    """Converts the library's description of a board's function."""
     opened = bool(told.opens_io), bool(told.opens_memory)
     return BoardFunction(function_of(told.function), bool(told.is_found), *opened)

@@ -1,4 +1,4 @@
-"""What a struct of the header holds."""
+"""An object that holds one of the library's structs."""
 
 from __future__ import annotations
 
@@ -16,24 +16,25 @@ Self = TypeVar("Self", bound="Held")
 
 
 def as_bytes(text: Union[str, bytes]) -> bytes:
-    """A text as the library takes it: UTF-8."""
+    """A text in the form that the library accepts: UTF-8."""
     return text.encode() if isinstance(text, str) else bytes(text)
 
 
 class Held:
-    """What a struct of the header holds. It is freed by `close`, at the end of `with`, or when nothing refers to it. Then
-    each call is refused by 901. Several threads may use it: one call is made at a time."""
+    """An object that holds one of the library's structs. It is freed by `close`, at the end of `with`, or when
+    nothing refers to it any more. After that, each call is refused with 901. Several threads may use the
+    object: their calls run one after the other."""
 
     def __init__(self, handle: ctypes.Structure, free: str, make: Callable[[Any], int]) -> None:
         self._handle = handle
-        # A signal's handler of Python runs between calls, and may make one within a call of this class.
+        # A signal handler of Python may run within a call of this class, and make another one.
         self._lock = threading.RLock()
         answered(make(byref(handle)))
         self._free = weakref.finalize(self, CALLS[free], handle)
         self._free.atexit = False
 
     def close(self) -> None:
-        """Frees what is held. A second time nothing happens."""
+        """Frees the memory. If it is already freed, nothing happens."""
         with self._lock:
             self._free()
 
@@ -44,27 +45,26 @@ class Held:
         self.close()
 
     def _call(self, name: str, *arguments: Any) -> None:
-        """Makes a call on what is held, once the one before has ended. Arguments are in range."""
+        """Makes a call on the struct, after any other call has ended. The arguments must be in range."""
         with self._lock:
             answer = CALLS[name](byref(self._handle), *arguments)
         answered(answer)
 
     def _number(self, kind: Callable[[], Any], name: str, *arguments: Any) -> int:
-        """The number, of a type of ctypes, that a call leaves. Arguments are in range."""
+        """Returns the number, of a ctypes type, that a call stores. The arguments must be in range."""
         value = kind()
         self._call(name, *arguments, byref(value))
         return int(value.value)
 
     def _told(self, name: str, room: int, *arguments: Any) -> str:
-        """The text of a call on what is held. Arguments are in range."""
+        """Returns the text that a call writes. The arguments must be in range."""
         with self._lock:
             answer, text = told(room, lambda *rest: CALLS[name](byref(self._handle), *arguments, *rest))
         answered(answer)
         return text
 
     def _reply(self, name: str, line: Union[str, bytes]) -> Optional[str]:
-        """Runs a line by a call, which takes it with its line feed or without. Where its reply needs more room, nothing
-        happened, and it runs once more."""
+        """Runs a line by a call. If the reply needs more room, nothing has changed, and the line runs again."""
         text = as_bytes(line)
         call: Callable[..., int] = CALLS[name]
         with self._lock:

@@ -1,4 +1,4 @@
-"""Where an image stops fitting a guest, and which field that is, by docs/image-format.md."""
+"""Where an image stops fitting a guest, and which field that is, according to docs/image-format.md."""
 
 from __future__ import annotations
 
@@ -11,13 +11,13 @@ Field = Tuple[str, int]
 
 
 class ImageFault(NamedTuple):
-    """Where an image stops fitting a guest that refuses it by 906 or 908."""
+    """Where an image stops fitting a guest that refuses it with 906 or 908."""
 
-    #: the slot whose part of the image it is in, or None in front of the slots
+    #: the slot whose part of the image contains the byte, or None if the byte is before the slots
     slot: Optional[int]
     #: the offset in the image of the first byte that doesn't fit
     offset: int
-    #: the field that the byte is in, as 'the size of bar0'
+    #: the field that contains the byte, such as 'the size of bar0'
     field: str
 
     def __str__(self) -> str:
@@ -35,7 +35,7 @@ def fault_at(image: bytes, slot: int, offset: int) -> Optional[ImageFault]:
 
 
 class _Fields:
-    """The fields of an image, one after the other. Whoever goes through them moves `at` past each."""
+    """The fields of an image, in order. The code that steps through them advances `at` past each one."""
 
     def __init__(self, image: bytes) -> None:
         self._image, self.at = image, 0
@@ -79,6 +79,6 @@ class _Fields:
 
 
 def _cells(first: int, count: int, of: str) -> Iterator[Field]:
-    """What is declared of register bytes."""
+    """The declaration of register bytes."""
     places = range(first, first + count)
     return ((f"{pattern} of byte {at:#x} of {of}", 1) for at in places for pattern in ("reset", "rw", "w1c"))

@@ -1,4 +1,4 @@
-"""What a guest alone holds, and what a whole machine is, as bytes that outlive the machine."""
+"""Saving guests and whole machines as bytes, which can be loaded into other machines."""
 
 from __future__ import annotations
 
@@ -15,14 +15,14 @@ if TYPE_CHECKING:
 
 
 class Saved:
-    """A guest that is saved, loaded and reset as a whole."""
+    """A guest that can be saved, loaded and reset as a whole."""
 
     machine: Machine
     index: int
 
     def image_size(self) -> int:
-        """How many bytes the image of the guest has, which `save` gives. It stays as long as the guest has the same
-        functions in the same slots. It changes nothing.
+        """Returns the size of the guest's image, which `save` returns, in bytes. The size stays the same as
+        long as the guest has the same functions in the same slots. Changes nothing.
 
         >>> with Machine(BOARD) as machine:
         ...     a = machine.guest("a")
@@ -38,15 +38,16 @@ class Saved:
         size, call = c_size_t(0), CALLS["save"]
         with self.machine._lock:
             answer = call(byref(self.machine._handle), self.index, None, 0, byref(size))
-        if not size.value:  # the library tells the size, since there is no room
+        if not size.value:  # the library stores the size, because there is no room
             answered(answer)
         return size.value
 
     def save(self) -> bytes:
-        """Saves the guest: its image, which is all that the guest holds. That is its CONFIG_ADDRESS, and of each of its 32
-        slots what is declared of the function and what the guest's registers hold; nothing of the board, of other guests
-        or of where its functions stand. docs/image-format.md has the bytes. `save_state` has what a `Device` keeps beside
-        its registers. The machine stays as it is.
+        """Returns the guest's image, which contains everything that belongs to the guest: its CONFIG_ADDRESS
+        and, for each of its 32 slots, the declaration of the function and the contents of the guest's
+        registers. It contains nothing about the board, about other guests, or about where the functions are.
+        docs/image-format.md describes the bytes. The state that a `Device` keeps outside its registers isn't
+        included; `save_state` returns it. Changes nothing.
 
         >>> with Machine(BOARD) as machine:
         ...     a = machine.guest("a")
@@ -61,13 +62,13 @@ class Saved:
         return image.raw[: needed.value]
 
     def load(self, image: Union[bytes, bytearray]) -> None:
-        """Loads an image into the guest, which then holds what the image says: what the guest that was saved held. Each of
-        its slots has to be filled or empty as there, and its functions declared as there; they may stand elsewhere, on
-        another board, and the machine of the image isn't needed any more. Other guests can't tell. The guest's devices
-        are told of it (`Device.on_load`).
+        """Loads an image into the guest, which then has the same state as the guest that was saved. The same
+        slots must contain functions, and these must have equal declarations. They may be elsewhere or on
+        another board, and the machine of the image isn't needed any more. Other guests don't notice
+        anything. The guest's devices are notified (`Device.on_load`).
 
-        905: the bytes are no image. 908: the image is of another version of the format. 906: another slot is filled, or a
-        function is declared otherwise. Of these, what the first byte that fails tells.
+        905: the bytes aren't an image. 908: the image has another version of the format. 906: other slots
+        contain functions, or a declaration differs. The first byte that fails decides between these.
 
         >>> with Machine(BOARD) as machine:
         ...     a = machine.guest("a")
@@ -90,8 +91,8 @@ class Saved:
             self.machine._tell(lambda seat: seat[0] == self.index, lambda device: device.on_load())
 
     def image_fault(self, image: Union[bytes, bytearray]) -> Optional[ImageFault]:
-        """Where an image that `load` refuses by 906 or 908 stops fitting the guest: the slot, the byte, and which field that
-        byte is in. None for any other image. It changes nothing.
+        """Returns where an image that `load` refuses with 906 or 908 stops fitting the guest: the slot, the
+        byte, and the field that contains the byte. Returns None for any other image. Changes nothing.
 
         >>> with Machine(BOARD) as machine:
         ...     image = machine.guest("a").save()
@@ -104,8 +105,8 @@ class Saved:
         return fault_at(told, slot.value, offset.value)
 
     def reset_guest(self) -> None:
-        """Resets every function of the guest, each where it is, and the guest's own CONFIG_ADDRESS: nothing is carried
-        over.
+        """Resets all functions of the guest, without moving them, and the guest's CONFIG_ADDRESS. Nothing
+        carries over.
 
         >>> with Machine(BOARD) as machine:
         ...     a = machine.guest("a")
@@ -121,14 +122,14 @@ class Saved:
 
 
 class SavedMachine(Held):
-    """A machine that is saved and loaded as a whole."""
+    """A machine that can be saved and loaded as a whole."""
 
     def _tell_loaded(self) -> None:
-        """Tells its devices of a load."""
+        """Notifies the devices of a load."""
 
     def image_size_all(self) -> int:
-        """How many bytes the image of the whole machine has, which `save_all` gives. It stays as long as guests have the
-        same functions in the same slots. It changes nothing.
+        """Returns the size of the whole machine's image, which `save_all` returns, in bytes. The size stays the
+        same as long as the guests have the same functions in the same slots. Changes nothing.
 
         >>> with Machine(BOARD) as machine:
         ...     size = machine.image_size_all()
@@ -139,9 +140,10 @@ class SavedMachine(Held):
         return self._number(c_size_t, "image_size_all")
 
     def save_all(self) -> bytes:
-        """Saves the whole machine: its image, which is who has which function of the board in which slot, what each guest
-        holds, and which board that is, set up how, with which guests. docs/image-format.md has the bytes.
-        `Guest.save_state` has what a `Device` keeps beside its registers. The machine stays as it is.
+        """Returns the whole machine's image: which guest has which function in which slot, each guest's state,
+        and a description of the board, of how it was set up, and of its guests. docs/image-format.md
+        describes the bytes. The state that a `Device` keeps outside its registers isn't included;
+        `Guest.save_state` returns it. Changes nothing.
 
         >>> with Machine(BOARD) as machine:
         ...     machine.save_all()[:8]  # the format, and its version
@@ -154,14 +156,16 @@ class SavedMachine(Held):
         return image.raw[: needed.value]
 
     def load_all(self, image: Union[bytes, bytearray]) -> None:
-        """Loads an image into the whole machine: each slot then has the function that it had in the machine that was saved,
-        and each guest holds what that guest held. The board is an equal one, set up alike, and its guests have the same
-        names in the same order; where their functions sit now, and what they hold, doesn't matter. The machine of the image
-        isn't needed any more. Devices are told of it (`Device.on_load`).
+        """Loads an image into the whole machine. Afterwards, each slot contains the same function as in the
+        machine that was saved, and each guest has the same state. The board must be equal and set up in the
+        same way, and its guests must have the same names in the same order; their state, and where their
+        functions are now, doesn't matter. The machine of the image isn't needed any more. Devices are
+        notified (`Device.on_load`).
 
-        905: the bytes are no image of a machine. 906: a slot is to get what no guest can be given there, or a function is
-        declared otherwise. 907: the board, its guests or how it is set up are others. 908: the image, or one of a guest in
-        it, is of another version of the format. 299: memory is out. docs/image-format.md says what is looked at first.
+        905: the bytes aren't an image of a machine. 906: a slot can't have the function that the image says, or
+        a declaration differs. 907: the board, its guests or the way in which it was set up differ. 908: the
+        image, or a guest's image in it, has another version of the format. 299: memory runs out.
+        docs/image-format.md says what is checked first.
 
         >>> with Machine(BOARD) as machine:
         ...     a = machine.guest("a")

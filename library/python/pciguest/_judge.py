@@ -1,5 +1,5 @@
-"""The judge of what firmware did: all that is wrong in the registers that it left and all that they lack, as lines. The
-board tells them, by the line `host ready`."""
+"""Finds out, with the line `host ready`, what is wrong in the registers that firmware left and what is left to
+do."""
 
 from __future__ import annotations
 
@@ -8,7 +8,7 @@ from typing import List
 
 from ._driven import DrivenBoard
 
-#: each kind of finding about what firmware leaves, and words that its lines have and no other's
+#: each kind of finding about the resulting board, and words that only its lines contain
 LEFT = {
     "unforwarded": "is not forwarded by",
     "contended": "address conflict",
@@ -18,7 +18,7 @@ LEFT = {
     "prefetched": "as prefetchable",
     "primary": "Primary Bus Number is",
 }
-#: kinds about lines, whose lines begin with their names; of a transient nothing need be left at the end
+#: kinds of findings about lines, which begin with the kind; a transient may have gone by the end
 TRANSIENTS = ["moved", "ones", "reset", "overlap", "status"]
 KINDS = [*LEFT, "sizing", "room", *TRANSIENTS]
 
@@ -29,10 +29,10 @@ def kind_of(finding: str) -> str:
 
 
 def findings(board: DrivenBoard) -> List[str]:
-    """All that is wrong or lacking in the registers as they stand, each in a line; the board stays as it is."""
+    """Everything that is wrong in the registers or left to do, one line each. Changes nothing on the board."""
     return board.ready_text().splitlines()[:-1]
 
 
 def same_problem(finding: str) -> str:
-    """What stays of a finding while it is the same problem: not the addresses and numbers that it is told with."""
+    """The part of a finding that identifies the problem, without addresses and numbers."""
     return re.sub(r"0x[0-9a-f]+|a configuration cycle to .*|Primary Bus Number is .*", "", finding)

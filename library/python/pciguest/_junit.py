@@ -1,4 +1,4 @@
-"""Results of boards as build servers read them: a file in the form of JUnit."""
+"""Results of boards in JUnit format, for build servers."""
 
 from __future__ import annotations
 
@@ -7,7 +7,7 @@ from xml.etree import ElementTree
 
 
 class Result(NamedTuple):
-    """What came of one board: `wrong` is a line, and `told` all that is told of it, where it failed."""
+    """The result of one board. If it failed, `wrong` is a line, and `told` is the whole report."""
 
     name: str
     seconds: float
@@ -16,7 +16,7 @@ class Result(NamedTuple):
 
 
 def printable(text: str) -> str:
-    """Without what XML can't hold."""
+    """The text without characters that XML can't contain."""
     return "".join(each if each in "\n\t" or " " <= each < "\ud800" else "?" for each in text)
 
 

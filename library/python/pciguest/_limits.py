@@ -1,4 +1,4 @@
-"""How large things can be."""
+"""Upper limits."""
 
 from __future__ import annotations
 
@@ -10,9 +10,9 @@ from ._library import CALLS
 
 
 class Limits(NamedTuple):
-    """How large things can be, of any board."""
+    """Upper limits that hold for every board."""
 
-    #: no image of a guest has more bytes
+    #: the size of the largest possible image of a guest, in bytes
     guest_image: int
     #: functions of a board, endpoints and bridges
     functions: int
@@ -22,14 +22,14 @@ class Limits(NamedTuple):
     slots: int
     #: base address registers of an endpoint
     bars: int
-    #: cells of a region, each a byte
+    #: register bytes of a region
     block: int
-    #: cells of a function's own configuration space, 40h to FFh
+    #: register bytes of a function at 40h to FFh in configuration space
     own_cells: int
 
 
 def limits() -> Limits:
-    """How large things can be. No machine is needed.
+    """Returns the upper limits that hold for every board. No machine is needed.
 
     >>> limits().slots
     32

@@ -1,5 +1,6 @@
-"""Random lines for a board: scripts of its guests, and lines of firmware. They are drawn from choices, as boards are.
-Places and values are often those at which something begins or ends, so that accesses land."""
+"""Random lines for a board: scripts of its guests, and firmware lines. Like boards, they are drawn from
+choices. Addresses and values are often those at which something begins or ends, so that accesses reach
+something."""
 
 from __future__ import annotations
 
@@ -13,7 +14,7 @@ REGISTERS = [*range(0, 0x40, 4)]
 PLAIN = [0x0C, 0x0D, 0x3C]  # Cache Line Size, Latency Timer, Interrupt Line: each bit can be written
 INNER = [0, 1, 2, 4, 0xC, 0x3C, 0x40, 0xFC, 0x1000]
 BASES = [0x80000000, 0xC0000000, 0x1000, 0, 0x100, 0xCF8, 0xFFFFFFF0, 0xFFFFF000, 0x10000]
-#: lines that are refused, or that have no reply, with a guest's name or `host` as their first word
+#: lines that are refused or have no reply, with a guest's name or `host` as their first word
 ODD = ["", "# cr 0 0 4", "cr", "cr 0 0", "cr 0 0 4 5", "cr +0 0 4", "mr 0x10000000000000000 4", "ir 0x100000000 4",
        "cw 0 4 2 0x100000000", "raise 0 cfg 7 0x100", "raise 0 bar6 0 1", "cr 0:1.0 0 4", "cr 00:20.0 0 4",
        "cr 00:1f.8 0 4", "mw 0 4", "move a 0 nobody 0", f"cr 0 0 {4:0200}"]
@@ -32,7 +33,7 @@ class Lines:
         return self.choices.number(0, 99) >= 100 - chance
 
     def pick(self, *weighed: object) -> Callable[[], str]:
-        """One of some calls, each with its weight."""
+        """One of some functions, each with its weight."""
         pairs = zip(weighed[::2], weighed[1::2])
         calls = [cast(Callable[[], str], call) for call, weight in pairs for _ in range(cast(int, weight))]
         return self.choices.one_of(calls)
@@ -41,7 +42,7 @@ class Lines:
         return self.choices.one_of([4, 4, 4, 4, 2, 1, 2, 1]) if not self.percent(2) else self.choices.one_of([0, 3, 8])
 
     def offset(self, width: int) -> int:
-        """Mostly of a register, and mostly a multiple of the width."""
+        """An offset, mostly of a register, and mostly a multiple of the width."""
         some = [self.choices.one_of(REGISTERS) + self.choices.number(0, 3), self.choices.number(0, 0x107)]
         return self.aligned(self.choices.one_of([some[0], some[0], some[1]]), width)
 
@@ -52,7 +53,7 @@ class Lines:
         return self.choices.one_of([self.choices.one_of(VALUES), self.choices.number(0, 0xFFFFFFFF)])
 
     def base(self, is_io: bool) -> int:
-        """A base to be written: one of those where something begins, or of another region."""
+        """A value for a base address register: an address at which something begins, or the base of another region."""
         starts = (first for first, _ in apertures(self.document).values())
         known = [*BASES, *self.recent[is_io], *starts]
         base: int = self.choices.one_of(known) + self.choices.one_of([0, 0, 0x1000, 0x100000, 0x20])
@@ -60,13 +61,14 @@ class Lines:
         return base
 
     def place(self, is_io: bool, width: int) -> int:
-        """A port or an address near a base that was written not long ago, and else any."""
+        """A port or an address, mostly near a base that was written recently."""
         near = self.choices.one_of(self.recent[is_io]) + self.choices.one_of(INNER)
         place = near if self.percent(85) else self.choices.one_of(BASES) + self.choices.one_of(INNER)
         return self.aligned(max(0, place - 4) if self.percent(5) else place, width)
 
     def config_access(self, where: str) -> str:
-        """A read or a write of configuration space, in a slot or at a number; often a read of what was written before."""
+        """A read or write of configuration space, in a slot or at a BDF; often a read of something that was
+        written before."""
         if self.written and self.percent(45):
             return self.read_back()
         width = self.width()
@@ -76,18 +78,18 @@ class Lines:
         return f"{self.name} cr {where} {self.offset(width):#x} {width}"
 
     def write(self, where: str, place: str, value: int) -> str:
-        """A write of configuration space, which is kept in mind."""
+        """A write of configuration space, which is remembered."""
         self.written = [*self.written[-7:], (self.name, where, place)]
         return f"{self.name} cw {where} {place} {value:#x}"
 
     def read_back(self) -> str:
-        """A read of what was written not long ago: the same bytes, or the register that has them."""
+        """A read of something that was written recently: the same bytes, or the register that contains them."""
         name, where, place = self.choices.one_of(self.written)
         offset = int(place.split()[0], 0) // 4 * 4
         return f"{name} cr {where} {self.choices.one_of([place, place, f'{offset:#x} 4'])}"
 
     def access(self, is_io: bool) -> str:
-        """A read or a write of a port or of memory."""
+        """A read or write of a port or of memory."""
         width, letter = self.width(), "i" if is_io else "m"
         place = self.place(is_io, width)
         if self.percent(55):
@@ -101,8 +103,8 @@ class Lines:
         return self.access(is_io=True)
 
     def latch(self, places: Sequence[int]) -> str:
-        """A read of CONFIG_ADDRESS; or a write of it and, in a second line, an access of what it selects. A place is a
-        number from bit 8 on."""
+        """A read of CONFIG_ADDRESS; or a write of it and, in a second line, an access to what it selects. A
+        place is a number, from bit 8 on."""
         kind, width = self.choices.number(0, 5), self.choices.one_of([4, 2, 1])
         if kind == 0:
             return f"{self.name} ir 0xcf8 {width}"
@@ -113,7 +115,7 @@ class Lines:
 
 
 class ScriptLines(Lines):
-    """Lines of guests and of the host over a board that is set up."""
+    """Lines of guests and of the host for a board that is set up."""
 
     def __init__(self, choices: Choices, document: Document) -> None:
         super().__init__(choices, document)
@@ -130,12 +132,12 @@ class ScriptLines(Lines):
                          self.use_latch, 12, self.rise, 6, self.host, 4, self.move, 2, self.odd, 1)()
 
     def slot(self) -> int:
-        """Mostly one with a function."""
+        """A slot, mostly one with a function."""
         filled = list(range(len(self.slots[self.name])))
         return self.choices.one_of(filled * 8 + [len(filled), 1, 31, 32])
 
     def region(self, slot: int) -> Optional[Region]:
-        """A region of the function that the board file has in a slot."""
+        """A region of the function that the board file assigns to a slot."""
         slots = self.slots[self.name]
         regions = self.by_path[slots[slot]].regions() if slot < len(slots) else []
         return self.choices.one_of(regions) if regions else None
@@ -181,7 +183,8 @@ class ScriptLines(Lines):
 
 
 class FirmwareLines(Lines):
-    """Lines of firmware over a board at reset. It numbers the buses in path order, and then writes what it likes."""
+    """Firmware lines for a board in its reset state. They number the buses in path order, and then write
+    anything."""
 
     def __init__(self, choices: Choices, document: Document) -> None:
         super().__init__(choices, document)
@@ -196,7 +199,7 @@ class FirmwareLines(Lines):
         return f"{self.bus[self.above[function.at]]:02x}:{device:02x}.{part}"
 
     def numbering(self) -> List[str]:
-        """The lines that give each bridge its numbers."""
+        """The lines that assign each bridge its bus numbers."""
         found = []
         for bridge in (one for one in self.functions if one.is_bridge):
             last = max(number for at, number in self.bus.items() if f"{at}/".startswith(f"{bridge.at}/"))
@@ -219,11 +222,11 @@ class FirmwareLines(Lines):
         return self.write_here("4 2", self.choices.one_of([3, 3, 3, 2, 1, 0, 0x547]))
 
     def write_here(self, place: str, value: int) -> str:
-        """A write of the function of this line."""
+        """A write to the function of this line."""
         return self.write(self.number(self.function), place, value)
 
     def write_base(self) -> str:
-        """A base address register, or base and limit of a window: one or some units from the base on."""
+        """A base address register, or the base and limit of a window, which is one or more units long."""
         if not self.function.is_bridge:
             bars = self.function.regions()
             region = self.choices.one_of(bars) if bars else None
@@ -254,12 +257,12 @@ class FirmwareLines(Lines):
 
 
 def draw_script(choices: Choices, document: Document, most: int) -> List[str]:
-    """Lines of a script for a board."""
+    """Script lines for a board."""
     lines = ScriptLines(choices, document)
     return [line for _ in range(choices.number(0, most)) for line in lines.line().split("\n")]
 
 
 def draw_firmware(choices: Choices, document: Document, most: int) -> List[str]:
-    """Lines of firmware for a board."""
+    """Firmware lines for a board."""
     lines = FirmwareLines(choices, document)
     return lines.numbering() + [line for _ in range(choices.number(0, most)) for line in lines.line().split("\n")]

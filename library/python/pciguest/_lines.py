@@ -1,5 +1,5 @@
-"""What lines ask for: accesses of guests, and questions of a session. The library judges lines; what is read here of one
-counts only where its reply says that it was done."""
+"""What lines ask for: guest accesses, and queries of a session. The library decides whether a line is valid, so
+the results here count only if its reply says that the line was executed."""
 
 from __future__ import annotations
 
@@ -16,7 +16,7 @@ QUESTIONS = [name[len("board_") : -len("_json")] for name in DECLARED if re.full
 
 
 class Access(NamedTuple):
-    """An access of a guest, as the library takes it."""
+    """An access of a guest, in the form that the library accepts."""
 
     guest: int
     space: int
@@ -26,14 +26,14 @@ class Access(NamedTuple):
 
 
 class AskedFor(NamedTuple):
-    """What a line asks for: an access, and the value that a write has."""
+    """What a line asks for: an access, and for a write its value."""
 
     access: Access
     value: Optional[int]
 
 
 def number_of(word: bytes) -> Optional[int]:
-    """The number that a word of a line is, below 2**64, or None."""
+    """The number in a word of a line, if it is one below 2**64, otherwise None."""
     if re.fullmatch(rb"[0-9]+", word):
         value = int(word)
     elif re.fullmatch(rb"0[xX][0-9a-fA-F]+", word):
@@ -44,7 +44,7 @@ def number_of(word: bytes) -> Optional[int]:
 
 
 def is_question(line: str) -> bool:
-    """Whether a line asks of the registers of a board that firmware drives."""
+    """Whether a line is a query on the registers of a board that firmware drives."""
     words = line.split()
     return words[:1] == ["host"] and len(words) > 1 and words[1] in QUESTIONS
 

@@ -1,4 +1,4 @@
-"""A board that is set up, with its guests."""
+"""A board that was set up, with its guests."""
 
 from __future__ import annotations
 
@@ -22,14 +22,16 @@ from ._texts import NAME, explained
 
 
 class Machine(Attaching):
-    """A board that is set up, with its guests.
+    """A board that was set up, with its guests.
 
-    `Machine.load("board.toml")` sets up the board of a board file, and gives its functions to the guests of the file;
-    `Machine(text)` does so with a file's text. It is refused by the first check that the file or its board fails, as a
-    `BoardRefusal`, which tells all that `check` says, or by 199 or 299 where memory is out.
+    `Machine.load("board.toml")` sets up the board of a board file, and assigns its functions to the guests in
+    the file. `Machine(text)` does so for the text of a file. If the file or its board is refused, this raises a
+    `BoardRefusal` with the number of the first check that fails and everything that `check` reports, or a
+    `Refusal` with 199 or 299 if memory runs out.
 
-    What it holds is freed by `close`, at the end of `with`, or when nothing refers to the machine. Then each call is
-    refused by 901. Several threads may use one machine: one call is made at a time.
+    The memory is freed by `close`, at the end of `with`, or when nothing refers to the machine any more. After
+    that, each call is refused with 901. Several threads may use one machine: their calls run one after the
+    other.
     """
 
     def __init__(self, board: Union[str, bytes], name: str = NAME) -> None:
@@ -39,26 +41,28 @@ class Machine(Attaching):
 
     @classmethod
     def load(cls, path: Union[str, os.PathLike[str]]) -> Machine:
-        """The machine of the board file at a path. What a refusal tells names the file so."""
+        """Returns the machine of the board file at a path. If the file is refused, the messages contain this
+        path."""
         return cls(Path(path).read_bytes(), os.fspath(path))
 
     @classmethod
     def _made_by(cls, make: Callable[[Any], int]) -> Machine:
-        """The machine that a call leaves in a struct that holds none."""
+        """Returns the machine that a call stores in an empty struct."""
         machine = cls.__new__(cls)
         machine._devices = []
         Held.__init__(machine, Handle(), "free", make)
         return machine
 
     def guest(self, name: str) -> Guest:
-        """The guest of a name. 902: no guest has this name."""
+        """Returns the guest with this name. 902: there is no such guest."""
         text = as_bytes(name)
         return Guest(self, name, self._number(c_size_t, "guest", text, len(text)))
 
     def guests(self) -> List[str]:
-        """The names of all guests, in the order of the board file: the one at an index is that of `Guest.index`.
+        """Returns the names of all guests, in the order of the board file. `Guest.index` is an index in this
+        order.
 
-        `[machine.guest(name) for name in machine.guests()]` are the guests.
+        `[machine.guest(name) for name in machine.guests()]` is a list of the guests.
         """
         with self._lock:
             return [self._name(index) for index in range(self._number(c_size_t, "guest_count"))]
@@ -67,21 +71,22 @@ class Machine(Attaching):
         return Guest(self, self._name(index), index)
 
     def _name(self, guest: int) -> str:
-        """The name of the guest at an index, which is there."""
+        """The name of the guest at an index. There must be one."""
         answer, name = told(GUEST_NAME, lambda *room: CALLS["guest_name"](byref(self._handle), guest, *room))
         answered(answer)
         return name
 
     @property
     def host(self) -> Host:
-        """The host, which reads what the board shows at physical numbers, ports and addresses."""
+        """The host, which reads the board at its physical BDFs, ports and addresses."""
         return Host(self)
 
     def move(self, source: Guest, slot: int, target: Guest, target_slot: int) -> None:
-        """Moves the function in a slot of a guest to a slot of another, or of the same. Nothing is carried over: the
-        function is then at reset.
+        """Moves the function in a guest's slot to another slot, of the same guest or another. Nothing carries
+        over: the function is reset.
 
-        303: a slot is above 31. 601: the slot that it leaves is empty. 602: the slot that it comes to is taken.
+        303: a slot is above 31. 601: the slot that the function leaves is empty. 602: the other slot isn't
+        empty.
         """
         self._check(source, target)
         slots = number("slot", slot, 64), number("target_slot", target_slot, 64)
@@ -90,12 +95,12 @@ class Machine(Attaching):
             self._tell_moved()
 
     def give(self, path: str, guest: Guest, slot: int) -> None:
-        """Gives the function at a path, which no guest has, to a guest, into an empty slot: there and on the board it is
-        then at reset, on the board but for what guests have copies of. The path is a text, as board files and
-        `Function.path` have it.
+        """Assigns the function at a path, which no guest has, to an empty slot of a guest. The function is
+        reset, except for those of the board's registers of which guests have copies. The path is a text, as
+        in board files and in `Function.path`.
 
-        303: the slot is above 31, or no endpoint stands at the path. 602: a guest has the function, or the slot is
-        taken. 206: one of its regions is closed.
+        303: the slot is above 31, or there is no endpoint at this path. 602: a guest has the function, or the
+        slot isn't empty. 206: one of its regions is disabled.
         """
         self._check(guest)
         text = as_bytes(path)
@@ -104,8 +109,9 @@ class Machine(Attaching):
             self._tell_moved()
 
     def take(self, guest: Guest, slot: int) -> None:
-        """Takes the function in a slot of a guest from it: the slot is then empty, and no guest has the function, which is
-        at reset on the board, but for what guests have copies of.
+        """Takes the function in a guest's slot from the guest. The slot is then empty, and no guest has the
+        function. The function is reset, except for those of the board's registers of which guests have
+        copies.
 
         303: the slot is above 31. 601: the slot is empty.
         """
@@ -115,27 +121,26 @@ class Machine(Attaching):
             self._tell_moved()
 
     def count(self) -> int:
-        """How many functions the board has, endpoints and bridges."""
+        """Returns how many functions the board has, endpoints and bridges."""
         return self._number(c_size_t, "count")
 
     def function(self, index: int) -> Function:
-        """The function at an index, from 0 on, in the order of paths. It changes nothing. 902: there is no such
-        function."""
+        """Returns the function at an index, in path order. Changes nothing. 902: there is no such function."""
         told = FunctionTold()
         self._call("function", number("index", index, 64), byref(told))
         return function_of(told)
 
     def functions(self) -> Iterator[Function]:
-        """All functions of the board, in the order of paths, each as it is when it is asked for.
+        """Yields all functions of the board, in path order. Each is described at the time when it is reached.
 
-        `[function.path for function in machine.functions()]` are their paths.
+        `[function.path for function in machine.functions()]` is a list of their paths.
         """
         return (self.function(index) for index in range(self.count()))
 
     def run_line(self, line: Union[str, bytes]) -> Optional[str]:
-        """Runs one line of a script, with its line feed or without; a line feed elsewhere makes it a bad line. The
-        reply stands without its line feed, and a blank line or a comment has none. A line that is refused is answered
-        by its reply: 'a: refused 301 misaligned'."""
+        """Runs one line of a script, and returns the reply without its line feed; a blank line or a comment has
+        no reply. The line may end with a line feed; a line feed anywhere else makes it a bad line. If a line
+        is refused, the reply says so: 'a: refused 301 misaligned'."""
         with self._lock:
             found = access_of(as_bytes(line), self._index_of) if self._devices else None
             touched = self._touch(found.access, found.value) if found and found.value is not None else []
@@ -160,7 +165,7 @@ class Machine(Attaching):
         return self._told("explain_line", 128, text, len(text), byref(c_size_t())) or None
 
     def _index_of(self, name: bytes) -> Optional[int]:
-        """The index of the guest of a name, if there is one."""
+        """The index of the guest with this name, if there is one."""
         try:
             return self._number(c_size_t, "guest", name, len(name))
         except Refusal:
@@ -168,7 +173,7 @@ class Machine(Attaching):
 
 
 class _Slots:
-    """Configuration space by slot: slots[0] is that of the function in slot 0. One can go through all 32."""
+    """Configuration space by slot: slots[0] is that of the function in slot 0. Iterates over all 32 slots."""
 
     def __init__(self, guest: Guest) -> None:
         self._guest = guest
@@ -181,8 +186,8 @@ class _Slots:
 
 
 class Guest(Saved, DeviceSide):
-    """A guest of a machine. What it reads is what its own functions answer, and all ones where nothing of the guest's
-    answers; what it writes, no other guest can tell. A read changes nothing.
+    """A guest of a machine. It reads what its own functions return, or all ones if none of them responds. No
+    other guest can notice what it writes. A read changes nothing.
 
     `config[slot][offset:width]`, `io[port:width]` and `memory[address:width]` are its accesses.
     """
@@ -190,7 +195,7 @@ class Guest(Saved, DeviceSide):
     def __init__(self, machine: Machine, name: str, index: int) -> None:
         self.machine = machine
         self.name = name
-        #: guests stand in the order of the board file, from 0 on
+        #: the position of the guest in the board file, from 0
         self.index = index
         # where its regions stood when `moved` told of them last
         self._places = (PlaceTold * PLACES)()
@@ -214,12 +219,14 @@ class Guest(Saved, DeviceSide):
         return self._space(MEMORY, 0)
 
     def region_read(self, slot: int, register: int, offset: int, width: int = 1) -> int:
-        """1 to 8 bytes of the region that begins at a base address register, 0 to 5, of the function in a slot, read as this
-        guest does, but told by the offset and not by the address: as whoever mapped the region hands an access on. While
-        Command closes the region it is all ones; where two regions of the guest stand at one address, each is reached.
+        """Reads 1 to 8 bytes of the region that begins at a base address register, 0 to 5, of the function in a
+        slot. The access is one by this guest, but the bytes are identified by their offset in the region
+        instead of an address. This suits a hypervisor that maps each region separately. While Command
+        disables the region, the value is all ones. Even if two regions of the guest are at the same address,
+        this call can read either of them.
 
-        302: the width is not 1 to 8. 303: the slot is above 31, no region begins at this register, or one of the bytes is
-        past the region. 601: the slot is empty. 902: the register is above 5.
+        302: the width isn't 1 to 8. 303: the slot is above 31, no region begins at this register, or a byte is
+        past the end of the region. 601: the slot is empty. 902: the register is above 5.
         """
         place = *self._byte(slot, offset, register), number("width", width, 32)
         with self.machine._lock:
@@ -229,9 +236,9 @@ class Guest(Saved, DeviceSide):
         return value
 
     def region_write(self, slot: int, register: int, offset: int, value: int, width: int = 1) -> None:
-        """Writes such bytes: each takes what a guest may change of it, and a closed region drops them. Refused as a read
-        is; then nothing is written. A value that has more bits than the bytes is a ValueError.
-        """
+        """Writes bytes that `region_read` reads. Only bits that the guest can write change, and a disabled
+        region drops the write. Refused as a read is; then nothing is written. ValueError: the value doesn't
+        fit into the bytes."""
         place = *self._byte(slot, offset, register), number("width", width, 32)
         bits = number("value", value, 8 * min(max(width, 1), 8))
         with self.machine._lock:
@@ -239,13 +246,14 @@ class Guest(Saved, DeviceSide):
             self.machine._tell_written(self._region_touch(*place, bits))
 
     def _region_touch(self, slot: int, register: int, offset: int, width: int, value: int = 0) -> List[Touch]:
-        """What an access of a region that isn't refused touches of a device, if the region is open and one is there."""
+        """The part of a device that an access to a region reaches, if the region is enabled and has a device.
+        The access must not be one that is refused."""
         device = self.machine._device_at((self.index, slot))
         is_reached = device is not None and self.region(slot, register).is_open
         return [Touch(device, register, offset, width, value)] if device and is_reached else []
 
     def reset(self, slot: int) -> None:
-        """Resets the function in a slot, where it is: nothing is carried over, as in a move.
+        """Resets the function in a slot without moving it. As in a move, nothing carries over.
 
         303: the slot is above 31. 601: the slot is empty.
         """
@@ -254,7 +262,8 @@ class Guest(Saved, DeviceSide):
             self.machine._tell(lambda seat: seat == (self.index, slot), lambda device: device.on_reset())
 
     def save_state(self, slot: int) -> bytes:
-        """What the `Device` behind the function in a slot keeps beside its registers, which are in an image.
+        """Returns the state that the `Device` behind the function in a slot keeps outside its registers. An
+        image contains only the registers.
 
         902: the function has no device. 303: the slot is above 31. 601: the slot is empty.
         """
@@ -262,15 +271,15 @@ class Guest(Saved, DeviceSide):
             return self.machine._device_behind(self, slot).save_state()
 
     def load_state(self, slot: int, state: bytes) -> None:
-        """Lets the device keep what was saved so, once the image is loaded. Refused as `save_state`; ValueError: the device
-        takes the bytes for no state of its own."""
+        """Restores a state that `save_state` returned, after the image was loaded. Refused as `save_state` is.
+        ValueError: the device doesn't accept the bytes as its state."""
         with self.machine._lock:
             self.machine._device_behind(self, slot).load_state(state)
 
     def region(self, slot: int, register: int) -> Region:
-        """Where the region that begins at a base address register, 0 to 5, of the function in a slot stands now, in the
-        guest's own view. The answer stays until the guest writes Command or a base address register of this function,
-        or it is moved, reset or taken. It changes nothing.
+        """Returns where the region that begins at a base address register, 0 to 5, of the function in a slot is
+        now, as the guest sees it. The result stays valid until the guest writes Command or a base address
+        register of this function, or the function is moved, reset, loaded or taken. Changes nothing.
 
         303: the slot is above 31, or no region begins at this register. 601: the slot is empty.
         """
@@ -282,25 +291,24 @@ class Guest(Saved, DeviceSide):
         return region
 
     def changed(self) -> int:
-        """A count that grows with each access of this guest, move, reset, gift, taking or load that touches one of its slots
-        so that an answer of `region` may be another one. While it stays, each of these answers stays; nothing
-        else makes it grow. It is 0 in a machine that was made just now, and goes on from 0 after 2**64 - 1. It changes
-        nothing.
-        """
+        """Returns a count that increases when an access of this guest, a move, a reset, a give, a take or a
+        load may have changed a result of `region`. As long as the count is the same, each of these results
+        is valid; nothing else increases it. The count is 0 in a new machine, and continues with 0 after
+        2**64 - 1. Changes nothing."""
         return self.machine._number(c_uint64, "changed", self.index)
 
     def moved(self) -> List[Moved]:
-        """The regions of this guest that stand elsewhere, or are open or closed otherwise, than when this `Guest` was asked
-        last; at first, all that are there. A region that is written to where it stood, as at the end of sizing, has not
-        moved. A hypervisor asks once `changed` tells another count. It changes nothing of the machine.
-        """
+        """Returns the regions of this guest that moved, or were enabled or disabled, since the previous call on
+        this `Guest`; the first call returns all regions. A region whose base was written but is the same
+        again, as after sizing, hasn't moved. A hypervisor makes this call when the count of `changed` is a
+        new one. Changes nothing in the machine."""
         count = c_size_t()
         self.machine._call("moved", self.index, self._places, PLACES, byref(count))
         rows = ((nth, row) for nth, row in enumerate(self._places) if row.has_moved) if count.value else ()
         return [Moved(nth // BARS, nth % BARS, region_of(row.before), region_of(row.now)) for nth, row in rows]
 
     def function(self, slot: int) -> Function:
-        """The function in a slot, as the board's own registers have it. It changes nothing.
+        """Returns the function in a slot, according to the board's own registers. Changes nothing.
 
         303: the slot is above 31. 601: the slot is empty.
         """
@@ -309,26 +317,26 @@ class Guest(Saved, DeviceSide):
         return function_of(told)
 
     def locate(self, space: str, place: int) -> Optional[Hit]:
-        """What an access of the guest at a port ("io") or at an address ("memory") hits: a byte of a function in one of
-        its slots, or nothing. Every access there begins at this byte, but for four bytes at port CF8h, which are the
-        guest's own CONFIG_ADDRESS. It changes nothing. 303: the port is out of range.
-        """
+        """Returns what a guest's access to a port ("io") or an address ("memory") reaches: a byte of a function
+        in one of its slots, or nothing. Every access to this address begins at this byte. The only exception
+        are 4 bytes at port CF8h, which are the guest's CONFIG_ADDRESS. Changes nothing. 303: the port is out
+        of range."""
         if space not in ("io", "memory"):
-            raise ValueError(f"space: {space!r} is neither 'io' nor 'memory'")
+            raise ValueError(f"space: {space!r} isn't 'io' or 'memory'")
         return self.machine._locate(self.index, IO if space == "io" else MEMORY, number("place", place, 64))
 
     def why(self, space: str, place: int, slot: int = 0) -> str:
-        """Why an access of the guest at a port ("io"), at an address ("memory") or at an offset of a slot ("config") finds
-        what it finds, a line for each thing: at port CF8h, and at CFCh to CFFh, what the guest's CONFIG_ADDRESS makes of it;
-        then what answers, or that nobody does, that the slot is empty or that CONFIG_ADDRESS selects no slot; and where
-        nobody answers, each region of the guest's functions that holds the address and whose space Command doesn't open. It
-        tells of the guest's own functions and CONFIG_ADDRESS alone. It changes nothing. 303: the slot, the offset or the
-        port is out of range. 299: out of memory.
-        """
+        """Explains what a guest's access to a port ("io"), to an address ("memory") or to an offset of a slot
+        ("config") reaches, and why. For ports CF8h and CFCh to CFFh, the first line says what CONFIG_ADDRESS
+        selects. The next line says what responds, or that nothing does, that the slot is empty, or that
+        CONFIG_ADDRESS selects no slot. If nothing responds, there is a line for each region of the guest's
+        functions that contains the address, but whose space Command doesn't enable. The answer depends only
+        on the guest's own functions and CONFIG_ADDRESS. Changes nothing. 303: the slot, the offset or the
+        port is out of range. 299: memory runs out."""
         return self._told_why("why", space, place, slot)
 
     def why_json(self, space: str, place: int, slot: int = 0) -> str:
-        """Why it does as a JSON object on one line, with all that the lines tell.
+        """Returns the same explanation as a JSON object on one line.
 
         >>> import json
         >>> json.loads(Machine(BOARD).guest("a").why_json("config", 0, 5))["found"]
@@ -345,7 +353,7 @@ class Guest(Saved, DeviceSide):
 
 
 class _GuestSpace(Space):
-    """A space of a guest, whose devices are told of accesses."""
+    """A space of a guest. Accesses to it notify the guest's devices."""
 
     def __init__(self, guest: Guest, space: int, slot: int) -> None:
         super().__init__(space, self._cycle_reads, self._cycle_writes)
@@ -379,10 +387,10 @@ class _GuestSpace(Space):
 
 
 class Host:
-    """Reads what the board shows at a physical number, port or address. It changes nothing, and writes nothing.
+    """Reads the board at physical BDFs, ports and addresses. It changes nothing.
 
-    `config[bus, device, function][offset:width]`, `io[port:width]` and `memory[address:width]` are its accesses; 902: a
-    device above 31, or a function above 7.
+    `config[bus, device, function][offset:width]`, `io[port:width]` and `memory[address:width]` are its
+    accesses. 902: the device is above 31, or the function is above 7.
     """
 
     def __init__(self, machine: Machine) -> None:
@@ -390,7 +398,7 @@ class Host:
 
     @property
     def config(self) -> Functions[ReadableSpace]:
-        """Configuration space by number: `config[0, 2, 0][0:4]` is 4 bytes at offset 0 of 00:02.0."""
+        """Configuration space by BDF: `config[0, 2, 0][0:4]` is 4 bytes at offset 0 of 00:02.0."""
         return Functions(lambda *at: self._space(CONFIG, *at))
 
     @property

@@ -1,5 +1,5 @@
-"""The registers of configuration space by name, as a prompt takes them: offset and width of each. The page, the tests and
-tools/from_lspci.py take them from here too."""
+"""The names of registers in configuration space, as the prompt accepts them, with the offset and width of each.
+The page, the tests and tools/from_lspci.py use them, too."""
 
 from __future__ import annotations
 

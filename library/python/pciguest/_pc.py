@@ -1,6 +1,7 @@
 """A PC on which firmware runs unmodified: a processor (the Unicorn engine), memory, the chipset, and a board.
 
-Whatever port the chipset doesn't have, and whatever address is no memory below 4 GB, is the board's."""
+Ports that the chipset doesn't have belong to the board, and so do addresses below 4 GB that aren't memory.
+"""
 
 from __future__ import annotations
 
@@ -26,7 +27,7 @@ class BootError(Exception):
 
 
 class TooWide(BootError):
-    """The firmware asks for what the processor doesn't have."""
+    """The firmware needs something that the processor doesn't have."""
 
 
 class NotDone(BootError):
@@ -34,11 +35,11 @@ class NotDone(BootError):
 
 
 class Halted(BootError):
-    """The processor waits for nothing."""
+    """The processor halted with interrupts disabled."""
 
 
 class Board(Protocol):
-    """What a PC needs of a board."""
+    """The calls of a board that a PC makes."""
 
     def port_read(self, port: int, width: int) -> int: ...
     def port_write(self, port: int, width: int, value: int) -> None: ...
@@ -47,7 +48,8 @@ class Board(Protocol):
 
 
 def guarded(call: Callable[..., Any]) -> Callable[..., Any]:
-    """A call by the engine, which must not see errors: one of the board is kept, and ends the run."""
+    """Wraps a function that the engine calls, because the engine must not see exceptions: a BoardError is
+    stored, and ends the run."""
     def guard(pc: PC, engine: Any, *words: Any) -> Any:
         try:
             return call(pc, *words)
@@ -59,7 +61,8 @@ def guarded(call: Callable[..., Any]) -> Callable[..., Any]:
 
 
 class PC:
-    """`told` is what the firmware wrote to its console. `plain` is a processor without time stamps and APIC."""
+    """`told` is what the firmware wrote to its console. `plain` selects a processor without a time stamp
+    counter and without an APIC."""
 
     def __init__(self, board: Board, rom: bytes, plain: bool) -> None:
         self.board, self.told = board, ""
@@ -80,7 +83,8 @@ class PC:
         hook(unicorn.UC_HOOK_MEM_WRITE_PROT, lambda *_: True)  # writes to the ROM are dropped
 
     def map_memory(self, rom: bytes) -> None:
-        """Memory, the ROM at the top of 4 GB with a copy of its end below 1 MB, and the board in the holes."""
+        """Maps memory, the ROM at the top of 4 GB with a copy of its end below 1 MB, and the board everywhere
+        else."""
         engine, copy = self.engine, rom[-0x40000:]
         engine.mem_map(0, 0xA0000, unicorn.UC_PROT_ALL)
         engine.mem_map(0xC0000, RAM - 0xC0000, unicorn.UC_PROT_ALL)
@@ -93,7 +97,8 @@ class PC:
             engine.mmio_map(start, end - start, self.memory_read, start, self.memory_write, start)
 
     def tell(self, value: int) -> None:
-        """A byte for the console: the run ends with an ending, and a prompt is answered once."""
+        """Writes a byte to the console. The run ends if the console ends with one of the endings; each prompt
+        is answered once."""
         self.told += chr(value)
         last = self.told[-80:]
         for prompt in [prompt for prompt in self.prompts if last.endswith(prompt)]:
@@ -128,7 +133,7 @@ class PC:
         parted(lambda at, size, part: self.board.memory_write(at, size, part), start + offset, width, value)
 
     def identify(self, engine: Any, _data: Any) -> int:
-        """CPUID of a processor that has a floating-point unit and conditional moves, and says no more."""
+        """CPUID of a processor that has only a floating-point unit and conditional moves."""
         leaf = engine.reg_read(x86.UC_X86_REG_EAX)
         words = {0: (1, 0x756E6547, 0x6C65746E, 0x49656E69), 1: (0x633, 0, 0, 0x8001)}.get(leaf, (0, 0, 0, 0))
         for register, word in zip((x86.UC_X86_REG_EAX, x86.UC_X86_REG_EBX, x86.UC_X86_REG_ECX, x86.UC_X86_REG_EDX),
@@ -141,7 +146,7 @@ class PC:
         engine.emu_stop()
 
     def enter_interrupt(self, vector: int) -> None:
-        """Goes to the handler of a vector as a processor in real mode does."""
+        """Enters the handler of a vector, as a processor in real mode does."""
         engine, read, write = self.engine, self.engine.reg_read, self.engine.reg_write
         flags, stack = read(x86.UC_X86_REG_EFLAGS), read(x86.UC_X86_REG_SP) - 6 & 0xFFFF
         frame = struct.pack("<3H", read(x86.UC_X86_REG_EIP) & 0xFFFF, read(x86.UC_X86_REG_CS), flags & 0xFFFF)
@@ -156,13 +161,14 @@ class PC:
         return f"{self.engine.reg_read(x86.UC_X86_REG_CS):x}:{self.engine.reg_read(x86.UC_X86_REG_EIP):x}"
 
     def check_mode(self) -> None:
-        """The processor has 32 bits, and goes wrong where 64-bit mode is turned on: by pages of physical addresses of more
-        than 32 bits."""
+        """Raises an error if the firmware turns on 64-bit mode, because the processor is 32-bit: its page
+        tables would have physical addresses of more than 32 bits."""
         if self.engine.reg_read(x86.UC_X86_REG_CR4) & WIDE_PAGES:
             raise TooWide("asks for 64-bit mode, which this PC doesn't have")
 
     def resume(self) -> None:
-        """After a stop: an interrupt that was asked for, or time that passes while the processor halts."""
+        """Continues after a stop: with an interrupt that was requested, or with time that passes while the
+        processor is halted."""
         if self.interrupt is not None:
             self.check_mode()
         if self.engine.reg_read(x86.UC_X86_REG_CR0) & 1:
@@ -179,7 +185,7 @@ class PC:
                 self.enter_interrupt(vector)
 
     def boot(self, *endings: str, patience: float = PATIENCE) -> None:
-        """Runs from reset until the console has told one of the endings."""
+        """Runs from reset until the console has printed one of the endings."""
         self.endings = endings
         engine, deadline = self.engine, time.monotonic() + patience
         engine.reg_write(x86.UC_X86_REG_CS, 0xF000)
@@ -204,7 +210,7 @@ class PC:
 
 
 def pieces(place: int, width: int) -> List[Tuple[int, int, int]]:
-    """The accesses of at most 4 bytes that an access is made of: aligned ones, or else bytes."""
+    """The accesses of at most 4 bytes into which an access is split: aligned ones, or else single bytes."""
     size = 1 if place % min(width, 4) else min(width, 4)
     return [(place + done, size, 8 * done) for done in range(0, width, size)]
 

@@ -1,4 +1,4 @@
-"""Places as a prompt takes them, `a.bar0[8:4]` or `2.0.command`, and the lines of a script that they stand for."""
+"""Places such as `a.bar0[8:4]` or `2.0.command`, which the prompt accepts, and the script lines for them."""
 
 from __future__ import annotations
 
@@ -19,7 +19,7 @@ _PLACE = re.compile(
 
 
 class WrongPlace(Exception):
-    """Why a text is no place."""
+    """Why a text isn't a place."""
 
 
 class Line(NamedTuple):
@@ -35,10 +35,10 @@ def is_place(text: str) -> bool:
 
 
 def line_of(text: str, machine: Machine) -> Line:
-    """The line that a place stands for: a read, or a write where a value stands behind it."""
+    """The line for a place: a write if a value follows, otherwise a read."""
     found = _PLACE.fullmatch(text.strip())
     if found is None:
-        raise WrongPlace("write a guest or a path, and then a register or a part, as a.command or a.bar0[8:4]")
+        raise WrongPlace("write a guest or a path, and then a register or a part, as in a.command or a.bar0[8:4]")
     return _Place(found, machine).line()
 
 
@@ -47,11 +47,11 @@ def function_at(path: str, machine: Machine) -> Function:
     for each in machine.functions():
         if each.path == path:
             return each
-    raise WrongPlace(f"no function at {path}: tree tells which there are")
+    raise WrongPlace(f"no function at {path}: 'tree' lists the functions")
 
 
 class _Place:
-    """The parts of a place over a machine."""
+    """The parts of a place, for a machine."""
 
     def __init__(self, found: "re.Match[str]", machine: Machine) -> None:
         self.who, self.slot, self.part = found["who"], int(found["slot"] or 0), found["part"]
@@ -80,7 +80,7 @@ class _Place:
         if self.value is None:
             return Line(f"{self.who} {letter}r {where}", note)
         if self.who == "host":
-            raise WrongPlace("the host only reads: a guest writes, as a.command = 2")
+            raise WrongPlace("the host only reads; write as a guest, as in a.command = 2")
         return Line(f"{self.who} {letter}w {where} {self.value}", note)
 
     def _spaces(self) -> Optional[Line]:
@@ -88,11 +88,11 @@ class _Place:
         return None if letter is None else self._line(letter, self._bytes())
 
     def _inside(self, first: int) -> str:
-        """A place in a region, as an address."""
+        """The address of a place in a region."""
         self._bytes()
         offset = number_of(self.place.strip().encode())
         if offset is None:
-            raise WrongPlace(f"'{self.place}' is no number")
+            raise WrongPlace(f"'{self.place}' isn't a number")
         return f"{first + offset:#x} {self.width.strip()}"
 
     def _of_guest(self) -> Line:

@@ -1,4 +1,4 @@
-"""A prompt over a machine: lines of a script, and shorter words for what one asks most."""
+"""A prompt for a machine, which accepts script lines and short commands."""
 
 from __future__ import annotations
 
@@ -13,22 +13,23 @@ from ._places import PATH, WrongPlace, function_at, is_place, line_of
 from ._refusal import Refusal, strerror
 
 HELP = """\
-A line of a script does what it does in a run: a cr 0 0 4, host move a 0 b 1.
-A place reads or writes, and shows its line: a.bar0[8:4], a.command = 2, a.1.bar0[0:2], a.cfg[0x40:1], a.io[0xcf8:4],
-a.mem[0x80000000:4] as a guest; 2.0.command, 2.0/1.0.bar0[0:4], host.mem[0xc0000000:4] as the board has it.
-  tree           all functions of the board, with their numbers and who has them
-  regs PATH      the registers of a function, as the board has them; regs a or regs a.1 as a guest is told of its slot
-  slots          what each guest has, and where its regions stand in its own view
-  why a mem 0x80000000      why a guest's access finds what it finds, or nobody; so why a io 0xcfc, why a cfg 1 0x10
-  undo           takes back the last line that may have changed something
-  quit           ends, as the end of input does"""
+Script lines work as in a script: a cr 0 0 4, host move a 0 b 1.
+A place reads or writes, and shows the equivalent line. As a guest: a.bar0[8:4], a.command = 2, a.1.bar0[0:2],
+a.cfg[0x40:1], a.io[0xcf8:4], a.mem[0x80000000:4]. On the board: 2.0.command, 2.0/1.0.bar0[0:4], host.mem[0xc0000000:4].
+  tree           shows all functions of the board, with their BDFs and guests
+  regs PATH      shows the registers of a function on the board; regs a or regs a.1: as the guest sees them in its slot
+  slots          shows the functions of each guest, and where their regions are for the guest
+  why a mem 0x80000000      explains where a guest's access leads; also why a io 0xcfc and why a cfg 1 0x10
+  undo           undoes the last line that may have changed something
+  quit           ends the prompt, like the end of input"""
 
-# the space that a word means, and how many numbers stand behind it
+# the space that a word means, and how many numbers follow it
 SPACES: Dict[str, Tuple[str, int]] = {"cfg": ("config", 2), "io": ("io", 1), "mem": ("memory", 1)}
 
 
 class Prompt:
-    """A machine of a board file, and in `done` the lines since that may have changed something."""
+    """The machine of a board file. `done` contains the lines that ran since then and may have changed
+    something."""
 
     def __init__(self, board: bytes, name: str, write: Callable[[str], None]) -> None:
         self._board, self._name, self._write = board, name, write
@@ -45,7 +46,7 @@ class Prompt:
         }
 
     def run(self, text: str) -> bool:
-        """Does what a line asks. False: it is the last one."""
+        """Runs a line. Returns False for the last one."""
         words = text.split()
         own = "" if self._is_of_a_guest(words) else "".join(words[:1])
         if own == "quit":
@@ -66,16 +67,16 @@ class Prompt:
         return True
 
     def _is_of_a_guest(self, words: List[str]) -> bool:
-        """Whether words that begin as one of the prompt's do are a line of a guest that is called so."""
+        """Whether words that begin like a command of the prompt are a line of a guest with this name."""
         return len(words) > 1 and words[0] in self.guests and words[1] in self._commands(words[0])
 
     def _commands(self, begun: str) -> List[str]:
-        """The commands that may come next in a line of a guest or the host, as the library lists them."""
+        """The commands that may come next in a line of a guest or the host, according to the library."""
         listed = re.fullmatch(r"missing command \(expected (.*)\)", self.machine.explain_line(begun) or "")
         return re.split(", | or ", listed[1]) if listed else []
 
     def words(self, before: str, word: str) -> List[str]:
-        """The words that may stand after what stands before on a line, and begin so."""
+        """The completions of a word, given the text before it on the line."""
         return sorted(each for each in self._offers(before.split(), word) if each.startswith(word))
 
     def _run_line(self, text: str) -> None:
@@ -90,7 +91,7 @@ class Prompt:
             self.done.append(text)
 
     def _undo(self) -> None:
-        """Makes the machine again, and runs the lines in `done` except the last."""
+        """Recreates the machine, and runs the lines in `done` except the last."""
         if not self.done:
             self._write("  nothing was changed")
             return
@@ -137,7 +138,7 @@ class Prompt:
             name, _, slot = who.partition(".")
             space, names = self.machine.guest(name).config[int(slot or 0)], ENDPOINT
         else:
-            raise WrongPlace("write the path of a function, or a guest, as regs 2.0 or regs a.1")
+            raise WrongPlace("write the path of a function, or a guest, as in regs 2.0 or regs a.1")
         for name, (offset, width) in sorted(names.items(), key=lambda row: row[1]):
             self._write(f"{offset:02x} {name:17} {space[offset:width]:#0{2 + 2 * width}x}")
 
@@ -146,7 +147,7 @@ class Prompt:
         found = [number_of(word.encode(errors="surrogateescape")) for word in words[2:]]
         numbers = [value for value in found if value is not None]
         if not numbers or not len(found) == len(numbers) == count:
-            raise WrongPlace("write a guest and a place, as why a mem 0x80000000, why a io 0xcfc or why a cfg 1 0x10")
+            raise WrongPlace("write a guest and a place, as in why a mem 0x80000000, why a io 0xcfc or why a cfg 1 0x10")
         text = self.machine.guest(words[0]).why(space, numbers[-1], numbers[0] if count == 2 else 0)
         self._tell(iter(text.splitlines()))
 

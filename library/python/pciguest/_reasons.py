@@ -1,4 +1,5 @@
-"""Why a finding is so: the line `host why ..` for the first address or number that it tells, and the board's reply to it."""
+"""Why a finding exists: the line `host why ..` for the first address or BDF that it contains, and the board's
+reply."""
 
 from __future__ import annotations
 
@@ -15,14 +16,14 @@ WORDS = {"I/O": "io", "memory": "mem"}
 
 
 def reasons(board: DrivenBoard, document: Document, finding: str) -> List[str]:
-    """The line that asks why, and all lines of the reply, as the registers of the board stand. The board stays as it is, but
-    for CONFIG_ADDRESS."""
+    """The line that asks why, and all lines of the reply, for the board's current registers. Changes nothing on
+    the board except CONFIG_ADDRESS."""
     line = question(board, document, finding)
     return [line, *(board.run_line(line) or "").splitlines()] if line else []
 
 
 def question(board: DrivenBoard, document: Document, finding: str) -> Optional[str]:
-    """The line that asks why of the first address of a finding, or else of its number."""
+    """The line that asks about the first address in a finding, or else about its BDF."""
     if found := re.search(r"address conflict at (I/O|memory) (\S+)", finding):
         return f"host why {WORDS[found[1]]} {found[2]}"
     if found := re.search(r"a configuration cycle to (\S+) reaches", finding):
@@ -48,7 +49,7 @@ def space_of(document: Document, path: str, register: int) -> str:
 
 
 def base(board: DrivenBoard, number: str, register: int) -> int:
-    """Where the region of a function's register stands, by what its registers read."""
+    """The address in a function's base address register."""
 
     def word(offset: int) -> int:
         return int((board.run_line(f"host cr {number} {offset:#x} 4") or "").split()[-1], 16)

@@ -1,4 +1,4 @@
-"""Machines and boards that keep what is asked of them as rows of a transcript: lines with their replies."""
+"""Machines and boards that record everything as rows of a transcript: lines with their replies."""
 
 from __future__ import annotations
 
@@ -16,15 +16,16 @@ LETTERS = {CONFIG: "c", IO: "i", MEMORY: "m"}
 
 
 class Recorded(Held):
-    """Keeps each access, raise and move by a call as the line that does the same, and each line as it is, but for
-    questions. Calls that no line does, as those of a device, are not kept, nor are those that no line's refusal refuses."""
+    """Records each access, raise and move that is made by a call as the equivalent line, and each line as it
+    is, except queries. Calls without an equivalent line, such as those of a device, aren't recorded. Neither
+    are calls that are refused in a way in which no line is."""
 
     rows: List[Tuple[str, Optional[str]]]
     #: the call that runs a line
     RUN: str
 
     def _line(self, name: str, arguments: Tuple[Any, ...]) -> Optional[str]:
-        """The line that does what a call does, if one does."""
+        """The line that is equivalent to a call, if there is one."""
         raise NotImplementedError
 
     def _call(self, name: str, *arguments: Any) -> None:
@@ -50,7 +51,7 @@ class Recorded(Held):
 
 
 def access(who: str, space: int, function: str, place: int, width: int, value: Optional[int] = None) -> str:
-    """The line of an access, a write where there is a value."""
+    """The line of an access: a write if there is a value."""
     at = f"{function} {place:#x}" if space == CONFIG else f"{place:#x}"
     if value is None:
         return f"{who} {LETTERS[space]}r {at} {width}"
@@ -58,12 +59,12 @@ def access(who: str, space: int, function: str, place: int, width: int, value: O
 
 
 def by_host(space: int, bus: int, device: int, function: int, place: int, width: int, value: Optional[int] = None) -> str:
-    """The line of an access by the host, or by firmware."""
+    """The line of an access by the host or by firmware."""
     return access("host", space, f"{bus:02x}:{device:02x}.{function}", place, width, value)
 
 
 class RecordedMachine(Recorded, Machine):
-    """A machine that keeps in `rows` what is asked of it.
+    """A machine that records everything in `rows`.
 
     >>> machine = RecordedMachine(BOARD)
     >>> machine.guest("a").config[0][0x14:4] = 0x80000000
@@ -96,7 +97,7 @@ class RecordedMachine(Recorded, Machine):
 
 
 class RecordedBoard(Recorded, Board):
-    """A board that firmware drives, and that keeps in `rows` what is asked of it."""
+    """A board that firmware drives, and that records everything in `rows`."""
 
     RUN = "board_run_line"
 

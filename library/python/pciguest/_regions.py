@@ -1,4 +1,4 @@
-"""Where regions stand, and what accesses hit."""
+"""Where regions are, and what accesses reach."""
 
 from __future__ import annotations
 
@@ -8,8 +8,9 @@ from ._calls import IO, RegionTold
 
 
 class Region(NamedTuple):
-    """Where a region of a guest's function stands now, by the guest's own registers. It takes `size` addresses of its
-    space, "io" or "memory", from `first` on, and answers there where the guest's Command opens the space."""
+    """Where a region of a guest's function is now, according to the guest's own registers. It occupies `size`
+    addresses of its space, "io" or "memory", starting at `first`, and responds there while the guest's
+    Command enables the space."""
 
     space: str
     first: int
@@ -19,8 +20,8 @@ class Region(NamedTuple):
 
 
 class Moved(NamedTuple):
-    """A region of a guest that stands elsewhere, or is open or closed otherwise, than it was told before: by slot and base
-    address register, where it stood and where it stands, None where there is no region."""
+    """A region of a guest that moved, or was enabled or disabled, since the previous call: its slot and base
+    address register, where it was, and where it is now. If there was or is no region, this is None."""
 
     slot: int
     register: int
@@ -29,8 +30,9 @@ class Moved(NamedTuple):
 
 
 class Hit(NamedTuple):
-    """The byte of a guest's function that an access hits: an offset in the region of a base address register, 0 to 5,
-    or in configuration space, where `region` is None. `raise_bits(slot, offset, mask, region)` takes the same."""
+    """The byte of a guest's function that an access reaches: an offset in the region of a base address
+    register, 0 to 5, or in configuration space, for which `region` is None. `raise_bits(slot, offset, mask,
+    region)` takes the same arguments."""
 
     slot: int
     region: Optional[int]
@@ -38,7 +40,7 @@ class Hit(NamedTuple):
 
 
 def region_of(told: RegionTold) -> Optional[Region]:
-    """The region that the library tells of, if it tells of one."""
+    """Converts the library's description of a region, if there is one."""
     if not told.size:
         return None
     space = "io" if told.space == IO else "memory"

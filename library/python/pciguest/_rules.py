@@ -1,5 +1,5 @@
-"""Which rule decides a reply: a row of docs/own.toml, found by the line, the replies that differ, and what the library
-knows of the place."""
+"""Which rule decides a reply: a row of docs/own.toml, found by the line, the two replies, and what the library
+knows about the place."""
 
 from __future__ import annotations
 
@@ -16,7 +16,7 @@ LATCH, DATA = 0xCF8, 0xCFC
 
 
 def table() -> Tuple[List[Row], Dict[str, Row]]:
-    """The rows of registers, and those of accesses by their names."""
+    """The rows for registers, and those for accesses by name."""
     document = tomllib.loads(find("docs/own.toml", "own.toml").read_text())
     return document["register"], {row["name"]: row for row in document["access"]}
 
@@ -25,7 +25,7 @@ REGISTERS, ACCESSES = table()
 
 
 def told(row: Row) -> str:
-    """A rule in a line."""
+    """A rule as a line."""
     section = f"PROFILE.md, section {row['section']}" if row["section"] else "script-language.md"
     asked = "the standards ask for it" if row["by"] == "standards" else "own: the standards leave it open"
     return f"{row['name']}: {row['says']} ({section}; {asked})"
@@ -53,14 +53,14 @@ def value(word: str) -> int:
 
 
 class Asked:
-    """A line that was answered otherwise than here, with both replies."""
+    """A line whose reply differs, with both replies."""
 
     def __init__(self, line: str, ours: Optional[str], theirs: Optional[str]) -> None:
         self.words, self.ours, self.theirs = line.split(), ours, theirs
         self.values = number(ours), number(theirs)
 
     def by_words(self) -> Optional[Row]:
-        """The rule, where the replies or the kind of line say it."""
+        """The rule, if the replies or the kind of line determine it."""
         for reply in (self.ours, self.theirs):
             words = (reply or "").split()
             if words[1:2] == ["refused"]:
@@ -81,7 +81,7 @@ class Asked:
 
 
 class ByGuest:
-    """Rules of a guest's accesses, over the machine as it is at the line."""
+    """Rules for guest accesses, for the machine before the line."""
 
     def __init__(self, machine: Machine) -> None:
         self.machine = machine
@@ -130,7 +130,7 @@ class ByGuest:
 
 
 class ByFirmware:
-    """Rules of firmware's accesses, over the board as it is at the line."""
+    """Rules for firmware accesses, for the board before the line."""
 
     def __init__(self, board: Board) -> None:
         self.board = board
@@ -165,7 +165,7 @@ class ByFirmware:
 
 
 def rule(over: Any, line: str, ours: Optional[str], theirs: Optional[str]) -> Row:
-    """The rule that decides the reply to a line, over the machine or the board as it is before the line."""
+    """The rule that decides the reply to a line, for the machine or board before the line."""
     asked = Asked(line, ours, theirs)
     found = asked.by_words()
     if found:

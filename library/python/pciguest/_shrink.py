@@ -1,4 +1,4 @@
-"""Makes a board smaller while something still holds of it."""
+"""Makes a board smaller, as long as something remains true of it."""
 
 from __future__ import annotations
 
@@ -10,17 +10,18 @@ from typing import Callable, Iterator, List, Set
 
 from ._board_file import Document, Function, Path, functions, path_of, path_text
 
-#: the keys of a function that it needs, or that get simpler values; any other key is removed
+#: the keys that a function needs, or that get simpler values; any other key is removed
 KEPT = ["at", "vendor", "device", "class", "io", "pref", "bar"]
 OPTIONAL_OF_REGION = ["block", "reset", "rw", "w1c"]
 LEAST = {"io": 4}
-#: so many devices are left out in parts first
+#: if there are more devices than this, whole parts are left out first
 LARGE = 32
 PLAIN_VALUES = {"vendor": 0x1234, "device": 1, "class": 0xFF0000}
 
 
 def moved(document: Document, places: Callable[[Path], Path | None]) -> Document:
-    """The board with each function at another path, or without it where that is None. Guests are left out."""
+    """The board with each function at another path, or without the function if the path is None. Guests are
+    left out."""
     tables = {}
     for kind in ("endpoint", "bridge"):
         kept = [(places(path_of(table["at"])), table) for table in document.get(kind, [])]
@@ -34,7 +35,7 @@ def without_guests(document: Document) -> Iterator[Document]:
 
 
 def with_fewer_functions(document: Document) -> Iterator[Document]:
-    """Without all that stands behind a bridge or in a device; without a device; without one function."""
+    """The board without everything behind a bridge or in a device; without a device; or without a function."""
     every = functions(document)
     parents = [bridge.path for bridge in every if bridge.is_bridge]
     devices = sorted({(one.path[:-1], one.path[-1][0]) for one in every}, key=lambda one: len(one[0]))
@@ -49,7 +50,8 @@ def with_fewer_functions(document: Document) -> Iterator[Document]:
 
 
 def closer(document: Document) -> Iterator[Document]:
-    """What stands behind a bridge in the bridge's own place: one device of it, with what is behind that."""
+    """The board with something from behind a bridge in place of the bridge: one device, with everything behind
+    it."""
     every = functions(document)
     for bridge in every:
         depth = len(bridge.path)
@@ -59,7 +61,7 @@ def closer(document: Document) -> Iterator[Document]:
 
 
 def lifted(path: Path, bridge: Function, device: int) -> Path | None:
-    """Where a function comes to stand when a device behind a bridge takes the place of the bridge's device."""
+    """The new path of a function when a device behind a bridge replaces the bridge's device."""
     depth, here = len(bridge.path), bridge.path[-1][0]
     if path[:depth] == bridge.path and len(path) > depth and path[depth][0] == device:
         return (*bridge.path[:-1], (here, path[depth][1]), *path[depth + 1 :])
@@ -68,7 +70,7 @@ def lifted(path: Path, bridge: Function, device: int) -> Path | None:
 
 
 def at_lower_places(document: Document) -> Iterator[Document]:
-    """Devices and functions with the least numbers that are free on their bus: device 0, or 1 on bus 0."""
+    """The board with the lowest free device and function numbers on each bus: device 0, or 1 on bus 0."""
     for one in functions(document):
         depth, (device, function) = len(one.path), one.path[-1]
         taken = {other.path[-1] for other in functions(document) if other.path[:-1] == one.path[:-1]}
@@ -82,8 +84,8 @@ def at_lower_places(document: Document) -> Iterator[Document]:
 
 
 def with_simpler_tables(document: Document) -> Iterator[Document]:
-    """One table with less in it: no region, a smaller one or one at a lower register; a plain value; no key that it
-    needn't have. Or no prefetchable aperture, or the usual number of devices."""
+    """The board with a simpler table: one with fewer or smaller regions, a lower register, a simpler value, or
+    fewer optional keys. Or the board without its prefetchable aperture, or with the usual number of devices."""
     for kind in ("endpoint", "bridge"):
         for place, table in enumerate(document.get(kind, [])):
             for simpler in simpler_tables(table):
@@ -127,7 +129,8 @@ def simpler_regions(bar: Document) -> Iterator[Document]:
 
 
 def without_part(parts: int, document: Document) -> Iterator[Document]:
-    """Without one of so many parts of the devices of a large board, and without what is behind them."""
+    """The board without one of so many parts of its devices, and without everything behind them. For large
+    boards."""
     devices = sorted({(*one.path[:-1], (one.path[-1][0], 0)) for one in functions(document)})
     for part in range(parts if len(devices) >= LARGE else 0):
         gone = {*devices[part * len(devices) // parts : (part + 1) * len(devices) // parts]}
@@ -141,8 +144,8 @@ SIMPLER: List[Callable[[Document], Iterator[Document]]] = [
 
 
 def shrunk(document: Document, holds: Callable[[Document], bool], seconds: float) -> Document:
-    """The smallest board that is found in the time and of which the same holds. Each is asked once. A way of making a board
-    smaller is gone until it leads no further, each time from where it led last."""
+    """Looks for the smallest board of which the same is true, until time runs out. Each board is tried once.
+    Each way of making a board smaller is repeated until it fails."""
     deadline, asked = time.monotonic() + seconds, set()  # type: float, Set[str]
 
     def is_smaller(candidate: Document) -> bool:

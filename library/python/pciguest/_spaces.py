@@ -1,4 +1,4 @@
-"""Spaces: accesses that are written [place:width]."""
+"""Address spaces, whose accesses are written as [address:width]."""
 
 from __future__ import annotations
 
@@ -8,30 +8,30 @@ from ._calls import CONFIG, IO, MEMORY
 from ._library import number
 from ._refusal import Refusal
 
-# how far on each cycle of the bus of one access begins, and how wide it is
+# the offset of each bus cycle of one access, and its width
 Cycles = List[Tuple[int, int]]
-# the last place of each space that an access of several pieces may touch
+# the last address of each space that an access of several pieces may reach
 LAST = {CONFIG: 0xFF, IO: 0xFFFFFFFF, MEMORY: (1 << 64) - 1}
 
 
 def number_of_space(name: str) -> int:
-    """A space by its name."""
+    """The number of a space with this name."""
     spaces = {"config": CONFIG, "io": IO, "memory": MEMORY}
     if name not in spaces:
-        raise ValueError(f"space: {name!r} is none of 'config', 'io' and 'memory'")
+        raise ValueError(f"space: {name!r} isn't 'config', 'io' or 'memory'")
     return spaces[name]
 
 
 def place_and_width(key: slice) -> Tuple[int, int]:
-    """What stands between the brackets of an access."""
+    """The address and the width between the brackets of an access."""
     if not isinstance(key, slice) or key.start is None or key.stop is None or key.step is not None:
         raise TypeError("an access is written [place:width], as [0x10:4]")
     return number("place", key.start, 64), number("width", key.stop, 32)
 
 
 def cycles(place: int, width: int, last: int) -> Cycles:
-    """The lawful accesses into which one of 1 to 8 bytes is split, as a bridge does: how far on each begins, and how wide it
-    is, which is the largest of 4, 2 or 1 bytes that stands at a multiple of its size."""
+    """The bus cycles into which an access of 1 to 8 bytes is split, as a bridge does: the offset at which each
+    begins, and its width. The width is the largest of 4, 2 or 1 bytes for which the cycle is aligned."""
     if not 1 <= width <= 8:
         raise Refusal(302)
     if place > last or width - 1 > last - place:
@@ -45,11 +45,12 @@ def cycles(place: int, width: int, last: int) -> Cycles:
 
 
 class ReadableSpace:
-    """What can be read: configuration space of a function by byte offset, I/O space by port, or memory by address.
+    """A space that can be read: the configuration space of a function by byte offset, I/O space by port, or
+    memory by address.
 
-    `space[place:width]` reads 1, 2 or 4 bytes. It is refused by 302 where the width is none of these, by 301 where the
-    place is no multiple of it, and by 303 where a slot, an offset or a port is out of range. `space.wide[place:width]`
-    reads what a processor may ask at once.
+    `space[address:width]` reads 1, 2 or 4 bytes. 302: the width isn't 1, 2 or 4. 301: the address isn't a
+    multiple of the width. 303: a slot, an offset or a port is out of range. `space.wide[address:width]` reads 1
+    to 8 bytes at any address, as a processor does.
     """
 
     def __init__(self, space: int, read: Callable[[int, int], int]) -> None:
@@ -61,18 +62,18 @@ class ReadableSpace:
         return self._reads(place, [(0, width)])
 
     def _reads(self, place: int, cycles: Cycles) -> int:
-        """What the cycles of one access read."""
+        """The values that the bus cycles of an access read."""
         return sum(self._read(place + done, size) << 8 * done for done, size in cycles)
 
     @property
     def wide(self) -> ReadableWide:
-        """The same space for accesses of a processor, of 1 to 8 bytes at any place."""
+        """The same space, for processor accesses of 1 to 8 bytes at any address."""
         return ReadableWide(self)
 
 
 class Space(ReadableSpace):
-    """What can be written too: `space[place:width] = value` writes the low bytes of a value of 32 bits. It is refused
-    as a read is."""
+    """A space that can also be written: `space[address:width] = value` writes the low bytes of a 32-bit value.
+    Refused as a read is."""
 
     def __init__(self, space: int, read: Callable[[int, int], int], write: Callable[[int, int, int], None]) -> None:
         super().__init__(space, read)
@@ -83,21 +84,21 @@ class Space(ReadableSpace):
         self._writes(place, [(0, width)], number("value", value, 32))
 
     def _writes(self, place: int, cycles: Cycles, value: int) -> None:
-        """Makes the cycles of one access that writes."""
+        """Makes the bus cycles of a write."""
         for done, size in cycles:
             self._write(place + done, size, value >> 8 * done & (1 << 8 * min(size, 4)) - 1)
 
     @property
     def wide(self) -> Wide:
-        """The same space for accesses of a processor, of 1 to 8 bytes at any place."""
+        """The same space, for processor accesses of 1 to 8 bytes at any address."""
         return Wide(self)
 
 
 class ReadableWide:
-    """Reads what a processor may ask at once and a cycle of the bus can't: 1 to 8 bytes, at any place, as
-    `memory.wide[0x80000006:8]`. It is split as a bridge does, into lawful accesses in the order of addresses, and the
-    byte at the lowest address is the lowest of the value. 302: the width is not 1 to 8. 303: the access ends past its
-    space, or the slot is out of range."""
+    """Reads 1 to 8 bytes at any address, as a processor does: `memory.wide[0x80000006:8]`. The access is split
+    as a bridge does it, into aligned accesses in ascending order of addresses. The byte at the lowest
+    address is the lowest byte of the value. 302: the width isn't 1 to 8. 303: the access ends past the end
+    of its space, or the slot is out of range."""
 
     def __init__(self, space: ReadableSpace) -> None:
         self._of = space
@@ -108,7 +109,7 @@ class ReadableWide:
 
 
 class Wide(ReadableWide):
-    """Writes so too: the low bytes of a value of 64 bits, as many as it is wide."""
+    """Also writes in this way: the low bytes of a 64-bit value, as many as the width says."""
 
     _of: Space
 
@@ -122,7 +123,7 @@ AnySpace = TypeVar("AnySpace", bound=ReadableSpace)
 
 
 class Functions(Generic[AnySpace]):
-    """Configuration space by number: functions[bus, device, function]."""
+    """Configuration space by BDF: functions[bus, device, function]."""
 
     def __init__(self, space: Callable[[int, int, int], AnySpace]) -> None:
         self._space = space

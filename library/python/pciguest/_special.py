@@ -1,4 +1,5 @@
-"""A board for each kind of mistake that firmware makes where boards are large, odd or at an end of what there is."""
+"""A board for each kind of mistake that firmware makes if a board is large or unusual, or has addresses or
+numbers at the end of their range."""
 
 from __future__ import annotations
 
@@ -12,7 +13,7 @@ LAST_GB = [0xC0000000, 0xFFFFFFFF]
 
 
 def endpoint(at: str, *regions: str, **keys: Any) -> Document:
-    """An endpoint with regions as `mem32 0x1000`, or `5 io 4` where a register is named."""
+    """An endpoint with regions such as `mem32 0x1000`, or `5 io 4` for a region at register 5."""
     bars: List[Document] = []
     index = 0
     for region in regions:
@@ -35,7 +36,7 @@ def board(*tables: Document, io: List[int] = IO, mem: List[int] = MEM, pref: Lis
 
 
 def large_regions() -> Document:
-    """Regions of 4 GB and more, beside small ones, on bus 0 and behind a bridge."""
+    """Regions of 4 GB and more next to small ones, on bus 0 and behind a bridge."""
     return board(
         endpoint("1.0", "mem32 16", f"mem64p {4 * GB}"), endpoint("2.0", f"mem64p {16 * GB}", f"mem64p {GB}"), bridge("3.0"),
         endpoint("3.0/0.0", f"mem64p {MB}", f"mem64p {8 * GB}"), endpoint("3.0/1.0", "mem64 0x1000"),
@@ -43,17 +44,17 @@ def large_regions() -> Document:
 
 
 def half_of_memory() -> Document:
-    """A region of 2 GB, the greatest of 32 bits, behind a bridge."""
+    """A region of 2 GB, the largest 32-bit region, behind a bridge."""
     return board(bridge("1.0"), endpoint("1.0/0.0", f"mem32 {2 * GB}", "io 32"), mem=[0x80000000, 0xFFFFFFFF])
 
 
 def from_zero() -> Document:
-    """Memory from address 0 on without a gap: the region behind the bridge is there."""
+    """Memory that begins at address 0 and has no gap: the region at 0 is behind the bridge."""
     return board(endpoint("1.0", f"mem32 {MB}", "io 16"), bridge("2.0"), endpoint("2.0/0.0", f"mem32 {2 * MB}"), mem=[0, 0x7FFFFFFF])
 
 
 def top_of_memory() -> Document:
-    """Memory up to FFFFFFFFh without a gap; a window is the last."""
+    """Memory that ends at FFFFFFFFh and has no gap, with a window at the end."""
     sizes = [4, 8, 16, 32, 64, 128]
     return board(
         *(endpoint(f"{place}.0", f"mem32 {size * MB}") for place, size in enumerate(sizes, 1)),
@@ -62,14 +63,14 @@ def top_of_memory() -> Document:
 
 
 def last_region() -> Document:
-    """The last region of 4 GB ends at FFFFFFFFh, on bus 0 and below a bridge's greatest limit."""
+    """The last region below 4 GB ends at FFFFFFFFh, on bus 0 and behind a bridge with the highest limit."""
     return board(
         endpoint("1.0", f"mem32 {512 * KB}", f"mem32 {256 * KB}"), endpoint("2.0", f"mem32 {256 * KB}"),
         bridge("3.0"), endpoint("3.0/0.0", f"mem32 {MB}"), mem=[0xFFE00000, 0xFFFFFFFF])
 
 
 def top_of_prefetchable() -> Document:
-    """Prefetchable memory up to the last address below 2^63."""
+    """Prefetchable memory that ends at the last address below 2^63."""
     sizes = [GB, 2 * GB, 4 * GB, 8 * GB, 16 * GB, 32 * GB]
     return board(
         *(endpoint(f"{place}.0", f"mem64p {size}") for place, size in enumerate(sizes, 1)), bridge("7.0"),
@@ -77,32 +78,33 @@ def top_of_prefetchable() -> Document:
 
 
 def small_ports() -> List[Document]:
-    """Ports of 4 KB without a gap, of every size."""
+    """4 KB of ports without a gap, with regions of every size."""
     rest = [4, 128, 8, 64, 4, 32, 16]
     functions = [endpoint(f"{place}.0", *["io 256"] * 5) for place in range(2, 5)]
     return [endpoint("1.0", *(f"io {size}" for size in rest[:6])), *functions, endpoint("5.0", f"5 io {rest[6]}")]
 
 
 def top_of_ports() -> Document:
-    """Ports up to FFFFh without a gap."""
+    """Ports that end at FFFFh, without a gap."""
     return board(*small_ports(), bridge("6.0"), endpoint("6.0/0.0", "io 4"), io=[0xE000, 0xFFFF])
 
 
 def small_regions() -> Document:
-    """A MB of memory without a gap, of every size from 16 bytes on, small ones before large ones."""
+    """1 MB of memory without a gap, with regions of every size from 16 bytes on, small ones before large ones."""
     regions = [16, *(1 << bit for low in range(4, 12) for bit in (low, 23 - low))]
     return board(*(endpoint(f"{place}.0", *(f"mem32 {size}" for size in regions[6 * place - 6 : 6 * place]))
                    for place in range(1, 4)))
 
 
 def least_windows() -> Document:
-    """Fifteen bridges side by side, each with the least behind it: their windows are a unit each, and touch."""
+    """Fifteen bridges on one bus, each with as little as possible behind it: each window is one unit, and they
+    are adjacent."""
     return board(*(table for device in range(1, 16) for table in
                    (bridge(f"{device}.0"), endpoint(f"{device}.0/0.0", "io 4", "mem32 16", "mem64p 16"))), pref=HIGH)
 
 
 def greatest_windows() -> Document:
-    """A bridge whose windows are as great as windows can be: all ports, 2 GB, 1 TB."""
+    """A bridge whose windows are as large as possible: all ports, 2 GB, 1 TB."""
     ports = [table for device in range(1, 16) for table in
              (bridge(f"1.0/{device}.0", "32"), endpoint(f"1.0/{device}.0/0.0", "io 256"))]
     return board(bridge("1.0", "32"), endpoint("1.0/0.0", f"mem64p {TB}", f"mem32 {2 * GB}"), *ports,
@@ -110,7 +112,8 @@ def greatest_windows() -> Document:
 
 
 def aligned_windows() -> Document:
-    """What is behind bridges asks for more alignment than a window, level by level, beside what is as long."""
+    """At each level, regions behind bridges need more alignment than a window, next to regions of the same
+    length."""
     return board(
         bridge("1.0"), bridge("1.0/0.0"), endpoint("1.0/0.0/0.0", f"mem32 {16 * MB}", f"mem64p {32 * MB}"),
         endpoint("1.0/1.0", "mem32 256", f"mem64p {MB}"), bridge("2.0"), bridge("2.0/3.0"),
@@ -119,7 +122,7 @@ def aligned_windows() -> Document:
 
 
 def without_windows() -> Document:
-    """Bridges without I/O windows or without prefetchable ones, beside and behind bridges that have them."""
+    """Bridges without I/O windows or without prefetchable windows, next to and behind bridges that have them."""
     return board(
         bridge("1.0", "none", "64"), endpoint("1.0/0.0", "mem32 4096", f"mem64p {MB}"),
         bridge("2.0", "16", "none"), endpoint("2.0/0.0", "io 16", f"mem64p {2 * MB}", f"mem32p {MB}"),
@@ -129,7 +132,7 @@ def without_windows() -> Document:
 
 
 def narrow_windows() -> Document:
-    """Prefetchable windows of 32 bits above and below those of 64, with prefetchable memory above 4 GB."""
+    """32-bit prefetchable windows above and below 64-bit ones, with prefetchable memory above 4 GB."""
     return board(
         bridge("1.0", pref="32"), endpoint("1.0/0.0", f"mem64p {2 * MB}"), bridge("1.0/1.0"),
         endpoint("1.0/1.0/0.0", f"mem64p {MB}", "mem32p 4096"), bridge("2.0"), bridge("2.0/0.0", pref="32"),
@@ -137,7 +140,7 @@ def narrow_windows() -> Document:
 
 
 def prefetchable_below() -> Document:
-    """Prefetchable memory below 4 GB, behind bridges of each decode."""
+    """Prefetchable memory below 4 GB, behind bridges of each kind."""
     return board(
         bridge("1.0", pref="32"), endpoint("1.0/0.0", f"mem32p {2 * MB}", f"mem64p {MB}"), bridge("2.0", pref="64"),
         endpoint("2.0/0.0", f"mem32p {MB}", f"mem64p {4 * MB}", "mem32 16"), bridge("3.0", pref="none"),
@@ -146,14 +149,14 @@ def prefetchable_below() -> Document:
 
 
 def not_prefetchable() -> Document:
-    """Regions of 64 bits that aren't prefetchable, behind bridges that prefetch."""
+    """64-bit regions that aren't prefetchable, behind bridges with prefetchable windows."""
     return board(
         bridge("1.0"), endpoint("1.0/0.0", f"mem64 {MB}", f"mem64p {MB}"), bridge("2.0"), bridge("2.0/0.0"),
         endpoint("2.0/0.0/0.0", "mem64 4096", f"mem64p {GB}"), endpoint("3.0", f"mem64 {2 * MB}"), pref=HIGH)
 
 
 def deep() -> Document:
-    """Fifteen bridges one behind the other, with regions at each level."""
+    """A chain of fifteen bridges, with regions at each level."""
     tables = []
     for depth in range(15):
         at = "/".join(["15.0"] * (depth + 1))
@@ -162,7 +165,7 @@ def deep() -> Document:
 
 
 def many_buses() -> Document:
-    """The most bridges of all, 255: the last bus is FFh."""
+    """The largest number of bridges, 255: the last bus is FFh."""
     tables = [bridge(f"{first}.0", pref="none") for first in range(1, 16)]
     tables += [bridge(f"{first}.0/{second}.0", pref="none") for first in range(1, 16) for second in range(16)]
     ends = [endpoint(f"{at}/3.0", f"mem32 {4 * KB}") for at in ("1.0/0.0", "8.0/0.0", "8.0/15.0", "15.0/14.0")]
@@ -170,7 +173,7 @@ def many_buses() -> Document:
 
 
 def many_functions() -> Document:
-    """Devices whose functions have gaps, bridges among them, and each device from 0 to 15."""
+    """Devices with gaps between their functions, some of which are bridges, and all device numbers."""
     gaps = [endpoint(f"{at}", "mem32 256", "io 8") for at in ("1.0", "1.7", "2.0", "2.3", "2.5", "15.0", "15.1")]
     behind = [endpoint("3.4/0.0", "mem32 4096"), endpoint("3.4/0.6", "io 32"), endpoint("3.7/15.0", "mem32 4096")]
     singles = [endpoint(f"{device}.0", "mem32 16") for device in range(4, 15)]
@@ -195,8 +198,9 @@ def odd_bits() -> Document:
 
 
 def identities() -> Document:
-    """Vendor IDs, Device IDs and class codes at their ends. Only the Vendor ID FFFFh says that there is no function. Among
-    the class codes are those of bridges of other kinds, which have no bus behind."""
+    """Vendor IDs, Device IDs and class codes at the ends of their ranges. Only Vendor ID FFFFh means that there
+    is no function. Some of the class codes are those of other kinds of bridges, which have no bus behind
+    them."""
     odd = [(0x1234, 0xFFFF, 0xFFFFFF), (0x1234, 0, 0), (0x1234, 0xFFFF, 0x068000), (0x1234, 1, 0x060000), (0x1234, 0x8000, 0x060100),
            (0x1234, 0, 0x060980), (0x1234, 0x7010, 0x010180), (0, 0, 0xFF0000), (0, 0xFFFF, 0xFF0000), (1, 0xFFFF, 0xFF0000),
            (1, 1, 0xFF0000), (0xFFFE, 0xFFFF, 0xFF0000)]
@@ -207,7 +211,7 @@ def identities() -> Document:
 
 
 def registers() -> Document:
-    """Regions at each register, with gaps before them."""
+    """Regions at each register, after gaps."""
     high = [endpoint(f"{place}.0", f"{index} mem64p 4096") for place, index in enumerate((1, 3, 4), 1)]
     return board(
         *high, endpoint("4.0", "5 mem32 4096"), endpoint("5.0", "5 io 64"), endpoint("6.0", *["io 4"] * 6),
@@ -216,7 +220,7 @@ def registers() -> Document:
 
 
 def siblings() -> Document:
-    """Bridges side by side that have bridges behind them: what is behind the later ones is found last."""
+    """Bridges on one bus with bridges behind them: what is behind the later ones is found last."""
     tables = []
     for first in (1, 5, 9):
         tables += [bridge(f"{first}.0"), endpoint(f"{first}.0/9.0", "mem32 4096")]
@@ -226,7 +230,7 @@ def siblings() -> Document:
 
 
 def empty_bridges() -> Document:
-    """Bridges with nothing behind them, side by side and behind one another, beside some with one kind of region."""
+    """Bridges with nothing behind them, on one bus and in a chain, next to bridges with one kind of region."""
     return board(
         bridge("1.0"), bridge("2.0"), bridge("3.0"), bridge("3.0/0.0"), bridge("4.0"), endpoint("4.0/0.0", "io 4"),
         bridge("5.0"), endpoint("5.0/0.0", "mem32 16"), bridge("6.0"), endpoint("6.0/0.0", "mem64p 16"),
@@ -234,31 +238,31 @@ def empty_bridges() -> Document:
 
 
 def status_bits() -> Document:
-    """Functions whose Status tells of something at reset, with regions of either space."""
+    """Functions with bits of Status that are set at reset, with regions in either space."""
     return board(
         endpoint("1.0", "mem32 4096", "io 16", status=0xF900), endpoint("2.0", "mem32 4096", status=0x0100), bridge("3.0"),
         endpoint("3.0/0.0", "mem32 4096", "io 16", status=0x8000), endpoint("3.0/1.0", status=0x4000))
 
 
 def no_ports_left() -> Document:
-    """More ports than there are, beside memory that fits."""
+    """More ports than are available, next to memory that fits."""
     ports = [endpoint(f"{place}.0", *["io 256"] * 6) for place in range(1, 4)]
     return board(*ports, bridge("4.0"), endpoint("4.0/0.0", "mem32 4096"), io=[0x1000, 0x1FFF])
 
 
 def no_memory_left() -> Document:
-    """More memory than there is, most of it behind a bridge."""
+    """More memory than is available, most of it behind a bridge."""
     return board(endpoint("1.0", f"mem32 {MB}", "io 16"), bridge("2.0"), endpoint("2.0/0.0", f"mem32 {2 * MB}", "mem32 16"),
                  endpoint("3.0", f"mem32 {MB}"), mem=[0xC0000000, 0xC03FFFFF])
 
 
 def no_prefetchable_left() -> Document:
-    """More prefetchable memory than there is."""
+    """More prefetchable memory than is available."""
     return board(endpoint("1.0", f"mem64p {4 * GB}"), bridge("2.0"), endpoint("2.0/0.0", f"mem64p {2 * GB}"),
                  endpoint("2.0/1.0", "mem32 4096", "io 16"), pref=[4 * GB, 8 * GB - 1])
 
 
-#: each with its name
+#: the boards by name
 SPECIAL: Dict[str, Callable[[], Document]] = {
     drawn.__name__: drawn
     for drawn in (

@@ -1,4 +1,4 @@
-"""What is told of a board file. No machine is needed."""
+"""Reports on board files. No machine is needed."""
 
 from __future__ import annotations
 
@@ -10,29 +10,29 @@ from ._held import as_bytes
 from ._library import CALLS, told
 from ._refusal import BoardRefusal, Problem, Refusal, answered
 
-# how the library calls the file in what a check says
+# the name of the file in the library's messages
 NAME = "board.toml"
 
 
 class Check(NamedTuple):
-    """What a check says of a board file."""
+    """The result of checking a board file."""
 
     #: what is wrong with the file, or that its board fits, as `pciguest check --plain board.toml` writes it, so without
     #: the warnings that `--all` adds
     text: str
-    #: what the file or its board is refused by, or None
+    #: why the file or its board is refused, or None
     refusal: Optional[Refusal]
-    #: what is wrong, or may be a mistake, message by message
+    #: the messages: errors and warnings
     problems: Tuple[Problem, ...] = ()
 
 
 def report(board: Union[str, bytes], name: str = NAME) -> str:
-    """The report of a board file, as `pciguest list` writes it. It is refused as `Machine` is."""
+    """Returns the report of a board file, like `pciguest list`. Refused as `Machine` is."""
     return _reported("report", board, name)
 
 
 def report_json(board: Union[str, bytes], name: str = NAME) -> str:
-    """The report of a board file as a JSON object on one line, as `pciguest list --json` writes it. It is refused as
+    """Returns the report of a board file as a JSON object on one line, like `pciguest list --json`. Refused as
     `Machine` is.
 
     >>> report_json("[host]\\nio = [0x1000, 0xffff]\\nmem = [0xc0000000, 0xdfffffff]\\n")
@@ -50,8 +50,8 @@ def _reported(call: str, board: Union[str, bytes], name: str) -> str:
 
 
 def check(board: Union[str, bytes], name: str = NAME) -> Check:
-    """What is wrong with a board file, or that its board fits. A refusal is part of what is told, and only one by 199
-    or 299, out of memory, is raised. Each line begins with the name.
+    """Checks a board file, and returns everything that is wrong with it, or that its board fits. A refusal is
+    part of the result; only 199 and 299, out of memory, are raised. Each line begins with the name.
 
     >>> told = check("[host]\\nio = [0x1000, 0xffff]\\nmem = 7\\n")
     >>> print(told.refusal.words)
@@ -73,8 +73,8 @@ def check(board: Union[str, bytes], name: str = NAME) -> Check:
 
 @contextmanager
 def explained(board: bytes, name: str) -> Iterator[None]:
-    """Lets the refusal of a board file, or of its board, tell what a check says of it. These are the numbers below 300, but for
-    those of memory."""
+    """Adds to the refusal of a board file, or of its board, everything that a check reports about it. These
+    refusals have numbers below 300, except those for memory."""
     try:
         yield
     except Refusal as refusal:

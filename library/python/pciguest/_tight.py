@@ -1,5 +1,5 @@
-"""Boards that fit their apertures only just, and boards that don't fit: apertures are cut, and regions added, as long as
-set-up finds room."""
+"""Boards that barely fit their apertures, and boards that don't fit: apertures are cut and regions are added,
+as long as set-up finds room."""
 
 from __future__ import annotations
 
@@ -11,22 +11,22 @@ from ._drawing import Choices
 Refusal = Callable[[Document], Optional[int]]
 
 UNITS = {"io": 0x1000, "mem": 0x100000, "pref": 0x100000}
-#: by which number set-up refuses a board for an aperture
+#: the number with which set-up refuses a board that doesn't fit an aperture
 TOO_SMALL = {"io": 203, "mem": 204, "pref": 205}
-#: the Device ID of what is added
+#: the Device ID of added functions
 ADDED = 0xADD0
 SIZES = {"io": (4, 256), "mem": (16, 1 << 31), "pref": (16, 1 << 40)}
 
 
 def kind_in(document: Document, key: str) -> str:
-    """The kind of a region that is placed in an aperture wherever it stands on bus 0."""
+    """The kind of region that is placed in an aperture when it is on bus 0."""
     if key != "pref":
         return "io" if key == "io" else "mem32"
     return "mem64p" if document["host"]["pref"][0] >> 32 else "mem32p"
 
 
 def with_aperture(document: Document, key: str, units: int) -> Document:
-    """The board with an aperture of so many units, from the same address on."""
+    """The board with an aperture of so many units, at the same first address."""
     first = document["host"][key][0]
     return {**document, "host": {**document["host"], key: [first, first + units * UNITS[key] - 1]}}
 
@@ -39,7 +39,7 @@ def halved(document: Document) -> Document:
 
 
 def cut(document: Document, key: str, refusal: Refusal) -> Document:
-    """The board with the least aperture with which it can be set up."""
+    """The board with the smallest aperture with which it can be set up."""
     first, last = document["host"][key]
     least, enough = 1, (last + 1 - first) // UNITS[key]
     while least < enough:
@@ -52,8 +52,8 @@ def cut(document: Document, key: str, refusal: Refusal) -> Document:
 
 
 def with_region(document: Document, bus: Path, kind: str, size: int) -> Optional[Document]:
-    """The board with one more region on a bus, in the last function that was added there, or in a new device with the
-    least number that is free. None where there is no such device."""
+    """The board with one more region on a bus, in the last function that was added there, or in a new device
+    with the lowest free number. None if there is no such device."""
     endpoints, width = document.get("endpoint", []), 2 if "64" in kind else 1
     for place, table in enumerate(endpoints):
         end = sum(2 if "64" in bar["kind"] else 1 for bar in table.get("bar", []))
@@ -70,7 +70,7 @@ def with_region(document: Document, bus: Path, kind: str, size: int) -> Optional
 
 
 def filled(document: Document, bus: Path, key: str, refusal: Refusal) -> Document:
-    """The board with more regions on a bus, the greatest first, until none finds room in an aperture."""
+    """The board with more regions on a bus, largest first, until no region fits into an aperture."""
     kind, (first, last) = kind_in(document, key), document["host"][key]
     least, size = SIZES[key]
     while size > last + 1 - first:
@@ -85,8 +85,8 @@ def filled(document: Document, bus: Path, key: str, refusal: Refusal) -> Documen
 
 
 def tight(document: Document, given: Sequence[str], choices: Choices, refusal: Refusal) -> Document:
-    """The board with no room left on bus 0 and on some buses behind bridges. Apertures that are given stay as they are,
-    and are filled with memory alone: ports would take hundreds of regions."""
+    """The board with no room left on bus 0 and on some buses behind bridges. Given apertures aren't changed,
+    and are filled only with memory, because ports would need hundreds of regions."""
     for key in apertures(document):
         if key not in given:
             document = cut(document, key, refusal)
@@ -100,7 +100,7 @@ def tight(document: Document, given: Sequence[str], choices: Choices, refusal: R
 
 
 def too_small(document: Document, choices: Choices, refusal: Refusal) -> Optional[Document]:
-    """A tight board with more regions than fit in one of its apertures; None where one more never is too many."""
+    """A tight board with more regions than fit into one of its apertures. None if one more region always fits."""
     keys: List[str] = sorted(apertures(document))
     first = choices.number(0, len(keys) - 1)
     sizes: Dict[str, int] = {key: min(UNITS[key], SIZES[key][1]) for key in keys}

@@ -1,4 +1,4 @@
-"""What goes wrong while firmware writes, whatever it leaves at its end."""
+"""What goes wrong while firmware writes, no matter what it leaves at the end."""
 
 from __future__ import annotations
 
@@ -10,14 +10,15 @@ from ._follow import Access, Follower
 from ._judge import findings
 
 COMMAND = 0x04
-#: the bits of Status that a one clears
+#: the bits of Status that are cleared by writing a one
 STATUS_ONES = 0xF900
 SPACES = {1: "I/O", 2: "memory"}
 ONES = 0xFFFFFFFF
 
 
 class Window(NamedTuple):
-    """A window of a bridge: its name, the Command bit of its space, where its base and limit stand, and their bytes."""
+    """A window of a bridge: its name, the Command bit of its space, and the offsets and sizes of its base and
+    limit."""
 
     name: str
     bit: int
@@ -26,13 +27,13 @@ class Window(NamedTuple):
     upper: Tuple[int, ...]
 
     def is_at_reset(self, words: Dict[int, int]) -> bool:
-        """Whether base and limit are 0, by what the registers read: their type bits don't count."""
+        """Whether base and limit are 0, according to the registers, without their type bits."""
         low = words[self.offset] & (0xF0F0 if self.width == 1 else 0xFFF0FFF0)
         return low == 0 and not any(words[offset] for offset in self.upper)
 
     @property
     def last(self) -> int:
-        """The last address that it holds then."""
+        """The last address that the window then forwards."""
         return 0xFFF if self.width == 1 else 0xFFFFF
 
 
@@ -47,7 +48,7 @@ def windows_of(bridge: Function) -> List[Window]:
 
 
 class Kept:
-    """What the registers of a function held when they were seen last: at reset first."""
+    """What a function's registers contained when they were last read; at first, their reset values."""
 
     def __init__(self, function: Function) -> None:
         self.command, self.status = 0, function.table.get("status", 0) | function.table.get("fixed_status", 0)
@@ -63,14 +64,14 @@ def opens(command: int, region: Region) -> bool:
 
 
 def has_ones(region: Region, base: int) -> bool:
-    """Whether a base has the ones of sizing, in either of its registers."""
+    """Whether a base contains the all-ones value of sizing, in either of its registers."""
     ones = -region.size & (1 << 64) - 1
     low, high = ones & ONES, ones >> 32
     return low != 0 and base & ONES == low or region.is_64_bit and base >> 32 == high
 
 
 class Watch:
-    """Told each line of firmware that the board answered with `ok`, it says what is wrong with it."""
+    """Is given each firmware line to which the board replied `ok`, and yields what is wrong with it."""
 
     def __init__(self, board: DrivenBoard, document: Document) -> None:
         self.board, self.host, self.follower = board, document["host"], Follower(board)
@@ -111,7 +112,7 @@ class Watch:
             yield from self.overlaps()
 
     def opened(self, one: Function, bits: int) -> Iterator[str]:
-        """After an endpoint's Command opens a space, or both."""
+        """After an endpoint's Command enables one space or both."""
         kept = self.kept[one.at]
         for region in one.regions():
             base = kept.bases[region.index]
@@ -121,7 +122,7 @@ class Watch:
                        "while the base still has the ones written for sizing")
 
     def is_given_out(self, is_io: bool, address: int) -> bool:
-        """Whether an address is one of an aperture, where ones, or zeros, may be meant."""
+        """Whether an address is in an aperture in which all ones, or zeros, can be a valid base."""
         keys = ["io"] if is_io else ["mem", "pref"]
         return any(key in self.host and self.host[key][0] <= address <= self.host[key][1] for key in keys)
 
@@ -160,7 +161,7 @@ class Watch:
         return high << 32 | low & (~3 if region.is_io else ~15)
 
     def overlaps(self) -> Iterator[str]:
-        """Who answers an address beside another since this line."""
+        """Which functions respond to the same address since this line."""
         shared = {line.partition(": ")[2] for line in findings(self.board) if "address conflict" in line}
         yield from (f"overlap: {line}" for line in sorted(shared - self.shared))
         self.shared = shared

@@ -1,5 +1,5 @@
-"""Who wrote what a finding names: the line that wrote each register last, and the line that asked last for a function that
-was never found."""
+"""Which line wrote what a finding names: the line that last wrote each register, and the line that last looked
+for a function that was never found."""
 
 from __future__ import annotations
 
@@ -11,7 +11,7 @@ from ._board_file import Document, Function, functions, path_of, path_text
 from ._driven import DrivenBoard, Maker
 from ._follow import Access, Follower
 
-#: the bytes of registers, by their names
+#: the bytes of registers, by name
 COMMAND = ("Command", range(0x04, 0x06))
 STATUS = ("Status", range(0x06, 0x08))
 NUMBERS = [("Primary", range(0x18, 0x19)), ("Secondary", range(0x19, 0x1A)), ("Subordinate", range(0x1A, 0x1B))]
@@ -33,8 +33,8 @@ class Line(NamedTuple):
 
 
 class Story:
-    """What the lines of firmware did: who wrote each byte last, which functions answered, and who asked last for one that
-    never did."""
+    """What the firmware lines did: which line last wrote each byte, which functions responded, and which line
+    last looked for a function that never did."""
 
     def __init__(self, board: DrivenBoard, document: Document) -> None:
         self.follower, self.every = Follower(board), functions(document)
@@ -56,19 +56,20 @@ class Story:
             self.asked.update({one.at: (line, access.number) for one in self.every if self.is_meant(one, access)})
 
     def is_meant(self, one: Function, access: Access) -> bool:
-        """Whether an access that finds nothing is for a function: by the number that its bus has then."""
+        """Whether an access that reaches nothing was meant for a function: whether its BDF has the number of
+        the function's bus."""
         bus, (device, function) = self.secondary.get(path_text(one.path[:-1])), one.path[-1]
         return bus is not None and access.number == f"{bus:02x}:{device:02x}.{function}"
 
     def unfound(self, path: str) -> Optional[str]:
-        """The first function on the way to one, or itself, that was never found."""
+        """The first bridge on the way to a function, or the function itself, that was never found."""
         parts = path_of(path)
         way = (path_text(parts[: length + 1]) for length in range(len(parts)))
         return next((at for at in way if at not in self.found), None)
 
 
 def registers_of(document: Document, finding: str) -> Iterator[Tuple[str, List[Register]]]:
-    """The functions that a finding names, each with the registers by which it is so."""
+    """The functions that a finding names, each with the registers that cause it."""
     by_path = {one.at: one for one in functions(document)}
     is_io, words = "I/O" in finding, finding.partition(": ")[2]
     for named in NAMED.finditer(words):
@@ -98,7 +99,7 @@ def windows(bridge: Function, is_io: bool) -> List[Register]:
 
 
 def writers(story: Story, document: Document, finding: str, count: int) -> Iterator[str]:
-    """A line for each register that a finding names, or for several that one line wrote."""
+    """A line for each register that a finding names, or for several registers that one line wrote."""
     for at, registers in registers_of(document, finding):
         by_line: Dict[Optional[Line], List[str]] = {}
         for name, bytes_of in registers:
@@ -110,7 +111,7 @@ def writers(story: Story, document: Document, finding: str, count: int) -> Itera
 
 
 def story_of(maker: Maker, text: str, document: Document, lines: List[str]) -> Story:
-    """What some lines did on a board at reset."""
+    """What some lines did on a board in its reset state."""
     with closing(maker.board(text)) as board:
         story = Story(board, document)
         for place, line in enumerate(lines, 1):
@@ -120,7 +121,7 @@ def story_of(maker: Maker, text: str, document: Document, lines: List[str]) -> S
 
 
 def why_unfound(maker: Maker, text: str, lines: List[str], at: str, asked: Optional[Tuple[Line, str]]) -> List[str]:
-    """Why a function was never found, when firmware asked for it last."""
+    """Why a function was never found, according to the line that last looked for it."""
     if asked is None:
         return [f"the firmware never finds {at}, and never looks for it"]
     (place, line), number = asked

@@ -1,10 +1,11 @@
-"""Runs firmware on many boards, and finds the smallest board on which it fails.
+"""Runs firmware on many boards, and finds a small board on which it fails.
 
     python3 -m pciguest.firmware_test [OPTION..] -- COMMAND [WORD..]
 
-The command is firmware in any language: it writes each access as a line to standard output, as `host cr 00:02.0 0 4`,
-and reads the reply from standard input. Each board is at reset when it begins, and it ends with status 0 when it has set
-the board up. docs/firmware-testing.md tells more."""
+The firmware can be a program in any language. It writes each access as a line to standard output, such as `host
+cr 00:02.0 0 4`, and reads the reply from standard input. Each board is in its reset state when the firmware
+starts. When the firmware has set the board up, it exits with status 0. docs/firmware-testing.md explains more.
+"""
 
 from __future__ import annotations
 
@@ -39,7 +40,8 @@ EXAMPLES = ["main", "server", "second_bridge", "kinds", "chain", "guest_elsewher
 
 
 class Named(NamedTuple):
-    """A board, what it is called, the words that choose it alone, and the number by which set-up refuses it."""
+    """A board, its name, the arguments that select only this board, and the number with which set-up refuses
+    it."""
 
     name: str
     document: Document
@@ -48,7 +50,7 @@ class Named(NamedTuple):
 
 
 class Usage(Exception):
-    """Why the words or files that are given can't be used."""
+    """Why arguments or files can't be used."""
 
 
 def aperture(word: str) -> Tuple[int, int]:
@@ -57,23 +59,23 @@ def aperture(word: str) -> Tuple[int, int]:
     try:
         return int(first, 0), int(last, 0)
     except ValueError:
-        raise argparse.ArgumentTypeError(f"{word} is no range as 0x1000-0xffff") from None
+        raise argparse.ArgumentTypeError(f"{word} isn't a range such as 0x1000-0xffff") from None
 
 
 def natural(word: str) -> int:
-    """A number from 0 on."""
+    """A number, 0 or higher."""
     if not word.isdecimal():
-        raise argparse.ArgumentTypeError(f"{word} is no number from 0 on")
+        raise argparse.ArgumentTypeError(f"{word} isn't a number (0 or higher)")
     return int(word)
 
 
 def no_room(word: str) -> Union[int, str]:
-    """How firmware says that there is no room: a status, or words."""
+    """How firmware says that there is no room: a status or a text."""
     return int(word) if word.isdigit() else word
 
 
 def called() -> List[str]:
-    """The words that call this test: the command pciguest-firmware-test, as it was typed, or else the module."""
+    """The command that runs this test: pciguest-firmware-test as it was typed, or else the module."""
     typed = os.environ.get("PCIGUEST_FIRMWARE_TEST")
     return [typed] if typed else ["python3", "-m", "pciguest.firmware_test"]
 
@@ -82,43 +84,44 @@ def parser() -> argparse.ArgumentParser:
     words = argparse.ArgumentParser(
         prog=shlex.join(called()),
         usage="%(prog)s [OPTION..] -- COMMAND [WORD..]",
-        description="Runs firmware on many boards, and finds the smallest board on which it fails. Status 1 says that it "
-        "fails on a board, 2 that the words or files can't be used.",
+        description="Runs firmware on many boards, and finds a small board on which it fails. The exit status is 1 if the "
+        "firmware fails on a board, and 2 if the arguments or files can't be used.",
     )
-    words.add_argument("--boards", type=natural, default=100, metavar="N", help="random boards (100)")
-    words.add_argument("--seed", type=int, default=1, metavar="S", help="of the first random board (1)")
-    words.add_argument("--bridges", type=natural, default=6, metavar="N", help="most bridges of a random board (6)")
+    words.add_argument("--boards", type=natural, default=100, metavar="N", help="number of random boards (100)")
+    words.add_argument("--seed", type=int, default=1, metavar="S", help="seed of the first random board (1)")
+    words.add_argument("--bridges", type=natural, default=6, metavar="N", help="most bridges on a random board (6)")
     words.add_argument("--max-device", type=int, choices=range(32), default=31, metavar="N",
-                       help="leave out boards with devices above N (31): for firmware that stops there on purpose")
-    words.add_argument("--board", action="append", default=[], metavar="FILE", help="this board file, and no other board")
+                       help="leave out boards with devices above N (31): for firmware that looks no further on purpose")
+    words.add_argument("--board", action="append", default=[], metavar="FILE", help="test only this board file")
     words.add_argument("--special", action="append", default=[], choices=SPECIAL, metavar="NAME",
-                       help=f"the board for this kind of mistake, and no other board: {', '.join(SPECIAL)}")
+                       help=f"test only the special board with this name: {', '.join(SPECIAL)}")
     words.add_argument("--time", type=float, default=10, metavar="SECONDS",
-                       help="without a line, and twenty times that for a board (10)")
+                       help="longest time without a line; a whole run may take twenty times as long (10)")
     words.add_argument("--lines", type=natural, default=200_000, metavar="N", help="most lines on a board (200000)")
-    words.add_argument("--io", type=aperture, metavar="FIRST-LAST", help="the ports that firmware gives out")
-    words.add_argument("--mem", type=aperture, metavar="FIRST-LAST", help="the memory")
-    words.add_argument("--pref", type=aperture, metavar="FIRST-LAST", help="the prefetchable memory")
+    words.add_argument("--io", type=aperture, metavar="FIRST-LAST", help="the ports that the firmware assigns")
+    words.add_argument("--mem", type=aperture, metavar="FIRST-LAST", help="the memory addresses that the firmware assigns")
+    words.add_argument("--pref", type=aperture, metavar="FIRST-LAST", help="the prefetchable memory addresses that the firmware assigns")
     words.add_argument("--allow", action="append", default=[], choices=KINDS, metavar="KIND",
-                       help=f"don't ask for this: {', '.join(KINDS)}")
+                       help=f"ignore findings of this kind: {', '.join(KINDS)}")
     words.add_argument("--transients", action="store_true",
-                       help="what is wrong only while firmware writes is a failure, and no warning")
-    words.add_argument("--warm", action="store_true", help="run the firmware a second time, on the board as it left it")
-    words.add_argument("--no-room", type=no_room, metavar="STATUS|WORDS",
-                       help="how firmware says that a board has no room for all regions: it ends with this status, or any "
-                       "but 0 (0), or its standard error has these words. It may then say so where set-up finds room")
-    words.add_argument("--roomy", action="store_true", help="only boards with twice the room that set-up needs")
-    words.add_argument("--all", action="store_true", help="all boards: a line for each on which it fails, and no smaller board")
+                       help="things that are wrong only while the firmware writes are failures instead of warnings")
+    words.add_argument("--warm", action="store_true", help="run the firmware a second time, on the board as the first run left it")
+    words.add_argument("--no-room", type=no_room, metavar="STATUS|TEXT",
+                       help="how the firmware reports that a board has no room for all regions: it exits with this status (0 "
+                       "means any status except 0), or its standard error contains this text. It may then also report "
+                       "this on a board on which set-up finds room")
+    words.add_argument("--roomy", action="store_true", help="only boards with at least twice the room that set-up needs")
+    words.add_argument("--all", action="store_true", help="test all boards, and print a line for each failure, without looking for a smaller board")
     words.add_argument("--shrink", type=float, default=60, metavar="SECONDS", help="time to look for a smaller board (60)")
-    words.add_argument("--save", default="failed.toml", metavar="FILE", help="the board that failed (failed.toml)")
-    words.add_argument("--junit", metavar="FILE", help="results in the form of JUnit")
-    words.add_argument("--program", metavar="FILE", help="the program pciguest in place of the library")
+    words.add_argument("--save", default="failed.toml", metavar="FILE", help="file for the board on which the firmware fails (failed.toml)")
+    words.add_argument("--junit", metavar="FILE", help="file for the results in JUnit format")
+    words.add_argument("--program", metavar="FILE", help="use this pciguest program instead of the library")
     words.add_argument("command", nargs="+", metavar="COMMAND")
     return words
 
 
 class Test:
-    """A test of firmware by the words of its command line."""
+    """A test of firmware, with the arguments of its command line."""
 
     def __init__(self, options: argparse.Namespace, maker: Optional[Maker] = None) -> None:
         self.options, self.maker = options, maker or (Program(options.program) if options.program else Library())
@@ -136,7 +139,8 @@ class Test:
     # ---- boards
 
     def boards(self) -> Iterator[Named]:
-        """The boards that are asked for, or else those of the examples, the special ones and the random ones."""
+        """The boards that the arguments select, or else those in `boards`, the special ones and the random
+        ones."""
         if self.options.board or self.options.special:
             yield from (self.read(Path(file), file) for file in self.options.board)
             yield from map(self.special, self.options.special)
@@ -150,8 +154,8 @@ class Test:
         return Named(name, document, again, self.refusal(document))
 
     def special(self, name: str) -> Named:
-        """A special board, whose apertures have no more than it needs, unless it is to be roomy. Where memory is given, no
-        other is."""
+        """A special board. Its apertures are just large enough, unless --roomy is given. If memory is given,
+        there is no other memory."""
         document, given = SPECIAL[name](), self.given()
         own = {key: value for key, value in document["host"].items() if key != "pref" or "mem" not in given}
         document = {**document, "host": {**own, **given}}
@@ -161,7 +165,8 @@ class Test:
         return self.named(f"the special board {name}", document, f"--special {name}")
 
     def random(self, seed: int) -> Named:
-        """A random board. One in three has no room left, and one in nine not enough, unless it is to be roomy."""
+        """A random board. One in three has no room to spare, and one in nine too little room, unless --roomy is
+        given."""
         given = self.given()
         spaces = [PLAIN._replace(**{key: (first, last) for key, (first, last) in given.items()})] if given else [PLAIN, WIDE, PARTED]
         choices, last_device = RandomChoices(seed), self.options.max_device
@@ -172,7 +177,7 @@ class Test:
         return self.named(f"random board {seed}", document, f"--boards 1 --seed {seed}")
 
     def given(self) -> Dict[str, List[int]]:
-        """The apertures that the words give, in place of each board's own."""
+        """The apertures in the arguments, which replace those of each board."""
         values = {key: getattr(self.options, key) for key in ("io", "mem", "pref")}
         return {key: list(value) for key, value in values.items() if value}
 
@@ -185,7 +190,7 @@ class Test:
         return self.named(name, {**document, "host": host}, f"--board {shlex.quote(str(file))}")
 
     def why_left_out(self, board: Named) -> Optional[str]:
-        """Why a board isn't asked, unless it was chosen."""
+        """Why a board is skipped, unless it was selected by name."""
         if self.options.board or self.options.special:
             return None
         if max(device for one in functions(board.document) for device, _ in one.path) > self.options.max_device:
@@ -195,7 +200,7 @@ class Test:
         return "no room in these addresses" if board.refusal in TOO_SMALL.values() and board.again.startswith("--board ") else None
 
     def usage(self, board: Named) -> Usage:
-        """Says that a board can't be set up at all, and which file shows why."""
+        """Reports that a board can't be set up at all, and which file shows why."""
         file = board.name
         if self.given():
             file = self.options.save
@@ -206,8 +211,8 @@ class Test:
     # ---- runs
 
     def smallest(self, board: Named, run: Run) -> Document:
-        """The smallest board that is found on which the firmware fails in the same way. Who hangs gets less time for
-        that: twenty times its longest silence before."""
+        """The smallest board that is found on which the firmware fails in the same way. If the firmware hangs,
+        it gets less time: twenty times its longest silence before."""
         silence = min(self.limits.silence, max(1, 20 * run.longest_silence)) if run.kind == "hangs" else self.limits.silence
         firmware = self.firmware(self.limits._replace(silence=silence))
 
@@ -220,7 +225,7 @@ class Test:
         return shrunk(board.document, fails, self.options.shrink)
 
     def test(self) -> int:
-        """Runs the firmware on all boards, up to the first on which it fails, or to the last."""
+        """Runs the firmware on all boards, up to the first on which it fails, or up to the last."""
         left_out: Counter[str] = Counter()
         without_room, gave_up, failed = 0, 0, 0
         for board in self.boards():
@@ -254,7 +259,7 @@ class Test:
         return int(failed > 0)
 
     def in_a_line(self, board: Named, run: Run) -> str:
-        """What is told of a board on which the firmware fails, where the others are asked too."""
+        """The line for a board on which the firmware fails, if the test continues after it."""
         kinds = Counter(map(kind_of, run.wrong) if run.kind in KINDS else [run.kind])
         counts = ", ".join(f"{kind} {count}" for kind, count in kinds.items())
         return f"FAILED on {board.name} ({counts}): {run.wrong[0]}"
@@ -265,7 +270,7 @@ class Test:
         print(f"{counted(len(self.results), 'board')}: {len(self.results) - without_room} ready{full}{found}")
 
     def tell_warnings(self) -> None:
-        """The first warning of each kind."""
+        """Prints the first warning of each kind."""
         for each in self.warnings.values():
             board, run, warning = each[0]
             place = run.since[warning]
@@ -274,7 +279,7 @@ class Test:
                   + (f"; so on {counted(more, 'other board')}" if more else ""))
 
     def failure(self, board: Named, run: Run) -> str:
-        """All that is told of a board on which the firmware fails."""
+        """The whole report of a board on which the firmware fails."""
         small = self.smallest(board, run)
         last = run if small == board.document else self.firmware().run(small, board.refusal is None)
         if last.kind != run.kind:  # it doesn't do the same each time
@@ -295,21 +300,22 @@ class Test:
         return "\n".join([*lines, f"the first one:     {words}"])
 
     def causes(self, document: Document, run: Run, finding: str) -> List[str]:
-        """Warnings about a function that the first problem names, each of which may be its cause."""
+        """Warnings about a function that the first problem names. Each may be the cause of the problem."""
         named = {at for at, _ in registers_of(document, finding)}
         return [f"warning: {each} (by line {run.since[each]})" for each in run.warnings
                 if named & {at for at, _ in registers_of(document, each)}]
 
     def told_room(self, run: Run) -> List[str]:
-        """That a board has room, and how firmware that ends with a status may say that it found none."""
+        """The lines which say that a board has room, and how firmware that exits with a status can say that it
+        found none."""
         status = re.search(r"ended with status (\d+)", run.wrong[0])
         words = f", or --no-room {status[1]} if that status says that there is none" if status else ""
         return [f"set-up finds room for all regions: `pciguest list` shows where{words}"]
 
     def told_since(self, document: Document, run: Run, finding: str) -> List[str]:
-        """Of a problem since which line it is there, and why it is so at the end, or after that line where it went by; or
-        why its function was never found. Before that, who wrote the registers that it names, or that all problems name
-        which are there at the end."""
+        """The report of a problem: the line at which it appeared, and why it exists at the end, or after that
+        line if it has gone; or why its function was never found. Before this, the report lists the lines
+        that wrote the registers which this problem names, or which all problems at the end name."""
         count, text = len(run.lines), text_of(document)
         place = run.since.get(finding) or since(self.maker, document, run.lines, finding)
         told = f"reset: none of the {count} lines changed it"
@@ -330,7 +336,7 @@ class Test:
         return [f"the first of these appeared at {told}", *wrote[:MOST_WRITERS], *more, *why]
 
     def repeated(self) -> List[str]:
-        """The words that say what is asked of firmware."""
+        """The arguments that say what is required of the firmware."""
         options, words = self.options, []
         for key in ("io", "mem", "pref"):
             words += [f"--{key}", "{:#x}-{:#x}".format(*getattr(options, key))] if getattr(options, key) else []
@@ -348,7 +354,7 @@ def counted(number: int, word: str) -> str:
 
 
 def example_files() -> List[Path]:
-    """Boards of the folder `boards`, as they stand in the repository or where they are installed."""
+    """The files in `boards`, in the repository or where they are installed."""
     try:
         folder = find("boards", "boards")
     except FileNotFoundError:  # as where pip installed the module alone

@@ -1,17 +1,21 @@
-"""Runs a ROM in a small PC over boards, and asks what it leaves there.
+"""Runs a ROM in a small PC on boards, and reports what is wrong there afterwards.
 
     python3 -m pciguest.rom_test ROM [--board FILE].. [--ending TEXT] [--time SECONDS] [--old] [--io|--mem|--pref FIRST-LAST]
                                  [--program PROGRAM | --lines]
 
-The PC has a processor of 32 bits (the Unicorn engine, Debian's python3-unicorn), 128 MB of memory, a timer, clock memory,
-interrupt masks and a console at the ports 3F8h and 402h. The ROM stands below 4 GB, and its last 256 KB below 1 MB too. Each
-other port and address is the board's: by default six of the folder boards, one after the other. The addresses that the ROM
-may give out are those of such a PC, 1000h to FFFFh and 80000000h to FEBFFFFFh, unless others are given. A boot ends where the
-console has told the last words (--ending), where the processor halts with interrupts off, or, if no last words are given,
-once its time is over (30 seconds). Of what is wrong or lacking first the board is asked why. --old is a processor without
-time stamps and APIC. By --lines the board is behind standard input and output, and the console goes to standard error:
-`pciguest-firmware-test .. -- python3 -m pciguest.rom_test --lines ROM ..` runs the ROM on all its boards. Status 1 says that a boot went wrong or that a board isn't ready, and 2 that the ROM or the words can't
-be used."""
+The PC has a 32-bit processor (the Unicorn engine, Debian's python3-unicorn), 128 MB of memory, a timer, clock
+memory, interrupt masks, and a console at ports 3F8h and 402h. The ROM is below 4 GB, and its last 256 KB are
+also below 1 MB. All other ports and addresses belong to the board. Without --board, the ROM runs on six boards
+from the directory `boards`, one after the other. The ROM may assign the addresses of such a PC, 1000h to FFFFh
+and 80000000h to FEBFFFFFh, unless others are given.
+
+A boot ends when the console has printed the text of --ending, when the processor halts with interrupts
+disabled, or after --time. Without --ending, it ends after 30 seconds. For the first thing that is wrong or left
+to do, the board is asked why. --old selects a processor without a time stamp counter and without an APIC. With
+--lines, the ROM makes its accesses through standard input and output, and the console is written to standard
+error: `pciguest-firmware-test .. -- python3 -m pciguest.rom_test --lines ROM ..` runs the ROM on all boards.
+The exit status is 1 if a boot fails or a board isn't ready, and 2 if the ROM or the arguments can't be used.
+"""
 
 from __future__ import annotations
 
@@ -39,7 +43,7 @@ except ImportError:
 
 
 class Spoken:
-    """The board behind standard input and output, to which a ROM is firmware that writes lines."""
+    """The board at the other end of standard input and output. The ROM is firmware that writes lines."""
 
     def run_line(self, line: str) -> Optional[str]:
         print(line, flush=True)
@@ -47,7 +51,7 @@ class Spoken:
 
 
 class LineBoard:
-    """A board as the PC asks it, by lines of firmware, which are counted."""
+    """A board that the PC accesses by firmware lines, which are counted."""
 
     def __init__(self, driven: Union[DrivenBoard, Spoken]) -> None:
         self.driven, self.count = driven, 0
@@ -72,7 +76,7 @@ class LineBoard:
 
 
 def boot(machine: PC, ending: Optional[str], seconds: float) -> Tuple[str, bool]:
-    """Runs a PC to its end: how it ended, and whether that is wrong."""
+    """Boots a PC. Returns how the boot ended, and whether that is an error."""
     try:
         machine.boot(*[ending] if ending else [], patience=seconds)
     except (Halted, NotDone) as end:
@@ -85,7 +89,7 @@ def boot(machine: PC, ending: Optional[str], seconds: float) -> Tuple[str, bool]
 
 
 def examine(rom: bytes, file: Path, options: argparse.Namespace, maker: Maker) -> bool:
-    """Boots the ROM over the board of a file, and tells what came of it: whether something is wrong."""
+    """Boots the ROM on the board of a file, and prints the result. Returns whether anything is wrong."""
     given = Apertures(options.io, options.mem, options.pref)
     document = tomllib.loads(file.read_text())
     own = {key: value for key, value in document["host"].items() if key not in APERTURES}
@@ -103,7 +107,7 @@ def examine(rom: bytes, file: Path, options: argparse.Namespace, maker: Maker) -
 
 
 def speak(rom: bytes, options: argparse.Namespace) -> int:
-    """Boots the ROM over the board that is spoken to by lines."""
+    """Boots the ROM on the board at the other end of standard input and output."""
     machine = PC(LineBoard(Spoken()), rom, options.old)
     ended, is_wrong = boot(machine, options.ending, options.time)
     print(machine.told[-KEPT:], ended, sep="\n", file=sys.stderr)
@@ -112,22 +116,22 @@ def speak(rom: bytes, options: argparse.Namespace) -> int:
 
 def parser() -> argparse.ArgumentParser:
     words = argparse.ArgumentParser(prog="python3 -m pciguest.rom_test", description=(__doc__ or "").split("\n\n")[0])
-    words.add_argument("rom", type=Path)
-    words.add_argument("--board", type=Path, action="append")
-    words.add_argument("--ending")
-    words.add_argument("--time", type=float, default=30)
-    words.add_argument("--old", action="store_true")
-    words.add_argument("--lines", action="store_true")
+    words.add_argument("rom", type=Path, help="the ROM, a file")
+    words.add_argument("--board", type=Path, action="append", help="run the ROM on this board file")
+    words.add_argument("--ending", help="the text that the console prints last")
+    words.add_argument("--time", type=float, default=30, help="longest time for a boot, in seconds (30)")
+    words.add_argument("--old", action="store_true", help="a processor without a time stamp counter and without an APIC")
+    words.add_argument("--lines", action="store_true", help="make the accesses through standard input and output")
     for name, value in PLAIN._asdict().items():
-        words.add_argument(f"--{name}", type=aperture, default=value)
-    words.add_argument("--program")
+        words.add_argument(f"--{name}", type=aperture, default=value, help="addresses that the ROM may assign")
+    words.add_argument("--program", help="use this pciguest program instead of the library")
     return words
 
 
 def read_rom(file: Path) -> bytes:
     rom = file.read_bytes()
     if not 0 < len(rom) <= 16 << 20 or len(rom) % 4096:
-        raise ValueError(f"{file}: {len(rom)} bytes; a ROM has whole pages of 4 KB, and 16 MB at most")
+        raise ValueError(f"{file}: {len(rom)} bytes; the size of a ROM must be a multiple of 4 KB, at most 16 MB")
     return rom
 
 

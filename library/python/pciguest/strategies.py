@@ -1,4 +1,4 @@
-"""Boards, scripts and firmware as strategies of Hypothesis, for tests of one's own.
+"""Boards, scripts and firmware as Hypothesis strategies, for your own tests.
 
     from hypothesis import given, strategies as st
     from pciguest import Board, Machine
@@ -12,8 +12,9 @@
         for line in data.draw(firmware(board)):
             assert mine.answer(line) == theirs.run_line(line)
 
-It takes Hypothesis (Debian's python3-hypothesis) and Python 3.11. Where a test fails, Hypothesis looks for the smallest
-board and the fewest lines with which it does."""
+This requires Hypothesis (Debian's python3-hypothesis) and Python 3.11. If a test fails, Hypothesis looks for
+the smallest board and the fewest lines with which it fails.
+"""
 
 from __future__ import annotations
 
@@ -30,7 +31,7 @@ __all__ = ["Apertures", "PARTED", "PLAIN", "WIDE", "boards", "firmware", "script
 
 
 class DrawnChoices:
-    """The choices of a drawing, by Hypothesis."""
+    """Choices that Hypothesis makes."""
 
     def __init__(self, draw: Callable) -> None:  # type: ignore[type-arg]
         self.draw = draw
@@ -56,19 +57,19 @@ def boards(
     guests: bool = True,
     last_device: int = 31,
 ) -> str:
-    """Board files, each with so many bridges at most, and no device above the last one. Each can be set up, with room to
+    """Board files with at most so many bridges and no device above `last_device`. Each board can be set up, with room to
     spare."""
     return text_of(draw_board(DrawnChoices(draw), bridges, apertures, guests, last_device))
 
 
 @st.composite
 def scripts(draw: Callable, board: str, most: int = 40) -> List[str]:  # type: ignore[type-arg]
-    """Lines for the guests of a board file, as `pciguest run` reads them: so many at most."""
+    """At most so many lines for the guests of a board file, for `pciguest run`."""
     return draw_script(DrawnChoices(draw), tomllib.loads(board), most)
 
 
 @st.composite
 def firmware(draw: Callable, board: str, most: int = 40) -> List[str]:  # type: ignore[type-arg]
-    """Lines of firmware for a board file, as `pciguest firmware` reads them: those that number its buses, and then so
-    many at most."""
+    """Firmware lines for a board file, for `pciguest firmware`: first those that number its buses, and then at
+    most so many others."""
     return draw_firmware(DrawnChoices(draw), tomllib.loads(board), most)

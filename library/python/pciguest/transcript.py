@@ -1,16 +1,18 @@
-"""Transcripts: lines with their replies, recorded from the library or the program and replayed against anything that
-answers lines.
+"""Transcripts: lines with their replies, which are recorded from the library or the program, and replayed
+against anything that answers lines.
 
     python3 -m pciguest.transcript record run|firmware BOARD [-- COMMAND..] < LINES
     python3 -m pciguest.transcript replay FILE.. [--guest NAME] [-- COMMAND..]
 
-A transcript has sections. Each begins with `== run BOARD: TITLE` or `== firmware BOARD: TITLE`, where BOARD is a board
-file in the folder of the transcript, and has rows `LINE -> REPLY`. COMMAND is run for each section with the words `run` or
-`firmware` and the board file, and answers lines as the program `pciguest` does; without one the library answers. A back
-end in Python is a class with the calls of `BackEnd`, and `replay` compares it.
+A transcript has sections. Each begins with `== run BOARD: TITLE` or `== firmware BOARD: TITLE`, where BOARD is
+a board file in the directory of the transcript, and contains rows `LINE -> REPLY`. For each section, COMMAND is
+run with the argument `run` or `firmware` and the board file, and answers lines as the program `pciguest` does.
+Without a COMMAND, the library answers. A back end in Python is a class with the methods of `BackEnd`, which
+`replay` compares with a section.
 
-Where a reply differs, the first difference of a section is told, with the rule that decides it and whether the standards
-or the profile alone ask for it (docs/own.toml)."""
+If a reply differs, the first difference in a section is reported, with the rule that decides it, and whether
+the rule comes from the standards or only from the profile (docs/own.toml).
+"""
 
 from __future__ import annotations
 
@@ -34,7 +36,8 @@ ARROW = " -> "
 
 
 class Section(NamedTuple):
-    """A run of lines over a board: `run` or `firmware`, the board file, and each line with its reply or None."""
+    """A sequence of lines for a board: `run` or `firmware`, the board file, and each line with its reply or
+    None."""
 
     mode: str
     board: str
@@ -43,9 +46,10 @@ class Section(NamedTuple):
 
 
 class BackEnd(Protocol):
-    """What answers lines. `begin` makes a board: its file is a text, and the mode `run` or `firmware`. An answer is a
-    reply, as `a: 0x00011234`, or None where the back end has none for such a line; that line isn't compared then, nor what is
-    read where a raise was not answered."""
+    """Anything that answers lines. `begin` makes a board from the text of its file, in the mode `run` or
+    `firmware`. `answer` returns a reply such as `a: 0x00011234`, or None if the back end doesn't answer such
+    lines. Then the line isn't compared, and neither is a line that reads bits set by a raise that wasn't
+    answered."""
 
     def begin(self, mode: str, board: str) -> None: ...
     def answer(self, line: str) -> Optional[str]: ...
@@ -66,10 +70,11 @@ class Library:
 
 
 class GuestBackEnd:
-    """A back end that has the functions of a guest, as a hypervisor gives them to a virtual machine. A class of one's own
-    makes them in `begin`, from the board file, and has `read` and `write`: an access of 1, 2 or 4 bytes at a multiple of
-    its width, in a slot's configuration space (`config`) by offset, or by port (`io`) or address (`memory`), where the
-    slot says nothing. Lines that are refused, raises, moves and what the host reads aren't answered."""
+    """A back end with the functions of a guest, as a hypervisor assigns them to a virtual machine. Your
+    subclass creates them in `begin`, from the board file, and defines `read` and `write`: an aligned access
+    of 1, 2 or 4 bytes, to a slot's configuration space (`config`) by offset, or to a port (`io`) or an
+    address (`memory`), for which the slot has no meaning. It doesn't answer lines that are refused, raises,
+    moves and host reads."""
 
     SPACES = {CONFIG: ("config", 0xFF), IO: ("io", 0xFFFFFFFF), MEMORY: ("memory", (1 << 64) - 1)}
 
@@ -100,7 +105,8 @@ class GuestBackEnd:
 
 
 class Process:
-    """A command as a back end: it gets the mode and a board file as its last words, and answers lines."""
+    """A command as a back end. It is run with the mode and a board file as its last arguments, and answers
+    lines."""
 
     def __init__(self, command: List[str], limits: Limits = Limits()) -> None:
         self.command, self.limits = command, limits
@@ -151,27 +157,27 @@ def text_of(sections: Iterable[Section]) -> str:
 
 
 def read(text: str) -> List[Section]:
-    """The sections of a transcript. Blanks before an arrow are no part of the line; # begins a comment."""
+    """The sections of a transcript. Spaces before an arrow aren't part of the line, and # begins a comment."""
     found: List[Section] = []
     for count, line in enumerate(text.splitlines(), 1):
         if line.startswith("== "):
             head, _, title = line[3:].partition(": ")
             mode, _, board = head.partition(" ")
             if mode not in ("run", "firmware") or not board:
-                raise ValueError(f"line {count}: no section of a transcript: {line}")
+                raise ValueError(f"line {count}: not a section of a transcript: {line}")
             found.append(Section(mode, board, title, []))
         elif has_reply(line):
             asked, arrow, reply = line.partition(ARROW)
             if not arrow or not found:
-                raise ValueError(f"line {count}: no row of a transcript: {line}")
+                raise ValueError(f"line {count}: not a row of a transcript: {line}")
             found[-1].rows.append((asked.rstrip(" "), reply))
     return found
 
 
 def record(back_end: BackEnd, mode: str, board: str, name: str, title: str, lines: Iterable[str]) -> Section:
-    """A section with what a back end answers. A board is given as a text, and its name stands in the section. Questions of
-    a session, as `host ready`, are left out, and so are replies of several lines, as of `host guests` that is refused: none
-    of these changes anything."""
+    """A section with a back end's replies. The board is given as a text, and the section contains its name.
+    Queries such as `host ready` are left out, and so are replies of several lines, such as that of a `host
+    guests` that is refused. None of these lines changes anything."""
     back_end.begin(mode, board)
     try:
         rows = ((line, back_end.answer(line)) for line in lines if not is_question(line))
@@ -184,7 +190,7 @@ def record(back_end: BackEnd, mode: str, board: str, name: str, title: str, line
 
 
 class Difference(NamedTuple):
-    """The first row of a section that is answered otherwise: its number, from 1 on, both replies, and the rule."""
+    """The first row of a section with a different reply: its number, from 1, both replies, and the rule."""
 
     section: Section
     row: int
@@ -217,35 +223,36 @@ def rule_at(section: Section, board: str, row: int, came: Optional[str]) -> str:
 
 
 def rows_for(section: Section, guest: Optional[str]) -> Iterator[Tuple[int, str, Optional[str]]]:
-    """The rows with their places: all, or those of one guest, who is told the same whatever the others do."""
+    """The rows with their positions: all of them, or those of one guest, whose replies don't depend on the
+    others."""
     for place, (line, reply) in enumerate(section.rows):
         if guest is None or line.split()[0] == guest:
             yield place, line, reply
 
 
 def takes_part(section: Section, guest: str) -> bool:
-    """Whether a guest has rows in a section, and no move touches it."""
+    """Whether a guest has rows in a section, and no move involves it."""
     words = [line.split() for line, _ in section.rows]
     return section.mode == "run" and any(line[0] == guest for line in words) and not any(
         line[:2] == ["host", "move"] and guest in line for line in words)
 
 
 class Raised:
-    """Bytes that raises have set and that a back end doesn't know, since it doesn't answer raises."""
+    """Bytes that were set by raises. A back end that doesn't answer raises can't know their values."""
 
     def __init__(self) -> None:
         self.cells: Set[Tuple[str, int, int]] = set()
         self.has_regions = False
 
     def add(self, name: str, slot: str, part: str, offset: str, _mask: str) -> None:
-        """A raise that was done."""
+        """Records a raise."""
         if part == "cfg":
             self.cells.add((name, number_of(slot.encode()) or 0, number_of(offset.encode()) or 0))
         else:
             self.has_regions = True
 
     def may_stand_in(self, line: str) -> bool:
-        """Whether a line may read one of them."""
+        """Whether a line may read one of these bytes."""
         asked = access_of(line.encode(), lambda name: 0)
         if asked is None or asked.value is not None:
             return False
@@ -256,7 +263,7 @@ class Raised:
 
 
 def replay(back_end: BackEnd, section: Section, board: str, guest: Optional[str] = None) -> Optional[Difference]:
-    """The first difference between a section and what a back end answers, or None."""
+    """The first difference between a section and a back end's replies, or None."""
     raised = Raised()
     back_end.begin(section.mode, board)
     try:
@@ -277,7 +284,8 @@ def replay(back_end: BackEnd, section: Section, board: str, guest: Optional[str]
 
 def replay_files(files: Iterable[str], back_end: BackEnd, guest: Optional[str] = None,
                  tell: Callable[[str], None] = print) -> Tuple[int, int]:
-    """Replays all sections of some transcripts, and tells what differs: how many sections agree, and how many don't."""
+    """Replays all sections of some transcripts, prints what differs, and returns how many sections agree and
+    how many don't."""
     agree = differ = 0
     for file in files:
         for section in read(Path(file).read_text()):
@@ -295,11 +303,11 @@ def parser() -> argparse.ArgumentParser:
     words = argparse.ArgumentParser(prog="python3 -m pciguest.transcript", description="Records lines with their replies, "
                                     "and replays them. Status 1 says that a reply differs.")
     kinds = words.add_subparsers(dest="kind", required=True)
-    recording = kinds.add_parser("record", help="writes a transcript of the lines of standard input")
+    recording = kinds.add_parser("record", help="writes a transcript of the lines on standard input")
     recording.add_argument("mode", choices=["run", "firmware"])
     recording.add_argument("board")
-    replaying = kinds.add_parser("replay", help="compares what is answered with transcripts")
-    replaying.add_argument("--guest", metavar="NAME", help="the lines of this guest alone")
+    replaying = kinds.add_parser("replay", help="compares replies with transcripts")
+    replaying.add_argument("--guest", metavar="NAME", help="only the lines of this guest")
     replaying.add_argument("files", nargs="+", metavar="FILE")
     return words
 

@@ -118,7 +118,7 @@ class Messages(Case):
     def test_a_device_asks_for_itself(self):
         device = Sender()
         with self.assertRaises(ValueError):
-            device.bus_master  # it is attached to no machine
+            device.bus_master  # it isn't attached to a machine
         self.machine.attach(self.a, 0, device)
         self.assertIs(device.bus_master, False)
         self.config[COMMAND:2], self.config[CONTROL:2] = 4, 0x8000

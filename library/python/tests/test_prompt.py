@@ -76,7 +76,7 @@ class Lines(Case):
             ("9.0.command", "no function at 9.0"),
             ("2.0.bar0[0:4]", "and no bar0"),
             ("a.mem", "write [place:width] after mem"),
-            ("a.bar1[x:4]", "'x' is no number"),
+            ("a.bar1[x:4]", "'x' isn't a number"),
         ):
             said = self.asked(text)
             self.assertTrue(any(part in line for line in said) or "refused 402" in said[1], (text, said))
@@ -106,7 +106,7 @@ class Lines(Case):
         self.assertIn("19 secondary         0x01", registers)
         self.assertEqual(self.asked("regs a.1")[1], "02 device            0x0004")
         self.assertEqual(self.asked("regs a")[1], "02 device            0x0001")
-        self.assertEqual(self.asked("regs")[0], "  write the path of a function, or a guest, as regs 2.0 or regs a.1")
+        self.assertEqual(self.asked("regs")[0], "  write the path of a function, or a guest, as in regs 2.0 or regs a.1")
         self.assertEqual(self.asked("slots")[0], "a slot 0: 1.0 1234:0001")
         self.assertIn("tree", self.asked("help")[0])
 

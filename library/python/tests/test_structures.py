@@ -72,7 +72,7 @@ class Capabilities(unittest.TestCase):
             self.assertRaises(ValueError, make)
 
     def test_the_limit_of_a_region_is_told(self):
-        with self.assertRaisesRegex(ValueError, "far stands outside the first 0x1000 bytes of region 1"):
+        with self.assertRaisesRegex(ValueError, "far is outside the first 0x1000 bytes of region 1"):
             type("Wrong", (Listed,), {"far": Register(0xFFE, 4, bar=1)})
-        with self.assertRaisesRegex(ValueError, "far stands outside region 1$"):
+        with self.assertRaisesRegex(ValueError, "far is outside region 1$"):
             type("Wrong", (Listed,), {"far": Register(0xFFFE, 4, bar=1)})

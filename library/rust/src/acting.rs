@@ -1,4 +1,4 @@
-//! Which machines wait, on this thread, until one of their devices has acted.
+//! The machines that wait, on this thread, for one of their devices to act.
 
 use crate::machine::Machine;
 use std::cell::RefCell;
@@ -9,7 +9,7 @@ thread_local! {
     static WAITING: RefCell<Vec<usize>> = const { RefCell::new(Vec::new()) };
 }
 
-/// A machine waits, as long as this is there.
+/// While this value exists, a machine waits.
 pub(crate) struct Acting(());
 
 impl Acting {

@@ -1,4 +1,5 @@
-//! Devices that are attached to functions of a machine, and what they are told beside accesses.
+//! Devices that are attached to functions of a machine, and events other than accesses that they are notified
+//! of.
 
 #[cfg(feature = "std")]
 use crate::acting::Acting;
@@ -12,14 +13,14 @@ use crate::prelude::*;
 use crate::raw::{ARGUMENT, BAD_IMAGE};
 use core::fmt;
 
-/// Why a device is not attached.
+/// Why a device can't be attached.
 #[derive(Clone, Debug, PartialEq, Eq)]
 pub enum NotAttached {
     /// 303: the slot is above 31. 601: the slot is empty. 902: there is no such guest.
     Refused(Error),
-    /// The function is not as the device declares it: the first field in which it differs.
+    /// The function isn't as the device declares it. This is the first field that differs.
     DeclaredOtherwise(Difference),
-    /// The function has a device.
+    /// The function already has a device.
     Taken,
 }
 
@@ -45,7 +46,7 @@ impl From<Error> for NotAttached {
 /// A guest and a slot.
 type Seat = (Guest, u64);
 
-/// A device with its function: the index of that among the functions of the board, and who has it in which slot.
+/// A device with its function: the function's index on the board, and the guest and slot that have it.
 pub(crate) struct Attached {
     function: usize,
     seat: Option<Seat>,
@@ -54,14 +55,16 @@ pub(crate) struct Attached {
 }
 
 impl Machine {
-    /// Lets a device act behind the function in a slot of a guest, from here on and wherever the function goes: each
-    /// access of a guest, by calls or by a line, tells the device which registers it touches. An access that is refused
-    /// tells it nothing. The example stands at [`DeviceModel`].
+    /// Attaches a device to the function in a guest's slot. From now on, the device is notified of the
+    /// registers that each guest access touches, no matter whether the access is a call or a line. It isn't
+    /// notified of accesses that are refused. The device follows its function to other slots and guests.
+    /// [`DeviceModel`] has an example.
     ///
     /// # Errors
     ///
-    /// The function has to be as the device declares it, in all that it declares: identity, regions, and of each register
-    /// its patterns. Of cells that belong to no register the device says nothing. The function has no other device.
+    /// The function must have everything that the device declares: its identity, its regions, and the patterns
+    /// of each register. Register bytes that the device doesn't declare aren't compared. The function must not
+    /// have another device.
     pub fn attach(
         &mut self, guest: Guest, slot: u64, device: impl DeviceModel + 'static,
     ) -> Result<(), NotAttached> {
@@ -85,8 +88,8 @@ impl Machine {
         Ok(())
     }
 
-    /// Takes the device behind the function in a slot of a guest away: it is told nothing any more. The registers stay as they
-    /// are.
+    /// Detaches the device from the function in a guest's slot, so it isn't notified any more. The registers
+    /// keep their contents.
     ///
     /// # Errors
     ///
@@ -96,22 +99,22 @@ impl Machine {
         Ok(self.devices.remove(device).model)
     }
 
-    /// The registers of the device that is attached to the function in a slot of a guest, as the device reads and sets
-    /// them at any time. Refused as for [`Machine::detach`].
+    /// Returns the registers of the device that is attached to the function in a guest's slot, as the device
+    /// reads and sets them. Refused as [`Machine::detach`] is.
     pub fn registers(&mut self, guest: Guest, slot: u64) -> Result<Registers<'_>, Error> {
         let device = self.device_behind(guest, slot)?;
         Ok(self.lent(device).expect("the seat is that slot"))
     }
 
-    /// What the device behind the function in a slot of a guest keeps beside its registers, which are in an image
-    /// ([`Machine::save`]). Refused as for [`Machine::detach`].
+    /// Returns the state that the device behind the function in a guest's slot keeps outside its registers. An
+    /// image ([`Machine::save`]) contains only the registers. Refused as [`Machine::detach`] is.
     pub fn save_state(&mut self, guest: Guest, slot: u64) -> Result<Vec<u8>, Error> {
         let device = self.device_behind(guest, slot)?;
         Ok(self.devices[device].model.save_state())
     }
 
-    /// Lets the device keep what was saved so, once the image is loaded. Refused as for [`Machine::detach`], and by 905 where
-    /// the device takes the bytes for no state of its own.
+    /// Restores a state that `save_state` returned, after the image was loaded. Refused as [`Machine::detach`]
+    /// is, and with 905 if the device doesn't accept the bytes as its state.
     pub fn load_state(&mut self, guest: Guest, slot: u64, state: &[u8]) -> Result<(), Error> {
         let device = self.device_behind(guest, slot)?;
         let taken = self.act(device, |model, registers| model.load_state(registers, state));
@@ -138,7 +141,7 @@ impl Machine {
         Some(Registers { handle: &mut self.handle, guest, slot, declared: registers })
     }
 
-    /// Lets a device act whose function a guest has, while the machine waits.
+    /// Calls a device whose function a guest has, while the machine waits.
     pub(crate) fn act<T>(
         &mut self, device: usize, acts: impl FnOnce(&mut dyn DeviceModel, &mut Registers<'_>) -> T,
     ) -> Option<T> {
@@ -150,7 +153,7 @@ impl Machine {
         Some(acts(model.as_mut(), &mut lent))
     }
 
-    /// Lets the devices act whose functions stand at some seats.
+    /// Calls the devices whose functions are at some seats.
     pub(crate) fn tell(
         &mut self, stands: impl Fn(Seat) -> bool,
         acts: impl Fn(&mut dyn DeviceModel, &mut Registers<'_>),
@@ -162,7 +165,8 @@ impl Machine {
         }
     }
 
-    /// Finds out who has the functions of devices now: gives each seat that was left, and is another one, with its device.
+    /// Updates which guests and slots have the devices' functions. Returns each device whose seat changed, with
+    /// the seat before.
     pub(crate) fn reseat(&mut self) -> Vec<(usize, Option<Seat>)> {
         let mut changed = Vec::new();
         for device in 0..self.devices.len() {
@@ -176,7 +180,7 @@ impl Machine {
         changed
     }
 
-    /// Tells the devices whose functions were moved, given or taken.
+    /// Notifies the devices whose functions were moved, given or taken.
     pub(crate) fn tell_moved(&mut self) {
         for (device, before) in self.reseat() {
             match before {
@@ -191,7 +195,7 @@ impl Machine {
         }
     }
 
-    /// Tells the devices of the machine what was loaded.
+    /// Notifies the machine's devices of a load.
     pub(crate) fn tell_loaded(&mut self) {
         for (device, _) in self.reseat() {
             if self.devices[device].seat.is_none() {

@@ -1,4 +1,4 @@
-//! A board that firmware of one's own drives, from reset on.
+//! A board that your own firmware drives, from reset.
 
 use crate::error::{answered, valued, Error};
 use crate::function::BoardFunction;
@@ -19,21 +19,21 @@ pub struct Audit {
     pub problems: usize,
 }
 
-/// What is wrong and what is lacking in the registers of a board.
+/// What is wrong in the registers of a board, and what is left to do.
 #[derive(Clone, Debug, PartialEq, Eq)]
 pub struct Readiness {
-    /// A line for each problem and for each lack, and a last line that counts them.
+    /// A line for each problem and each thing that is left to do, and a last line that counts them.
     pub text: String,
-    /// How many problems and lacks there are: the board is ready where there is none.
+    /// How many problems and things that are left to do there are. If there are none, the board is ready.
     pub lacks: usize,
 }
 
-/// A call that tells a text and how much it counts.
+/// A call that writes a text and stores a count.
 type TextCall =
     unsafe extern "C" fn(*mut BoardHandle, *mut u8, usize, *mut usize, *mut usize) -> u32;
 
-/// A board that firmware of one's own drives, from reset on: it gives out the numbers of buses and the addresses of
-/// regions. What it holds is freed when it is dropped.
+/// A board that your own firmware drives, from reset: the firmware assigns bus numbers, and addresses to
+/// regions. Dropping the board frees its memory.
 ///
 /// Each call takes the board mutably, as for a [`Machine`].
 ///
@@ -44,9 +44,9 @@ type TextCall =
 /// let mut board = Board::new(BOARD)?;
 /// let on_bus_0 = |offset| HostAt::Config { bus: 0, device: 1, function: 0, offset };
 /// assert_eq!(board.read(on_bus_0(0), 4)?, 0x0001_1234);
-/// board.write(on_bus_0(0x10), 4, 0xffff_ffff)?; // how long is its region?
+/// board.write(on_bus_0(0x10), 4, 0xffff_ffff)?; // how large is its region?
 /// assert_eq!(!board.read(on_bus_0(0x10), 4)? + 1, 4096);
-/// board.write(on_bus_0(0x10), 4, 0xd000_0000)?; // where it is to stand
+/// board.write(on_bus_0(0x10), 4, 0xd000_0000)?; // the address of its region
 /// board.write(on_bus_0(4), 2, 2)?; // memory on
 /// board.write(HostAt::Memory { address: 0xd000_0010 }, 4, 0x1234_5678)?;
 /// assert_eq!(board.read(HostAt::Memory { address: 0xd000_0010 }, 2)?, 0x5678);
@@ -60,11 +60,12 @@ pub struct Board {
 unsafe impl Send for Board {}
 
 impl Board {
-    /// The board of a board file, at reset. The guests of the file are checked, and no function is given to them.
+    /// Returns the board of a board file in its reset state. The guests of the file are checked, but they
+    /// aren't assigned any functions.
     ///
     /// # Errors
     ///
-    /// The number of the first check that the file fails, or of memory that is out.
+    /// The number of the first check that the file fails, or 199 if memory runs out.
     ///
     /// ```
     /// let refused = pciguest::Board::new("x = 1").unwrap_err();
@@ -73,18 +74,18 @@ impl Board {
     pub fn new(file: impl AsRef<[u8]>) -> Result<Board, Error> {
         let file = file.as_ref();
         let mut handle = BoardHandle { live: false, at: null_mut() };
-        // SAFETY: the handle holds no board, and `file` has as many bytes as is said.
+        // SAFETY: the handle is empty, and `file` has the given length.
         answered(unsafe { raw::pciguest_board_new(&mut handle, file.as_ptr(), file.len()) })?;
         Ok(Board { handle })
     }
 
-    /// Reads 1, 2 or 4 bytes as firmware does, in whatever state the registers are: all ones where nothing answers. A
-    /// read of configuration space by number leaves 0 in CONFIG_ADDRESS; else a read changes nothing.
+    /// Reads 1, 2 or 4 bytes as firmware does, whatever the registers contain: all ones if nothing responds. A
+    /// configuration read by BDF sets CONFIG_ADDRESS to 0. Apart from that, a read changes nothing.
     ///
     /// # Errors
     ///
-    /// 302: the width is not 1, 2 or 4. 301: the place is no multiple of it. 303: the offset is above 255, or the port
-    /// above FFFFFFFFh. 902: the device is above 31, or the function above 7.
+    /// 302: the width isn't 1, 2 or 4. 301: the offset, port or address isn't a multiple of the width. 303: the
+    /// offset is above 255, or the port above FFFFFFFFh. 902: the device is above 31, or the function above 7.
     ///
     /// ```
     /// # const BOARD: &str = include_str!("board.toml");
@@ -93,19 +94,19 @@ impl Board {
     /// let mut board = Board::new(BOARD)?;
     /// board.write(HostAt::Io { port: 0xcf8 }, 4, 0x8000_0800)?; // CONFIG_ADDRESS: device 1 of bus 0
     /// assert_eq!(board.read(HostAt::Io { port: 0xcfc }, 4)?, 0x0001_1234);
-    /// assert_eq!(board.read(HostAt::Memory { address: 0xd000_0000 }, 4)?, 0xffff_ffff); // nobody
+    /// assert_eq!(board.read(HostAt::Memory { address: 0xd000_0000 }, 4)?, 0xffff_ffff); // nothing responds
     /// # Ok::<(), pciguest::Error>(())
     /// ```
     pub fn read(&mut self, at: HostAt, width: u32) -> Result<u32, Error> {
         let ((space, bus, device, function, place), board) = (at.parts(), &mut self.handle);
-        // SAFETY: `value` is a place of its own.
+        // SAFETY: `value` is a separate variable.
         valued(|value| unsafe {
             raw::pciguest_board_read(board, space, bus, device, function, place, width, value)
         })
     }
 
-    /// Writes the low 1, 2 or 4 bytes of a value as firmware does; what nothing takes is dropped. A write of
-    /// configuration space by number leaves 0 in CONFIG_ADDRESS. Refused as a read is.
+    /// Writes the low 1, 2 or 4 bytes of a value as firmware does. If nothing responds, the write is dropped. A
+    /// configuration write by BDF sets CONFIG_ADDRESS to 0. Refused as a read is.
     ///
     /// ```
     /// # const BOARD: &str = include_str!("board.toml");
@@ -119,24 +120,24 @@ impl Board {
     /// ```
     pub fn write(&mut self, at: HostAt, width: u32, value: u32) -> Result<(), Error> {
         let ((space, bus, device, function, place), board) = (at.parts(), &mut self.handle);
-        // SAFETY: no pointer but the handle is passed.
+        // SAFETY: no pointer except the handle is passed.
         answered(unsafe {
             raw::pciguest_board_write(board, space, bus, device, function, place, width, value)
         })
     }
 
-    /// Runs one line of a session, as `pciguest firmware` does, with its line feed or without: a line of firmware;
-    /// `host audit`, whose reply is the text of an [audit](Board::audit); `host ready`, whose reply tells also what the board
-    /// lacks that is to be driven; `host why ..`, whose reply tells why something finds what it finds; `host guests`,
-    /// which gives the board to the guests of its file or says why it doesn't; and once it is given, a line of a script.
-    /// The board is then that of its guests: [`into_guests`](Board::into_guests) makes a [`Machine`] of it, and its
-    /// other calls are refused by 901.
+    /// Runs one line, as `pciguest firmware` does, and returns the reply. The line is one of these: an access
+    /// by firmware; `host audit`, `host ready` or `host why ..`, which report something and change nothing; or
+    /// `host guests`, which hands the board over to the guests in its file, or says why it can't. After `host
+    /// guests`, the lines are script lines, and every other call of the board is refused with 901;
+    /// [`into_guests`](Board::into_guests) returns the [`Machine`].
     ///
-    /// The reply is as that of [`Machine::run_line`]; that of these four lines may have more than one line.
+    /// Lines and replies are like those of [`Machine::run_line`], but the reply to a query or to `host guests`
+    /// can have several lines.
     ///
     /// # Errors
     ///
-    /// 299: memory is out for one of these four lines, and nothing happened.
+    /// 299: memory runs out for a query or for `host guests`; then nothing has changed.
     ///
     /// ```
     /// # const BOARD: &str = include_str!("board.toml");
@@ -150,14 +151,14 @@ impl Board {
     /// ```
     pub fn run_line(&mut self, line: impl AsRef<[u8]>) -> Result<Option<String>, Error> {
         reply_to(line.as_ref(), |line, length, reply, room, written| {
-            // SAFETY: `line` and `reply` have as many bytes as is said, and nothing overlaps.
+            // SAFETY: `line` and `reply` have the given lengths, and nothing overlaps.
             unsafe {
                 raw::pciguest_board_run_line(&mut self.handle, line, length, reply, room, written)
             }
         })
     }
 
-    /// How many functions the board has, endpoints and bridges.
+    /// Returns how many functions the board has, endpoints and bridges.
     ///
     /// ```
     /// # const BOARD: &str = include_str!("board.toml");
@@ -165,12 +166,12 @@ impl Board {
     /// # Ok::<(), pciguest::Error>(())
     /// ```
     pub fn count(&mut self) -> Result<usize, Error> {
-        // SAFETY: `count` is a place of its own.
+        // SAFETY: `count` is a separate variable.
         valued(|count| unsafe { raw::pciguest_board_count(&mut self.handle, count) })
     }
 
-    /// The function at an index, from 0 on, in the order of paths, as the registers stand. It changes nothing,
-    /// CONFIG_ADDRESS neither. 902: there is no such function.
+    /// Returns the function at an index, in path order, according to the current registers. Changes nothing,
+    /// not even CONFIG_ADDRESS. 902: there is no such function.
     ///
     /// ```
     /// # const BOARD: &str = include_str!("board.toml");
@@ -180,18 +181,18 @@ impl Board {
     /// let register = |offset| HostAt::Config { bus: 0, device: 1, function: 0, offset };
     /// board.write(register(0x10), 4, 0xd000_0000)?;
     /// let told = board.function(0)?;
-    /// assert!(told.is_found && !told.opens_memory); // on bus 0 it is found at reset; its region is closed still
+    /// assert!(told.is_found && !told.opens_memory); // on bus 0, it is found at reset; its region is still disabled
     /// let Ranges::Regions(regions) = told.function.ranges else { panic!("a bridge") };
     /// assert_eq!(regions[0].map(|region| (region.first, region.size)), Some((0xd000_0000, 4096)));
     /// # Ok::<(), pciguest::Error>(())
     /// ```
     pub fn function(&mut self, index: usize) -> Result<BoardFunction, Error> {
-        // SAFETY: `told` is a place of its own.
+        // SAFETY: `told` is a separate variable.
         valued(|told| unsafe { raw::pciguest_board_function(&mut self.handle, index, told) })
             .map(|told| BoardFunction::of(&told))
     }
 
-    /// All functions of the board, in the order of paths.
+    /// Returns all functions of the board, in path order.
     ///
     /// ```
     /// # const BOARD: &str = include_str!("board.toml");
@@ -203,13 +204,13 @@ impl Board {
         (0..self.count()?).map(|index| self.function(index)).collect()
     }
 
-    /// What is wrong in the registers as they stand, whoever wrote them: bytes of open regions that a bridge above
-    /// doesn't forward, addresses that two answer on one bus, and functions that no cycle finds. The board stays as it
-    /// is.
+    /// Returns what is wrong in the registers, no matter who wrote them: bytes of enabled regions that a bridge
+    /// above doesn't forward, addresses at which two functions on one bus respond, and functions that no
+    /// configuration cycle reaches. Changes nothing.
     ///
     /// # Errors
     ///
-    /// Out of memory alone.
+    /// Only 299, if memory runs out.
     ///
     /// ```
     /// # const BOARD: &str = include_str!("board.toml");
@@ -223,11 +224,11 @@ impl Board {
         Ok(Audit { text, problems })
     }
 
-    /// An [audit](Board::audit) as a JSON object on one line, as `pciguest audit --json` writes it.
+    /// Returns an [audit](Board::audit) as a JSON object on one line, like `pciguest audit --json`.
     ///
     /// # Errors
     ///
-    /// Out of memory alone.
+    /// Only 299, if memory runs out.
     ///
     /// ```
     /// # const BOARD: &str = include_str!("board.toml");
@@ -238,13 +239,14 @@ impl Board {
         Ok(self.counted(raw::pciguest_board_audit_json)?.0)
     }
 
-    /// What is wrong and what is lacking in the registers as they stand, whoever wrote them: the lines of an
-    /// [audit](Board::audit), then regions that are closed, outside the apertures or prefetched where they mustn't be, and
-    /// bridges with another Primary than their bus. The board stays as it is.
+    /// Returns what is wrong in the registers and what is left to do, no matter who wrote them. The report
+    /// begins with the lines of an [audit](Board::audit). Then it lists regions that are disabled, outside the
+    /// apertures, or prefetched although they aren't prefetchable, and bridges whose Primary Bus Number isn't
+    /// the number of their bus. Changes nothing.
     ///
     /// # Errors
     ///
-    /// Out of memory alone.
+    /// Only 299, if memory runs out.
     ///
     /// ```
     /// # const BOARD: &str = include_str!("board.toml");
@@ -258,11 +260,12 @@ impl Board {
         Ok(Readiness { text, lacks })
     }
 
-    /// Whether the board is [ready](Board::ready) as a JSON object on one line, as `pciguest ready --json` writes it.
+    /// Returns whether the board is [ready](Board::ready), as a JSON object on one line, like `pciguest ready
+    /// --json`.
     ///
     /// # Errors
     ///
-    /// Out of memory alone.
+    /// Only 299, if memory runs out.
     ///
     /// ```
     /// # const BOARD: &str = include_str!("board.toml");
@@ -274,13 +277,13 @@ impl Board {
         Ok(self.counted(raw::pciguest_board_ready_json)?.0)
     }
 
-    /// Why a place finds what it finds as the registers stand, or nothing, as a JSON object on one line, with all that the
-    /// lines of `host why ..` tell. Of configuration space no offset is looked at. The board stays as it is, CONFIG_ADDRESS
-    /// too.
+    /// Explains what an access reaches, and why, or why it reaches nothing. Returns everything that `host why
+    /// ..` reports, as a JSON object on one line. For configuration space, the offset is ignored. Changes
+    /// nothing, not even CONFIG_ADDRESS.
     ///
     /// # Errors
     ///
-    /// 902: the device is above 31, or the function above 7. Or out of memory.
+    /// 902: the device is above 31, or the function above 7. 299: memory runs out.
     ///
     /// ```
     /// # const BOARD: &str = include_str!("board.toml");
@@ -295,7 +298,7 @@ impl Board {
     /// ```
     pub fn why_json(&mut self, at: HostAt) -> Result<String, Error> {
         let ((space, bus, device, function, at), board) = (at.parts(), &mut self.handle);
-        // SAFETY: the text has as many bytes as is said, and nothing overlaps.
+        // SAFETY: the text has the given length, and nothing overlaps.
         text_of(1024, |text, room, needed| unsafe {
             raw::pciguest_board_why_json(
                 board, space, bus, device, function, at, text, room, needed,
@@ -305,19 +308,19 @@ impl Board {
 
     fn counted(&mut self, call: TextCall) -> Result<(String, usize), Error> {
         let mut count = 0;
-        // SAFETY: the text has as many bytes as is said, and nothing overlaps.
+        // SAFETY: the text has the given length, and nothing overlaps.
         let text = text_of(1024, |text, room, needed| unsafe {
             call(&mut self.handle, text, room, needed, &mut count)
         })?;
         Ok((text, count))
     }
 
-    /// The machine that [`Machine::new`] makes of the same file: our own set-up, in place of firmware of one's own. The
-    /// board has to be at reset, and stays as it is.
+    /// Returns the machine that [`Machine::new`] makes of the same file, with the built-in set-up instead of
+    /// your own firmware. The board must be in its reset state, and isn't changed.
     ///
     /// # Errors
     ///
-    /// 904: a write was done on the board since reset. Otherwise 201 to 205, or of memory that is out.
+    /// 904: there was a write since the reset. Otherwise 201 to 205, or 199 or 299 if memory runs out.
     ///
     /// ```
     /// # const BOARD: &str = include_str!("board.toml");
@@ -332,18 +335,19 @@ impl Board {
     /// # Ok::<(), pciguest::Error>(())
     /// ```
     pub fn set_up(&mut self) -> Result<Machine, Error> {
-        // SAFETY: the handle holds no machine, and the two handles don't overlap.
+        // SAFETY: the handle is empty, and the two handles don't overlap.
         Machine::made_by(|machine| unsafe { raw::pciguest_set_up(&mut self.handle, machine) })
     }
 
-    /// The board with its functions given to the guests of its file, as it stands, whoever set it up. Each function that
-    /// is given is reset first, but for what guests have copies of. Where a [line](Board::run_line) gave the board before,
-    /// the machine is the one that its guests are, as it is now.
+    /// Assigns the board's functions to the guests in its file, and returns the machine. It doesn't matter who
+    /// set the board up. Each assigned function is first reset, except for the registers of which guests have
+    /// copies. If `host guests` ([`run_line`](Board::run_line)) handed the board over before, the machine
+    /// consists of those guests as they are now.
     ///
     /// # Errors
     ///
-    /// The board comes back as it was, with why: 207, its [audit](Board::audit) tells a problem; 206, a region of a
-    /// function that is to be given is closed; or 299, memory is out.
+    /// Returns the unchanged board with the reason. 207: the [audit](Board::audit) reports a problem. 206: a
+    /// region of a function that is to be assigned is disabled. 299: memory runs out.
     ///
     /// ```
     /// # const BOARD: &str = include_str!("board.toml");
@@ -362,7 +366,7 @@ impl Board {
     /// # Ok::<(), pciguest::Error>(())
     /// ```
     pub fn into_guests(mut self) -> Result<Machine, NotGiven> {
-        // SAFETY: the handle holds no machine, and the two handles don't overlap.
+        // SAFETY: the handle is empty, and the two handles don't overlap.
         let made = Machine::made_by(|machine| unsafe {
             raw::pciguest_board_guests(&mut self.handle, machine)
         });
@@ -370,12 +374,12 @@ impl Board {
     }
 }
 
-/// A board that was not given to guests, as it was, and why.
+/// A board that couldn't be handed over to its guests, unchanged, and the reason.
 #[derive(Debug)]
 pub struct NotGiven {
     /// The board.
     pub board: Board,
-    /// Why it was not given.
+    /// Why it couldn't be handed over.
     pub error: Error,
 }
 

@@ -1,13 +1,14 @@
-//! Accesses in the form in which hypervisors in Rust hand those on that they trapped.
+//! Trapped accesses, in the form in which hypervisors in Rust forward them.
 
 use crate::acting::waits;
 use crate::machine::Machine;
 use crate::place::{At, Guest, Region, Space};
 use std::sync::{Arc, Mutex, MutexGuard, PoisonError};
 
-/// The ports or the memory of a guest, for the bus of a hypervisor. It answers for all regions of all functions of this
-/// guest, so one is put on the bus for each range that [`Machine::region`] tells to be open, and, for ports, for CF8h to
-/// CFFh. It locks the machine for each access, and makes 8 bytes of it at a time.
+/// The ports or the memory of a guest, for the bus of a hypervisor. It handles accesses to all regions of all
+/// functions of this guest. Put it on the bus once for each range that [`Machine::region`] reports as enabled,
+/// and for ports also for CF8h to CFFh. It locks the machine for each access, and splits an access into parts
+/// of at most 8 bytes.
 ///
 /// ```
 /// # const BOARD: &str = include_str!("board.toml");
@@ -25,7 +26,8 @@ use std::sync::{Arc, Mutex, MutexGuard, PoisonError};
 /// # Ok::<(), pciguest::Error>(())
 /// ```
 ///
-/// A hypervisor implements the trait of its own bus for it. This is that of Firecracker and Cloud Hypervisor:
+/// A hypervisor implements its own bus trait for this type. This is the trait of Firecracker and Cloud
+/// Hypervisor:
 ///
 /// ```
 /// # use pciguest::GuestBus;
@@ -41,14 +43,15 @@ use std::sync::{Arc, Mutex, MutexGuard, PoisonError};
 ///
 ///     fn write(&self, base: u64, offset: u64, data: &[u8]) -> Option<Arc<Barrier>> {
 ///         self.write(base, offset, data);
-///         None // it is done: there is nothing for the processor to wait at
+///         None // done: the processor needn't wait for anything
 ///     }
 /// }
 /// ```
 ///
 /// # Panics
 ///
-/// A [`DeviceModel`](crate::DeviceModel) of the same machine makes the access: the machine waits until it has acted.
+/// A [`DeviceModel`](crate::DeviceModel) of the same machine makes the access. The machine waits until the
+/// device has acted.
 #[derive(Clone, Debug)]
 pub struct GuestBus {
     machine: Arc<Mutex<Machine>>,
@@ -62,8 +65,8 @@ impl GuestBus {
         GuestBus { machine, guest, space }
     }
 
-    /// Reads as many bytes as `data` has, at an offset of a range that begins at `base`, that at the lowest address first. What
-    /// nobody answers reads all ones.
+    /// Fills `data` with bytes at an offset of a range that begins at `base`, in ascending order of addresses.
+    /// If nothing responds, the bytes are all ones.
     pub fn read(&self, base: u64, offset: u64, data: &mut [u8]) {
         let mut machine = locked(&self.machine);
         for (count, part) in data.chunks_mut(8).enumerate() {
@@ -72,7 +75,7 @@ impl GuestBus {
         }
     }
 
-    /// Writes the bytes of `data` so, the first at the lowest address. What nobody takes is lost.
+    /// Writes the bytes of `data`, in ascending order of addresses. If nothing responds, they are dropped.
     pub fn write(&self, base: u64, offset: u64, data: &[u8]) {
         let mut machine = locked(&self.machine);
         for (count, part) in data.chunks(8).enumerate() {
@@ -81,7 +84,7 @@ impl GuestBus {
         }
     }
 
-    /// A place in its space, unless it is past the end of all addresses.
+    /// An address in its space, unless it is past the end of all addresses.
     fn place(&self, base: u64, offset: u64, done: usize) -> Option<At> {
         let place = base.checked_add(offset)?.checked_add(done as u64)?;
         Some(match self.space {
@@ -91,20 +94,20 @@ impl GuestBus {
     }
 }
 
-/// A region that a write of configuration space moved, opened or closed, in the guest's own view.
+/// A region that a configuration write moved, enabled or disabled, as the guest sees it.
 #[derive(Clone, Copy, Debug, PartialEq, Eq)]
 pub struct RegionMove {
     /// Its first base address register, 0 to 5.
     pub register: u32,
-    /// Where it stood.
+    /// Where it was.
     pub before: Region,
-    /// Where it stands.
+    /// Where it is now.
     pub now: Region,
 }
 
-/// The configuration space of the function in a slot of a guest, by registers of 4 bytes, for a hypervisor that has its
-/// own CONFIG_ADDRESS or memory for configuration: what the `PciDevice` of Firecracker and Cloud Hypervisor asks of it. It
-/// locks the machine for each access, and panics as a [`GuestBus`] does.
+/// The configuration space of the function in a guest's slot, by registers of 4 bytes, for a hypervisor that
+/// maintains CONFIG_ADDRESS or ECAM itself. This is what the trait `PciDevice` of Firecracker and Cloud
+/// Hypervisor needs. It locks the machine for each access, and panics like a [`GuestBus`].
 ///
 /// ```
 /// # const BOARD: &str = include_str!("board.toml");
@@ -121,8 +124,8 @@ pub struct RegionMove {
 /// # Ok::<(), pciguest::Error>(())
 /// ```
 ///
-/// The trait of Cloud Hypervisor takes moves and a barrier from a write, and a hypervisor's own allocator in what is left out
-/// here:
+/// The trait of Cloud Hypervisor, whose writes return moved regions and a barrier. The hypervisor's own
+/// allocator is left out here:
 ///
 /// ```
 /// # use pciguest::{GuestBus, SlotConfig};
@@ -180,7 +183,7 @@ impl SlotConfig {
         SlotConfig { machine, guest, slot }
     }
 
-    /// Reads the register at an index, 0 to 63: all ones where the slot is empty or there is no such register.
+    /// Reads the register at an index, 0 to 63: all ones if the slot is empty or there is no such register.
     pub fn read_config_register(&self, index: usize) -> u32 {
         let mut data = [0; 4];
         let at = self.place(index, 0);
@@ -188,8 +191,8 @@ impl SlotConfig {
         u32::from_le_bytes(data)
     }
 
-    /// Writes 1 to 4 bytes at an offset of this register, and gives the regions of the function that stand elsewhere, or are
-    /// open or closed, since.
+    /// Writes 1 to 4 bytes at an offset in this register, and returns the regions of the function that moved,
+    /// or were enabled or disabled.
     pub fn write_config_register(&self, index: usize, offset: u64, data: &[u8]) -> Vec<RegionMove> {
         let at = self.place(index, offset);
         let mut machine = locked(&self.machine);
@@ -207,7 +210,7 @@ impl SlotConfig {
         .collect()
     }
 
-    /// Where the regions of the function stand, by their first base address registers.
+    /// Where the regions of the function are, by their first base address registers.
     fn regions(&self, machine: &mut Machine) -> [Option<Region>; 6] {
         [0, 1, 2, 3, 4, 5].map(|register| machine.region(self.guest, self.slot, register).ok())
     }
@@ -219,11 +222,12 @@ impl SlotConfig {
     }
 }
 
-/// The machine, also where a thread ended in the middle of what it did with it: no call leaves it halfway.
+/// The machine, even if a thread panicked while it held the lock: no call leaves the machine in a partial
+/// state.
 ///
 /// # Panics
 ///
-/// A device of this machine acts on this thread, for which the machine waits.
+/// A device of this machine acts on this thread, and the machine waits for it.
 fn locked(machine: &Mutex<Machine>) -> MutexGuard<'_, Machine> {
     let is_waiting = waits(machine);
     assert!(
@@ -233,14 +237,14 @@ fn locked(machine: &Mutex<Machine>) -> MutexGuard<'_, Machine> {
     machine.lock().unwrap_or_else(PoisonError::into_inner)
 }
 
-/// Reads up to 8 bytes, all ones where it is refused.
+/// Reads up to 8 bytes: all ones if the access is refused.
 fn read_part(machine: &mut Machine, guest: Guest, at: Option<At>, data: &mut [u8]) {
     let read = at.and_then(|at| machine.read_wide(guest, at, data.len() as u32).ok());
     let bytes = read.unwrap_or(u64::MAX).to_le_bytes();
     data.copy_from_slice(&bytes[..data.len()]);
 }
 
-/// Writes up to 8 bytes; what is refused is lost.
+/// Writes up to 8 bytes. If the access is refused, they are dropped.
 fn write_part(machine: &mut Machine, guest: Guest, at: Option<At>, data: &[u8]) {
     let Some(at) = at else { return };
     let mut bytes = [0; 8];

@@ -1,11 +1,12 @@
-//! What a device declares: identity, regions and registers, and the endpoint of a board file that says the same.
+//! What a device declares: identity, regions and registers, and the table of a board file with the same
+//! declaration.
 
 use crate::place::Part;
 use crate::prelude::*;
 use crate::structure::Structure;
 use core::fmt::Write;
 
-/// The patterns of a block in a board file, each with the bits that a register has in it.
+/// The patterns of a block in a board file, each with a register's bits in it.
 pub(crate) const PATTERNS: [(&str, BitsOf); 3] =
     [("reset", |it| it.reset), ("rw", |it| it.rw), ("w1c", |it| it.w1c)];
 
@@ -14,7 +15,7 @@ const REGION_END: u64 = 0x1000;
 
 pub(crate) type BitsOf = fn(&Register) -> u64;
 
-/// The kind of a region, as board files have it.
+/// The kind of a region, as in board files.
 #[derive(Clone, Copy, Debug, PartialEq, Eq)]
 pub enum Kind {
     /// `io`: I/O space.
@@ -23,27 +24,27 @@ pub enum Kind {
     Mem32,
     /// `mem32p`: prefetchable memory below 4 GB.
     Mem32p,
-    /// `mem64`: memory with a base address of 64 bits.
+    /// `mem64`: memory with a 64-bit base address.
     Mem64,
-    /// `mem64p`: prefetchable memory with a base address of 64 bits.
+    /// `mem64p`: prefetchable memory with a 64-bit base address.
     Mem64p,
 }
 
 impl Kind {
-    /// The word of board files.
+    /// The name in board files.
     pub(crate) fn word(self) -> &'static str {
         Kind::word_of(self as u8)
     }
 
-    /// The word of a kind by its number in images.
+    /// The name of a kind, from its number in images.
     pub(crate) fn word_of(number: u8) -> &'static str {
         let words = ["io", "mem32", "mem32p", "mem64", "mem64p"];
         words[usize::from(number.min(4))]
     }
 }
 
-/// A register of a device: 1 to 8 bytes at an offset of a region, or of configuration space, from 40h on. Its driver's
-/// writes set the bits of `rw` and clear, by writing ones, those of `w1c`.
+/// A register of a device: 1 to 8 bytes at an offset in a region, or in configuration space at 40h or above.
+/// The driver can write the bits of `rw`, and clears those of `w1c` by writing ones.
 ///
 /// ```
 /// use pciguest::Register;
@@ -63,7 +64,8 @@ pub struct Register {
 }
 
 impl Register {
-    /// A register of the region of a base address register, 0 to 5, that its driver only reads and that is 0 at reset.
+    /// A register in the region of a base address register, 0 to 5. The driver can only read it, and its reset
+    /// value is 0.
     ///
     /// # Panics
     ///
@@ -72,7 +74,7 @@ impl Register {
         Register::of(Part::Region(region), offset, width)
     }
 
-    /// Such a register of configuration space.
+    /// A register in configuration space. The driver can only read it, and its reset value is 0.
     ///
     /// # Panics
     ///
@@ -86,32 +88,32 @@ impl Register {
         Register { part, offset, width, reset: 0, rw: 0, w1c: 0 }
     }
 
-    /// The same with this value at reset.
+    /// The same register with this reset value.
     pub const fn reset(self, value: u64) -> Register {
         Register { reset: value, ..self }
     }
 
-    /// The same where its driver's writes set these bits.
+    /// The same register, with bits that the driver can write.
     pub const fn rw(self, bits: u64) -> Register {
         Register { rw: bits, ..self }
     }
 
-    /// The same where its driver clears these bits by writing ones.
+    /// The same register, with bits that the driver clears by writing ones.
     pub const fn w1c(self, bits: u64) -> Register {
         Register { w1c: bits, ..self }
     }
 
-    /// Whether an access of some bytes at an offset of a part touches a byte of it.
+    /// Whether an access of some bytes at an offset of a part reaches a byte of the register.
     pub(crate) fn is_touched(&self, part: Part, offset: u64, width: u64) -> bool {
         self.part == part && self.offset < offset + width && offset < self.offset + self.width
     }
 
-    /// Whether one of them has a byte of the other.
+    /// Whether the two registers overlap.
     fn meets(&self, other: &Register) -> bool {
         self.is_touched(other.part, other.offset, other.width)
     }
 
-    /// Where it stands: configuration space before regions, and then by its offset.
+    /// Its position: configuration space before regions, and then by offset.
     pub(crate) fn place(&self) -> (Option<u8>, u64) {
         match self.part {
             Part::Config => (None, self.offset),
@@ -119,13 +121,13 @@ impl Register {
         }
     }
 
-    /// All ones, as many as it has bits.
+    /// All ones, in all bits of the register.
     pub(crate) fn all_ones(&self) -> u64 {
         u64::MAX >> (64 - 8 * self.width)
     }
 }
 
-/// What a device declares of its function: identity, regions and registers.
+/// A device's declaration of its function: identity, regions and registers.
 ///
 /// ```
 /// use pciguest::{Declaration, Kind, Register};
@@ -153,7 +155,8 @@ pub struct Declaration {
 }
 
 impl Declaration {
-    /// A device of a Vendor ID, a Device ID and a class code of 24 bits, with no region, no register and no interrupt pin.
+    /// A device with a Vendor ID, a Device ID and a 24-bit class code, but without regions, registers and
+    /// interrupt pin.
     pub fn new(vendor_id: u16, device_id: u16, class_code: u32) -> Declaration {
         Declaration {
             vendor_id,
@@ -168,23 +171,24 @@ impl Declaration {
         }
     }
 
-    /// The same with a Revision ID.
+    /// The same declaration with a Revision ID.
     pub fn revision(self, revision_id: u8) -> Declaration {
         Declaration { revision_id, ..self }
     }
 
-    /// The same with a Subsystem Vendor ID and a Subsystem ID.
+    /// The same declaration with a Subsystem Vendor ID and a Subsystem ID.
     pub fn subsystem(self, vendor_id: u16, id: u16) -> Declaration {
         let subsystem = (vendor_id, id);
         Declaration { subsystem, ..self }
     }
 
-    /// The same with an interrupt pin: 1 to 4 are INTA# to INTD#.
+    /// The same declaration with an interrupt pin: 1 to 4 are INTA# to INTD#.
     pub fn interrupt_pin(self, interrupt_pin: u8) -> Declaration {
         Declaration { interrupt_pin, ..self }
     }
 
-    /// The same with a region of a size in bytes, by its first base address register.
+    /// The same declaration with a region, given by its first base address register, its kind and its size in
+    /// bytes.
     ///
     /// # Panics
     ///
@@ -194,12 +198,13 @@ impl Declaration {
         self
     }
 
-    /// The same with a register, after the region in which it stands.
+    /// The same declaration with a register. The register's region must be declared before it.
     ///
     /// # Panics
     ///
-    /// It stands outside of its region, its first 4096 bytes, or 40h to FFh, has a byte of another register, or a bit
-    /// that is too high or both in `rw` and in `w1c`. A declaration never changes, so the first use of it finds that.
+    /// The register is outside its region, outside the region's first 4096 bytes, or outside 40h to FFh; it
+    /// overlaps another register; or it has a bit that is too high, or that is in both `rw` and `w1c`. A
+    /// declaration never changes, so this is found when it is first used.
     pub fn register(self, register: Register) -> Declaration {
         let met = self.structures.iter().find(|it| it.meets(register.offset, register.width));
         let structure = met.filter(|_| register.part == Part::Config);
@@ -207,11 +212,11 @@ impl Declaration {
         self.with(register)
     }
 
-    /// The same with a structure of the capability list, after those that come before it in the list, and with its registers.
+    /// Adds a structure to the end of the capability list, and its registers.
     ///
     /// # Panics
     ///
-    /// It has a byte of another structure or of another register.
+    /// The structure overlaps another structure or a register.
     pub fn structure(mut self, structure: Structure) -> Declaration {
         let Structure { offset, length, .. } = structure;
         let is_free = !self.structures.iter().any(|it| it.meets(offset, length))
@@ -221,7 +226,7 @@ impl Declaration {
         structure.registers().fold(self, Declaration::with)
     }
 
-    /// The same with a register that may be one of a structure.
+    /// Adds a register, which may belong to a structure.
     fn with(mut self, register: Register) -> Declaration {
         let (first, end, size) = match register.part {
             Part::Config => (0x40, 0x100, 0x100),
@@ -238,9 +243,9 @@ impl Declaration {
         };
         assert!(
             fits(end) || !fits(size),
-            "{register:x?} stands outside of the first {REGION_END:#x} bytes of its region, where alone registers can be"
+            "{register:x?} is outside the first {REGION_END:#x} bytes of its region, and registers can only be in these"
         );
-        assert!(fits(end), "{register:x?} stands outside of its part");
+        assert!(fits(end), "{register:x?} is outside its part");
         let bits = register.reset | register.rw | register.w1c;
         assert!(
             bits <= register.all_ones() && register.rw & register.w1c == 0,
@@ -266,8 +271,8 @@ impl Declaration {
         ]
     }
 
-    /// The endpoint of a board file that has this declaration, at a path: its identity, its regions, and the patterns of
-    /// their cells.
+    /// Returns the `[[endpoint]]` table of a board file with this declaration, at a path: its identity, its
+    /// regions, and the patterns of its registers.
     pub fn endpoint(&self, at: &str) -> String {
         let (subvendor, subsystem) = self.subsystem;
         let mut text = format!(
@@ -330,7 +335,7 @@ fn config_block(run: &[Register]) -> String {
     format!(" {{ off = {first:#x}{} }} ", block(run, first, first))
 }
 
-/// The length of a block of cells from an offset on, up to `end` at least, and its patterns, where one has a bit.
+/// The length of a block from an offset on, at least up to `end`, and its patterns that aren't all zeros.
 fn block(registers: &[Register], first: u64, end: u64) -> String {
     let end = registers.iter().map(|it| it.offset + it.width).max().unwrap_or(end).max(end);
     if end == first {
@@ -351,9 +356,10 @@ fn block(registers: &[Register], first: u64, end: u64) -> String {
     text
 }
 
-/// The shortest beginning that, repeated, makes the cells: what stands before the longest end that they begin with too.
+/// The shortest prefix that, repeated, yields the bytes. It is what comes before the longest suffix that is
+/// also a prefix.
 fn period(cells: &[u8]) -> &[u8] {
-    // of each beginning, how long its longest end is that it begins with, and that is shorter than it
+    // for each prefix, the length of its longest suffix that is shorter and also a prefix
     let mut ends = vec![0; cells.len()];
     for at in 1..cells.len() {
         let mut length: usize = ends[at - 1];
@@ -377,7 +383,7 @@ fn in_hex(bytes: &[u8]) -> String {
 mod tests {
     use super::period;
 
-    /// As it is said, for all cells of up to 9 bytes of two kinds.
+    /// The same by definition, for all sequences of up to 9 bytes with two values.
     #[test]
     fn periods_are_the_shortest() {
         for (length, bits) in

@@ -1,4 +1,4 @@
-//! Devices: what stands behind a function's registers, and acts when its driver writes or reads them.
+//! Device models: the devices behind a function's registers, which act when a driver reads or writes them.
 
 use crate::declared::{Declaration, Register};
 use crate::device_side::DeviceSide;
@@ -9,15 +9,15 @@ use core::fmt;
 #[cfg(feature = "std")]
 use std::sync::{Arc, Mutex, MutexGuard, PoisonError};
 
-/// A device model: it declares the function's identity, its regions and its registers, and says what happens when its
-/// driver writes or reads one. [`Declaration::endpoint`] makes the endpoint of a board file of the same declaration, and
-/// [`Machine::attach`](crate::Machine::attach) lets it act.
+/// A device model. It declares the function's identity, regions and registers, and defines what happens when
+/// the driver reads or writes a register. [`Declaration::endpoint`] generates the matching table for a board
+/// file, and [`Machine::attach`](crate::Machine::attach) attaches the model to a function.
 ///
 /// ```
 /// use pciguest::{At, Declaration, DeviceModel, Kind, Machine, Register, Registers};
 ///
-/// const STATUS: Register = Register::in_region(0, 0x00, 1).w1c(0x01); // its driver clears the bit by writing a one
-/// const RINGS: Register = Register::in_region(0, 0x04, 4); // its driver only reads it
+/// const STATUS: Register = Register::in_region(0, 0x00, 1).w1c(0x01); // the driver clears the bit by writing a one
+/// const RINGS: Register = Register::in_region(0, 0x04, 4); // the driver can only read it
 /// const BELL: Register = Register::in_region(0, 0x08, 4).rw(0xffff_ffff);
 ///
 /// struct Doorbell;
@@ -50,78 +50,86 @@ use std::sync::{Arc, Mutex, MutexGuard, PoisonError};
 /// let place = |offset: u64| At::Memory { address: 0xe000_0000 + offset };
 /// machine.write(a, At::Config { slot: 0, offset: 0x10 }, 4, 0xe000_0000)?;
 /// machine.write(a, At::Config { slot: 0, offset: 0x04 }, 2, 2)?;
-/// machine.write(a, place(8), 4, 7)?; // its driver rings
+/// machine.write(a, place(8), 4, 7)?; // the driver rings
 /// assert_eq!((machine.read(a, place(4), 4)?, machine.read(a, place(0), 1)?), (1, 1));
 /// # Ok::<(), Box<dyn std::error::Error>>(())
 /// ```
 ///
-/// One access of a guest is one call for each register that it touches, with all that it wrote there, however many cycles of
-/// the bus it takes. After a reset, a move or a load the registers hold what the machine made of them when the device is told;
-/// what a device keeps in its own fields is its own to clear. Its machine waits until it has acted: a device that calls a bus of
-/// its own machine ([`GuestBus`](crate::GuestBus), [`SlotConfig`](crate::SlotConfig)) would wait for itself, and panics. One that
-/// locks the machine by itself does wait.
+/// A guest's access causes one call for each register that it touches, with the whole value that it writes
+/// there, even if the access takes several bus cycles. When the device is notified of a reset, a move or a
+/// load, its registers already have their new values; other fields are for the device itself to clear. The
+/// machine waits until the device has acted. So a device that calls a bus of its own machine
+/// ([`GuestBus`](crate::GuestBus), [`SlotConfig`](crate::SlotConfig)) would wait for itself; the call panics. A
+/// device that locks its own machine deadlocks.
 ///
-/// A device that others use too is attached as an `Arc<Mutex<_>>`.
+/// A device that is also used elsewhere is attached as an `Arc<Mutex<_>>`.
 pub trait DeviceModel: Send {
-    /// What it declares, the same each time.
+    /// The device's declaration, which must be the same each time.
     fn declaration(&self) -> Declaration;
 
-    /// Its driver wrote a register. `value` is what it wrote, also where the register keeps none of it; bytes that it
-    /// didn't write are as the register has them.
+    /// Called after the driver wrote a register. `value` is what the driver wrote, even if the register can't
+    /// store it. For bytes that the driver didn't write, `value` contains the register's own.
     fn on_write(&mut self, registers: &mut Registers<'_>, register: Register, value: u64) {
         let _ = (registers, register, value);
     }
 
-    /// Its driver is about to read a register, and is told what it holds then.
+    /// Called when the driver is about to read a register. The driver reads what the register contains after
+    /// this call.
     fn before_read(&mut self, registers: &mut Registers<'_>, register: Register) {
         let _ = (registers, register);
     }
 
-    /// Its guest changed Command by a write. Bit 0 enables I/O space, bit 1 memory space, bit 2 is Bus Master, and bit 10
-    /// Interrupt Disable. A reset, a move and a load may change Command too; they have calls of their own.
+    /// Called after the guest changed Command by a write. Bit 0 enables I/O space, bit 1 enables memory space,
+    /// bit 2 is Bus Master, and bit 10 is Interrupt Disable. A reset, a move and a load may change Command too;
+    /// they have their own calls.
     fn on_command(&mut self, registers: &mut Registers<'_>, old: u16, new: u16) {
         let _ = (registers, old, new);
     }
 
-    /// Its guest wrote bytes of its configuration space, whichever registers these are. Called after
-    /// [`on_command`](DeviceModel::on_command), and before [`on_write`](DeviceModel::on_write).
+    /// Called after the guest wrote bytes of the function's configuration space, in any registers. Comes after
+    /// [`on_command`](DeviceModel::on_command) and before [`on_write`](DeviceModel::on_write).
     fn on_config_write(
         &mut self, registers: &mut Registers<'_>, offset: u64, width: u32, value: u64,
     ) {
         let _ = (registers, offset, width, value);
     }
 
-    /// Its function was reset where it is, by [`Machine::reset`](crate::Machine::reset) or
+    /// Called after the function was reset without a move, by [`Machine::reset`](crate::Machine::reset) or
     /// [`reset_guest`](crate::Machine::reset_guest).
     fn on_reset(&mut self, registers: &mut Registers<'_>) {
         let _ = registers;
     }
 
-    /// Its function came from a slot of a guest to another, by a call or a line, and is at reset: a reset, unless it is said.
+    /// Called after the function was moved to another slot, by a call or a line. The move has reset the
+    /// function. By default, this calls `on_reset`.
     fn on_move(&mut self, registers: &mut Registers<'_>, from: Guest, slot: u64) {
         let _ = (from, slot);
         self.on_reset(registers);
     }
 
-    /// Its function, which no guest had, was given to one, and is at reset: a reset, unless it is said.
+    /// Called after the function, which no guest had, was assigned to a guest. The function is in its reset
+    /// state. By default, this calls `on_reset`.
     fn on_give(&mut self, registers: &mut Registers<'_>) {
         self.on_reset(registers);
     }
 
-    /// Its function was taken from its guest, and no guest has it.
+    /// Called after the function was taken from its guest. No guest has it now.
     fn on_take(&mut self) {}
 
-    /// An image was loaded, which its registers hold; its function may have another guest or slot than before.
+    /// Called after an image was loaded. The registers have the values in the image; the guest and the slot may
+    /// have changed.
     fn on_load(&mut self, registers: &mut Registers<'_>) {
         let _ = registers;
     }
 
-    /// What it keeps beside its registers, to stand beside an image: nothing, unless it is said.
+    /// Returns the state that the device keeps outside its registers, to be saved along with an image. Empty by
+    /// default.
     fn save_state(&self) -> Vec<u8> {
         Vec::new()
     }
 
-    /// Keeps what was saved so, and tells whether it could be that; else it stays as it is. The image is loaded before.
+    /// Restores a state that `save_state` returned, after the image was loaded, and returns whether the bytes
+    /// are such a state. If they aren't, nothing changes.
     fn load_state(&mut self, registers: &mut Registers<'_>, state: &[u8]) -> bool {
         let _ = registers;
         state.is_empty()
@@ -129,12 +137,12 @@ pub trait DeviceModel: Send {
 }
 
 #[cfg(feature = "std")]
-/// The device, also where a thread ended in the middle of what it did with it.
+/// The device, even if a thread panicked while it held the lock.
 fn locked<D>(device: &Mutex<D>) -> MutexGuard<'_, D> {
     device.lock().unwrap_or_else(PoisonError::into_inner)
 }
 
-/// A device behind something that leads to it.
+/// A device behind a pointer.
 macro_rules! device_behind {
     ($kind:ty, |$it:ident| $device:expr, $($of:tt)*) => {
         impl<$($of)*> DeviceModel for $kind {
@@ -208,8 +216,8 @@ device_behind!(Box<D>, |it| (**it), D: DeviceModel + ?Sized);
 #[cfg(feature = "std")]
 device_behind!(Arc<Mutex<D>>, |it| locked(it), D: DeviceModel);
 
-/// The registers of a device that acts: reading and setting one is what the device does, whatever its driver may change of
-/// it.
+/// The registers of a device that acts. The device can read and set all bits, no matter which of them the
+/// driver can change.
 pub struct Registers<'a> {
     pub(crate) handle: &'a mut Handle,
     pub(crate) guest: Guest,
@@ -223,16 +231,16 @@ impl Registers<'_> {
         self.guest
     }
 
-    /// Its slot there.
+    /// The function's slot in that guest.
     pub fn slot(&self) -> u64 {
         self.slot
     }
 
-    /// What a register holds.
+    /// Returns the value of a register.
     ///
     /// # Panics
     ///
-    /// The device declares no such register.
+    /// The device doesn't declare this register.
     pub fn get(&mut self, register: Register) -> u64 {
         let Register { part, offset, width, .. } = register;
         let value = self.side(register).read(part, offset, width as u32);
@@ -244,7 +252,7 @@ impl Registers<'_> {
     ///
     /// # Panics
     ///
-    /// The device declares no such register.
+    /// The device doesn't declare this register.
     pub fn set(&mut self, register: Register, value: u64) {
         let Register { part, offset, width, .. } = register;
         let bits = value & register.all_ones();

@@ -55,7 +55,7 @@ impl DeviceSide<'_> {
 
     pub(crate) fn read(&mut self, part: Part, offset: u64, width: u32) -> Result<u64, Error> {
         let (guest, slot, part) = (self.guest, self.slot, part.number());
-        // SAFETY: `value` is a place of its own.
+        // SAFETY: `value` is a separate variable.
         valued(|value| unsafe {
             raw::pciguest_device_read_wide(self.handle, guest, slot, part, offset, width, value)
         })
@@ -65,7 +65,7 @@ impl DeviceSide<'_> {
         &mut self, part: Part, offset: u64, width: u32, value: u64,
     ) -> Result<(), Error> {
         let (guest, slot, part) = (self.guest, self.slot, part.number());
-        // SAFETY: no pointer but the handle is passed.
+        // SAFETY: no pointer except the handle is passed.
         answered(unsafe {
             raw::pciguest_device_write_wide(self.handle, guest, slot, part, offset, width, value)
         })
@@ -109,7 +109,7 @@ impl DeviceSide<'_> {
     /// Reads configuration space as the guest does.
     fn config(&mut self, offset: u64, width: u32) -> Result<u32, Error> {
         let (guest, slot) = (self.guest, self.slot);
-        // SAFETY: `value` is a place of its own.
+        // SAFETY: `value` is a separate variable.
         valued(|value| unsafe {
             raw::pciguest_read(self.handle, guest, raw::CONFIG, slot, offset, width, value)
         })

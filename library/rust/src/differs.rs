@@ -1,4 +1,5 @@
-//! In what a function differs from what a device declares. The image of the guest that has it says what it is.
+//! The first difference between a function and what a device declares, found in the image of the guest that has
+//! the function.
 
 use crate::declared::{Declaration, Kind, Register, PATTERNS};
 use crate::image_fault::{HEADER, IDENTITY};
@@ -9,7 +10,7 @@ use core::fmt;
 /// The first field in which a function differs from what a device declares.
 #[derive(Clone, Debug, PartialEq, Eq)]
 pub struct Difference {
-    /// The field, as `class_code` or `rw of the register at 0x8 of region 0`.
+    /// The field, such as `class_code` or `rw of the register at 0x8 of region 0`.
     pub field: String,
     /// What the device declares.
     pub declared: String,
@@ -24,18 +25,18 @@ impl fmt::Display for Difference {
     }
 }
 
-/// The bytes of cells: at reset, which bits are writable, and which are cleared by ones.
+/// The patterns of register bytes: reset values, writable bits, and write-1-to-clear bits.
 type Cell = [u8; 3];
 
-/// What is declared of a function.
+/// The declaration of a function.
 struct Declared {
     identity: [u64; 7],
     regions: [Option<(u8, u64)>; 6],
-    /// Blocks of cells, each with its part and the offset of its first cell.
+    /// Blocks of register bytes, each with its part and first offset.
     blocks: Vec<(Part, u64, Vec<Cell>)>,
 }
 
-/// The fields that a device declares, which are a function's first ones in an image.
+/// The fields that a device declares, which come first in a function's part of an image.
 const FIELDS: [&str; 7] = [
     "vendor_id",
     "device_id",
@@ -46,7 +47,7 @@ const FIELDS: [&str; 7] = [
     "interrupt_pin",
 ];
 
-/// The first field in which the function in a slot differs, by the image of its guest.
+/// The first field in which the function in a slot differs, according to its guest's image.
 pub(crate) fn first_difference(
     device: &Declaration, image: &[u8], slot: u64,
 ) -> Option<Difference> {
@@ -71,7 +72,7 @@ fn differs(field: &str, declared: String, found: String) -> Option<Difference> {
     (declared != found).then(|| Difference { field: field.into(), declared, found })
 }
 
-/// In what the region of a base address register differs.
+/// The difference in the region of a base address register, if there is one.
 fn region(device: &Declaration, function: &Declared, at: usize) -> Option<Difference> {
     let told = |found: Option<(&str, u64)>| match found {
         Some((kind, size)) => format!("{kind} of {size:#x} bytes"),
@@ -82,7 +83,7 @@ fn region(device: &Declaration, function: &Declared, at: usize) -> Option<Differ
     differs(&format!("region {at}"), told(declared), told(found))
 }
 
-/// In what the capability list differs, if the device declares one.
+/// The difference in the capability list, if there is one and the device declares a list.
 fn capabilities(device: &Declaration, function: &Declared) -> Option<Difference> {
     let told = |list: Vec<(u8, u64)>| {
         let texts: Vec<String> =
@@ -100,7 +101,7 @@ fn capabilities(device: &Declaration, function: &Declared) -> Option<Difference>
     differs("capabilities", told(declared), told(function.capabilities()))
 }
 
-/// In what a register differs: a byte of it has no cell, or a pattern is another one.
+/// The difference in a register, if there is one: a byte of it isn't declared, or a pattern differs.
 fn register(it: &Register, function: &Declared) -> Option<Difference> {
     let part = match it.part {
         Part::Config => "configuration space".into(),
@@ -186,15 +187,15 @@ impl<'a> Bytes<'a> {
     }
 }
 
-/// The number that some bytes are, the lowest first.
+/// The number in some bytes, the lowest first.
 fn number(bytes: &[u8]) -> u64 {
     bytes.iter().rev().fold(0, |all, &byte| all << 8 | u64::from(byte))
 }
 
-/// What an image says of the function in a slot.
+/// What an image says about the function in a slot.
 fn function_in(image: &[u8], slot: u64) -> Option<Declared> {
     let mut bytes = Bytes(image);
-    bytes.take(12)?; // the format, its version, the latch
+    bytes.take(12)?; // the format, its version, CONFIG_ADDRESS
     for at in 0..=slot {
         if bytes.number(1)? == 0 {
             continue;

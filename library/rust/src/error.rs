@@ -149,7 +149,7 @@ pub(crate) fn answered(number: u32) -> Result<(), Error> {
     }
 }
 
-/// What a call leaves in a place of its own.
+/// The value that a call stores.
 pub(crate) fn valued<T: Default>(call: impl FnOnce(&mut T) -> u32) -> Result<T, Error> {
     let mut value = T::default();
     answered(call(&mut value)).map(|()| value)

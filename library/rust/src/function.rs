@@ -1,4 +1,4 @@
-//! What is told of each function of the board.
+//! Descriptions of the board's functions.
 
 use crate::error::{valued, Error};
 use crate::machine::Machine;
@@ -7,10 +7,10 @@ use crate::prelude::*;
 use crate::raw;
 use core::iter::FusedIterator;
 
-/// A function of the board as it is now.
+/// The current state of a function of the board.
 #[derive(Clone, Debug, PartialEq, Eq)]
 pub struct Function {
-    /// Where it stands, as board files write it: `2.0/1.0`.
+    /// The path, as in board files: `2.0/1.0`.
     pub path: String,
     /// 0 on bus 0, else the Secondary Bus Number of the bridge above.
     pub bus: u8,
@@ -24,7 +24,7 @@ pub struct Function {
     pub device_id: u16,
     /// The Revision ID.
     pub revision_id: u8,
-    /// Base class, sub-class and programming interface, 24 bits.
+    /// Base class, subclass and programming interface, 24 bits.
     pub class_code: u32,
     /// The Subsystem Vendor ID, 0 in a bridge.
     pub subsystem_vendor_id: u16,
@@ -32,9 +32,9 @@ pub struct Function {
     pub subsystem_id: u16,
     /// Its regions or windows.
     pub ranges: Ranges,
-    /// The guest and the slot that hold it, if a guest has it.
+    /// The guest that has it, and its slot, if a guest has it.
     pub seat: Option<(Guest, u64)>,
-    /// Its interrupt; all 0 in a [`BoardFunction`], of which firmware reads it.
+    /// Its interrupt pin; all 0 in a [`BoardFunction`], because firmware reads the pin itself.
     pub interrupt: Interrupt,
 }
 
@@ -51,25 +51,26 @@ pub struct Interrupt {
     pub is_disabled: bool,
 }
 
-/// A function of a [`Board`](crate::Board) as the registers stand, whatever firmware did of them so far.
+/// A function of a [`Board`](crate::Board), according to its current registers.
 #[derive(Clone, Debug, PartialEq, Eq)]
 pub struct BoardFunction {
-    /// What is told of any function. No guest has it; its number is the one by which it is looked for.
+    /// What a [`Function`] describes. No guest has it, and its BDF is the one at which firmware looks for it.
     pub function: Function,
-    /// Whether a configuration access by this number reaches it.
+    /// Whether a configuration access to this BDF reaches it.
     pub is_found: bool,
-    /// Whether its Command opens I/O space.
+    /// Whether its Command enables I/O space.
     pub opens_io: bool,
-    /// Whether its Command opens memory.
+    /// Whether its Command enables memory space.
     pub opens_memory: bool,
 }
 
-/// The regions of an endpoint or the windows of a bridge, as the registers on the board have them.
+/// The regions of an endpoint or the windows of a bridge, according to the registers on the board.
 #[derive(Clone, Debug, PartialEq, Eq)]
 pub enum Ranges {
     /// The regions of an endpoint, each at the index of its first base address register.
     Regions([Option<Bar>; 6]),
-    /// The windows of a bridge: none where it has no such window, or its base is above its limit.
+    /// The windows of a bridge. A window is `None` if the bridge doesn't have it, or if its base is above its
+    /// limit.
     Windows {
         /// I/O.
         io: Option<Window>,
@@ -80,7 +81,8 @@ pub enum Ranges {
     },
 }
 
-/// A region as its base address register on the board has it: `size` addresses of its space from `first` on.
+/// A region, according to its base address register on the board. It occupies `size` addresses of its space,
+/// starting at `first`.
 #[derive(Clone, Copy, Debug, PartialEq, Eq)]
 pub struct Bar {
     /// The space.
@@ -91,16 +93,16 @@ pub struct Bar {
     pub size: u64,
     /// Whether it is prefetchable memory.
     pub prefetchable: bool,
-    /// Whether the next register has the high half of the address.
+    /// Whether the next register contains the high half of the address.
     pub is_64_bit: bool,
 }
 
-/// The addresses that a window of a bridge holds.
+/// The addresses that a bridge's window forwards.
 #[derive(Clone, Copy, Debug, PartialEq, Eq)]
 pub struct Window {
     /// The first address.
     pub first: u64,
-    /// The last address, which is in the window.
+    /// The last address, which is also forwarded.
     pub last: u64,
 }
 
@@ -128,7 +130,7 @@ impl Function {
         }
     }
 
-    /// Whether it is a bridge.
+    /// Whether the function is a bridge.
     pub fn is_bridge(&self) -> bool {
         matches!(self.ranges, Ranges::Windows { .. })
     }
@@ -174,7 +176,7 @@ impl Window {
 }
 
 impl Machine {
-    /// How many functions the board has, endpoints and bridges.
+    /// Returns how many functions the board has, endpoints and bridges.
     ///
     /// ```
     /// # const BOARD: &str = include_str!("board.toml");
@@ -182,13 +184,12 @@ impl Machine {
     /// # Ok::<(), pciguest::Error>(())
     /// ```
     pub fn count(&mut self) -> Result<usize, Error> {
-        // SAFETY: `count` is a place of its own.
+        // SAFETY: `count` is a separate variable.
         valued(|count| unsafe { raw::pciguest_count(&mut self.handle, count) })
     }
 
-    /// The function at an index, from 0 on, in the order of paths. Where regions and windows stand, and by which number
-    /// it is reached, is told as the board's own registers have it; who has it, as it is after the last move. It changes
-    /// nothing. 902: there is no such function.
+    /// Returns the function at an index, in path order. Addresses of regions, windows and the BDF come from the
+    /// board's own registers. Changes nothing. 902: there is no such function.
     ///
     /// ```
     /// # const BOARD: &str = include_str!("board.toml");
@@ -201,12 +202,12 @@ impl Machine {
     /// # Ok::<(), pciguest::Error>(())
     /// ```
     pub fn function(&mut self, index: usize) -> Result<Function, Error> {
-        // SAFETY: `told` is a place of its own.
+        // SAFETY: `told` is a separate variable.
         valued(|told| unsafe { raw::pciguest_function(&mut self.handle, index, told) })
             .map(|told| Function::of(&told))
     }
 
-    /// All functions of the board, in the order of paths.
+    /// Returns all functions of the board, in path order.
     ///
     /// ```
     /// # const BOARD: &str = include_str!("board.toml");
@@ -225,7 +226,7 @@ impl Machine {
         Functions::of(self)
     }
 
-    /// The function in a slot of a guest.
+    /// Returns the function in a guest's slot.
     ///
     /// # Errors
     ///
@@ -240,13 +241,13 @@ impl Machine {
     /// # Ok::<(), pciguest::Error>(())
     /// ```
     pub fn slot_function(&mut self, guest: Guest, slot: u64) -> Result<Function, Error> {
-        // SAFETY: `told` is a place of its own.
+        // SAFETY: `told` is a separate variable.
         valued(|told| unsafe { raw::pciguest_slot(&mut self.handle, guest.index(), slot, told) })
             .map(|told| Function::of(&told))
     }
 }
 
-/// The functions of a board, in the order of paths: [`Machine::functions`](crate::Machine::functions).
+/// The functions of a board, in path order: [`Machine::functions`](crate::Machine::functions).
 #[derive(Debug)]
 pub struct Functions<'a> {
     machine: &'a mut Machine,
@@ -262,7 +263,7 @@ impl<'a> Functions<'a> {
 impl Iterator for Functions<'_> {
     type Item = Function;
 
-    /// The next function: none past the last, which the library refuses by 902.
+    /// The next function, or `None` after the last one, for which the library returns 902.
     fn next(&mut self) -> Option<Function> {
         let function = self.machine.function(self.next).ok()?;
         self.next += 1;

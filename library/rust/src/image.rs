@@ -1,4 +1,4 @@
-//! What a guest alone holds, and what a whole machine is, as bytes that outlive the machine.
+//! Saving guests and whole machines as bytes, which can be loaded into other machines.
 
 use crate::error::{answered, valued, Error};
 use crate::image_fault::ImageFault;
@@ -8,8 +8,9 @@ use crate::prelude::*;
 use crate::raw;
 
 impl Machine {
-    /// How many bytes the image of a guest has, which [`Machine::save`] gives. It stays as long as the guest has the same
-    /// functions in the same slots. It changes nothing. 902: there is no such guest.
+    /// Returns the size of a guest's image, which [`Machine::save`] returns, in bytes. The size stays the same
+    /// as long as the guest has the same functions in the same slots. Changes nothing. 902: there is no such
+    /// guest.
     ///
     /// ```
     /// # const BOARD: &str = include_str!("board.toml");
@@ -24,19 +25,20 @@ impl Machine {
     /// ```
     pub fn image_size(&mut self, guest: Guest) -> Result<usize, Error> {
         let (mut size, mut none) = (0, 0);
-        // SAFETY: no byte is written where there is room for none, and `size` is a place of its own.
+        // SAFETY: nothing is written, because there is no room, and `size` is a separate variable.
         let number =
             unsafe { raw::pciguest_save(&mut self.handle, guest.index(), &mut none, 0, &mut size) };
         if size > 0 {
-            return Ok(size); // the library told the size, since there is no room
+            return Ok(size); // the library stored the size, because there is no room
         }
         answered(number).map(|()| size)
     }
 
-    /// Saves a guest: its image, which is all that the guest holds. That is its CONFIG_ADDRESS, and of each of its 32 slots
-    /// what is declared of the function and what the guest's registers hold; nothing of the board, of other guests or of
-    /// where its functions stand. `docs/image-format.md` has the bytes, and [`Machine::save_state`] what a device keeps
-    /// beside its registers. The machine stays as it is. 902: there is no such guest.
+    /// Returns a guest's image, which contains everything that belongs to the guest: its CONFIG_ADDRESS and,
+    /// for each of its 32 slots, the declaration of the function and the contents of the guest's registers. It
+    /// contains nothing about the board, about other guests, or about where the functions are.
+    /// `docs/image-format.md` describes the bytes. The state that a device keeps outside its registers isn't
+    /// included; [`Machine::save_state`] returns it. Changes nothing. 902: there is no such guest.
     ///
     /// ```
     /// # const BOARD: &str = include_str!("board.toml");
@@ -45,13 +47,13 @@ impl Machine {
     /// machine.run_line("a iw 0xcf8 4 0x80000804")?;
     /// let image = machine.save(a)?;
     /// assert_eq!(image.len(), machine.image_size(a)?);
-    /// assert_eq!(&image[..12], b"PCIG\x01\0\0\0\x04\x08\0\x80"); // the format, its version, and the latch
+    /// assert_eq!(&image[..12], b"PCIG\x01\0\0\0\x04\x08\0\x80"); // the format, its version, and CONFIG_ADDRESS
     /// # Ok::<(), pciguest::Error>(())
     /// ```
     pub fn save(&mut self, guest: Guest) -> Result<Vec<u8>, Error> {
         let mut image = vec![0; self.image_size(guest)?];
         let (machine, guest, mut needed) = (&mut self.handle, guest.index(), 0);
-        // SAFETY: `image` has as many bytes as is said, and nothing overlaps.
+        // SAFETY: `image` has the given length, and nothing overlaps.
         answered(unsafe {
             raw::pciguest_save(machine, guest, image.as_mut_ptr(), image.len(), &mut needed)
         })?;
@@ -59,15 +61,16 @@ impl Machine {
         Ok(image)
     }
 
-    /// Loads an image into a guest, which then holds what the image says: what the guest that was saved held. Each of its
-    /// slots has to be filled or empty as there, and its functions declared as there; they may stand elsewhere, on another
-    /// board, and the machine of the image isn't needed any more. Other guests can't tell. The
-    /// guest's devices are told of it ([`DeviceModel::on_load`](crate::DeviceModel::on_load)).
+    /// Loads an image into a guest, which then has the same state as the guest that was saved. The same slots
+    /// must contain functions, and these must have equal declarations. They may be elsewhere or on another
+    /// board, and the machine of the image isn't needed any more. Other guests don't notice anything. The
+    /// guest's devices are notified ([`DeviceModel::on_load`](crate::DeviceModel::on_load)).
     ///
     /// # Errors
     ///
-    /// 905: the bytes are no image. 908: the image is of another version of the format. 906: another slot is filled, or a
-    /// function is declared otherwise. Of these, what the first byte that fails tells. 902: there is no such guest.
+    /// 905: the bytes aren't an image. 908: the image has another version of the format. 906: other slots
+    /// contain functions, or a declaration differs. The first byte that fails decides between these. 902: there
+    /// is no such guest.
     ///
     /// ```
     /// # const BOARD: &str = include_str!("board.toml");
@@ -76,7 +79,7 @@ impl Machine {
     /// machine.run_line("a cw 0 4 2 2")?;
     /// let image = machine.save(a)?;
     ///
-    /// let mut other = pciguest::Machine::new(BOARD)?; // the guest goes on there
+    /// let mut other = pciguest::Machine::new(BOARD)?; // the guest continues there
     /// other.load_image(a, &image)?;
     /// assert_eq!(other.run_line("a cr 0 4 2")?.as_deref(), Some("a: 0x0002"));
     /// assert_eq!(other.load_image(a, &image[1..]).unwrap_err().to_string(), "not a valid image (905)");
@@ -86,7 +89,7 @@ impl Machine {
     /// ```
     pub fn load_image(&mut self, guest: Guest, image: impl AsRef<[u8]>) -> Result<(), Error> {
         let image = image.as_ref();
-        // SAFETY: `image` has as many bytes as is said, and nothing overlaps.
+        // SAFETY: `image` has the given length, and nothing overlaps.
         answered(unsafe {
             raw::pciguest_load(&mut self.handle, guest.index(), image.as_ptr(), image.len())
         })?;
@@ -94,8 +97,9 @@ impl Machine {
         Ok(())
     }
 
-    /// Where an image that [`Machine::load_image`] refuses by 906 or 908 stops fitting the guest: the slot, the byte, and which
-    /// field that byte is in. None for any other image. It changes nothing. 902: there is no such guest.
+    /// Returns where an image that [`Machine::load_image`] refuses with 906 or 908 stops fitting the guest: the
+    /// slot, the byte, and the field that contains the byte. Returns `None` for any other image. Changes
+    /// nothing. 902: there is no such guest.
     ///
     /// ```
     /// # const BOARD: &str = include_str!("board.toml");
@@ -116,15 +120,15 @@ impl Machine {
         let image = image.as_ref();
         let (bytes, length, mut slot, mut offset) = (image.as_ptr(), image.len(), 0, 0);
         let (machine, guest) = (&mut self.handle, guest.index());
-        // SAFETY: the image has as many bytes as is said, and nothing overlaps.
+        // SAFETY: the image has the given length, and nothing overlaps.
         answered(unsafe {
             raw::pciguest_image_fault(machine, guest, bytes, length, &mut slot, &mut offset)
         })?;
         Ok(ImageFault::at(image, slot, offset))
     }
 
-    /// How many bytes the image of the whole machine has, which [`Machine::save_all`] gives. It stays as long as guests have the
-    /// same functions in the same slots. It changes nothing.
+    /// Returns the size of the whole machine's image, which [`Machine::save_all`] returns, in bytes. The size
+    /// stays the same as long as the guests have the same functions in the same slots. Changes nothing.
     ///
     /// ```
     /// # const BOARD: &str = include_str!("board.toml");
@@ -135,13 +139,14 @@ impl Machine {
     /// # Ok::<(), pciguest::Error>(())
     /// ```
     pub fn image_size_all(&mut self) -> Result<usize, Error> {
-        // SAFETY: `size` is a place of its own.
+        // SAFETY: `size` is a separate variable.
         valued(|size| unsafe { raw::pciguest_image_size_all(&mut self.handle, size) })
     }
 
-    /// Saves the whole machine: its image, which is who has which function of the board in which slot, what each guest holds,
-    /// and which board that is, set up how, with which guests. `docs/image-format.md` has the bytes, and
-    /// [`Machine::save_state`] what a device keeps beside its registers. The machine stays as it is.
+    /// Returns the whole machine's image: which guest has which function in which slot, each guest's state, and
+    /// a description of the board, of how it was set up, and of its guests. `docs/image-format.md` describes
+    /// the bytes. The state that a device keeps outside its registers isn't included; [`Machine::save_state`]
+    /// returns it. Changes nothing.
     ///
     /// ```
     /// # const BOARD: &str = include_str!("board.toml");
@@ -154,7 +159,7 @@ impl Machine {
     pub fn save_all(&mut self) -> Result<Vec<u8>, Error> {
         let mut image = vec![0; self.image_size_all()?];
         let mut needed = 0;
-        // SAFETY: `image` has as many bytes as is said, and nothing overlaps.
+        // SAFETY: `image` has the given length, and nothing overlaps.
         answered(unsafe {
             raw::pciguest_save_all(&mut self.handle, image.as_mut_ptr(), image.len(), &mut needed)
         })?;
@@ -162,16 +167,18 @@ impl Machine {
         Ok(image)
     }
 
-    /// Loads an image into the whole machine: each slot then has the function that it had in the machine that was saved, and
-    /// each guest holds what that guest held. The board is an equal one, set up alike, and its guests have the same names in
-    /// the same order; where their functions sit now, and what they hold, doesn't matter. The machine of the image isn't
-    /// needed any more. Devices are told of it ([`DeviceModel::on_load`](crate::DeviceModel::on_load)).
+    /// Loads an image into the whole machine. Afterwards, each slot contains the same function as in the
+    /// machine that was saved, and each guest has the same state. The board must be equal and set up in the
+    /// same way, and its guests must have the same names in the same order; their state, and where their
+    /// functions are now, doesn't matter. The machine of the image isn't needed any more. Devices are notified
+    /// ([`DeviceModel::on_load`](crate::DeviceModel::on_load)).
     ///
     /// # Errors
     ///
-    /// 905: the bytes are no image of a machine. 906: a slot is to get what no guest can be given there, or a function is
-    /// declared otherwise. 907: the board, its guests or how it is set up are others. 908: the image, or one of a guest in
-    /// it, is of another version of the format. 299: memory is out. `docs/image-format.md` says what is looked at first.
+    /// 905: the bytes aren't an image of a machine. 906: a slot can't have the function that the image says, or
+    /// a declaration differs. 907: the board, its guests or the way in which it was set up differ. 908: the
+    /// image, or a guest's image in it, has another version of the format. 299: memory runs out.
+    /// `docs/image-format.md` says what is checked first.
     ///
     /// ```
     /// # const BOARD: &str = include_str!("board.toml");
@@ -181,7 +188,7 @@ impl Machine {
     /// machine.run_line("a cw 5 4 2 2")?;
     /// let image = machine.save_all()?;
     ///
-    /// let mut other = pciguest::Machine::new(BOARD)?; // all guests go on there
+    /// let mut other = pciguest::Machine::new(BOARD)?; // all guests continue there
     /// other.load_all(&image)?;
     /// assert_eq!(other.run_line("a cr 5 4 2")?.as_deref(), Some("a: 0x0002"));
     /// assert_eq!(other.load_all(&image[1..]).unwrap_err().to_string(), "not a valid image (905)");
@@ -192,14 +199,14 @@ impl Machine {
     /// ```
     pub fn load_all(&mut self, image: impl AsRef<[u8]>) -> Result<(), Error> {
         let image = image.as_ref();
-        // SAFETY: `image` has as many bytes as is said, and nothing overlaps.
+        // SAFETY: `image` has the given length, and nothing overlaps.
         answered(unsafe { raw::pciguest_load_all(&mut self.handle, image.as_ptr(), image.len()) })?;
         self.tell_loaded();
         Ok(())
     }
 
-    /// Resets every function of a guest, each where it is, and the guest's own CONFIG_ADDRESS: nothing is carried over. 902:
-    /// there is no such guest.
+    /// Resets all functions of a guest, without moving them, and the guest's CONFIG_ADDRESS. Nothing carries
+    /// over. 902: there is no such guest.
     ///
     /// ```
     /// # const BOARD: &str = include_str!("board.toml");
@@ -212,7 +219,7 @@ impl Machine {
     /// # Ok::<(), pciguest::Error>(())
     /// ```
     pub fn reset_guest(&mut self, guest: Guest) -> Result<(), Error> {
-        // SAFETY: no pointer but the handle is passed.
+        // SAFETY: no pointer except the handle is passed.
         answered(unsafe { raw::pciguest_reset_guest(&mut self.handle, guest.index()) })?;
         self.tell(|(of, _)| of == guest, |model, registers| model.on_reset(registers));
         Ok(())

@@ -1,17 +1,17 @@
-//! Where an image stops fitting a guest, and which field that is, by `docs/image-format.md`.
+//! Where an image stops fitting a guest, and which field that is, according to `docs/image-format.md`.
 
 use crate::prelude::*;
 use core::fmt;
 
-/// Where an image stops fitting a guest that refuses it by 906 or 908:
+/// Where an image stops fitting a guest that refuses it with 906 or 908:
 /// [`Machine::image_fault`](crate::Machine::image_fault).
 #[derive(Clone, Debug, PartialEq, Eq)]
 pub struct ImageFault {
-    /// The slot whose part of the image it is in; none in front of the slots.
+    /// The slot whose part of the image contains the byte, or `None` if the byte is before the slots.
     pub slot: Option<u64>,
     /// The offset in the image of the first byte that doesn't fit.
     pub offset: usize,
-    /// The field that the byte is in, as `the size of bar0`.
+    /// The field that contains the byte, such as `the size of bar0`.
     pub field: String,
 }
 
@@ -24,7 +24,7 @@ impl fmt::Display for ImageFault {
     }
 }
 
-/// The fields of a function in front of its regions: their keys in a board file, and how many bytes they have.
+/// The fields of a function that come before its regions: their keys in a board file, and their sizes in bytes.
 pub(crate) const IDENTITY: [(&str, usize); 10] = [
     ("vendor", 2),
     ("device", 2),
@@ -51,7 +51,7 @@ impl ImageFault {
     }
 }
 
-/// The fields of an image, one after the other, up to the one that a byte is in: that is given as an error.
+/// The fields of an image, in order, up to the one that contains a byte; that one is returned as an error.
 struct Fields<'a> {
     image: &'a [u8],
     at: usize,
@@ -104,7 +104,7 @@ impl Fields<'_> {
         self.values(values)
     }
 
-    /// What is declared of register bytes.
+    /// The declaration of register bytes.
     fn cells(&mut self, first: u64, count: u64, of: &str) -> Result<(), String> {
         for offset in first..first + count {
             for pattern in ["reset", "rw", "w1c"] {
@@ -114,7 +114,7 @@ impl Fields<'_> {
         Ok(())
     }
 
-    /// The values of registers, by which no guest is another one.
+    /// The values of registers, which may differ.
     fn values(&mut self, count: u64) -> Result<(), String> {
         for _ in 0..count {
             self.number(1, || "a value".to_owned())?;

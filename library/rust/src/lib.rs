@@ -1,12 +1,12 @@
-//! A PCI board, its firmware, and the monitor that gives its functions to guests: the proved library of pciguest, by
-//! calls of Rust.
+//! A PCI board, its firmware, and the monitor that assigns its functions to guests: pciguest's proved library,
+//! in Rust.
 //!
-//! A [`Machine`] is a board that is set up from a board file, with its guests. Each access, raise, move or line of a
-//! script is a call on it. A [`Board`] is one that firmware of one's own drives, from reset on. A [`DeviceModel`] acts when
-//! the driver of its function touches its registers, and a [`GuestBus`] has the form of what hypervisors in Rust call for
-//! an access that they trapped. Board files, lines and numbers are explained in `docs/board-file.md`,
-//! `docs/script-language.md` and `docs/errors.md`, and `docs/library-c.md` says what is proved of the calls; this crate
-//! itself is tested.
+//! A [`Machine`] is a board that was set up from a board file, with its guests. Accesses, raises, moves and
+//! script lines are calls on it. A [`Board`] is a board that your own firmware drives, from reset. A
+//! [`DeviceModel`] acts when the driver of its function accesses its registers. A [`GuestBus`] accepts trapped
+//! accesses in the form in which hypervisors in Rust forward them. `docs/board-file.md`,
+//! `docs/script-language.md` and `docs/errors.md` explain board files, lines and error numbers, and
+//! `docs/library-c.md` says what is proved about the library. This crate is tested, but not proved.
 //!
 //! ```
 //! use pciguest::{At, HostAt, Machine};
@@ -40,7 +40,7 @@
 //! # Ok::<(), pciguest::Error>(())
 //! ```
 //!
-//! Neither is used in a signal handler, nor in a child that a process with several threads forked.
+//! Don't use either in a signal handler, or in a child that a process with several threads forked.
 
 #![warn(missing_docs)]
 #![cfg_attr(not(feature = "std"), no_std)]
@@ -49,7 +49,7 @@ extern crate alloc;
 
 use pciguest_sys as raw;
 
-/// What the standard library has in its prelude, and `alloc` has without it.
+/// What the standard library's prelude contains and that of `alloc` doesn't.
 mod prelude {
     pub(crate) use alloc::borrow::ToOwned;
     pub(crate) use alloc::boxed::Box;

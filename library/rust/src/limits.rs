@@ -1,11 +1,11 @@
-//! How large things can be.
+//! Upper limits.
 
 use crate::raw;
 
-/// How large things can be, of any board.
+/// Upper limits that hold for every board.
 #[derive(Clone, Copy, Debug, PartialEq, Eq)]
 pub struct Limits {
-    /// No image of a guest has more bytes.
+    /// The size of the largest possible image of a guest, in bytes.
     pub guest_image: u64,
     /// Functions of a board, endpoints and bridges.
     pub functions: u32,
@@ -15,20 +15,20 @@ pub struct Limits {
     pub slots: u32,
     /// Base address registers of an endpoint.
     pub bars: u32,
-    /// Cells of a region, each a byte.
+    /// Register bytes of a region.
     pub block: u32,
-    /// Cells of a function's own configuration space, 40h to FFh.
+    /// Register bytes of a function at 40h to FFh in configuration space.
     pub own_cells: u32,
 }
 
-/// How large things can be. No machine is needed.
+/// Returns the upper limits that hold for every board. No machine is needed.
 ///
 /// ```
 /// assert_eq!(pciguest::limits().slots, 32);
 /// ```
 pub fn limits() -> Limits {
     let mut told = raw::Limits::default();
-    // SAFETY: `told` is a place of its own. No such call is refused.
+    // SAFETY: `told` is a separate variable. No such call is refused.
     unsafe { raw::pciguest_limits(&mut told) };
     Limits {
         guest_image: told.guest_image,

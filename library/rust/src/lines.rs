@@ -1,10 +1,10 @@
-//! The accesses of guests that lines of a script ask for. The library judges lines; what is read here of one counts only
-//! where its reply says that it was done.
+//! The guest accesses that script lines ask for. The library decides whether a line is valid, so the results
+//! here count only if its reply says that the line was executed.
 
 use crate::place::{At, Guest};
 use crate::prelude::*;
 
-/// An access of a guest, and the value that a write has.
+/// An access of a guest, and for a write its value.
 #[derive(Clone, Copy)]
 pub(crate) struct Asked {
     pub(crate) guest: Guest,
@@ -39,7 +39,7 @@ pub(crate) fn asked_by(
     Some(Asked { guest: guest_of(name)?, at, width: u32::try_from(width).ok()?, written })
 }
 
-/// The number that a word of a line is, below 2^64.
+/// The number in a word of a line, if it is one below 2^64.
 fn number_of(word: &str) -> Option<u64> {
     let (digits, radix) = match word.strip_prefix("0x").or(word.strip_prefix("0X")) {
         Some(digits) => (digits, 16),

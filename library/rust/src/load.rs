@@ -1,4 +1,4 @@
-//! Boards of files, and all that is told of one that is refused.
+//! Boards from files, and the full report on one that is refused.
 
 use crate::board::Board;
 use crate::error::Error;
@@ -8,14 +8,14 @@ use std::fmt;
 use std::io;
 use std::path::{Path, PathBuf};
 
-/// Why the board of a file isn't made.
+/// Why a board can't be made from a file.
 #[derive(Debug)]
 #[non_exhaustive]
 pub enum LoadError {
     /// The file can't be read.
     File(PathBuf, io::Error),
-    /// The file or its board is refused. The text is what `pciguest check` says of it, which names each entry that breaks
-    /// the check, with its line; it is empty where memory is out.
+    /// The file or its board is refused. The text is what `pciguest check` reports about it: each problem, with
+    /// its line. It is empty if memory runs out.
     Refused(Error, String),
 }
 
@@ -39,11 +39,12 @@ impl std::error::Error for LoadError {
 }
 
 impl Machine {
-    /// The machine of the board file at a path.
+    /// Returns the machine of the board file at a path.
     ///
     /// # Errors
     ///
-    /// As for [`Machine::new`], with all that a check says of the file, by its path.
+    /// Those of [`Machine::new`], with everything that a check reports about the file. The messages contain the
+    /// path.
     ///
     /// ```
     /// let error = pciguest::Machine::load("no_such_board.toml").unwrap_err();
@@ -55,11 +56,12 @@ impl Machine {
 }
 
 impl Board {
-    /// The board of the board file at a path, at reset.
+    /// Returns the board of the board file at a path, in its reset state.
     ///
     /// # Errors
     ///
-    /// As for [`Board::new`], with all that a check says of the file, by its path.
+    /// Those of [`Board::new`], with everything that a check reports about the file. The messages contain the
+    /// path.
     ///
     /// ```
     /// # let path = std::env::temp_dir().join(format!("pciguest_{}.toml", std::process::id()));
@@ -74,13 +76,13 @@ impl Board {
     }
 }
 
-/// What is made of the bytes of a file.
+/// What a function makes of the bytes of a file.
 fn loaded<T>(path: &Path, make: impl FnOnce(&[u8]) -> Result<T, Error>) -> Result<T, LoadError> {
     let file = std::fs::read(path).map_err(|error| LoadError::File(path.to_owned(), error))?;
     make(&file).map_err(|error| LoadError::Refused(error, told_of(&file, path)))
 }
 
-/// What a check says of a file, which the library calls `board.toml`, by its path.
+/// The result of checking a file, with its path in place of `board.toml`.
 fn told_of(file: &[u8], path: &Path) -> String {
     let text = check(file).map(|told| told.text).unwrap_or_default();
     let lines = text.lines().map(|line| match line.strip_prefix("board.toml:") {

@@ -12,14 +12,14 @@ use crate::touch::Touch;
 use core::fmt;
 use core::ptr::null_mut;
 
-/// A call that tells a guest why.
+/// A call that explains an access of a guest.
 type WhyCall =
     unsafe extern "C" fn(*mut Handle, usize, u32, u64, u64, *mut u8, usize, *mut usize) -> u32;
 
-/// A board that is set up, with its guests. What it holds is freed when it is dropped.
+/// A board that was set up, with its guests. Dropping the machine frees its memory.
 ///
-/// Each call takes the machine mutably, also a read, since the library makes one call at a time on one machine. So a
-/// machine that several threads use stands in a lock:
+/// Each call takes the machine mutably, even a read, because only one library call can run on a machine at a
+/// time. So put a machine that several threads use into a lock:
 ///
 /// ```
 /// # const BOARD: &str = include_str!("board.toml");
@@ -43,20 +43,19 @@ pub struct Machine {
     pub(crate) devices: Vec<Attached>,
 }
 
-// SAFETY: The library has no global state, and lets any thread make a call on a struct if something orders it after the
-// call before; that what a struct holds may go from thread to thread is proved. Here each call has the machine by a
-// mutable borrow, or drops it, and nothing else has the pointer in it. So two calls on one machine never overlap, and
-// what hands the machine to another thread orders them. Devices are `Send` themselves. `Sync` is not given; a lock doesn't
-// ask for it.
+// SAFETY: The library has no global state. Any thread may make a call on a struct, if something orders the call after the
+// previous one; it is proved that a struct's contents may move between threads. Here, each call borrows the machine
+// mutably or drops it, and nothing else has the pointer in it. So two calls on one machine never overlap, and sending the
+// machine to another thread orders them. Devices are `Send` themselves. The machine isn't `Sync`, which a lock doesn't need.
 unsafe impl Send for Machine {}
 
 impl Machine {
-    /// Sets up the board of a board file, and gives its functions to the guests of the file. The machine then holds the
-    /// world that the file declares, before any access.
+    /// Sets up the board of a board file, and assigns its functions to the guests in the file. No access has
+    /// been made to them yet.
     ///
     /// # Errors
     ///
-    /// The number of the first check that the file or its board fails, or of memory that is out.
+    /// The number of the first check that the file or its board fails, or 199 or 299 if memory runs out.
     ///
     /// ```
     /// let refused = pciguest::Machine::new("x = 1").unwrap_err();
@@ -64,11 +63,11 @@ impl Machine {
     /// ```
     pub fn new(board: impl AsRef<[u8]>) -> Result<Machine, Error> {
         let board = board.as_ref();
-        // SAFETY: the handle holds no machine, and `board` has as many bytes as is said.
+        // SAFETY: the handle is empty, and `board` has the given length.
         Machine::made_by(|handle| unsafe { raw::pciguest_new(handle, board.as_ptr(), board.len()) })
     }
 
-    /// The machine that a call leaves in a handle that holds none.
+    /// The machine that a call stores in an empty handle.
     pub(crate) fn made_by(call: impl FnOnce(&mut Handle) -> u32) -> Result<Machine, Error> {
         let mut handle = Handle { live: false, at: null_mut() };
         answered(call(&mut handle))?;
@@ -76,7 +75,7 @@ impl Machine {
         Ok(Machine { handle, devices })
     }
 
-    /// The guest of a name. 902: no guest has this name.
+    /// Returns the guest with this name. 902: there is no such guest.
     ///
     /// ```
     /// # const BOARD: &str = include_str!("board.toml");
@@ -86,14 +85,15 @@ impl Machine {
     /// # Ok::<(), pciguest::Error>(())
     /// ```
     pub fn guest(&mut self, name: &str) -> Result<Guest, Error> {
-        // SAFETY: `name` has as many bytes as is said, and nothing overlaps.
+        // SAFETY: `name` has the given length, and nothing overlaps.
         valued(|guest| unsafe {
             raw::pciguest_guest(&mut self.handle, name.as_ptr(), name.len(), guest)
         })
         .map(Guest::of_index)
     }
 
-    /// The names of all guests, in the order of the board file: the one at an index is that of [`Guest::of_index`].
+    /// Returns the names of all guests, in the order of the board file. [`Guest::of_index`] takes an index in
+    /// this order.
     ///
     /// ```
     /// # const BOARD: &str = include_str!("board.toml");
@@ -102,12 +102,12 @@ impl Machine {
     /// ```
     pub fn guests(&mut self) -> Result<Vec<String>, Error> {
         let mut count = 0;
-        // SAFETY: `count` is a place of its own.
+        // SAFETY: `count` is a separate variable.
         answered(unsafe { raw::pciguest_guest_count(&mut self.handle, &mut count) })?;
         (0..count).map(|index| self.guest_name(Guest::of_index(index))).collect()
     }
 
-    /// The name of a guest. 902: there is no such guest.
+    /// Returns the name of a guest. 902: there is no such guest.
     ///
     /// ```
     /// # const BOARD: &str = include_str!("board.toml");
@@ -120,19 +120,19 @@ impl Machine {
     /// # Ok::<(), pciguest::Error>(())
     /// ```
     pub fn guest_name(&mut self, guest: Guest) -> Result<String, Error> {
-        // SAFETY: the text has as many bytes as is said, and nothing overlaps.
+        // SAFETY: the text has the given length, and nothing overlaps.
         text_of(raw::GUEST_NAME, |text, room, needed| unsafe {
             raw::pciguest_guest_name(&mut self.handle, guest.index(), text, room, needed)
         })
     }
 
-    /// Reads 1, 2 or 4 bytes as a guest: what the guest's own functions answer, and all ones where nothing of the
-    /// guest's answers. A read changes nothing, but for what a device does that is told of it ([`Machine::attach`]).
+    /// Reads 1, 2 or 4 bytes as a guest: what the guest's own functions return, or all ones if none of them
+    /// responds. A read changes nothing, except through a device that is notified of it ([`Machine::attach`]).
     ///
     /// # Errors
     ///
-    /// 302: the width is not 1, 2 or 4. 301: the place is no multiple of it. 303: the slot, offset or port is out of
-    /// range. 902: there is no such guest.
+    /// 302: the width isn't 1, 2 or 4. 301: the offset, port or address isn't a multiple of the width. 303: the
+    /// slot, offset or port is out of range. 902: there is no such guest.
     ///
     /// ```
     /// # const BOARD: &str = include_str!("board.toml");
@@ -141,7 +141,7 @@ impl Machine {
     /// let mut machine = Machine::new(BOARD)?;
     /// let a = machine.guest("a")?;
     /// assert_eq!(machine.read(a, At::Config { slot: 0, offset: 0 }, 4)?, 0x0001_1234);
-    /// assert_eq!(machine.read(a, At::Memory { address: 0x8000_0000 }, 2)?, 0xffff); // nothing answers
+    /// assert_eq!(machine.read(a, At::Memory { address: 0x8000_0000 }, 2)?, 0xffff); // nothing responds
     /// assert_eq!(machine.read(a, At::Io { port: 1 }, 4).unwrap_err().to_string(), "address is not a multiple of the width (301)");
     /// # Ok::<(), pciguest::Error>(())
     /// ```
@@ -149,16 +149,17 @@ impl Machine {
         self.read_and_tell((guest, at, width), |machine| machine.read_alone(guest, at, width))
     }
 
-    /// Reads so, and tells no device.
+    /// Reads without notifying a device.
     pub(crate) fn read_alone(&mut self, guest: Guest, at: At, width: u32) -> Result<u32, Error> {
         let (space, slot, place) = at.parts();
-        // SAFETY: `value` is a place of its own.
+        // SAFETY: `value` is a separate variable.
         valued(|value| unsafe {
             raw::pciguest_read(&mut self.handle, guest.index(), space, slot, place, width, value)
         })
     }
 
-    /// Writes the low 1, 2 or 4 bytes of a value as a guest. No other guest can tell. Refused as a read is.
+    /// Writes the low 1, 2 or 4 bytes of a value as a guest. No other guest can notice it. Refused as a read
+    /// is.
     ///
     /// ```
     /// # const BOARD: &str = include_str!("board.toml");
@@ -167,7 +168,7 @@ impl Machine {
     /// let mut machine = Machine::new(BOARD)?;
     /// let a = machine.guest("a")?;
     /// let cell = At::Memory { address: 0x8000_0010 };
-    /// machine.write(a, At::Config { slot: 0, offset: 0x10 }, 4, 0x8000_0000)?; // where the region is to stand
+    /// machine.write(a, At::Config { slot: 0, offset: 0x10 }, 4, 0x8000_0000)?; // the address of the region
     /// machine.write(a, At::Config { slot: 0, offset: 0x04 }, 2, 2)?; // memory on
     /// machine.write(a, cell, 4, 0x1234_5678)?;
     /// assert_eq!(machine.read(a, cell, 2)?, 0x5678);
@@ -179,21 +180,22 @@ impl Machine {
         Ok(())
     }
 
-    /// Writes so, and gives what it touches of a device, which is told once the whole access is done.
+    /// Writes, and returns the part of a device that the write accesses. The device is notified once the whole
+    /// access is done.
     pub(crate) fn write_alone(
         &mut self, guest: Guest, at: At, width: u32, value: u32,
     ) -> Result<Option<Touch>, Error> {
         let (space, slot, place) = at.parts();
         let touch = self.touch(guest, at, width, value);
-        // SAFETY: no pointer but the handle is passed.
+        // SAFETY: no pointer except the handle is passed.
         answered(unsafe {
             raw::pciguest_write(&mut self.handle, guest.index(), space, slot, place, width, value)
         })?;
         Ok(touch)
     }
 
-    /// Sets bits of one byte of the function in a guest's slot, as its device does. Only bits that writing a one clears
-    /// can rise.
+    /// Sets bits of one byte of the function in a guest's slot, as its device does. Only bits that are cleared
+    /// by writing a one can be set.
     ///
     /// # Errors
     ///
@@ -209,21 +211,21 @@ impl Machine {
     /// let status = At::Config { slot: 0, offset: 6 };
     /// machine.raise(a, 0, Part::Config, 7, 0x08)?; // signaled target abort
     /// assert_eq!(machine.read(a, status, 2)?, 0x0800);
-    /// machine.write(a, status, 2, 0x0800)?; // its driver clears it by writing a one
+    /// machine.write(a, status, 2, 0x0800)?; // the driver clears it by writing a one
     /// assert_eq!(machine.read(a, status, 2)?, 0);
     /// # Ok::<(), pciguest::Error>(())
     /// ```
     pub fn raise(
         &mut self, guest: Guest, slot: u64, part: Part, offset: u64, mask: u8,
     ) -> Result<(), Error> {
-        // SAFETY: no pointer but the handle is passed.
+        // SAFETY: no pointer except the handle is passed.
         answered(unsafe {
             raw::pciguest_raise(&mut self.handle, guest.index(), slot, part.number(), offset, mask)
         })
     }
 
-    /// Reads 1, 2 or 4 bytes as the host: what the board shows at a physical number, port or address. It changes
-    /// nothing. Refused as a read of a guest is; 902: a device above 31, or a function above 7.
+    /// Reads 1, 2 or 4 bytes as the host: at a physical BDF, port or address of the board. Changes nothing.
+    /// Refused as a guest's read is. 902: the device is above 31, or the function above 7.
     ///
     /// ```
     /// # const BOARD: &str = include_str!("board.toml");
@@ -238,19 +240,19 @@ impl Machine {
     /// ```
     pub fn host_read(&mut self, at: HostAt, width: u32) -> Result<u32, Error> {
         let ((space, bus, device, function, place), machine) = (at.parts(), &mut self.handle);
-        // SAFETY: `value` is a place of its own.
+        // SAFETY: `value` is a separate variable.
         valued(|value| unsafe {
             raw::pciguest_host_read(machine, space, bus, device, function, place, width, value)
         })
     }
 
-    /// Moves the function in a slot of a guest to the slot `target` of another, or of the same. Nothing is carried
-    /// over: the function is then at reset.
+    /// Moves the function in a guest's slot to the slot `target` of another guest or the same one. Nothing
+    /// carries over: the function is reset.
     ///
     /// # Errors
     ///
-    /// 303: a slot is above 31. 601: the slot that it leaves is empty. 602: the slot that it comes to is taken. 902:
-    /// there is no such guest.
+    /// 303: a slot is above 31. 601: the slot that the function leaves is empty. 602: the other slot isn't
+    /// empty. 902: there is no such guest.
     ///
     /// ```
     /// # const BOARD: &str = include_str!("board.toml");
@@ -266,7 +268,7 @@ impl Machine {
     pub fn move_function(
         &mut self, from: Guest, slot: u64, to: Guest, target: u64,
     ) -> Result<(), Error> {
-        // SAFETY: no pointer but the handle is passed.
+        // SAFETY: no pointer except the handle is passed.
         answered(unsafe {
             raw::pciguest_move(&mut self.handle, from.index(), slot, to.index(), target)
         })?;
@@ -274,7 +276,7 @@ impl Machine {
         Ok(())
     }
 
-    /// Resets the function in a guest's slot, where it is: nothing is carried over, as in a move.
+    /// Resets the function in a guest's slot without moving it. As in a move, nothing carries over.
     ///
     /// # Errors
     ///
@@ -293,20 +295,20 @@ impl Machine {
     /// # Ok::<(), pciguest::Error>(())
     /// ```
     pub fn reset(&mut self, guest: Guest, slot: u64) -> Result<(), Error> {
-        // SAFETY: no pointer but the handle is passed.
+        // SAFETY: no pointer except the handle is passed.
         answered(unsafe { raw::pciguest_reset(&mut self.handle, guest.index(), slot) })?;
         self.tell(|seat| seat == (guest, slot), |model, registers| model.on_reset(registers));
         Ok(())
     }
 
-    /// Gives the function at a path, which no guest has, to a guest, into an empty slot: there and on the board it is
-    /// then at reset, on the board but for what guests have copies of. The path is a text, as board files and
-    /// [`Function::path`](crate::Function::path) have it.
+    /// Assigns the function at a path, which no guest has, to an empty slot of a guest. The function is reset,
+    /// except for those of the board's registers of which guests have copies. The path is a text, as in board
+    /// files and in [`Function::path`](crate::Function::path).
     ///
     /// # Errors
     ///
-    /// 303: the slot is above 31, or no endpoint stands at the path. 602: a guest has the function, or the slot is
-    /// taken. 206: one of its regions is closed. 902: there is no such guest.
+    /// 303: the slot is above 31, or there is no endpoint at this path. 602: a guest has the function, or the
+    /// slot isn't empty. 206: one of its regions is disabled. 902: there is no such guest.
     ///
     /// ```
     /// # const BOARD: &str = include_str!("board.toml");
@@ -318,7 +320,7 @@ impl Machine {
     /// # Ok::<(), pciguest::Error>(())
     /// ```
     pub fn give(&mut self, path: &str, guest: Guest, slot: u64) -> Result<(), Error> {
-        // SAFETY: `path` has as many bytes as is said, and nothing overlaps.
+        // SAFETY: `path` has the given length, and nothing overlaps.
         answered(unsafe {
             raw::pciguest_give(&mut self.handle, path.as_ptr(), path.len(), guest.index(), slot)
         })?;
@@ -326,8 +328,9 @@ impl Machine {
         Ok(())
     }
 
-    /// Takes the function in a guest's slot from this guest: the slot is then empty, and no guest has the function,
-    /// which is at reset on the board, but for what guests have copies of. Refused as a reset is.
+    /// Takes the function in a guest's slot from the guest. The slot is then empty, and no guest has the
+    /// function. The function is reset, except for those of the board's registers of which guests have copies.
+    /// Refused as a reset is.
     ///
     /// ```
     /// # const BOARD: &str = include_str!("board.toml");
@@ -341,15 +344,15 @@ impl Machine {
     /// # Ok::<(), pciguest::Error>(())
     /// ```
     pub fn take(&mut self, guest: Guest, slot: u64) -> Result<(), Error> {
-        // SAFETY: no pointer but the handle is passed.
+        // SAFETY: no pointer except the handle is passed.
         answered(unsafe { raw::pciguest_take(&mut self.handle, guest.index(), slot) })?;
         self.tell_moved();
         Ok(())
     }
 
-    /// Reads one byte of the function in a guest's slot, as its device does: of a region, or of configuration space
-    /// the two bytes of Status (06h, 07h), the Capabilities Pointer (34h) and the device's own registers (40h to FFh).
-    /// A byte that has no register reads 0. It changes nothing.
+    /// Reads one byte of the function in a guest's slot, as its device does: in a region, or in configuration
+    /// space, where a device can read only the two bytes of Status (06h, 07h), the Capabilities Pointer (34h)
+    /// and its own registers (40h to FFh). A byte without a register reads as 0. Changes nothing.
     ///
     /// # Errors
     ///
@@ -372,8 +375,9 @@ impl Machine {
         self.device_read_wide(guest, slot, part, offset, 1).map(|value| value as u8)
     }
 
-    /// Writes such a byte as its device does: it takes the value, whatever a guest's writes may change of it, and
-    /// what they may change of it stays. Where no register is, nothing changes. Refused as a read is.
+    /// Writes one byte that [`Machine::device_read`] reads, as the device does. The device can change all bits,
+    /// even bits that the guest can't change; which bits the guest can change stays the same. A write to a byte
+    /// without a register is dropped. Refused as a read is.
     ///
     /// ```
     /// # const BOARD: &str = include_str!("board.toml");
@@ -391,13 +395,14 @@ impl Machine {
         self.device_write_wide(guest, slot, part, offset, 1, value.into())
     }
 
-    /// Reads 1 to 8 bytes of the function in a guest's slot, as its device does: at any offset, all of one part, the byte
-    /// at the lowest offset as the lowest of the value. It changes nothing.
+    /// Reads 1 to 8 bytes of the function in a guest's slot, as its device does, at any offset within one part.
+    /// The byte at the lowest offset is the lowest byte of the value. Changes nothing.
     ///
     /// # Errors
     ///
-    /// 302: the width is not 1 to 8. 303: the slot is above 31, or one of the bytes is past the part, or none that the
-    /// device has. 601: the slot is empty. 902: there is no such guest, or the region is above 5.
+    /// 302: the width isn't 1 to 8. 303: the slot is above 31, or a byte is past the end of the part or isn't
+    /// one that a device can access. 601: the slot is empty. 902: there is no such guest, or the region is
+    /// above 5.
     ///
     /// ```
     /// # const BOARD: &str = include_str!("board.toml");
@@ -416,8 +421,8 @@ impl Machine {
         DeviceSide::of(&mut self.handle, guest, slot).read(part, offset, width)
     }
 
-    /// Writes the low 1 to 8 bytes of a value so, whatever a guest's writes may change of them. Refused as a read is; then
-    /// none of them is written.
+    /// Writes the low 1 to 8 bytes of a value, as the device does. The device can change all bits of these
+    /// bytes. Refused as a read is; then nothing is written.
     ///
     /// ```
     /// # const BOARD: &str = include_str!("board.toml");
@@ -463,9 +468,9 @@ impl Machine {
         DeviceSide::of(&mut self.handle, guest, slot).capabilities()
     }
 
-    /// Where the region that begins at a base address register, 0 to 5, stands now, in the guest's own view. The answer
-    /// stays until the guest writes Command or a base address register of this function, or it is moved, reset or
-    /// taken. It changes nothing.
+    /// Returns where the region that begins at a base address register, 0 to 5, is now, as the guest sees it.
+    /// The result stays valid until the guest writes Command or a base address register of this function, or
+    /// the function is moved, reset, loaded or taken. Changes nothing.
     ///
     /// # Errors
     ///
@@ -486,17 +491,17 @@ impl Machine {
     /// # Ok::<(), pciguest::Error>(())
     /// ```
     pub fn region(&mut self, guest: Guest, slot: u64, register: u32) -> Result<Region, Error> {
-        // SAFETY: `told` is a place of its own.
+        // SAFETY: `told` is a separate variable.
         valued(|told| unsafe {
             raw::pciguest_region(&mut self.handle, guest.index(), slot, register, told)
         })
         .map(|told| Region::of(&told))
     }
 
-    /// A count of the guest, which grows with each access of the guest, move, reset, gift, taking or load that touches one of
-    /// its slots so that an answer of [`Machine::region`] for it may be another one. While the count stays, each of these
-    /// answers stays; nothing else makes it grow. It is 0 in a machine that was made just now, and goes on from 0
-    /// after 2^64 - 1. It changes nothing.
+    /// Returns a count that increases when an access of this guest, a move, a reset, a give, a take or a load
+    /// may have changed a result of [`Machine::region`]. As long as the count is the same, each of these
+    /// results is valid; nothing else increases it. The count is 0 in a new machine, and continues with 0 after
+    /// 2^64 - 1. Changes nothing.
     ///
     /// ```
     /// # const BOARD: &str = include_str!("board.toml");
@@ -511,13 +516,13 @@ impl Machine {
     /// # Ok::<(), pciguest::Error>(())
     /// ```
     pub fn changed(&mut self, guest: Guest) -> Result<u64, Error> {
-        // SAFETY: `count` is a place of its own.
+        // SAFETY: `count` is a separate variable.
         valued(|count| unsafe { raw::pciguest_changed(&mut self.handle, guest.index(), count) })
     }
 
-    /// What an access of the guest at a place hits: a byte of a function in one of its slots, or nothing. Every access
-    /// there begins at this byte, but for four bytes at port CF8h, which are the guest's own CONFIG_ADDRESS. It changes
-    /// nothing. Refused as a read of one byte is.
+    /// Returns what a guest's access reaches: a byte of a function in one of its slots, or nothing. Every
+    /// access to this address begins at this byte. The only exception are 4 bytes at port CF8h, which are the
+    /// guest's CONFIG_ADDRESS. Changes nothing. Refused as a read of one byte is.
     ///
     /// ```
     /// # const BOARD: &str = include_str!("board.toml");
@@ -535,22 +540,22 @@ impl Machine {
     /// ```
     pub fn locate(&mut self, guest: Guest, at: At) -> Result<Option<Hit>, Error> {
         let (space, slot, place) = at.parts();
-        // SAFETY: `told` is a place of its own.
+        // SAFETY: `told` is a separate variable.
         valued(|told| unsafe {
             raw::pciguest_locate(&mut self.handle, guest.index(), space, slot, place, told)
         })
         .map(|told| Hit::of(&told))
     }
 
-    /// Why an access of the guest at a place finds what it finds, a line for each thing: at port CF8h, and at CFCh to CFFh,
-    /// what the guest's CONFIG_ADDRESS makes of it; then what answers, or that nobody does, that the slot is empty or that
-    /// CONFIG_ADDRESS selects no slot; and where nobody answers, each region of the guest's functions that holds the address
-    /// and whose space Command doesn't open. It tells of the guest's own functions and CONFIG_ADDRESS alone. It changes
-    /// nothing.
+    /// Explains what a guest's access reaches, and why. For ports CF8h and CFCh to CFFh, the first line says
+    /// what CONFIG_ADDRESS selects. The next line says what responds, or that nothing does, that the slot is
+    /// empty, or that CONFIG_ADDRESS selects no slot. If nothing responds, there is a line for each region of
+    /// the guest's functions that contains the address, but whose space Command doesn't enable. The answer
+    /// depends only on the guest's own functions and CONFIG_ADDRESS. Changes nothing.
     ///
     /// # Errors
     ///
-    /// As a read of one byte is refused, or out of memory.
+    /// Those of a read of one byte, and 299 if memory runs out.
     ///
     /// ```
     /// # const BOARD: &str = include_str!("board.toml");
@@ -573,11 +578,11 @@ impl Machine {
         self.told_why(raw::pciguest_why, guest, at)
     }
 
-    /// [Why](Machine::why) so as a JSON object on one line, with all that the lines tell.
+    /// Returns the [explanation](Machine::why) as a JSON object on one line.
     ///
     /// # Errors
     ///
-    /// As a read of one byte is refused, or out of memory.
+    /// Those of a read of one byte, and 299 if memory runs out.
     ///
     /// ```
     /// # const BOARD: &str = include_str!("board.toml");
@@ -597,13 +602,14 @@ impl Machine {
 
     fn told_why(&mut self, call: WhyCall, guest: Guest, at: At) -> Result<String, Error> {
         let (space, slot, place) = at.parts();
-        // SAFETY: the text has as many bytes as is said, and nothing overlaps.
+        // SAFETY: the text has the given length, and nothing overlaps.
         text_of(512, |text, room, needed| unsafe {
             call(&mut self.handle, guest.index(), space, slot, place, text, room, needed)
         })
     }
 
-    /// Why a line is refused with 401, 402 or 403; `None` for any other line. The line isn't run.
+    /// Explains why a line is refused with 401, 402 or 403. Returns `None` for any other line. The line isn't
+    /// run.
     ///
     /// ```
     /// # const BOARD: &str = include_str!("board.toml");
@@ -613,7 +619,7 @@ impl Machine {
     /// ```
     pub fn explain_line(&mut self, line: impl AsRef<[u8]>) -> Result<Option<String>, Error> {
         let line = line.as_ref();
-        // SAFETY: the machine is there, `line` has as many bytes as is said, and so has the text; nothing overlaps.
+        // SAFETY: the handle holds a machine, `line` has the given length, and so has the text; nothing overlaps.
         text_of(128, |text, room, needed| unsafe {
             let (bytes, length) = (line.as_ptr(), line.len());
             raw::pciguest_explain_line(&mut self.handle, bytes, length, &mut 0, text, room, needed)
@@ -621,9 +627,9 @@ impl Machine {
         .map(|text| Some(text).filter(|text| !text.is_empty()))
     }
 
-    /// Runs one line of a script, with its line feed or without; a line feed elsewhere makes it a bad line. The reply
-    /// stands without its line feed, and a blank line or a comment has none. A line that is refused is answered by its
-    /// reply.
+    /// Runs one line of a script, and returns the reply without its line feed; a blank line or a comment has no
+    /// reply. The line may end with a line feed; a line feed anywhere else makes it a bad line. If a line is
+    /// refused, the reply says so.
     ///
     /// ```
     /// # const BOARD: &str = include_str!("board.toml");
@@ -652,7 +658,7 @@ impl Machine {
         Ok(reply)
     }
 
-    /// The access of a guest that a line asks for, where devices have to be told of it.
+    /// The guest access that a line asks for, if devices must be notified of it.
     fn asked(&mut self, line: &[u8]) -> Option<Asked> {
         if self.devices.is_empty() {
             return None;
@@ -660,10 +666,10 @@ impl Machine {
         asked_by(line, |name| self.guest(name).ok())
     }
 
-    /// Runs a line, and tells no device.
+    /// Runs a line without notifying a device.
     fn run_alone(&mut self, line: &[u8]) -> Result<Option<String>, Error> {
         reply_to(line, |line, length, reply, room, written| {
-            // SAFETY: `line` and `reply` have as many bytes as is said, and nothing overlaps.
+            // SAFETY: `line` and `reply` have the given lengths, and nothing overlaps.
             unsafe { raw::pciguest_run_line(&mut self.handle, line, length, reply, room, written) }
         })
     }

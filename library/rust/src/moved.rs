@@ -1,4 +1,4 @@
-//! Which regions of a guest stand elsewhere than they were told before.
+//! Which regions of a guest moved.
 
 use crate::error::{answered, Error};
 use crate::machine::Machine;
@@ -6,12 +6,13 @@ use crate::place::{Guest, Region};
 use crate::prelude::*;
 use crate::raw;
 
-/// Where the regions of a guest stood when that was told last. At first there are none, so all that is there is told.
+/// Where the regions of a guest were at the previous call. At first there are none, so the first call returns
+/// all regions.
 #[derive(Clone)]
 pub struct Places(Vec<raw::Place>);
 
 impl Places {
-    /// Nothing was told yet.
+    /// No call was made yet.
     pub fn new() -> Places {
         Places(vec![raw::Place::default(); raw::PLACES])
     }
@@ -23,23 +24,24 @@ impl Default for Places {
     }
 }
 
-/// A region of a guest that stands elsewhere, or is open or closed otherwise, than it was told before.
+/// A region of a guest that moved, or was enabled or disabled, since the previous call.
 #[derive(Clone, Copy, Debug, PartialEq, Eq)]
 pub struct Moved {
     /// 0 to 31.
     pub slot: u64,
     /// Its first base address register, 0 to 5.
     pub register: u32,
-    /// Where it stood; none where there was no region.
+    /// Where it was, or `None` if there was no region.
     pub before: Option<Region>,
-    /// Where it stands; none where there is no region any more.
+    /// Where it is now, or `None` if there is no region any more.
     pub now: Option<Region>,
 }
 
 impl Machine {
-    /// Which regions of a guest stand elsewhere, or are open or closed otherwise, than these places had them, which then have
-    /// them as they stand. A region that is written to where it stood, as at the end of sizing, has not moved. A hypervisor
-    /// asks once [`Machine::changed`] tells another count. 902: there is no such guest.
+    /// Returns the regions of a guest that moved, or were enabled or disabled, compared with these places, and
+    /// updates the places. A region whose base was written but is the same again, as after sizing, hasn't
+    /// moved. A hypervisor makes this call when [`Machine::changed`] returns a new count. 902: there is no such
+    /// guest.
     ///
     /// ```
     /// # const BOARD: &str = include_str!("board.toml");
@@ -59,7 +61,7 @@ impl Machine {
     pub fn moved(&mut self, guest: Guest, places: &mut Places) -> Result<Vec<Moved>, Error> {
         let mut count = 0;
         let (rows, room) = (places.0.as_mut_ptr(), places.0.len());
-        // SAFETY: there are as many rows as that, and `count` is a place of its own.
+        // SAFETY: there are that many rows, and `count` is a separate variable.
         answered(unsafe {
             raw::pciguest_moved(&mut self.handle, guest.index(), rows, room, &mut count)
         })?;

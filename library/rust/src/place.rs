@@ -1,18 +1,18 @@
-//! Where an access or a raise goes, and where regions stand.
+//! The places of accesses and raises, and of regions.
 
 use crate::raw::{self, PART_CONFIG};
 
-/// No part of a function: the library refuses it.
+/// Not a part of a function: the library refuses it.
 const NO_PART: u32 = PART_CONFIG + 1;
 
-/// A guest of a machine, as [`Machine::guest`](crate::Machine::guest) finds it by its name. It means the guest at the
-/// same index in another machine.
+/// A guest of a machine, which [`Machine::guest`](crate::Machine::guest) finds by its name. In another machine,
+/// it means the guest with the same index.
 #[derive(Clone, Copy, Debug, PartialEq, Eq, Hash)]
 pub struct Guest(usize);
 
 impl Guest {
-    /// The guest of an index: guests stand in the order of the board file, from 0 on. A call with an index that no
-    /// guest has is refused by 902.
+    /// The guest with an index: its position in the board file, from 0. If there is no such guest, calls are
+    /// refused with 902.
     ///
     /// ```
     /// # const BOARD: &str = include_str!("board.toml");
@@ -33,7 +33,7 @@ impl Guest {
     }
 }
 
-/// Where an access of a guest goes, by the guest's own view.
+/// The place of a guest's access, as the guest sees it.
 #[derive(Clone, Copy, Debug, PartialEq, Eq)]
 pub enum At {
     /// The configuration space of the function in a slot.
@@ -56,7 +56,7 @@ pub enum At {
 }
 
 impl At {
-    /// Space, slot and place, as the header takes them.
+    /// Space, slot and place, in the form that the header uses.
     pub(crate) fn parts(self) -> (u32, u64, u64) {
         match self {
             At::Config { slot, offset } => (raw::CONFIG, slot, offset),
@@ -75,12 +75,12 @@ impl At {
     }
 }
 
-/// Where the host reads, and where firmware reads and writes, by physical numbers.
+/// Where the host reads, and where firmware reads and writes: a place on the board.
 #[derive(Clone, Copy, Debug, PartialEq, Eq)]
 pub enum HostAt {
     /// The configuration space of a function.
     Config {
-        /// The number of the bus.
+        /// The bus number.
         bus: u8,
         /// 0 to 31.
         device: u8,
@@ -102,7 +102,7 @@ pub enum HostAt {
 }
 
 impl HostAt {
-    /// Space, bus, device, function and place, as the header takes them.
+    /// Space, bus, device, function and place, in the form that the header uses.
     pub(crate) fn parts(self) -> (u32, u8, u8, u8, u64) {
         match self {
             HostAt::Config { bus, device, function, offset } => {
@@ -114,7 +114,7 @@ impl HostAt {
     }
 }
 
-/// A part of a function: where its device raises bits, reads and writes, or where an access of its guest lands.
+/// A part of a function, which a device or a guest's access can reach.
 #[derive(Clone, Copy, Debug, PartialEq, Eq)]
 pub enum Part {
     /// Configuration space.
@@ -124,7 +124,7 @@ pub enum Part {
 }
 
 impl Part {
-    /// The part, as the header takes it.
+    /// The part, in the form that the header uses.
     pub(crate) fn number(self) -> u32 {
         match self {
             Part::Config => PART_CONFIG,
@@ -133,7 +133,7 @@ impl Part {
         }
     }
 
-    /// The part of a number that the library tells.
+    /// The part with a number that the library stores.
     fn of_number(number: u32) -> Part {
         match number {
             PART_CONFIG => Part::Config,
@@ -142,7 +142,7 @@ impl Part {
     }
 }
 
-/// A space in which a region stands.
+/// The space of a region.
 #[derive(Clone, Copy, Debug, PartialEq, Eq, Hash)]
 pub enum Space {
     /// I/O space.
@@ -151,8 +151,8 @@ pub enum Space {
     Memory,
 }
 
-/// Where a region of a guest's function stands now, by the guest's own registers. It takes `size` addresses of its
-/// space from `first` on, and answers there where it is open.
+/// Where a region of a guest's function is now, according to the guest's own registers. It occupies `size`
+/// addresses of its space, starting at `first`, and responds there while it is enabled.
 #[derive(Clone, Copy, Debug, PartialEq, Eq)]
 pub struct Region {
     /// The space.
@@ -163,7 +163,7 @@ pub struct Region {
     pub size: u64,
     /// Whether it is prefetchable memory.
     pub prefetchable: bool,
-    /// Whether the guest's Command opens the space.
+    /// Whether the guest's Command enables the space.
     pub is_open: bool,
 }
 
@@ -179,7 +179,7 @@ impl Region {
     }
 }
 
-/// The byte of a guest's function that an access hits.
+/// The byte of a guest's function that an access reaches.
 #[derive(Clone, Copy, Debug, PartialEq, Eq)]
 pub struct Hit {
     /// 0 to 31.

@@ -1,4 +1,5 @@
-//! What is told of a board file, of a number and of the library, for which no machine is needed; and replies to lines.
+//! Reports on board files, error messages and the library's version, for which no machine is needed; and
+//! replies to lines.
 
 use crate::error::{answered, Error};
 use crate::prelude::*;
@@ -8,21 +9,21 @@ use crate::raw::{
 };
 use core::ffi::CStr;
 
-/// What a check says of a board file.
+/// The result of checking a board file.
 #[derive(Clone, Debug, PartialEq, Eq)]
 pub struct Check {
-    /// What is wrong with the file, or that its board fits, as `pciguest check --plain board.toml` writes it, so without
+    /// What is wrong with the file, or that its board fits, like `pciguest check --plain board.toml`, without
     /// the warnings that `--all` adds.
     pub text: String,
-    /// What the file or its board is refused by.
+    /// Why the file or its board is refused, if it is.
     pub refusal: Option<Error>,
 }
 
-/// The report of a board file, as `pciguest list` writes it.
+/// Returns the report of a board file, like `pciguest list`.
 ///
 /// # Errors
 ///
-/// As for [`Machine::new`](crate::Machine::new).
+/// Those of [`Machine::new`](crate::Machine::new).
 ///
 /// ```
 /// # const BOARD: &str = include_str!("board.toml");
@@ -31,13 +32,14 @@ pub struct Check {
 /// ```
 pub fn report(board: impl AsRef<[u8]>) -> Result<String, Error> {
     let board = board.as_ref();
-    // SAFETY: `board` has as many bytes as is said, and so has the text; nothing overlaps.
+    // SAFETY: `board` has the given length, and so has the text; nothing overlaps.
     text_of(4096, |text, room, needed| unsafe {
         pciguest_report(board.as_ptr(), board.len(), text, room, needed)
     })
 }
 
-/// The [report] of a board file as a JSON object on one line, as `pciguest list --json` writes it. Refused as the report is.
+/// Returns the [report] of a board file as a JSON object on one line, like `pciguest list --json`. Refused as
+/// the report is.
 ///
 /// ```
 /// # const BOARD: &str = include_str!("board.toml");
@@ -52,11 +54,11 @@ pub fn report_json(board: impl AsRef<[u8]>) -> Result<String, Error> {
     })
 }
 
-/// What is wrong with a board file, or that its board fits.
+/// Checks a board file, and returns everything that is wrong with it, or that its board fits.
 ///
 /// # Errors
 ///
-/// Out of memory alone. A file that is refused has a text, and its refusal beside it.
+/// Only 199 and 299, if memory runs out. If a file is refused, the result contains the refusal and the text.
 ///
 /// ```
 /// let check = pciguest::check("[host]\nio = [0x1000, 0xffff]\nmem = 7\n")?;
@@ -83,24 +85,24 @@ pub fn check(board: impl AsRef<[u8]>) -> Result<Check, Error> {
 /// assert_eq!(pciguest::strerror(0), "");
 /// ```
 pub fn strerror(number: u32) -> &'static str {
-    // SAFETY: the library gives a text that ends with a 0 and stays, for any number.
+    // SAFETY: for any number, the library returns a static text that ends with a 0.
     let text = unsafe { CStr::from_ptr(pciguest_strerror(number)) };
     text.to_str().unwrap_or_default()
 }
 
-/// The version of the library that is linked, as a number that grows: 10000 times the major version, 100 times the minor
-/// one, and the patch.
+/// Returns the version of the library that is linked, as a number that increases from version to version: 10000
+/// times the major version, 100 times the minor one, and the patch.
 ///
 /// ```
 /// assert_eq!(pciguest::version() / 10000, 0);
 /// ```
 pub fn version() -> u32 {
-    // SAFETY: it takes nothing.
+    // SAFETY: the call has no arguments.
     unsafe { pciguest_version() }
 }
 
-/// Calls with room for a text; where that is too little, once more with what the text needs. Gives the number that the
-/// call answers, and the text.
+/// Makes a call that writes a text, with so much room; if that is too little, again with enough. Returns the
+/// number that the call returns, and the text.
 fn told(room: usize, mut call: impl FnMut(*mut u8, usize, &mut usize) -> u32) -> (u32, String) {
     let mut text = vec![0; room];
     let mut needed = 0;
@@ -113,7 +115,7 @@ fn told(room: usize, mut call: impl FnMut(*mut u8, usize, &mut usize) -> u32) ->
     (number, String::from_utf8_lossy(&text).into_owned())
 }
 
-/// The text of such a call.
+/// The text that such a call writes.
 pub(crate) fn text_of(
     room: usize, call: impl FnMut(*mut u8, usize, &mut usize) -> u32,
 ) -> Result<String, Error> {
@@ -121,8 +123,8 @@ pub(crate) fn text_of(
     answered(number).map(|()| text)
 }
 
-/// Runs a line by a call, which takes it with its line feed or without; where its reply needs more room, nothing happened,
-/// and it runs once more. The reply stands without its line feed, and a blank line or a comment has none.
+/// Runs a line by a call. If the reply needs more room, nothing has changed, and the line runs again. The reply
+/// has no line feed; a blank line or a comment has no reply.
 pub(crate) fn reply_to(
     line: &[u8], mut call: impl FnMut(*const u8, usize, *mut u8, usize, &mut usize) -> u32,
 ) -> Result<Option<String>, Error> {

@@ -1,4 +1,4 @@
-//! What accesses of a guest touch of devices, and how these are told.
+//! Which devices a guest's accesses reach, and how these are notified.
 
 use crate::declared::Register;
 use crate::error::Error;
@@ -7,7 +7,8 @@ use crate::place::{At, Guest, Hit, Part};
 use crate::prelude::*;
 use crate::wide::pieces;
 
-/// What a cycle of the bus touches of a device: bytes of a part of its function, and what they are written.
+/// The part of a device that a bus cycle accesses: bytes of a part of its function, and the bytes that are
+/// written.
 pub(crate) struct Touch {
     device: usize,
     hit: Hit,
@@ -18,8 +19,8 @@ pub(crate) struct Touch {
 }
 
 impl Machine {
-    /// Makes a read of a guest. Devices that it touches are told of it once it is known not to be refused, and then it reads
-    /// what they made of their registers.
+    /// Makes a guest's read. If it isn't refused, the devices that it reaches are notified first, and then it
+    /// reads what they left in their registers.
     pub(crate) fn read_and_tell<T>(
         &mut self, (guest, at, width): (Guest, At, u32),
         read: impl Fn(&mut Machine) -> Result<T, Error>,
@@ -32,7 +33,8 @@ impl Machine {
         }
     }
 
-    /// Tells devices of a read that isn't refused, each once for each of its registers, and whether there was one to tell.
+    /// Notifies devices of a read that isn't refused, once for each register that it touches. Returns whether
+    /// there was any.
     pub(crate) fn tell_read(&mut self, guest: Guest, at: At, width: u32) -> bool {
         if self.devices.is_empty() {
             return false;
@@ -42,7 +44,7 @@ impl Machine {
         self.tell_reading(touched)
     }
 
-    /// The same of what it touches.
+    /// The same, for the part of a device that the read accesses.
     pub(crate) fn tell_reading(&mut self, touched: impl IntoIterator<Item = Touch>) -> bool {
         let touched: Vec<Touch> = touched.into_iter().collect();
         let told = self.told_by(&touched);
@@ -52,7 +54,8 @@ impl Machine {
         !told.is_empty()
     }
 
-    /// What a cycle of the bus touches of a device, if it touches one. Asked before a write, which may move the function.
+    /// The part of a device that a bus cycle accesses, if it reaches a device. To be called before a write,
+    /// because the write may move the function.
     pub(crate) fn touch(&mut self, guest: Guest, at: At, width: u32, value: u32) -> Option<Touch> {
         if self.devices.is_empty() || (at, width) == (At::Io { port: 0xcf8 }, 4) {
             return None;
@@ -70,7 +73,8 @@ impl Machine {
         self.lent(device)?.command().ok()
     }
 
-    /// What an access of a region that isn't refused touches of a device, if the region is open and one is there.
+    /// The part of a device that an access to a region reaches, if the region is enabled and has a device. The
+    /// access must not be one that is refused.
     pub(crate) fn region_touch(
         &mut self, guest: Guest, hit: Hit, width: u32, value: u64,
     ) -> Option<Touch> {
@@ -83,7 +87,7 @@ impl Machine {
         region.is_open.then_some(Touch { device, hit, width, value, command: None })
     }
 
-    /// Tells devices of an access that was done, each once for each of its registers.
+    /// Notifies devices of a completed write, once for each register that it touched.
     pub(crate) fn tell_written(&mut self, touched: impl IntoIterator<Item = Touch>) {
         let touched: Vec<Touch> = touched.into_iter().collect();
         let told = self.told_by(&touched);
@@ -98,7 +102,7 @@ impl Machine {
         }
     }
 
-    /// Tells devices whose Command an access changed: what it was before the first write to it, and what it is.
+    /// Notifies devices whose Command an access changed, with Command before the first write to it and now.
     fn tell_command(&mut self, touched: &[Touch]) {
         for device in 0..self.devices.len() {
             let before = touched.iter().filter(|it| it.device == device).find_map(|it| it.command);
@@ -108,8 +112,8 @@ impl Machine {
         }
     }
 
-    /// The registers that an access touches, each with its device and with what was written: the bytes of the access at their
-    /// places, and else what the register holds.
+    /// The registers that an access touches, each with its device and the value after the write: the bytes that
+    /// the access writes, and the register's own bytes everywhere else.
     fn told_by(&mut self, touched: &[Touch]) -> Vec<(usize, Register, u64)> {
         let mut told = Vec::new();
         for device in 0..self.devices.len() {
@@ -151,7 +155,7 @@ fn config_writes(touched: &[Touch]) -> Vec<(usize, u64, u32, u64)> {
 }
 
 impl Touch {
-    /// The bits of a register that it touches, and what they are written.
+    /// The bits of a register that are accessed, and the value that is written to them.
     fn within(&self, register: Register) -> (u64, u64) {
         let Hit { part, offset, .. } = self.hit;
         if !register.is_touched(part, offset, self.width) {

@@ -1,4 +1,4 @@
-//! Accesses of processors: 1 to 8 bytes, at any place.
+//! Processor accesses of 1 to 8 bytes at any address.
 
 use crate::error::{answered, Error};
 use crate::machine::Machine;
@@ -7,14 +7,14 @@ use crate::prelude::*;
 use crate::raw::{BAD_WIDTH, CONFIG, IO, OUT_OF_RANGE};
 
 impl Machine {
-    /// Reads as a guest what a processor may ask at once and a cycle of the bus can't: 1 to 8 bytes, at any place. It is
-    /// split as a bridge does, into lawful reads in the order of addresses, and the byte at the lowest address is the
-    /// lowest of the value. A device that is attached is told of it as of one access.
+    /// Reads 1 to 8 bytes as a guest, at any address, as a processor does. The access is split as a bridge does
+    /// it, into aligned reads in ascending order of addresses. The byte at the lowest address is the lowest
+    /// byte of the value. An attached device is notified as of one access.
     ///
     /// # Errors
     ///
-    /// 302: the width is not 1 to 8. 303: the slot is out of range, or the access ends past its space. 902: there is no
-    /// such guest.
+    /// 302: the width isn't 1 to 8. 303: the slot is out of range, or the access ends past the end of its
+    /// space. 902: there is no such guest.
     ///
     /// ```
     /// # const BOARD: &str = include_str!("board.toml");
@@ -37,7 +37,8 @@ impl Machine {
         })
     }
 
-    /// Writes so the low bytes of a value, as many as it is wide.
+    /// Writes 1 to 8 bytes as a guest, at any address: the low bytes of a value. Split and refused as a read
+    /// is.
     ///
     /// ```
     /// # const BOARD: &str = include_str!("board.toml");
@@ -65,7 +66,7 @@ impl Machine {
     }
 }
 
-/// Whether an access of processors is none, as the header says.
+/// Whether a processor access is invalid, according to the header.
 fn may_be_split(at: At, width: u32) -> Result<(), Error> {
     let (space, _, place) = at.parts();
     if !(1..=8).contains(&width) {
@@ -82,14 +83,15 @@ fn may_be_split(at: At, width: u32) -> Result<(), Error> {
     Ok(())
 }
 
-/// The lawful pieces of an access that ends within its space: how many bytes come before each, its place and its width.
+/// The aligned pieces of an access that ends within its space: how many bytes come before each, its address and
+/// its width.
 pub(crate) fn pieces(at: At, width: u32) -> impl Iterator<Item = (u32, At, u32)> {
     let (_, _, place) = at.parts();
     let mut done = 0;
     core::iter::from_fn(move || {
         let before = (done < width).then_some(done)?;
         let (place, left) = (place + u64::from(before), width - before);
-        // the most that stand at a multiple of their number
+        // the largest width for which the piece is aligned
         let size = match () {
             _ if place % 4 == 0 && left >= 4 => 4,
             _ if place % 2 == 0 && left >= 2 => 2,

@@ -1,18 +1,20 @@
-//! Links libpciguest.a from the folder PCIGUEST_LIBRARY_DIR, or the first of the usual ones that has it. Where there is none,
-//! `cargo doc` and `cargo check` go on. In a clone of the repository, the script also generates the declarations.
+//! Links libpciguest.a from the directory PCIGUEST_LIBRARY_DIR or, if that isn't set, from the first of the usual directories that
+//! contains it. `cargo doc` and `cargo check` work without the library. In a clone of the repository, the script also generates the
+//! declarations.
 
 use std::env;
 use std::path::{Path, PathBuf};
 use std::process::{exit, Command};
 
 const ARCHIVE: &str = "libpciguest.a";
+const UNPROVED: &str = "../../unproved";
 
 fn main() {
     println!("cargo:rerun-if-changed=build.rs");
     println!("cargo:rerun-if-env-changed=PCIGUEST_LIBRARY_DIR");
     let target = |key| env::var(key).unwrap_or_default();
     if target("CARGO_CFG_TARGET_OS") != "linux" || target("CARGO_CFG_TARGET_ARCH") != "x86_64" {
-        refuse("the library is for Linux on x86-64 alone");
+        refuse("the library is only for Linux on x86-64");
     }
     declarations();
     let folder = folder();
@@ -20,10 +22,16 @@ fn main() {
     println!("cargo:rerun-if-changed={}", archive.display());
     if !archive.is_file() {
         println!(
-            "cargo:warning=there is no {}: `make library` at the top of the repository leaves it there, and \
-             PCIGUEST_LIBRARY_DIR names the folder of one that stands elsewhere",
+            "cargo:warning=there is no {}. At the top of the repository, `make try` compiles it without proofs, and \
+             `make library` proves it. If it is elsewhere, set PCIGUEST_LIBRARY_DIR to its directory",
             archive.display()
         );
+    } else if folder.ends_with(UNPROVED) {
+        println!(
+            "cargo:warning=this library is not proved: {}. `make library` proves it",
+            archive.display()
+        );
+        println!("cargo:rerun-if-changed={}", folder.with_file_name(ARCHIVE).display());
     }
     match folder.canonicalize() {
         Ok(folder) => println!("cargo:rustc-link-search=native={}", folder.display()),
@@ -44,20 +52,21 @@ fn declarations() {
     }
 }
 
-/// The folder that is named, or the first that has an archive: that of the crate; that in which `make library` leaves it in the
-/// repository; that of what is unpacked or installed with the crate; and that of what is installed elsewhere.
+/// The directory that is named, or the first that contains the archive: the crate's own; the repository's, where `make library`
+/// writes it; the one in which the crate was unpacked or installed; the one that pkg-config reports; and the one where
+/// `make try` writes an archive that isn't proved.
 fn folder() -> PathBuf {
     if let Some(folder) = env::var_os("PCIGUEST_LIBRARY_DIR") {
         return PathBuf::from(folder);
     }
     let here = Path::new(env!("CARGO_MANIFEST_DIR"));
     let beside = ["lib", "../..", "../../../../lib"].map(|folder| here.join(folder));
-    let mut usual = beside.into_iter().chain(installed());
+    let mut usual = beside.into_iter().chain(installed()).chain([here.join(UNPROVED)]);
     let found = usual.find(|folder| folder.join(ARCHIVE).is_file());
     found.unwrap_or_else(|| here.join("../.."))
 }
 
-/// The folder that pkg-config tells, if there is one.
+/// The directory that pkg-config reports, if there is one.
 fn installed() -> Option<PathBuf> {
     let words = ["--variable=libdir", "pciguest"];
     let told = Command::new("pkg-config").args(words).output().ok()?;

@@ -1,6 +1,6 @@
-//! The buses of a hypervisor in Rust: RAM of rust-vmm's crate vm-memory, a serial port of its vm-superio, and a function of a
-//! board, whose device reads what its driver left in RAM. In place of a processor a driver makes the accesses that a
-//! hypervisor would trap.
+//! The buses of a hypervisor in Rust: RAM from rust-vmm's crate vm-memory, a serial port from its
+//! vm-superio, and a function of a board, whose device reads what its driver put into RAM. Instead
+//! of a processor, a driver makes the accesses that a hypervisor would trap.
 
 use pciguest::{
     At, Declaration, DeviceModel, Error, Guest, GuestBus, Kind, Machine, Places, Region, Register,
@@ -12,7 +12,8 @@ use vm_memory::{Bytes, GuestAddress, GuestMemoryMmap};
 use vm_superio::serial::NoEvents;
 use vm_superio::{Serial, Trigger};
 
-/// Where the message of the driver stands in RAM, how long it is, and the bell; the device tells how many it printed.
+/// The address and the length of the driver's message in RAM, the doorbell, and the number of
+/// messages that the device has printed.
 const ADDRESS: Register = Register::in_region(0, 0x00, 8).rw(u64::MAX);
 const LENGTH: Register = Register::in_region(0, 0x08, 4).rw(0xffff);
 const PRINT: Register = Register::in_region(0, 0x0c, 4);
@@ -21,9 +22,9 @@ const PRINTED: Register = Register::in_region(0, 0x10, 4);
 /// The RAM of each guest, by the guest's index.
 type Memories = Arc<Vec<GuestMemoryMmap>>;
 
-/// A printer, which reaches RAM as a device that masters the bus does: pciguest itself has no part in that. Its function can
-/// move to another guest, so it looks for the RAM of the guest that has it each time, and only while that guest has set Bus
-/// Master.
+/// A printer, which reads RAM as a bus master does. pciguest isn't involved in these reads. The
+/// printer's function can move to another guest, so the printer looks up the RAM of its function's
+/// guest each time, and reads only while that guest has set Bus Master.
 struct Printer(Memories);
 
 impl DeviceModel for Printer {
@@ -47,7 +48,7 @@ impl DeviceModel for Printer {
     }
 }
 
-/// An interrupt line to which nobody listens: the driver here polls.
+/// An interrupt line that isn't connected, because the driver polls.
 struct NoLine;
 
 impl Trigger for NoLine {
@@ -58,20 +59,20 @@ impl Trigger for NoLine {
     }
 }
 
-/// What a processor asks of a bus: bytes to be read, or written.
+/// A processor's access to a bus: bytes to be read or written.
 enum Access<'a> {
     Read(&'a mut [u8]),
     Write(&'a [u8]),
 }
 
-/// A guest's machine: what stands on its buses beside RAM.
+/// A guest's machine: what is on its buses besides RAM.
 struct Buses {
     serial: Serial<NoLine, NoEvents, Stdout>,
     board: Arc<Mutex<Machine>>,
     guest: Guest,
     ports: GuestBus,
     memory: GuestBus,
-    /// The regions of the board that are open, and where all were told to stand.
+    /// The enabled regions on the board, and where all regions were last reported.
     open: Vec<Region>,
     places: Places,
 }
@@ -90,7 +91,7 @@ impl Buses {
         }
     }
 
-    /// A port: of the serial port, CONFIG_ADDRESS and CONFIG_DATA, or of an open region.
+    /// A port: that of the serial port, CONFIG_ADDRESS, CONFIG_DATA, or one in an enabled region.
     fn port(&mut self, port: u64, access: Access<'_>) {
         match (port, access) {
             (0x3f8..=0x3ff, Access::Read(data)) => {
@@ -120,7 +121,7 @@ impl Buses {
         open.any(|it| it.space == space && (it.first..=it.first + (it.size - 1)).contains(&place))
     }
 
-    /// Regions that stand elsewhere since.
+    /// Handles regions that moved.
     fn see_moves(&mut self) {
         let moved =
             self.board.lock().unwrap().moved(self.guest, &mut self.places).unwrap_or_default();
@@ -147,8 +148,9 @@ fn configure(buses: &mut Buses, register: u32, value: u32) {
     buses.port(0xcfc, Access::Write(&value.to_le_bytes()));
 }
 
-/// The driver: it finds the printer and places its region, leaves a message in RAM, has it printed, and tells by the serial
-/// port how many were. The printer does nothing as long as the driver hasn't set Bus Master.
+/// The driver: it finds the printer, places its region, puts a message into RAM, has it printed,
+/// and reports through the serial port how many were printed. Until the driver sets Bus Master, the
+/// printer does nothing.
 fn drive(buses: &mut Buses, ram: &GuestMemoryMmap) -> Result<(), vm_memory::GuestMemoryError> {
     const MEMORY: u32 = 2;
     const MASTER: u32 = 4;
@@ -173,7 +175,7 @@ fn print(buses: &mut Buses, length: u32) {
     }
 }
 
-/// The board of the printer's own declaration, with guest a.
+/// The board, with the printer as it declares itself, and guest a.
 fn board(printer: Printer) -> Result<(Machine, Guest), Error> {
     let host = "host = { io = [0x1000, 0xffff], mem = [0xc0000000, 0xdfffffff] }\n";
     let guest = "[[guest]]\nname = \"a\"\nslots = [\"1.0\"]\n";
