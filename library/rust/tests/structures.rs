@@ -133,6 +133,6 @@ fn lists_that_can_not_be() {
     }
     let far = |offset| catch_unwind(|| made(head().register(Register::in_region(1, offset, 4))));
     let text = |offset| *far(offset).unwrap_err().downcast::<String>().unwrap();
-    assert!(text(0xffe).contains("outside of the first 0x1000 bytes of its region"));
-    assert!(text(0xfffe).contains("outside of its part"));
+    assert!(text(0xffe).contains("outside the first 0x1000 bytes of its region"));
+    assert!(text(0xfffe).contains("outside its part"));
 }
