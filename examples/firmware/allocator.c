@@ -116,12 +116,23 @@ static void read_regions(const struct bus *bus, struct function *function)
     }
 }
 
+/* Whether a bridge has an I/O window. What is above it in the same 4 bytes is Secondary Status. */
+static bool has_ports(uint32_t bridge)
+{
+    uint16_t old = pg_read_config16(bridge, 0x1C), ones;
+
+    pg_write_config16(bridge, 0x1C, 0xFFFF);
+    ones = pg_read_config16(bridge, 0x1C);
+    pg_write_config16(bridge, 0x1C, old);
+    return (ones & 0xF0F0) != 0;
+}
+
 /* Numbers what is behind a bridge, and finds which windows it has. */
 static void scan_bridge(const struct bus *bus, struct function *bridge)
 {
     uint32_t prefetchable = ones_of(bridge->device, 0x24);
     unsigned bits = !prefetchable ? 0 : prefetchable & 1 ? 64 : 32;
-    bool has_io = ones_of(bridge->device, 0x1C) & 0xF0F0;
+    bool has_io = has_ports(bridge->device);
     struct bus *behind = bridge->behind = &buses[++last_number];
 
     *behind = (struct bus){ .number = last_number, .prefetchable_bits = bits };

@@ -3,6 +3,7 @@
 import sys
 import tomllib
 import unittest
+from unittest import mock
 
 import places
 from pciguest._board_file import functions, text_of
@@ -269,13 +270,31 @@ class Findings(unittest.TestCase):
         document = SPECIAL["status_bits"]()
         told = "status: 1.0: a 4-byte write to Command changes Status from 0xf900 to 0x0100"
         self.assertEqual(seen("host cw 00:01.0 4 4 0xf8000000", document=document), [told])
-        self.assertEqual(seen("host cw 00:01.0 7 1 0xff", document=document),
-                         ["status: 1.0: a write to Status changes Status from 0xf900 to 0x0000"])
-        told = "status: 3.0: a {} writes ones to Status (0xf900)"
-        self.assertEqual(seen("host cw 00:03.0 4 4 0xffff0000", document=document), [told.format("4-byte write to Command")])
-        self.assertEqual(seen("host cw 00:03.0 6 2 0xffff", document=document), [told.format("write to Status")])
+        told = "status: 3.0: a 4-byte write to {} (0xf900)"
+        for offset, words in ((0x04, "Command writes ones to Status"), (0x1C, "I/O Base writes ones to Secondary Status")):
+            self.assertEqual(seen(f"host cw 00:03.0 {offset:#x} 4 0xffff0000", document=document), [told.format(words)])
+            self.assertEqual(seen(f"host cw 00:03.0 {offset:#x} 4 0x06f00000", document=document), [])
         for line in ("4 4 0x2", "4 2 0x2", "6 2 0x6ff", "7 1 0"):
             self.assertEqual(seen(f"host cw 00:01.0 {line}", document=document), [], line)
+
+    def test_status_that_is_cleared_on_purpose(self):
+        """A write of Status alone, or of Secondary Status, as Linux clears them."""
+        document = SPECIAL["status_bits"]()
+        for line in ("00:01.0 6 2 0xffff", "00:01.0 7 1 0xff", "00:03.0 6 2 0xffff", "00:03.0 0x1e 2 0xffff"):
+            self.assertEqual(seen(f"host cw {line}", document=document), [], line)
+
+    def test_the_board_is_asked_where_two_can_meet(self):
+        """Not after each write to an open bridge, but where an open responder now meets another."""
+        asked, told = [], SecondHandBoard.ready_text
+        near = ["host cw 00:02.0 0x20 4 0xc020c000", "host cw 00:02.0 0x20 4 0xc010c000", "host cw 00:02.0 0x30 4 0",
+                "host cw 01:00.0 4 2 0", "host cw 01:00.0 4 2 2"]
+        with mock.patch.object(SecondHandBoard, "ready_text", lambda board: asked.append(1) or told(board)):
+            self.assertEqual(seen(*near), [])
+            self.assertEqual(asked, [])
+            both = "overlap: 2.0 and 3.0: address conflict at memory 0xc0400000"
+            self.assertEqual(seen("host cw 00:02.0 0x20 4 0xc040c000"), [both])
+            self.assertEqual(seen("host cw 00:02.0 0x20 4 0xc040c000", "host cw 00:02.0 0x20 4 0xc040c010"), [])
+            self.assertEqual(len(asked), 2)
 
     def test_each_finding_has_a_kind(self):
         kinds = {kind_of(line) for line in findings(SecondHandBoard(AUDITED))}
@@ -342,6 +361,8 @@ class WhoWrote(unittest.TestCase):
                          [f"2.0 Primary: last written by line 1 of 6: {lines[0]}"])
         self.assertEqual(self.told("status: 2.0/0.0: a 4-byte write to Command changes Status from 0x0100 to 0x0000", *lines),
                          ["2.0/0.0 Status: never written"])
+        self.assertEqual(self.told("status: 2.0: a 4-byte write to I/O Base writes ones to Secondary Status (0xf900)", *lines, "host cw 00:02.0 0x1c 4 0xffffffff"),
+                         ["2.0 Secondary Status: last written by line 7 of 7: host cw 00:02.0 0x1c 4 0xffffffff"])
 
     def test_a_function_that_is_never_found(self):
         lines = ["host cw 00:02.0 0x18 4 0x00000100", "host cr 00:01.0 0 4", "host cr 01:00.0 0 4", "host cr 01:01.0 0 4"]
