@@ -304,7 +304,7 @@ static void enable(struct bus *bus);
 /* A space is opened where each region in it has its place; a window without one is shut first. */
 static void enable_function(struct function *function)
 {
-    uint16_t opened = function->behind ? 3 : 0, missing = 0;
+    uint16_t opened = function->behind ? 7 : 0, missing = 0;
 
     for (unsigned n = 0; n < function->count; n++) {
         struct resource *each = &function->resources[n];

@@ -218,7 +218,7 @@ static void shut_windows(struct bus *bus)
     }
 }
 
-/* Opens each function's spaces: all is placed by now. */
+/* Opens each function's spaces: all is placed by now. Bridges also forward what functions behind them write to memory. */
 static void open_all(struct bus *bus)
 {
     shut_windows(bus);
@@ -228,7 +228,7 @@ static void open_all(struct bus *bus)
 
         if (item->behind != NULL && item->space == MEM)
             open_all(item->behind);
-        pg_config_write(item->function, 0x04, 2, command | (item->behind ? 3 : item->space == IO ? 1 : 2));
+        pg_config_write(item->function, 0x04, 2, command | (item->behind ? 7 : item->space == IO ? 1 : 2));
     }
 }
 

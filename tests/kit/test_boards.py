@@ -7,6 +7,8 @@ from unittest import mock
 
 import places
 from pciguest._board_file import functions, text_of
+from pciguest._ending import endings
+from pciguest._follow import Follower
 from pciguest._drawing import PLAIN, RandomChoices, draw_board
 from pciguest._firmware_run import findings
 from pciguest._judge import KINDS, kind_of, same_problem
@@ -309,6 +311,55 @@ class Findings(unittest.TestCase):
         self.assertNotEqual(same_problem(one), same_problem(one.replace("bar0", "bar1")))
 
 
+class Endings(unittest.TestCase):
+    def told(self, *lines, document=AUDITED):
+        """What is found at the end, after a set-up that forwards DMA, or on another board."""
+        board = SecondHandBoard(document)
+        numbers = ["host cw 00:02.0 0x18 4 0x00010100"] if document is not AUDITED else [
+            *SET_UP, *(f"host cw {at} 4 2 7" for at in ("00:02.0", "01:02.0", "00:03.0"))]
+        for line in [*numbers, *lines]:
+            assert board.run_line(line) in ("host: ok", None)
+        before = board.ready_text()
+        found = endings(Follower(board), document)
+        self.assertEqual(before, board.ready_text())
+        self.assertLessEqual({kind_of(each) for each in found}, set(KINDS))
+        return found
+
+    def test_bridges_that_forward_no_dma(self):
+        self.assertEqual(self.told(), [])
+        told = "master: 2.0/2.0: Bus Master is clear (Command at 0x4: 0x0003), so the bridge forwards no DMA"
+        self.assertEqual(self.told("host cw 01:02.0 4 2 3"), [told])
+        empty = {"host": AUDITED["host"], "bridge": [AUDITED["bridge"][0]]}
+        self.assertEqual(self.told(document=empty), [])
+
+    def test_bits_that_are_left(self):
+        lines = {
+            "host cw 00:01.0 4 2 0x400": "1.0: Interrupt Disable is set (Command at 0x4: 0x0400)",
+            "host cw 00:01.0 0x44 1 3": "1.0: the function isn't in D0 (Power Management Control/Status at 0x44: 0x0003)",
+            "host cw 00:01.0 0x52 2 0x81": "1.0: MSI is enabled (Message Control at 0x52: 0x0081)",
+            "host cw 01:00.0 0x70 4 0xffff0000": "2.0/0.0: MSI-X is enabled (Message Control at 0x72: 0xc000)",
+        }
+        document = SPECIAL["capabilities"]()
+        master = "host cw 00:02.0 4 2 4"
+        self.assertEqual(self.told(master, document=document), [])
+        for line, told in lines.items():
+            self.assertEqual(self.told(master, line, document=document), [f"left: {told}"])
+
+    def test_bridge_control(self):
+        """Of a bridge that has it: the boards' bridges don't."""
+        def read(follower, number, offset, reads=Follower.read):
+            return 0x480000 if (number, offset) == ("00:02.0", 0x3C) else reads(follower, number, offset)
+
+        with mock.patch.object(Follower, "read", read):
+            self.assertEqual(self.told(), [f"left: 2.0: {words} is set (Bridge Control at 0x3e: 0x0048)"
+                                           for words in ("Secondary Bus Reset", "VGA Enable")])
+
+    def test_bits_that_are_set_at_reset(self):
+        document = SPECIAL["capabilities"]()
+        document["endpoint"][0]["capability"][1]["reset"] = "8100"
+        self.assertEqual(self.told("host cw 00:02.0 4 2 4", document=document), [])
+
+
 class Reasons(unittest.TestCase):
     def test_each_kind(self):
         for name, asked in ASKED.items():
@@ -359,6 +410,8 @@ class WhoWrote(unittest.TestCase):
                          [f"2.0 Secondary, Subordinate: last written by line 1 of 6: {lines[0]}"])
         self.assertEqual(self.told("ready: 2.0: Primary Bus Number is 00, but the bridge is on bus 01", *lines),
                          [f"2.0 Primary: last written by line 1 of 6: {lines[0]}"])
+        self.assertEqual(self.told("left: 2.0/0.0: MSI is enabled (Message Control at 0x52: 0x0081)", "host cw 00:02.0 0x18 4 0x00010100", "host cw 01:00.0 0x52 2 0x81"),
+                         ["2.0/0.0 Message Control: last written by line 2 of 2: host cw 01:00.0 0x52 2 0x81"])
         self.assertEqual(self.told("status: 2.0/0.0: a 4-byte write to Command changes Status from 0x0100 to 0x0000", *lines),
                          ["2.0/0.0 Status: never written"])
         self.assertEqual(self.told("status: 2.0: a 4-byte write to I/O Base writes ones to Secondary Status (0xf900)", *lines, "host cw 00:02.0 0x1c 4 0xffffffff"),

@@ -4,11 +4,13 @@ from __future__ import annotations
 
 import re
 from contextlib import closing
-from typing import Dict, FrozenSet, List, NamedTuple, Optional, Set, Union
+from typing import Dict, FrozenSet, List, NamedTuple, Optional, Union
 
 from ._board_file import Document, text_of
 from ._child import Child, Limits, Misbehaviour
-from ._driven import DrivenBoard, Maker
+from ._driven import Maker
+from ._ending import ENDINGS, endings
+from ._follow import Follower
 from ._judge import TRANSIENTS, findings, kind_of, same_problem
 from ._reasons import reasons
 from ._watch import Watch
@@ -94,10 +96,10 @@ class Firmware:
                 told = f"the firmware {wrong.told}{after(run.lines)}"
                 return run._replace(wrong=[told], kind=wrong.kind, last_words=child.last_words(),
                                     longest_silence=child.longest_silence)
-        left = findings(watch.board)
+        left = [*findings(watch.board), *endings(watch.follower, document)]
         if left and (gave_up or not has_room):
             said = [] if gave_up else ["room: not all regions fit, and the firmware doesn't report it"]
-            left = said + [each for each in left if kind_of(each) != "closed"]
+            left = said + [each for each in left if kind_of(each) not in ("closed", "master")]
         return self.judged(run._replace(gave_up=gave_up), left)
 
     def judged(self, run: Run, left: List[str]) -> Run:
@@ -141,11 +143,19 @@ def since(maker: Maker, document: Document, lines: List[str], finding: str) -> i
     wasn't. It is 0 where it was there at reset and ever since."""
     wanted, place = same_problem(finding), 0
     with closing(maker.board(text_of(document))) as board:
-        was = wanted in problems(board)
+        follower = Follower(board)
+
+        def is_there() -> bool:
+            found = endings(follower, document) if kind_of(finding) in ENDINGS else findings(board)
+            return any(same_problem(each) == wanted for each in found)
+
+        was = is_there()
         for count, line in enumerate(lines, 1):
-            if board.run_line(line) != "host: ok":
+            reply = board.run_line(line)
+            follower.access(line)
+            if reply != "host: ok":
                 continue
-            now = wanted in problems(board)
+            now = is_there()
             place, was = (count if now and not was else place), now
     return place
 
@@ -156,7 +166,3 @@ def reasons_after(maker: Maker, document: Document, lines: List[str], finding: s
         for line in lines:
             board.run_line(line)
         return reasons(board, document, finding)
-
-
-def problems(board: DrivenBoard) -> Set[str]:
-    return {same_problem(each) for each in findings(board)}

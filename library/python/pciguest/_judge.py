@@ -7,6 +7,7 @@ import re
 from typing import List
 
 from ._driven import DrivenBoard
+from ._ending import ENDINGS
 
 #: each kind of finding about what firmware leaves, and words that its lines have and no other's
 LEFT = {
@@ -20,7 +21,7 @@ LEFT = {
 }
 #: kinds about lines, whose lines begin with their names; of a transient nothing need be left at the end
 TRANSIENTS = ["moved", "ones", "reset", "overlap", "status"]
-KINDS = [*LEFT, "sizing", "room", *TRANSIENTS]
+KINDS = [*LEFT, *ENDINGS, "sizing", "room", *TRANSIENTS]
 
 
 def kind_of(finding: str) -> str:

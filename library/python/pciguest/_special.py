@@ -223,6 +223,16 @@ def status_bits() -> Document:
         endpoint("3.0/0.0", "mem32 4096", "io 16", status=0x8000), endpoint("3.0/1.0", status=0x4000))
 
 
+def capabilities() -> Document:
+    """Functions with power management, MSI and MSI-X, on bus 0 and behind a bridge."""
+    power = {"id": 0x01, "off": 0x40, "block": 8, "reset": "030000000000", "rw": "000003010000"}
+    msi = {"id": 0x05, "off": 0x50, "block": 14, "reset": "8000", "rw": "7100fcffffffffffffffffff"}
+    table = {"id": 0x11, "off": 0x70, "block": 12, "reset": "00000000000000080000", "rw": "00c0"}
+    return board(
+        endpoint("1.0", "mem32 4096", "io 16", capability=[power, msi]), bridge("2.0"),
+        endpoint("2.0/0.0", "mem32 4096", capability=[table, power]), endpoint("2.0/1.0", "mem64p 4096", capability=[msi]))
+
+
 def no_ports_left() -> Document:
     """More ports than there are, beside memory that fits."""
     ports = [endpoint(f"{place}.0", *["io 256"] * 6) for place in range(1, 4)]
@@ -248,5 +258,5 @@ SPECIAL: Dict[str, Callable[[], Document]] = {
         large_regions, half_of_memory, from_zero, top_of_memory, last_region, top_of_prefetchable, top_of_ports, small_regions,
         least_windows, greatest_windows, aligned_windows, without_windows, narrow_windows, prefetchable_below,
         not_prefetchable, deep, many_buses, many_functions, identities, registers, siblings, empty_bridges, status_bits,
-        no_ports_left, no_memory_left, no_prefetchable_left)
+        capabilities, no_ports_left, no_memory_left, no_prefetchable_left)
 }

@@ -24,6 +24,9 @@ PREFETCHABLE_WINDOW = [
 Register = Tuple[str, range]
 NAMED = re.compile(r"(?P<path>\d+\.\d(?:/\d+\.\d)*)(?: bar(?P<register>\d))?(?=[ :,]|$)")
 
+#: the register that a finding about the end names
+ENDING = re.compile(r"^(master|left): .* \((?P<name>[\w /]+) at (?P<offset>0x\w+): ")
+
 
 class Line(NamedTuple):
     """A line of firmware, and its place among them, from 1 on."""
@@ -81,6 +84,8 @@ def registers_of(document: Document, finding: str) -> Iterator[Tuple[str, List[R
             first = 0x10 + 4 * region.index
             upper = [(f"bar{region.index} upper half", range(first + 4, first + 8))] if region.is_64_bit else []
             yield one.at, [(f"bar{region.index}", range(first, first + 4)), *upper, COMMAND]
+        elif found := ENDING.search(finding):
+            yield one.at, [(found["name"], range(int(found["offset"], 16), int(found["offset"], 16) + 2))]
         elif finding.startswith("status: "):
             yield one.at, [STATUS["Secondary" if "Secondary Status" in finding else "Status"]]
         elif one.is_bridge and "configuration cycle" not in finding:

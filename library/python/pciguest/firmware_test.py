@@ -99,6 +99,8 @@ def parser() -> argparse.ArgumentParser:
     words.add_argument("--pref", type=aperture, metavar="FIRST-LAST", help="the prefetchable memory")
     words.add_argument("--allow", action="append", default=[], choices=KINDS, metavar="KIND",
                        help=f"don't ask for this: {', '.join(KINDS)}")
+    words.add_argument("--bus-master", action=argparse.BooleanOptionalAction, default=True,
+                       help="ask for Bus Master on each bridge with endpoints behind it (on)")
     words.add_argument("--transients", action="store_true",
                        help="what is wrong only while firmware writes is a failure, and no warning")
     words.add_argument("--warm", action="store_true", help="run the firmware a second time, on the board as it left it")
@@ -125,7 +127,8 @@ class Test:
         self.warnings: Dict[str, List[Tuple[Named, Run, str]]] = {}
 
     def firmware(self, limits: Optional[Limits] = None) -> Firmware:
-        asked = Asked(frozenset(self.options.allow), self.options.transients, self.options.no_room, self.options.warm)
+        allowed = frozenset([*self.options.allow, *([] if self.options.bus_master else ["master"])])
+        asked = Asked(allowed, self.options.transients, self.options.no_room, self.options.warm)
         return Firmware(self.options.command, self.maker, limits or self.limits, asked)
 
     def refusal(self, document: Document) -> Optional[int]:
@@ -332,6 +335,7 @@ class Test:
             words += [f"--{key}", "{:#x}-{:#x}".format(*getattr(options, key))] if getattr(options, key) else []
         words += [word for kind in options.allow for word in ("--allow", kind)]
         words += [f"--{key}" for key in ("transients", "warm", "roomy") if getattr(options, key)]
+        words += [] if options.bus_master else ["--no-bus-master"]
         for key in ("no_room", "bridges", "time", "lines", "program"):
             value = getattr(options, key)
             if value != parser().get_default(key):
