@@ -149,7 +149,8 @@ class Tight(unittest.TestCase):
 
     def test_a_board_for_each_mistake(self):
         for name, drawn in SPECIAL.items():
-            wanted = {"no_ports_left": 203, "no_memory_left": 204, "no_prefetchable_left": 205}.get(name)
+            wanted = {"no_ports_left": 203, "no_memory_left": 204, "no_prefetchable_left": 205, "ports_past_the_end": 203,
+                      "memory_past_the_end": 204}.get(name)
             self.assertEqual(self.refusal(drawn()), wanted, name)
 
     def test_cut(self):

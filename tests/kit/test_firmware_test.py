@@ -16,7 +16,7 @@ from unittest import mock
 from xml.etree import ElementTree
 
 import places  # noqa: F401
-from pciguest import firmware_test
+from pciguest import _report, firmware_test
 from pciguest._child import Limits
 from pciguest._driven import Program
 from pciguest._firmware_run import Firmware
@@ -270,12 +270,33 @@ class FirmwareTest(unittest.TestCase):
         self.assertIn("the first of these appeared at line 1 of 1: host cw 00:01.0 4 2 2\n", told)
         self.assertIn("1.0 Command: last written by line 1 of 1: host cw 00:01.0 4 2 2\nhost why mem 0x0\n", told)
 
-    def test_only_roomy_boards(self):
+    def test_tight_boards_by_option(self):
         special = {name: SPECIAL[name] for name in ("top_of_memory", "no_ports_left", "from_zero")}
         with mock.patch.multiple(firmware_test, EXAMPLES=[], SPECIAL=special):
-            status, told = self.run_words("--boards", "4", "--roomy", "--all", "--", "true")
-        self.assertEqual(status, 1)
-        self.assertIn("5 boards: the firmware fails on 5\n2 boards left out: less than twice the room that set-up needs\n", told)
+            for options, count, left_out in (([], 6, 1), (["--tight"], 7, 0)):
+                status, told = self.run_words("--boards", "4", "--all", *options, "--", "true")
+                self.assertEqual(status, 1)
+                self.assertIn(f"{count} boards: the firmware fails on {count}\n", told)
+                words = "1 board left out: less than twice the room that set-up needs (--tight takes these)\n"
+                self.assertEqual(words in told, left_out == 1)
+
+    def test_wide_apertures_tell_why_there_is_no_room(self):
+        gives_up = "os.environ['PCIGUEST_MEM'].endswith(' 0xffffffff') or sys.exit('no room');"
+        for options in ([], ["--no-room", "1"]):
+            told = self.fails(gives_up + PLACE + OPEN + ";ask('host cw 00:01.0 0x10 4 0x10000000')", "0x10000000 is outside the apertures", *options)
+            self.assertIn("on this board (1 function), with wide apertures; in those of the board it finds no room:\n", told)
+            self.assertIn("mem = [0x80000000, 0xffffffff]\n", told)
+        told = self.fails(gives_up + PLACE + OPEN, "ended with status 1", "--shrink", "0")
+        self.assertIn("on this board (2 functions), for lack of room alone: with wide apertures it is ready:\n", told)
+        told = self.fails(gives_up + PLACE + OPEN, "ended with status 1", "--all")
+        self.assertIn("(dies 1), for lack of room alone: with wide apertures it is ready: the firmware ended", told)
+
+    def test_a_hundred_problems(self):
+        told = self.fails("pass", "decode is disabled")
+        self.assertNotIn(" more problem", told)
+        with mock.patch.object(_report, "MOST_WRONG", 1):
+            told = self.fails("pass", "decode is disabled", "--shrink", "0")
+        self.assertEqual((told.count("decode is disabled\n"), told.count("\n... and 1 more problem\n")), (1, 1))
 
     def test_a_second_run(self):
         sized = "ask('host cw 00:01.0 0x10 4 0xffffffff'); ask('host cw 00:01.0 0x14 4 0xffffffff');"

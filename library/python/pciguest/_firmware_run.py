@@ -37,6 +37,11 @@ class Run(NamedTuple):
     first_lines: int = 0
     gave_up: bool = False
 
+    @property
+    def has_status(self) -> bool:
+        """Whether firmware ended with a status but 0, which set-up's finding room made wrong."""
+        return self.kind == "dies" and "ended with status" in self.wrong[0]
+
 
 class Asked(NamedTuple):
     """What is asked of firmware: all but what is allowed, by its kind; transients where they are no warnings; a second run

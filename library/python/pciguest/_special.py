@@ -162,10 +162,11 @@ def deep() -> Document:
 
 
 def many_buses() -> Document:
-    """The most bridges of all, 255: the last bus is FFh."""
-    tables = [bridge(f"{first}.0", pref="none") for first in range(1, 16)]
-    tables += [bridge(f"{first}.0/{second}.0", pref="none") for first in range(1, 16) for second in range(16)]
-    ends = [endpoint(f"{at}/3.0", f"mem32 {4 * KB}") for at in ("1.0/0.0", "8.0/0.0", "8.0/15.0", "15.0/14.0")]
+    """The most bridges of all, 255: the last bus is FFh. Two have I/O windows: 64 KB of ports are too few for one in each."""
+    at = [f"{first}.0" for first in range(1, 16)]
+    at += [f"{first}.0/{second}.0" for first in range(1, 16) for second in range(16)]
+    tables = [bridge(each, "16" if each in ("15.0", "15.0/15.0") else "none", "none") for each in at]
+    ends = [endpoint(f"{above}/3.0", f"mem32 {4 * KB}") for above in ("1.0/0.0", "8.0/0.0", "8.0/15.0", "15.0/14.0")]
     return board(*tables, *ends, endpoint("15.0/15.0/15.0", "mem32 16", "io 4"))
 
 
@@ -251,6 +252,16 @@ def no_prefetchable_left() -> Document:
                  endpoint("2.0/1.0", "mem32 4096", "io 16"), pref=[4 * GB, 8 * GB - 1])
 
 
+def ports_past_the_end() -> Document:
+    """One unit of ports more than there are, where ports end: a number of 16 bits is 0 behind the first."""
+    return board(endpoint("1.0", "io 16"), bridge("2.0"), endpoint("2.0/0.0", "io 16"), io=[0xF000, 0xFFFF])
+
+
+def memory_past_the_end() -> Document:
+    """More memory than there is, where 32 bits end: a number of 32 bits is 0 behind the first region."""
+    return board(endpoint("1.0", f"mem32 {MB}"), endpoint("2.0", "mem32 4096"), mem=[0xFFF00000, 0xFFFFFFFF])
+
+
 #: each with its name
 SPECIAL: Dict[str, Callable[[], Document]] = {
     drawn.__name__: drawn
@@ -258,5 +269,5 @@ SPECIAL: Dict[str, Callable[[], Document]] = {
         large_regions, half_of_memory, from_zero, top_of_memory, last_region, top_of_prefetchable, top_of_ports, small_regions,
         least_windows, greatest_windows, aligned_windows, without_windows, narrow_windows, prefetchable_below,
         not_prefetchable, deep, many_buses, many_functions, identities, registers, siblings, empty_bridges, status_bits,
-        capabilities, no_ports_left, no_memory_left, no_prefetchable_left)
+        capabilities, no_ports_left, no_memory_left, no_prefetchable_left, ports_past_the_end, memory_past_the_end)
 }

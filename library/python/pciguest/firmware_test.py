@@ -10,7 +10,6 @@ from __future__ import annotations
 
 import argparse
 import os
-import re
 import shlex
 import sys
 import time
@@ -25,26 +24,30 @@ from ._drawing import PARTED, PLAIN, WIDE, Apertures, RandomChoices, draw_board
 from ._child import CannotStart, Limits
 from ._driven import Library, Maker, Program, ProgramFailed
 from ._files import find, told_whole
-from ._firmware_run import Asked, Firmware, Run, reasons_after, since
-from ._judge import KINDS, LEFT, kind_of
+from ._firmware_run import Asked, Firmware, Run
+from ._judge import KINDS, kind_of
+from ._report import Report, counted
 from ._shrink import shrunk
 from ._special import SPECIAL
-from ._tight import TOO_SMALL, cut, halved, tight, too_small
-from ._writers import registers_of, story_of, why_unfound, writers
+from ._tight import TOO_SMALL, cut, halved, tight, too_small, widened
 
-#: most lines that tell who wrote registers
-MOST_WRITERS = 24
 #: boards of the folder `boards`, each of which can be set up
 EXAMPLES = ["main", "server", "second_bridge", "kinds", "chain", "guest_elsewhere"]
 
 
 class Named(NamedTuple):
-    """A board, what it is called, the words that choose it alone, and the number by which set-up refuses it."""
+    """A board, what it is called, the words that choose it alone, the number by which set-up refuses it, and what lack of
+    room has to do with a failure there."""
 
     name: str
     document: Document
     again: str
     refusal: Optional[int]
+    room: str = ""
+
+    @property
+    def how(self) -> str:
+        return f", {self.room}" if self.room else ""
 
 
 class Usage(Exception):
@@ -107,7 +110,8 @@ def parser() -> argparse.ArgumentParser:
     words.add_argument("--no-room", type=no_room, metavar="STATUS|WORDS",
                        help="how firmware says that a board has no room for all regions: it ends with this status, or any "
                        "but 0 (0), or its standard error has these words. It may then say so where set-up finds room")
-    words.add_argument("--roomy", action="store_true", help="only boards with twice the room that set-up needs")
+    words.add_argument("--tight", action="store_true",
+                       help="also boards with less than twice the room that set-up needs, many of which have none to spare")
     words.add_argument("--all", action="store_true", help="all boards: a line for each on which it fails, and no smaller board")
     words.add_argument("--shrink", type=float, default=60, metavar="SECONDS", help="time to look for a smaller board (60)")
     words.add_argument("--save", default="failed.toml", metavar="FILE", help="the board that failed (failed.toml)")
@@ -151,23 +155,23 @@ class Test:
         return Named(name, document, again, self.refusal(document))
 
     def special(self, name: str) -> Named:
-        """A special board, whose apertures have no more than it needs, unless it is to be roomy. Where memory is given, no
-        other is."""
+        """A special board, whose apertures have no more than it needs where tight ones are asked for. Where memory is given,
+        no other is."""
         document, given = SPECIAL[name](), self.given()
         own = {key: value for key, value in document["host"].items() if key != "pref" or "mem" not in given}
         document = {**document, "host": {**own, **given}}
         for key in document["host"]:
-            if key not in given and not self.options.roomy and self.refusal(document) is None:
+            if key not in given and self.options.tight and self.refusal(document) is None:
                 document = cut(document, key, self.refusal)
         return self.named(f"the special board {name}", document, f"--special {name}")
 
     def random(self, seed: int) -> Named:
-        """A random board. One in three has no room left, and one in nine not enough, unless it is to be roomy."""
+        """A random board. Where tight ones are asked for, one in three has no room left, and one in nine not enough."""
         given = self.given()
         apertures = [PLAIN._replace(**{key: (first, last) for key, (first, last) in given.items()})]
         choices = RandomChoices(seed)
         document = draw_board(choices, self.options.bridges, apertures if given else [PLAIN, WIDE, PARTED], guests=False)
-        if self.refusal(document) is None and not self.options.roomy and (seed % 3 == 1 or seed % 9 == 3):
+        if self.refusal(document) is None and self.options.tight and (seed % 3 == 1 or seed % 9 == 3):
             document = tight(document, list(given), choices, self.refusal)
             document = (too_small(document, choices, self.refusal) if seed % 9 == 3 else None) or document
         return self.named(f"random board {seed}", document, f"--boards 1 --seed {seed}")
@@ -189,8 +193,8 @@ class Test:
         """Why a board isn't asked, unless it was chosen."""
         if self.options.board or self.options.special:
             return None
-        if self.options.roomy and self.refusal(halved(board.document)) is not None:
-            return "less than twice the room that set-up needs"
+        if board.refusal is None and not self.options.tight and self.refusal(halved(board.document)) is not None:
+            return "less than twice the room that set-up needs (--tight takes these)"
         return "no room in these addresses" if board.refusal in TOO_SMALL.values() and board.again.startswith("--board ") else None
 
     def usage(self, board: Named) -> Usage:
@@ -203,6 +207,18 @@ class Test:
                      f"`pciguest check {file}` says why")
 
     # ---- runs
+
+    def tried(self, board: Named) -> Tuple[Named, Run]:
+        """Runs the firmware on a board. Where it says that there is no room, and set-up finds some, wide apertures tell why:
+        the board is the wide one if the firmware fails there in another way."""
+        run = self.firmware().run(board.document, board.refusal is None)
+        wide = board._replace(document=widened(board.document), room="with wide apertures; in those of the board it finds no room")
+        if board.refusal or not (run.gave_up or run.has_status) or self.given() or self.refusal(wide.document):
+            return board, run
+        other = self.firmware().run(wide.document)
+        if other.wrong and other.kind != "dies":
+            return wide, other
+        return (board if other.wrong else board._replace(room="for lack of room alone: with wide apertures it is ready")), run
 
     def smallest(self, board: Named, run: Run) -> Document:
         """The smallest board that is found on which the firmware fails in the same way. Who hangs gets less time for
@@ -230,7 +246,7 @@ class Test:
                 left_out[why] += 1
                 continue
             begun = time.monotonic()
-            run = self.firmware().run(board.document, board.refusal is None)
+            board, run = self.tried(board)
             took = time.monotonic() - begun
             told = "" if not run.wrong else self.in_a_line(board, run) if self.options.all else self.failure(board, run)
             self.results.append(_junit.Result(board.name, took, run.wrong[0] if run.wrong else None, told))
@@ -256,7 +272,7 @@ class Test:
         """What is told of a board on which the firmware fails, where the others are asked too."""
         kinds = Counter(map(kind_of, run.wrong) if run.kind in KINDS else [run.kind])
         counts = ", ".join(f"{kind} {count}" for kind, count in kinds.items())
-        return f"FAILED on {board.name} ({counts}): {run.wrong[0]}"
+        return f"FAILED on {board.name} ({counts}){board.how}: {run.wrong[0]}"
 
     def tell_ready(self, without_room: int, gave_up: int) -> None:
         full = f"; the firmware reports no room on {without_room}" if without_room else ""
@@ -281,52 +297,14 @@ class Test:
         Path(self.options.save).write_text(text_of(small))
         count, least = (counted(len(functions(each)), "function") for each in (board.document, small))
         again = [*called(), *self.repeated()]
-        first = next((each for each in last.wrong if last.kind in KINDS and kind_of(each) != "room"), None)
-        lines = [f"FAILED on {board.name} ({count}), and on this board ({least}):", ""]
-        lines += [text_of(small).rstrip(), "", *(self.causes(small, last, first) if first else []), *last.wrong]
-        lines += [f"the second run begins at line {last.first_lines + 1}"] if last.first_lines else []
-        lines += self.told_since(small, last, first) if first else []
-        lines += self.told_room(last) if last.kind == "dies" and board.refusal is None else []
+        report = Report(self.maker, small, last)
+        lines = [f"FAILED on {board.name} ({count}), and on this board ({least}){board.how}:", "", text_of(small).rstrip(), ""]
+        lines += [*report.lines(), *(report.told_room() if last.kind == "dies" and board.refusal is None else [])]
         lines += ["", "its standard error:", last.last_words] if last.last_words else []
         words = shlex.join([*again, "--board", self.options.save, "--", *self.options.command])
         lines += ["", f"this board again:  {words}"]
         words = f"{shlex.join(again)} {board.again} -- {shlex.join(self.options.command)}"
         return "\n".join([*lines, f"the first one:     {words}"])
-
-    def causes(self, document: Document, run: Run, finding: str) -> List[str]:
-        """Warnings about a function that the first problem names, each of which may be its cause."""
-        named = {at for at, _ in registers_of(document, finding)}
-        return [f"warning: {each} (by line {run.since[each]})" for each in run.warnings
-                if named & {at for at, _ in registers_of(document, each)}]
-
-    def told_room(self, run: Run) -> List[str]:
-        """That a board has room, and how firmware that ends with a status may say that it found none."""
-        status = re.search(r"ended with status (\d+)", run.wrong[0])
-        words = f", or --no-room {status[1]} if that status says that there is none" if status else ""
-        return [f"set-up finds room for all regions: `pciguest list` shows where{words}"]
-
-    def told_since(self, document: Document, run: Run, finding: str) -> List[str]:
-        """Of a problem since which line it is there, and why it is so at the end, or after that line where it went by; or
-        why its function was never found. Before that, who wrote the registers that it names, or that all problems name
-        which are there at the end."""
-        count, text = len(run.lines), text_of(document)
-        place = run.since.get(finding) or since(self.maker, document, run.lines, finding)
-        told = f"reset: none of the {count} lines changed it"
-        if place:
-            told = f"line {place} of {count}: {run.lines[place - 1]}"
-        lines = run.lines[:place] if finding in run.since else run.lines
-        story = story_of(self.maker, text, document, lines)
-        path = finding.split()[1].rstrip(":")
-        unfound = story.unfound(path) if kind_of(finding) in LEFT else None
-        if unfound:
-            why = why_unfound(self.maker, text, run.lines, unfound, story.asked.get(unfound))
-        else:
-            why = reasons_after(self.maker, document, lines, finding)
-        left = [each for each in run.wrong if each not in run.since and kind_of(each) != "room"]
-        named = [finding] if finding in run.since else left
-        wrote = list(dict.fromkeys(line for each in named for line in writers(story, document, each, count)))
-        more = [f"... and {len(wrote) - MOST_WRITERS} more registers"] if len(wrote) > MOST_WRITERS else []
-        return [f"the first of these appeared at {told}", *wrote[:MOST_WRITERS], *more, *why]
 
     def repeated(self) -> List[str]:
         """The words that say what is asked of firmware."""
@@ -334,17 +312,13 @@ class Test:
         for key in ("io", "mem", "pref"):
             words += [f"--{key}", "{:#x}-{:#x}".format(*getattr(options, key))] if getattr(options, key) else []
         words += [word for kind in options.allow for word in ("--allow", kind)]
-        words += [f"--{key}" for key in ("transients", "warm", "roomy") if getattr(options, key)]
+        words += [f"--{key}" for key in ("transients", "warm", "tight") if getattr(options, key)]
         words += [] if options.bus_master else ["--no-bus-master"]
         for key in ("no_room", "bridges", "time", "lines", "program"):
             value = getattr(options, key)
             if value != parser().get_default(key):
                 words += [f"--{key.replace('_', '-')}", f"{value:g}" if key == "time" else str(value)]
         return words
-
-
-def counted(number: int, word: str) -> str:
-    return f"{number} {word}{'s' * (number != 1)}"
 
 
 def example_files() -> List[Path]:
