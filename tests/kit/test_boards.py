@@ -7,15 +7,17 @@ from unittest import mock
 
 import places
 from pciguest._board_file import functions, text_of
-from pciguest._ending import endings
-from pciguest._follow import Follower
+from pciguest._dirty import Dirty
 from pciguest._drawing import PLAIN, RandomChoices, draw_board
+from pciguest._ending import endings
 from pciguest._firmware_run import findings
+from pciguest._follow import Follower
 from pciguest._judge import KINDS, kind_of, same_problem
 from pciguest._reasons import reasons
 from pciguest._shrink import shrunk
 from pciguest._special import SPECIAL
 from pciguest._tight import TOO_SMALL, cut, halved, tight, too_small
+from pciguest._toml import as_1_0, document_of
 from pciguest._watch import Watch
 from pciguest._writers import story_of, why_unfound, writers
 from second_hand import SecondHand, SecondHandBoard, audited, board_of, placement
@@ -141,6 +143,57 @@ class Drawing(unittest.TestCase):
         for seed in range(30):
             self.assertIsNone(SecondHand().refusal(text_of(draw_board(RandomChoices(seed), bridges=40))), seed)
             self.assertIsNone(SecondHand().refusal(text_of(draw_board(RandomChoices(seed), 6, [small]))), seed)
+
+
+class OtherFirmware(unittest.TestCase):
+    """Boards that begin with random registers."""
+
+    def board(self, name, seed):
+        document = SPECIAL[name]()
+        return document, Dirty(SecondHand(), seed).board(text_of(document))
+
+    def test_registers_of_all_functions(self):
+        for name in ("deep", "siblings", "many_functions"):
+            document, dirty = self.board(name, 1)
+            cells = registers.of_all(dirty, document)
+            self.assertEqual({one.at for one in functions(document)}, {*dirty.left})
+            for at, left in dirty.left.items():
+                for offset, value in left.items():
+                    if offset != 0x18 or cells[at][0x0E] & 0x7F != 1:
+                        self.assertEqual(int.from_bytes(cells[at][offset:offset + 4], "little"), value, (at, offset))
+                self.assertEqual(left[4] & 0x400, 0)
+
+    def test_a_seed_says_all(self):
+        left = [self.board("siblings", seed)[1].left for seed in (1, 1, 2)]
+        self.assertEqual(left[0], left[1])
+        self.assertNotEqual(left[0], left[2])
+
+    def test_what_is_known_of_them(self):
+        document, dirty = self.board("siblings", 1)
+        watch = Watch(dirty, document)
+        for one in functions(document):
+            kept = watch.kept[one.at]
+            self.assertEqual(kept.command, dirty.left[one.at][4] & 0xFFFF)
+            self.assertEqual(len(kept.ends), 3 if one.is_bridge else 0)
+        self.assertTrue(watch.met)
+
+
+class Toml(unittest.TestCase):
+    """The program takes TOML 1.1."""
+
+    def test_what_is_new(self):
+        text = 'a = { b = [ 1, # one }\n  2, ], c = "\\x41\\e\\n", # , {\n}\nd = [ { e = \'\\x\', }, ] # }\nf = """\n}, {\\x42"""\n'
+        self.assertEqual(document_of(text), {"a": {"b": [1, 2], "c": "A\x1b\n"}, "d": [{"e": "\\x"}], "f": "}, {B"})
+
+    def test_what_is_old(self):
+        for name in ("main", "modern", "largest"):
+            text = (BOARDS / f"{name}.toml").read_text()
+            self.assertEqual(tomllib.loads(as_1_0(text)), tomllib.loads(text))
+
+    def test_what_is_wrong(self):
+        for text in ("a = { b = 1,, }", "a = { b = ", "a = {\n", "a = ]", "a = { b = 1 c = 2 }", 'a = "\\x4"', "a = { b = 1\n c = 2 }"):
+            with self.assertRaises(tomllib.TOMLDecodeError):
+                document_of(text)
 
 
 class Tight(unittest.TestCase):

@@ -307,6 +307,19 @@ class FirmwareTest(unittest.TestCase):
         self.assertIn("test --warm --board", told)
         self.assertEqual(self.run_firmware("ask('host cw 00:01.0 4 2 0');" + sized + PLACE + OPEN, "--warm")[0], 0)
 
+    def test_registers_that_other_firmware_left(self):
+        self.assertEqual(self.run_firmware("ask('host cw 00:01.0 4 2 0');" + PLACE + OPEN, "--dirty", "2")[0], 0)
+        wide = BOARD.replace('"mem32", size = 4096 }, { index = 1', '"mem64", size = 4096 }, { index = 2')
+        self.board.write_text(wide)
+        code = "ask('host cw 00:01.0 4 2 0');" + PLACE.replace("0x14", "0x18") + OPEN
+        self.assertEqual(self.run_firmware(code)[0], 0)
+        told = self.fails(code, "1.0 bar0 at 0x[0-9a-f]+c0000000 size 0x10: .* outside the apertures", "--dirty", "2")
+        self.assertIn("1.0 bar0 upper half: never written\n", told)
+        self.assertIn("test --dirty 2 --board", told)
+        told = self.fails("pass", "appeared at the beginning: none of the 0 lines changed it", "--dirty", "2")
+        self.assertEqual(self.fails("pass", "", "--dirty", "2"), told)
+        self.assertNotEqual(self.fails("pass", "", "--dirty", "3"), told.replace("--dirty 2", "--dirty 3"))
+
     def test_a_warning_that_names_the_cause(self):
         code = PLACE + "ask('host cw 00:01.0 4 2 3'); ask('host cw 00:01.0 0x10 4 0xe0000000')"
         told = self.fails(code, "outside the apertures", "--shrink", "0")

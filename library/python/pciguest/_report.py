@@ -6,6 +6,7 @@ import re
 from typing import Iterable, List
 
 from ._board_file import Document, text_of
+from ._dirty import Dirty
 from ._driven import Maker
 from ._firmware_run import Run, reasons_after, since
 from ._judge import KINDS, LEFT, kind_of
@@ -58,7 +59,7 @@ class Report:
         run, document, text = self.run, self.document, text_of(self.document)
         count = len(run.lines)
         place = run.since.get(finding) or since(self.maker, document, run.lines, finding)
-        told = f"reset: none of the {count} lines changed it"
+        told = f"{'the beginning' if isinstance(self.maker, Dirty) else 'reset'}: none of the {count} lines changed it"
         if place:
             told = f"line {place} of {count}: {run.lines[place - 1]}"
         lines = run.lines[:place] if finding in run.since else run.lines

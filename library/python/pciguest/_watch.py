@@ -4,7 +4,7 @@ from __future__ import annotations
 
 import re
 from itertools import combinations
-from typing import Dict, FrozenSet, Iterator, List, NamedTuple, Set, Tuple
+from typing import Callable, Dict, FrozenSet, Iterator, List, NamedTuple, Set, Tuple
 
 from ._board_file import Document, Function, Path, Region, functions
 from ._driven import DrivenBoard
@@ -69,14 +69,16 @@ class Claim(NamedTuple):
 
 
 class Kept:
-    """What the registers of a function held when they were seen last: at reset first. `ends` has the windows of a bridge, by
-    their names, as they were when one was written last while it was open."""
+    """What the registers of a function held when they were seen last: at first those of reset, or what other firmware left
+    there. `ends` has the windows of a bridge, by their names, as they were when one was written last while it was open."""
 
-    def __init__(self, function: Function) -> None:
+    def __init__(self, function: Function, left: Dict[int, int]) -> None:
         self.function = function
-        self.command, self.status = 0, function.table.get("status", 0)
-        self.bases = {region.index: 0 for region in function.regions()}
-        self.ends: Dict[str, Tuple[int, int]] = {}
+        self.command = left.get(COMMAND, 0) & 0xFFFF
+        self.status = left[COMMAND] >> 16 if left else function.table.get("status", 0)
+        self.bases = {region.index: base_of(region, lambda offset: left.get(offset, 0)) for region in function.regions()}
+        windows = windows_of(function) if function.is_bridge and left else []
+        self.ends: Dict[str, Tuple[int, int]] = {window.name: window.ends(left) for window in windows}
 
     def claims(self) -> List[Claim]:
         if self.function.is_bridge:
@@ -84,6 +86,13 @@ class Kept:
                     if self.command & each.bit and each.name in self.ends]
         return [Claim(region.is_io, base, base + region.size - 1) for region in self.function.regions()
                 for base in [self.bases[region.index]] if opens(self.command, region)]
+
+
+def base_of(region: Region, read: Callable[[int], int]) -> int:
+    """The base of a region, by what the registers of its function read."""
+    offset = 0x10 + 4 * region.index
+    high = read(offset + 4) if region.is_64_bit else 0
+    return high << 32 | read(offset) & (~3 if region.is_io else ~15)
 
 
 def enabled(space: str, command: int) -> str:
@@ -107,11 +116,12 @@ class Watch:
     def __init__(self, board: DrivenBoard, document: Document) -> None:
         self.board, self.host, self.follower = board, document["host"], Follower(board)
         self.functions = {one.at: one for one in functions(document)}
-        self.kept = {at: Kept(one) for at, one in self.functions.items()}
+        left: Dict[str, Dict[int, int]] = getattr(board, "left", {})
+        self.kept = {at: Kept(one, left.get(at, {})) for at, one in self.functions.items()}
         self.on_bus: Dict[Path, List[Kept]] = {}
         for kept in self.kept.values():
             self.on_bus.setdefault(kept.function.path[:-1], []).append(kept)
-        self.met: Set[FrozenSet[str]] = set()
+        self.met = {pair for kept in self.kept.values() for pair in self.meeting(kept)}
 
     def seen(self, line: str) -> List[str]:
         access = self.follower.access(line)
@@ -186,7 +196,7 @@ class Watch:
         if region is None:
             return
         kept = self.kept[one.at]
-        before, base = kept.bases[region.index], self.base(access.number, region)
+        before, base = kept.bases[region.index], base_of(region, lambda offset: self.follower.read(access.number, offset))
         kept.bases[region.index] = base
         if not opens(kept.command, region):
             return
@@ -198,19 +208,19 @@ class Watch:
                    f"{enabled(space, kept.command)}")
             yield from self.overlaps(one)
 
-    def base(self, number: str, region: Region) -> int:
-        low = self.follower.read(number, 0x10 + 4 * region.index)
-        high = self.follower.read(number, 0x14 + 4 * region.index) if region.is_64_bit else 0
-        return high << 32 | low & (~3 if region.is_io else ~15)
+    def meeting(self, kept: Kept) -> Set[FrozenSet[str]]:
+        """The pairs of a function and of one on its bus, maybe itself, that claim an address twice."""
+        mine, found = kept.claims(), set()
+        for other in self.on_bus[kept.function.path[:-1]] if mine else []:
+            pairs = combinations(mine, 2) if other is kept else ((a, b) for a in mine for b in other.claims())
+            if any(a.meets(b) for a, b in pairs):
+                found.add(frozenset((kept.function.at, other.function.at)))
+        return found
 
     def overlaps(self, one: Function) -> Iterator[str]:
         """Who answers an address beside a function since this line: the board is asked where another could, that couldn't
         before."""
-        mine, found = self.kept[one.at].claims(), set()
-        for other in self.on_bus[one.path[:-1]]:
-            pairs = combinations(mine, 2) if other.function is one else ((a, b) for a in mine for b in other.claims())
-            if any(a.meets(b) for a, b in pairs):
-                found.add(frozenset((one.at, other.function.at)))
+        found = self.meeting(self.kept[one.at])
         is_new = not found <= self.met
         self.met = {pair for pair in self.met if one.at not in pair} | found
         if is_new:

@@ -13,7 +13,6 @@ import os
 import shlex
 import sys
 import time
-import tomllib
 from collections import Counter
 from pathlib import Path
 from typing import Dict, Iterator, List, NamedTuple, Optional, Tuple, Union
@@ -22,6 +21,7 @@ from . import _junit
 from ._board_file import Document, functions, text_of
 from ._drawing import PARTED, PLAIN, WIDE, Apertures, RandomChoices, draw_board
 from ._child import CannotStart, Limits
+from ._dirty import Dirty
 from ._driven import Library, Maker, Program, ProgramFailed
 from ._files import find, told_whole
 from ._firmware_run import Asked, Firmware, Run
@@ -30,6 +30,7 @@ from ._report import Report, counted
 from ._shrink import shrunk
 from ._special import SPECIAL
 from ._tight import TOO_SMALL, cut, halved, tight, too_small, widened
+from ._toml import document_of
 
 #: boards of the folder `boards`, each of which can be set up
 EXAMPLES = ["main", "server", "second_bridge", "kinds", "chain", "guest_elsewhere"]
@@ -107,6 +108,7 @@ def parser() -> argparse.ArgumentParser:
     words.add_argument("--transients", action="store_true",
                        help="what is wrong only while firmware writes is a failure, and no warning")
     words.add_argument("--warm", action="store_true", help="run the firmware a second time, on the board as it left it")
+    words.add_argument("--dirty", type=natural, metavar="SEED", help="begin with random registers, as other firmware left them")
     words.add_argument("--no-room", type=no_room, metavar="STATUS|WORDS",
                        help="how firmware says that a board has no room for all regions: it ends with this status, or any "
                        "but 0 (0), or its standard error has these words. It may then say so where set-up finds room")
@@ -126,6 +128,8 @@ class Test:
 
     def __init__(self, options: argparse.Namespace, maker: Optional[Maker] = None) -> None:
         self.options, self.maker = options, maker or (Program(options.program) if options.program else Library())
+        if options.dirty is not None:
+            self.maker = Dirty(self.maker, options.dirty)
         self.limits = Limits(options.time, 20 * options.time, options.lines)
         self.results: List[_junit.Result] = []
         self.warnings: Dict[str, List[Tuple[Named, Run, str]]] = {}
@@ -183,7 +187,7 @@ class Test:
 
     def read(self, file: Path, name: str) -> Named:
         try:
-            document = tomllib.loads(file.read_text())
+            document = document_of(file.read_text())
             host = {**document["host"], **self.given()}
         except (OSError, ValueError, KeyError, TypeError) as error:
             raise Usage(f"{file}: {error}") from None
@@ -314,7 +318,7 @@ class Test:
         words += [word for kind in options.allow for word in ("--allow", kind)]
         words += [f"--{key}" for key in ("transients", "warm", "tight") if getattr(options, key)]
         words += [] if options.bus_master else ["--no-bus-master"]
-        for key in ("no_room", "bridges", "time", "lines", "program"):
+        for key in ("no_room", "dirty", "bridges", "time", "lines", "program"):
             value = getattr(options, key)
             if value != parser().get_default(key):
                 words += [f"--{key.replace('_', '-')}", f"{value:g}" if key == "time" else str(value)]

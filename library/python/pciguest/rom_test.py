@@ -17,7 +17,6 @@ from __future__ import annotations
 
 import argparse
 import sys
-import tomllib
 from contextlib import closing
 from pathlib import Path
 from typing import List, Optional, Tuple, Union
@@ -30,6 +29,7 @@ from ._driven import DrivenBoard, Library, Maker, Program, ProgramFailed
 from ._files import told_whole
 from ._judge import findings
 from ._reasons import reasons
+from ._toml import document_of
 from .firmware_test import aperture, example_files
 
 try:
@@ -87,7 +87,7 @@ def boot(machine: PC, ending: Optional[str], seconds: float) -> Tuple[str, bool]
 def examine(rom: bytes, file: Path, options: argparse.Namespace, maker: Maker) -> bool:
     """Boots the ROM over the board of a file, and tells what came of it: whether something is wrong."""
     given = Apertures(options.io, options.mem, options.pref)
-    document = {**tomllib.loads(file.read_text()), "host": given.table()}
+    document = {**document_of(file.read_text()), "host": given.table()}
     with closing(maker.board(text_of(document))) as driven:
         lines = LineBoard(driven)
         machine = PC(lines, rom, options.old)

@@ -17,7 +17,6 @@ board and the fewest lines with which it does."""
 
 from __future__ import annotations
 
-import tomllib
 from typing import Callable, List, Sequence
 
 from hypothesis import strategies as st
@@ -25,6 +24,7 @@ from hypothesis import strategies as st
 from ._board_file import text_of
 from ._drawing import PARTED, PLAIN, WIDE, Apertures, Item, draw_board
 from ._line_drawing import draw_firmware, draw_script
+from ._toml import document_of
 
 __all__ = ["Apertures", "PARTED", "PLAIN", "WIDE", "boards", "firmware", "scripts"]
 
@@ -62,11 +62,11 @@ def boards(
 @st.composite
 def scripts(draw: Callable, board: str, most: int = 40) -> List[str]:  # type: ignore[type-arg]
     """Lines for the guests of a board file, as `pciguest run` reads them: so many at most."""
-    return draw_script(DrawnChoices(draw), tomllib.loads(board), most)
+    return draw_script(DrawnChoices(draw), document_of(board), most)
 
 
 @st.composite
 def firmware(draw: Callable, board: str, most: int = 40) -> List[str]:  # type: ignore[type-arg]
     """Lines of firmware for a board file, as `pciguest firmware` reads them: those that number its buses, and then so
     many at most."""
-    return draw_firmware(DrawnChoices(draw), tomllib.loads(board), most)
+    return draw_firmware(DrawnChoices(draw), document_of(board), most)
