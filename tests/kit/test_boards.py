@@ -434,6 +434,14 @@ class Reasons(unittest.TestCase):
         both = "audit: 1.0 bar1 and 2.0: address conflict at I/O 0x1000"
         self.assertEqual(reasons(board, AUDITED, both)[0], "host why io 0x1000")
 
+    def test_the_bus_of_a_conflict(self):
+        board = after("host cw 00:02.0 4 2 0", "host cw 01:00.0 0x10 4 0xc0000000")
+        told = next(line for line in findings(board) if "address conflict" in line)
+        self.assertEqual(reasons(board, AUDITED, told)[1:2] + reasons(board, AUDITED, told)[-1:], [
+            "why: memory 0xc0000000: nothing responds",
+            "the conflict is on the bus behind bridge 2.0, where no access by the host gets: "
+            "2.0/0.0 bar0 and 2.0/2.0 respond to memory 0xc0000000 there"])
+
     def test_lines(self):
         for line, asked in (("host cw 01:00.0 0x18 4 0xffffffff", "mem 0x4fff00000"),
                             ("host cw 01:00.0 0x1c 4 0xffffffff", "mem 0xffffffff00000000"),
