@@ -320,6 +320,23 @@ class FirmwareTest(unittest.TestCase):
         self.assertEqual(self.fails("pass", "", "--dirty", "2"), told)
         self.assertNotEqual(self.fails("pass", "", "--dirty", "3"), told.replace("--dirty 2", "--dirty 3"))
 
+    def test_the_line_in_the_firmware(self):
+        """What it printed before each line is kept with the line, and told of the one that went wrong."""
+        code = "".join(f"print('{words}', file=sys.stderr); {line.rstrip(chr(59))};" for words, line in (
+            ("looks", "ask('host cr 00:01.0 0 4')"), ("places", PLACE), ("opens", OPEN), ("moves", "ask('host cw 00:01.0 0x10 4 0xe0000000')")))
+        log = Path(self.folder.name) / "log"
+        told = self.fails(code + "print('ends', file=sys.stderr)", "outside the apertures", "--log", str(log), "--shrink", "0")
+        self.assertIn("appeared at line 5 of 5: host cw 00:01.0 0x10 4 0xe0000000\nbefore it, the firmware printed: moves\n", told)
+        self.assertIn(f"\nall its lines:     {log}\n", told)
+        self.assertEqual(log.read_text().splitlines(), [
+            f"# on {self.failed}", "# looks", "1 host cr 00:01.0 0 4 -> host: 0x00011234", "# places",
+            "2 host cw 00:01.0 0x10 4 0xc0000000 -> host: ok", "3 host cw 00:01.0 0x14 4 0x1000 -> host: ok", "# opens",
+            "4 host cw 00:01.0 4 2 3 -> host: ok", "# moves", "5 host cw 00:01.0 0x10 4 0xe0000000 -> host: ok", "# ends"])
+        self.assertEqual(self.run_firmware("ask('host ready');" + PLACE + OPEN, "--log", str(log))[0], 0)
+        self.assertEqual(log.read_text().splitlines()[:4], [
+            f"# on {self.board}", "1 host ready -> ready: 1.0 bar0 at 0x0 size 0x1000: memory decode is disabled",
+            "    ready: 1.0 bar1 at 0x0 size 0x20: I/O decode is disabled", "    ready: 2 left to do"])
+
     def test_a_warning_that_names_the_cause(self):
         code = PLACE + "ask('host cw 00:01.0 4 2 3'); ask('host cw 00:01.0 0x10 4 0xe0000000')"
         told = self.fails(code, "outside the apertures", "--shrink", "0")

@@ -24,6 +24,7 @@ class Run(NamedTuple):
     """What firmware wrote and was answered, and what is wrong, the first first; `kind` is that of the first. `since` has the
     line of each finding that is about a line, among them the warnings, which aren't wrong. `first_lines` counts the lines of
     the first run where there was a second one, and `gave_up` tells whether the firmware says that the board has no room.
+    `printed` has what it wrote to its standard error, by the number of the line that came after it.
     For firmware that misbehaves the end of its standard error is kept, and how long it was silent."""
 
     lines: List[str]
@@ -36,6 +37,7 @@ class Run(NamedTuple):
     longest_silence: float = 0
     first_lines: int = 0
     gave_up: bool = False
+    printed: Dict[int, str] = {}
 
     @property
     def has_status(self) -> bool:
@@ -79,7 +81,7 @@ class Firmware:
 
     def run(self, document: Document, has_room: bool = True) -> Run:
         """Runs it to its end on a board at reset, and if that is asked once more on what it left there."""
-        run = Run([], [], [], None, {})
+        run = Run([], [], [], None, {}, printed={})
         with closing(self.maker.board(text_of(document))) as board:
             watch = Watch(board, document)
             run = self.run_once(watch, document, run, has_room)
@@ -96,6 +98,7 @@ class Firmware:
                 self.converse(child, watch, run)
             except Misbehaviour as caught:
                 wrong = caught
+            self.hear(child, run)
             gave_up = self.asked.is_said(has_room, child.status, child.last_words())
             if wrong and not (gave_up and wrong.kind == "dies"):
                 told = f"the firmware {wrong.told}{after(run.lines)}"
@@ -116,9 +119,16 @@ class Firmware:
         wrong += [each for each in left if kind_of(each) not in allowed]
         return run._replace(wrong=wrong, warnings=warnings, kind=kind_of(wrong[0]) if wrong else None)
 
+    def hear(self, child: Child, run: Run) -> None:
+        """Keeps what the firmware printed before its next line."""
+        printed = child.newly_printed()
+        if printed:
+            run.printed[len(run.lines) + 1] = run.printed.get(len(run.lines) + 1, "") + printed
+
     def converse(self, child: Child, watch: Watch, run: Run) -> None:
         """Answers each line by the board, and keeps in the run what is wrong with an access that the board did take."""
         for raw in child.lines():
+            self.hear(child, run)
             line = raw.decode("utf-8", "backslashreplace")
             if line.split()[:2] == ["host", "guests"]:
                 raise Misbehaviour("nonsense", f"writes a line that would hand the board over: {line[:100]!r}")

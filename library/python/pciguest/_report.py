@@ -73,4 +73,6 @@ class Report:
         left = [each for each in run.wrong if each not in run.since and kind_of(each) != "room"][:MOST_WRONG]
         named = [finding] if finding in run.since else left
         wrote = dict.fromkeys(line for each in named for line in writers(story, document, each, count))
-        return [f"the first of these appeared at {told}", *first_of(wrote, MOST_WRITERS, "register"), *why]
+        last = max((at for at in run.printed if at <= place), default=0)
+        printed = [f"before it, the firmware printed: {run.printed[last].strip().splitlines()[-1]}"] if run.printed.get(last, "").strip() else []
+        return [f"the first of these appeared at {told}", *printed, *first_of(wrote, MOST_WRITERS, "register"), *why]

@@ -17,7 +17,7 @@ from collections import Counter
 from pathlib import Path
 from typing import Dict, Iterator, List, NamedTuple, Optional, Tuple, Union
 
-from . import _junit
+from . import _junit, _log
 from ._board_file import Document, functions, text_of
 from ._drawing import PARTED, PLAIN, WIDE, Apertures, RandomChoices, draw_board
 from ._child import CannotStart, Limits
@@ -117,6 +117,8 @@ def parser() -> argparse.ArgumentParser:
     words.add_argument("--all", action="store_true", help="all boards: a line for each on which it fails, and no smaller board")
     words.add_argument("--shrink", type=float, default=60, metavar="SECONDS", help="time to look for a smaller board (60)")
     words.add_argument("--save", default="failed.toml", metavar="FILE", help="the board that failed (failed.toml)")
+    words.add_argument("--log", metavar="FILE", help="the lines on the board that failed, or else on the last one, with their "
+                       "replies and with what the firmware printed before each on standard error")
     words.add_argument("--junit", metavar="FILE", help="results in the form of JUnit")
     words.add_argument("--program", metavar="FILE", help="the program pciguest in place of the library")
     words.add_argument("command", nargs="+", metavar="COMMAND")
@@ -252,6 +254,8 @@ class Test:
             begun = time.monotonic()
             board, run = self.tried(board)
             took = time.monotonic() - begun
+            if self.options.log and not failed:
+                _log.write(self.options.log, board.name, run)
             told = "" if not run.wrong else self.in_a_line(board, run) if self.options.all else self.failure(board, run)
             self.results.append(_junit.Result(board.name, took, run.wrong[0] if run.wrong else None, told))
             for warning in run.warnings:
@@ -299,12 +303,15 @@ class Test:
         if last.kind != run.kind:  # it doesn't do the same each time
             small, last = board.document, run
         Path(self.options.save).write_text(text_of(small))
+        if self.options.log:
+            _log.write(self.options.log, self.options.save, last)
         count, least = (counted(len(functions(each)), "function") for each in (board.document, small))
         again = [*called(), *self.repeated()]
         report = Report(self.maker, small, last)
         lines = [f"FAILED on {board.name} ({count}), and on this board ({least}){board.how}:", "", text_of(small).rstrip(), ""]
         lines += [*report.lines(), *(report.told_room() if last.kind == "dies" and board.refusal is None else [])]
         lines += ["", "its standard error:", last.last_words] if last.last_words else []
+        lines += ["", f"all its lines:     {self.options.log}"] if self.options.log else []
         words = shlex.join([*again, "--board", self.options.save, "--", *self.options.command])
         lines += ["", f"this board again:  {words}"]
         words = f"{shlex.join(again)} {board.again} -- {shlex.join(self.options.command)}"
