@@ -1,14 +1,14 @@
 """Runs a ROM in a small PC over boards, and asks what it leaves there.
 
-    python3 -m pciguest.rom_test ROM [--board FILE].. [--ending TEXT] [--time SECONDS] [--old] [--io|--mem|--pref FIRST-LAST]
+    python3 -m pciguest.rom_test ROM [--board FILE].. [--ending TEXT] [--idle SECONDS] [--time SECONDS] [--old] [--io|--mem|--pref FIRST-LAST]
                                  [--program PROGRAM | --lines]
 
 The PC has a processor of 32 bits (the Unicorn engine, Debian's python3-unicorn), 128 MB of memory, a timer, clock memory,
-interrupt masks and a console at the ports 3F8h and 402h. The ROM stands below 4 GB, and its last 256 KB below 1 MB too. Each
+interrupt masks, a console at the ports 3F8h and 402h, and a display's text memory at B8000h. The ROM stands below 4 GB, and its last 256 KB below 1 MB too. Each
 other port and address is the board's: by default six of the folder boards, one after the other. The addresses that the ROM
 may give out are those of such a PC, 1000h to FFFFh and 80000000h to FEBFFFFFh, unless others are given. A boot ends where the
 console has told the last words (--ending), where the processor halts with interrupts off, or, if no last words are given,
-once its time is over (30 seconds). Of what is wrong or lacking first the board is asked why. --old is a processor without
+once configuration space wasn't accessed for some time (--idle, 5 seconds), or its time is over (30 seconds). Of what is wrong or lacking first the board is asked why. --old is a processor without
 time stamps and APIC. By --lines the board is behind standard input and output, and the console goes to standard error:
 `pciguest-firmware-test .. -- python3 -m pciguest.rom_test --lines ROM ..` runs the ROM on all its boards. Status 1 says that a boot went wrong or that a board isn't ready, and 2 that the ROM or the words can't
 be used."""
@@ -33,7 +33,7 @@ from ._toml import document_of
 from .firmware_test import aperture, example_files
 
 try:
-    from ._pc import PC, BootError, Halted, NotDone, TooWide
+    from ._pc import PC, BootError, Halted, Idle, NotDone, TooWide
 except ImportError:
     sys.exit("the Unicorn engine for this Python is missing. On Debian: apt-get install python3-unicorn")
 
@@ -71,11 +71,12 @@ class LineBoard:
         self.ask(f"mw {address:#x} {width} {value:#x}")
 
 
-def boot(machine: PC, ending: Optional[str], seconds: float) -> Tuple[str, bool]:
+def boot(machine: PC, options: argparse.Namespace) -> Tuple[str, bool]:
     """Runs a PC to its end: how it ended, and whether that is wrong."""
+    ending = options.ending
     try:
-        machine.boot(*[ending] if ending else [], patience=seconds)
-    except (Halted, NotDone) as end:
+        machine.boot(*[ending] if ending else [], patience=options.time, idle=None if ending else options.idle)
+    except (Halted, Idle, NotDone) as end:
         return str(end), bool(ending)
     except TooWide:
         raise
@@ -91,11 +92,12 @@ def examine(rom: bytes, file: Path, options: argparse.Namespace, maker: Maker) -
     with closing(maker.board(text_of(document))) as driven:
         lines = LineBoard(driven)
         machine = PC(lines, rom, options.old)
-        ended, is_wrong = boot(machine, options.ending, options.time)
+        ended, is_wrong = boot(machine, options)
         found = findings(driven)
         why = reasons(driven, document, found[0]) if found else []
     words = [line.strip() for line in machine.told.splitlines() if line.strip()]
     print(f"{file.name}: {ended}, after {lines.count} accesses; console: {words[-1] if words else 'nothing'}")
+    print(*(f"  | {line}\n" for line in machine.screen().splitlines()), sep="", end="")
     print(*(f"  {line}" for line in [*found, *why] or ["ready"]), sep="\n", flush=True)
     return is_wrong or bool(found)
 
@@ -103,8 +105,8 @@ def examine(rom: bytes, file: Path, options: argparse.Namespace, maker: Maker) -
 def speak(rom: bytes, options: argparse.Namespace) -> int:
     """Boots the ROM over the board that is spoken to by lines."""
     machine = PC(LineBoard(Spoken()), rom, options.old)
-    ended, is_wrong = boot(machine, options.ending, options.time)
-    print(machine.told[-KEPT:], ended, sep="\n", file=sys.stderr)
+    ended, is_wrong = boot(machine, options)
+    print(machine.told[-KEPT:], machine.screen(), ended, sep="\n", file=sys.stderr)
     return int(is_wrong)
 
 
@@ -113,6 +115,7 @@ def parser() -> argparse.ArgumentParser:
     words.add_argument("rom", type=Path)
     words.add_argument("--board", type=Path, action="append")
     words.add_argument("--ending")
+    words.add_argument("--idle", type=float, default=5)
     words.add_argument("--time", type=float, default=30)
     words.add_argument("--old", action="store_true")
     words.add_argument("--lines", action="store_true")
