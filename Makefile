@@ -172,7 +172,7 @@ kvm: has-kvm library/libpciguest.a
 has-kvm:
 	@examples/qemu/needs kvm
 
-# Debian's SeaBIOS and U-Boot, unmodified, on boards of the library; and on random trees, where each byte that they leave
+# What GRUB leaves as firmware, and Debian's SeaBIOS and U-Boot, unmodified, on boards of the library; and on random trees, where each byte that they leave
 # is compared with what they leave in QEMU; an audit and `ready` say what is wrong and what is lacking. Then whether that
 # comparison notices an edited board, and these two a SeaBIOS that is broken on purpose. It takes Debian's packages, which it
 # names where they are missing, and some minutes.
@@ -185,6 +185,7 @@ firmware: has-firmware bindings pciguest library/libpciguest.so.0
 	@tests/firmware/firmware.py ./pciguest
 	@tests/firmware/edits.py ./pciguest
 	@tests/firmware/broken.py ./pciguest
+	@tests/firmware/grub.py
 endif
 
 has-firmware:
