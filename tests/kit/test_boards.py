@@ -414,6 +414,23 @@ class Endings(unittest.TestCase):
         self.assertEqual(self.told("host cw 00:02.0 4 2 4", document=document), [])
 
 
+class Unseen(unittest.TestCase):
+    """What docs/firmware-testing.md says that the test can't see."""
+
+    def test_registers_that_are_not_there(self):
+        text = (places.TOP / "docs/firmware-testing.md").read_text()
+        section = text.partition("## What this test can't see\n")[2].partition("\n## ")[0]
+        for row in ("Bridge Control (3Eh)", "(30h; 38h in bridges)", "bases of bridges (10h, 14h)", "Interrupt Line (3Ch)"):
+            self.assertIn(row, section)
+        board = after("host cw 01:02.0 4 2 7", "host cw 00:02.0 4 2 7", "host cw 00:03.0 4 2 7")
+        for at, offset in (("00:02.0", 0x3C), ("00:02.0", 0x38), ("00:02.0", 0x10), ("00:02.0", 0x14), ("00:01.0", 0x30)):
+            before = board.run_line(f"host cr {at} {offset} 4")
+            board.run_line(f"host cw {at} {offset:#x} 4 0xffffff00")
+            self.assertEqual(board.run_line(f"host cr {at} {offset} 4"), before)
+        board.run_line("host cw 00:01.0 0x3c 1 0x55")
+        self.assertEqual([*findings(board), *endings(Follower(board), AUDITED)], [])
+
+
 class Reasons(unittest.TestCase):
     def test_each_kind(self):
         for name, asked in ASKED.items():
